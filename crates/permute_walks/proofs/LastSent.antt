@@ -9,7 +9,7 @@ use Rattle.std.proofs.lemmas.Bool.Decides.{eqb_tells, Decides-int_eq}
 use Rattle.std.proofs.lemmas.List.{ext_get_or, get_or-set_same, get_or-set_other, length-set, length-take, map-append, take_more, take_all}
 use Rattle.std.proofs.lemmas.List.FromFn.{length-map-range_with_len, get_or-map-range_with_len}
 use Rattle.std.proofs.lemmas.List.Sums.{count_by_more_no, count_by_more_yes}
-use Rattle.cvl_base.specs.Limits.{most_elements}
+use Rattle.cvl_base.specs.Limits.{most_places}
 use Rattle.cvl_base.specs.declared.fault.Fault.{Fault}
 use Rattle.cvl_base.specs.Permutes.{first_fault, is_destination, wrongs}
 use Rattle.permute_walks.specs.Senders.{IsStored, count_sent, count_destinations, is_between, last_sender_from, last_senders, nobody, senders_of}
@@ -133,7 +133,7 @@ bad_told : (fault : Option Fault) → ¬ (None ≡ fault) → true ≡ is_some f
 bad_told None not_none = absurd (not_none refl)
 bad_told (Some f) not_none = refl
 
-module _ (ts : List (Option ℤ)) (m : ℕ) (small : length ts ≤ most_elements) where
+module _ (ts : List (Option ℤ)) (m : ℕ) (small : length ts ≤ most_places) where
   stored_here : IsStored 0 ts (count_destinations ts) m (last_senders 0 ts 0 m)
   stored_here = lasts_stored 0 ts m (omega (arith, small))
 

@@ -3,7 +3,7 @@ use Rattle.std.proofs.Common.{◌≡◌, ◌∙◌, ℕ, ◌+◌, ◌*◌, ◌<�
 use Rattle.std.proofs.Common.{ℤ, pos, slice_get, unwrap_or, Option, Some, None}
 use Rattle.std.proofs.lemmas.List.{drop_all, drop_more, drop-replicate, length-map, take-replicate}
 use Rattle.std.proofs.lemmas.List.Sums.{count_by-le-length, sum_by-append}
-use Rattle.cvl_base.specs.Limits.{most_elements}
+use Rattle.cvl_base.specs.Limits.{most_places}
 use Rattle.permute_walks.specs.Marks.{mark_words, words_for}
 use Rattle.permute_walks.specs.Senders.{IsWrittenTo, count_sent, is_between, last_senders, nobody, sent_marks, written_over}
 use Rattle.permute_walks.proofs.LastSent.{between_out, lasts_both, lasts_other, lasts_set, length-last_senders}
@@ -26,7 +26,7 @@ module _ {X : Type 0} (source : List X) (ts : List (Option ℤ)) (lowest : ℕ) 
     Leaves k room marks = (old : List X) → length old ≡ n → IsWrittenTo source ts lowest old first room₀ marks₀ → IsWrittenTo source ts lowest old k room marks
 
     module _ (k : ℕ) (room : List X) (marks : List ℕ) (lt : k < length ts) (leaves : Leaves k room marks) where
-      pub leaves_more : length ts ≤ most_elements → (d : ℕ) (x : X) → get_or ts k None ≡ Some (pos (lowest + d)) → d < n → slice_get source k ≡ Some x
+      pub leaves_more : length ts ≤ most_places → (d : ℕ) (x : X) → get_or ts k None ≡ Some (pos (lowest + d)) → d < n → slice_get source k ≡ Some x
           → (marks₁ : List ℕ) → ((flags : List Bool) → d < length flags → marks ≡ mark_words flags → marks₁ ≡ mark_words (set flags d true)) → Leaves (k + 1) (set room d x) marks₁
       leaves_more few d x is inside reads marks₁ mark old same given =
           let to = leaves old same given in

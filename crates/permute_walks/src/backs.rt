@@ -4,7 +4,7 @@
 ghost use Rattle.std.specs.Prelude.{◌≡◌, ◌+◌, ◌-◌, ◌≤◌, ◌++◌, [], length};
 ghost use Rattle.fresh.specs.Parts.{part};
 ghost use Rattle.fresh.specs.Places.{stretch};
-ghost use Rattle.cvl_base.specs.Limits.{most_elements};
+ghost use Rattle.cvl_base.specs.Limits.{most_places};
 ghost use Rattle.permute_walks.specs.Indices.{AreInside, elements_at, first_outside};
 ghost use Rattle.permute_walks.specs.Senders.{fault_told};
 
@@ -20,7 +20,7 @@ const LONG: usize = 32;
 /// `IndexOutOfRange` at the first place whose index is none of so many places. The first index stands at place `first`.
 #[inline(never)]
 fn check_each(index: &[i32], places: usize, first: usize) -> Result<(), Fault>
-    requires { first + length index.now ≤ most_elements }
+    requires { first + length index.now ≤ most_places }
     ensures { fault_told result ≡ first_outside first places index.now }
 {
     for (k, i) in index.iter().enumerate() {
@@ -41,7 +41,7 @@ pub fn check_places<R: Threads + Sync>(
     places: usize,
     first: usize,
 ) -> Result<(), Fault>
-    requires { first + length index.now ≤ most_elements }
+    requires { first + length index.now ≤ most_places }
     ensures { fault_told result ≡ first_outside first places index.now }
 {
     let threads = threads_searching(config, index.len());
@@ -57,7 +57,7 @@ pub fn check_places<R: Threads + Sync>(
 /// The same as [`check_places`], by the thread that calls.
 #[tactic(auto, using(crate::proofs::Outside::none_outside))]
 pub fn check_places_alone(index: &[i32], places: usize, first: usize) -> Result<(), Fault>
-    requires { first + length index.now ≤ most_elements }
+    requires { first + length index.now ≤ most_places }
     ensures { fault_told result ≡ first_outside first places index.now }
 {
     if index.len() >= LONG && count_alone(index, places) == 0 {

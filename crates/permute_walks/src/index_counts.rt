@@ -2,24 +2,24 @@
 
 ghost use Rattle.std.specs.Prelude.{◌≡◌, ◌+◌, ◌≤◌, length};
 ghost use Rattle.std.specs.Thread.{IsSync};
-ghost use Rattle.cvl_base.specs.Limits.{most_elements};
+ghost use Rattle.cvl_base.specs.Limits.{most_places};
 ghost use Rattle.permute_walks.specs.Indices.{count_outside};
 ghost use Rattle.sharing.specs.Shares.{share_of_first};
 
 use sharing::{ThreadCount, share_of_first};
 use std::thread::{Threads, join_mut};
 
-/// The greatest number of places that an index of 32 bits can name.
-const MOST_PLACES: usize = 2_147_483_648;
+/// How many places an index of 32 bits can name, from 0 on.
+const NAMED_PLACES: usize = 2_147_483_648;
 
 /// How many indices are none of so many places, counted by the thread that calls.
 // Without its sign an index below 0 is beyond all places, so that one comparison is enough.
 #[inline(never)]
 pub(crate) fn count_alone(index: &[i32], places: usize) -> u32
-    requires { length index.now ≤ most_elements }
+    requires { length index.now ≤ most_places }
     ensures { result ≡ count_outside places index.now }
 {
-    let end = places.min(MOST_PLACES) as u32;
+    let end = places.min(NAMED_PLACES) as u32;
     let mut count = 0;
     for i in index {
         if i.cast_unsigned() >= end {
@@ -40,7 +40,7 @@ pub(crate) fn count_outside<R: Threads + Sync>(
     index: &[i32],
     places: usize,
 ) -> u32
-    requires { length index.now ≤ most_elements }
+    requires { length index.now ≤ most_places }
     ensures { result ≡ count_outside places index.now }
 {
     if threads.get() < 2 {
@@ -64,16 +64,16 @@ fn count_both<R: Threads + Sync>(
 ) -> (u32, u32)
     requires some { (1 ≤ fewer) × (1 ≤ others) }
     requires share { length low.now ≡ share_of_first fewer (fewer + others) (length low.now + length high.now) }
-    requires in_limit { (length low.now ≤ most_elements) × (length high.now ≤ most_elements) }
+    requires in_limit { (length low.now ≤ most_places) × (length high.now ≤ most_places) }
     ensures low { result.0 ≡ count_outside places low.now }
     ensures high { result.1 ≡ count_outside places high.now }
 {
     let mut count_low = || -> u32
-        requires { IsSync R.row × (length low.now ≤ most_elements) }
+        requires { IsSync R.row × (length low.now ≤ most_places) }
         ensures { result ≡ count_outside places low.entry.now }
     { count_outside(rt, fewer, low, places) };
     let mut count_high = || -> u32
-        requires { IsSync R.row × (length high.now ≤ most_elements) }
+        requires { IsSync R.row × (length high.now ≤ most_places) }
         ensures { result ≡ count_outside places high.entry.now }
     { count_outside(rt, others, high, places) };
     join_mut(rt, &mut count_low, &mut count_high)

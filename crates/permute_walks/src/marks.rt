@@ -1,7 +1,7 @@
 //! Marks of places, 32 in a word.
 
 ghost use Rattle.std.specs.Prelude.{◌≡◌, ◌<◌, ◌≤◌, ◌/◌, Bool, List, count_ones, length, set, sum_by, true};
-ghost use Rattle.cvl_base.specs.Limits.{most_elements};
+ghost use Rattle.cvl_base.specs.Limits.{most_places};
 ghost use Rattle.permute_walks.specs.Marks.{mark_words, words_for};
 
 /// How many marks a word has.
@@ -29,7 +29,7 @@ pub(crate) fn mark(marks: &mut [u32], place: usize)
 /// How many places are marked.
 #[inline(never)]
 pub fn count_marks(marks: &[u32]) -> usize
-    requires few { length marks.now ≤ most_elements }
+    requires few { length marks.now ≤ most_places }
     ensures { result ≡ sum_by count_ones marks.now }
 {
     let mut count = 0;

@@ -5,7 +5,7 @@
 ghost use Rattle.std.specs.Prelude.{◌≡◌, ◌+◌, ◌*◌, ◌/◌, ◌≤◌, ℤ, List, Option, length, replicate, IfOk, IfSome, is_none, is_some};
 ghost use Rattle.std.specs.Prelude.{vec_len};
 ghost use Rattle.std.specs.Thread.{IsSend, IsSync};
-ghost use Rattle.cvl_base.specs.Limits.{most_elements};
+ghost use Rattle.cvl_base.specs.Limits.{most_places};
 ghost use Rattle.cvl_base.specs.Permutes.{first_fault, wrongs};
 ghost use Rattle.permute_walks.specs.Marks.{words_for};
 ghost use Rattle.permute_walks.specs.Senders.{count_sent, count_destinations, last_senders, senders_of, written_over};
@@ -45,7 +45,7 @@ trait Owner<T> {
     /// Writes and marks the places of one range, none of which is marked, and tells how many are marked then.
     fn write(&self, lowest: usize, out: &mut [T], marks: &mut [u32]) -> usize
         requires unmarked { marks.old ≡ replicate (words_for (length out.old)) 0 }
-        requires within { lowest + length out.old ≤ most_elements }
+        requires within { lowest + length out.old ≤ most_places }
         ensures written { out.new ≡ written_over (elements self.now)
             (last_senders 0 (destinations self.now) lowest (length out.old)) out.old }
         ensures count { result ≡ count_sent (last_senders 0 (destinations self.now) lowest (length out.old)) };
@@ -57,7 +57,7 @@ struct Sends<'a, T, D: Destinations> {
     source: &'a [T],
     destinations: &'a D,
     ghost sourced: { length source.now ≡ length (D.destinations destinations.now) },
-    ghost few: { length (D.destinations destinations.now) ≤ most_elements },
+    ghost few: { length (D.destinations destinations.now) ≤ most_places },
 }
 
 impl<'a, T: Copy, D: Destinations> Owner<T> for Sends<'a, T, D> {
@@ -84,7 +84,7 @@ fn write_ranges<T: Copy + Send, R: Threads + Sync, W: Owner<T> + Sync>(
     marks: &mut [u32],
 ) -> usize
     requires unmarked { marks.old ≡ replicate (words_for (length out.old)) 0 }
-    requires within { lowest + length out.old ≤ most_elements }
+    requires within { lowest + length out.old ≤ most_places }
     ensures written { out.new ≡ written_over (W.elements owner.now)
         (last_senders 0 (W.destinations owner.now) lowest (length out.old)) out.old }
     ensures count { result ≡ count_sent (last_senders 0 (W.destinations owner.now) lowest (length out.old)) }
@@ -122,7 +122,7 @@ fn write_both<T: Copy + Send, R: Threads + Sync, W: Owner<T> + Sync>(
     requires share { length low.old ≡ share_of_first fewer (fewer + others) (length low.old + length high.old) / 32 * 32 }
     requires unmarked { (low_marks.old ≡ replicate (words_for (length low.old)) 0)
         × (high_marks.old ≡ replicate (words_for (length high.old)) 0) }
-    requires within { (lowest + length low.old ≤ most_elements) × (middle + length high.old ≤ most_elements) }
+    requires within { (lowest + length low.old ≤ most_places) × (middle + length high.old ≤ most_places) }
     ensures low { low.new ≡ written_over (W.elements owner.now)
         (last_senders 0 (W.destinations owner.now) lowest (length low.old)) low.old }
     ensures high { high.new ≡ written_over (W.elements owner.now)
@@ -132,14 +132,14 @@ fn write_both<T: Copy + Send, R: Threads + Sync, W: Owner<T> + Sync>(
 {
     let mut write_low = || -> usize
         requires { IsSync R.row × IsSend T.row × IsSync W.row × (1 ≤ fewer)
-            × (low_marks.now ≡ replicate (words_for (length low.now)) 0) × (lowest + length low.now ≤ most_elements) }
+            × (low_marks.now ≡ replicate (words_for (length low.now)) 0) × (lowest + length low.now ≤ most_places) }
         ensures { (low.exit.now ≡ written_over (W.elements owner.entry.now)
             (last_senders 0 (W.destinations owner.entry.now) lowest (length low.entry.now)) low.entry.now)
             × (result ≡ count_sent (last_senders 0 (W.destinations owner.entry.now) lowest (length low.entry.now))) }
     { write_ranges(rt, owner, fewer, lowest, low, low_marks) };
     let mut write_high = || -> usize
         requires { IsSync R.row × IsSend T.row × IsSync W.row × (1 ≤ others)
-            × (high_marks.now ≡ replicate (words_for (length high.now)) 0) × (middle + length high.now ≤ most_elements) }
+            × (high_marks.now ≡ replicate (words_for (length high.now)) 0) × (middle + length high.now ≤ most_places) }
         ensures { (high.exit.now ≡ written_over (W.elements owner.entry.now)
             (last_senders 0 (W.destinations owner.entry.now) middle (length high.entry.now)) high.entry.now)
             × (result ≡ count_sent (last_senders 0 (W.destinations owner.entry.now) middle (length high.entry.now))) }
@@ -167,8 +167,8 @@ where
     D: Destinations + Sync,
     W: Writer<T> + Sync,
     requires sourced { length source.now ≡ length (D.destinations destinations.now) }
-    requires few { length (D.destinations destinations.now) ≤ most_elements }
-    requires few_places { places ≤ most_elements }
+    requires few { length (D.destinations destinations.now) ≤ most_places }
+    requires few_places { places ≤ most_places }
     requires whole { places ≡ length (W.whole before.now) }
     ensures written { IfOk result (λ found. IfSome found (λ v.
         v.items ≡ written_over source.now (senders_of 0 (D.destinations destinations.now) places) (W.whole before.now))) }

@@ -6,7 +6,7 @@
 
 ghost use Rattle.std.specs.Prelude.{◌≡◌, ◌+◌, ◌<◌, ◌≤◌, pos, List, true, length, replicate, slice_get, slice_index_or, take};
 ghost use Rattle.std.specs.Prelude.{Some, None};
-ghost use Rattle.cvl_base.specs.Limits.{most_elements};
+ghost use Rattle.cvl_base.specs.Limits.{most_places};
 ghost use Rattle.cvl_base.specs.Permutes.{destination_if};
 ghost use Rattle.permute_walks.specs.Marks.{mark_words, words_for};
 ghost use Rattle.permute_walks.specs.Senders.{IsWrittenTo, is_between, last_senders, places_between, sent_marks, written_over};
@@ -21,7 +21,7 @@ const BLOCK: usize = 1024;
 // Without its sign an index below 0, or one below `lowest`, is beyond the longest vector, so that one comparison is enough.
 #[inline]
 fn is_sent_between(index: &i32, takes_part: bool, lowest: u32, places: u32) -> bool
-    requires within { lowest + places ≤ most_elements }
+    requires within { lowest + places ≤ most_places }
     ensures { result ≡ is_between lowest (lowest + places) (destination_if index.now takes_part) }
 {
     takes_part & (index.cast_unsigned().wrapping_sub(lowest) < places)
@@ -39,8 +39,8 @@ fn count_block<D: Destinations>(
     places: u32,
 ) -> u32
     requires block { first + many ≤ length (D.destinations destinations.now) }
-    requires within { lowest + places ≤ most_elements }
-    requires in_limit { length (D.destinations destinations.now) ≤ most_elements }
+    requires within { lowest + places ≤ most_places }
+    requires in_limit { length (D.destinations destinations.now) ≤ most_places }
     ensures { result ≡ length (places_between (D.destinations destinations.now) lowest (lowest + places) first many) }
 {
     let mut count = 0;
@@ -66,8 +66,8 @@ fn list_block<D: Destinations>(
     list: &mut [u32],
 ) -> usize
     requires block { first + length list.old ≤ length (D.destinations destinations.now) }
-    requires within { lowest + places ≤ most_elements }
-    requires in_limit { length (D.destinations destinations.now) ≤ most_elements }
+    requires within { lowest + places ≤ most_places }
+    requires in_limit { length (D.destinations destinations.now) ≤ most_places }
     ensures listed { take result list.new ≡ places_between (D.destinations destinations.now) lowest (lowest + places) first
         (length list.old) }
     ensures in_length { result ≤ length list.new }
@@ -97,7 +97,7 @@ fn sent_from<T: Copy, D: Destinations>(
 ) -> (usize, T)
     requires sourced { length source.now ≡ length (D.destinations destinations.now) }
     requires inside { k < length (D.destinations destinations.now) }
-    requires within { lowest + places ≤ most_elements }
+    requires within { lowest + places ≤ most_places }
     requires sent { is_between lowest (lowest + places) (slice_index_or (D.destinations destinations.now) k None) ≡ true }
     ensures place { slice_index_or (D.destinations destinations.now) k None ≡ Some (pos (lowest + result.0)) }
     ensures inside { result.0 < places }
@@ -123,8 +123,8 @@ fn write_block<T: Copy, D: Destinations>(
     requires sourced { length source.now ≡ length (D.destinations destinations.now) }
     requires block { first + length list.old ≤ length (D.destinations destinations.now) }
     requires as_long { length marks.old ≡ words_for (length out.old) }
-    requires within { lowest + length out.old ≤ most_elements }
-    requires in_limit { length (D.destinations destinations.now) ≤ most_elements }
+    requires within { lowest + length out.old ≤ most_places }
+    requires in_limit { length (D.destinations destinations.now) ≤ most_places }
     ensures written { (old : List T) → length old ≡ length out.old
         → IsWrittenTo source.now (D.destinations destinations.now) lowest old first out.old marks.old
         → IsWrittenTo source.now (D.destinations destinations.now) lowest old (first + length list.old) out.new marks.new }
@@ -160,8 +160,8 @@ pub fn write_range<T: Copy, D: Destinations>(
 )
     requires sourced { length source.now ≡ length (D.destinations destinations.now) }
     requires unmarked { marks.old ≡ replicate (words_for (length out.old)) 0 }
-    requires within { lowest + length out.old ≤ most_elements }
-    requires in_limit { length (D.destinations destinations.now) ≤ most_elements }
+    requires within { lowest + length out.old ≤ most_places }
+    requires in_limit { length (D.destinations destinations.now) ≤ most_places }
     ensures written { out.new ≡ written_over source.now
         (last_senders 0 (D.destinations destinations.now) lowest (length out.old)) out.old }
     ensures marked { marks.new ≡ mark_words (sent_marks

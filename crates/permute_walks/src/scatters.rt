@@ -2,7 +2,7 @@
 //! sender would need four. The second writes each element to its index.
 
 ghost use Rattle.std.specs.Prelude.{◌≡◌, ◌≤◌, ◌↔◌, false, filter_map, length, replicate, slice_get, IfOk, IsTrue, None};
-ghost use Rattle.cvl_base.specs.Limits.{most_elements};
+ghost use Rattle.cvl_base.specs.Limits.{most_places};
 ghost use Rattle.cvl_base.specs.Permutes.{all_destinations, first_fault, wrongs};
 ghost use Rattle.permute_walks.specs.Senders.{last_senders, senders_of, sent_marks};
 
@@ -15,7 +15,7 @@ use cvl_base::{Memory, NoResources, true_count};
 #[inline(never)]
 fn mark_each(marks: &mut [bool], index: &[i32]) -> bool
     requires fresh { marks.old ≡ replicate (length marks.old) false }
-    requires in_limit { (length index.now ≤ most_elements) × (length marks.old ≤ most_elements) }
+    requires in_limit { (length index.now ≤ most_places) × (length marks.old ≤ most_places) }
     ensures marked { IsTrue result → marks.new ≡ sent_marks (last_senders 0 (all_destinations index.now) 0 (length marks.old)) }
     ensures inside { None ≡ first_fault 0 (wrongs (length marks.old) (all_destinations index.now)) → IsTrue result }
 {
@@ -33,7 +33,7 @@ fn mark_each(marks: &mut [bool], index: &[i32]) -> bool
 /// Whether each index names one of the places that are marked, and no two the same.
 fn are_apart(marks: &mut [bool], index: &[i32]) -> bool
     requires fresh { marks.old ≡ replicate (length marks.old) false }
-    requires in_limit { (length index.now ≤ most_elements) × (length marks.old ≤ most_elements) }
+    requires in_limit { (length index.now ≤ most_places) × (length marks.old ≤ most_places) }
     ensures { IsTrue result ↔ None ≡ first_fault 0 (wrongs (length marks.old) (all_destinations index.now)) }
 {
     mark_each(marks, index) && true_count(marks) == index.len()
@@ -42,7 +42,7 @@ fn are_apart(marks: &mut [bool], index: &[i32]) -> bool
 /// The first walk: whether the indices are a permutation of their own places, so that none is out of range or repeated.
 /// `NoResources` where there is no memory for a byte a place.
 pub fn is_permutation<A: Memory>(alloc: A, index: &[i32]) -> Result<bool, NoResources>
-    requires in_limit { length index.now ≤ most_elements }
+    requires in_limit { length index.now ≤ most_places }
     ensures { IfOk result (λ is.
         IsTrue is ↔ None ≡ first_fault 0 (wrongs (length index.now) (all_destinations index.now))) }
 {
@@ -53,7 +53,7 @@ pub fn is_permutation<A: Memory>(alloc: A, index: &[i32]) -> Result<bool, NoReso
 /// The same by marks of the caller's, one for each index. It does not matter what they hold.
 pub fn is_permutation_by(marks: &mut [bool], index: &[i32]) -> bool
     requires as_long { length marks.old ≡ length index.now }
-    requires in_limit { length index.now ≤ most_elements }
+    requires in_limit { length index.now ≤ most_places }
     ensures { IsTrue result ↔ None ≡ first_fault 0 (wrongs (length index.now) (all_destinations index.now)) }
 {
     marks.fill(false);
@@ -64,7 +64,7 @@ pub fn is_permutation_by(marks: &mut [bool], index: &[i32]) -> bool
 #[inline(never)]
 pub fn scatter_over<T: Copy>(source: &[T], index: &[i32], out: &mut [T])
     requires as_long { (length source.now ≡ length index.now) × (length out.old ≡ length index.now) }
-    requires in_limit { length index.now ≤ most_elements }
+    requires in_limit { length index.now ≤ most_places }
     requires apart { None ≡ first_fault 0 (wrongs (length index.now) (all_destinations index.now)) }
     ensures { out.new ≡ filter_map (slice_get source.now) (senders_of 0 (all_destinations index.now) (length index.now)) }
 {
