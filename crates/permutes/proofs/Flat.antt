@@ -5,7 +5,7 @@ use Rattle.std.proofs.lemmas.List.Elements.{All-weaker}
 use Rattle.cvl_base.specs.declared.fault.Fault.{Fault}
 use Rattle.cvl_base.specs.Elementwise.{if_as_long}
 use Rattle.cvl_base.specs.Gives.{unless}
-use Rattle.cvl_base.specs.Limits.{most_elements}
+use Rattle.cvl_base.specs.Limits.{most_places}
 use Rattle.cvl_base.specs.Packs.{count_of}
 use Rattle.cvl_base.specs.Permutes.{all_destinations, back_of, default_of, first_fault, flagged_destinations, select_of, sent_over, sent_to_all, simple_of, wrongs}
 use Rattle.permute_walks.specs.Indices.{elements_at, first_outside}
@@ -21,7 +21,7 @@ use Rattle.permutes.proofs.Told.{IsSent, IsSentOver, IsTold}
 -- ---- the calls
 
 flat_sent : {X : Type 0} (source : List X) (ts : List (Option ℤ)) (m : ℕ) (meaning : Result (List X) Fault) → meaning ≡ sent_to_all source ts m → length source ≡ length ts
-    → length source ≤ most_elements
+    → length source ≤ most_places
     → sum_by takes_part ts ≡ m → IsSent source meaning (first_fault 0 (wrongs m ts)) (senders_of 0 ts m) m
 flat_sent source ts m meaning is long few as_many = record {
   is = is ∙ ap (λ xs. unless (first_fault 0 (wrongs m ts)) (Ok xs)) (sym (taken_flat source ts m long (omega arith)));
@@ -30,7 +30,7 @@ flat_sent source ts m meaning is long few as_many = record {
   as_many = length-senders_of 0 ts m;
 }
 
-module _ {X : Type 0} (source : List X) (index : List ℤ) (long : length source ≡ length index) (few : length index ≤ most_elements) where
+module _ {X : Type 0} (source : List X) (index : List ℤ) (long : length source ≡ length index) (few : length index ≤ most_places) where
   pub simple_sent : IsSent source (simple_of source index) (first_fault 0 (wrongs (length index) (all_destinations index))) (senders_of 0 (all_destinations index) (length index)) (length index)
   simple_sent =
       flat_sent source (all_destinations index) (length index) (simple_of source index) (if_as_long-fits source index _ long) (long ∙ sym (length-all_destinations index)) (omega arith)

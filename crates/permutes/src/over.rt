@@ -5,7 +5,7 @@
 //! its result, and for the senders only to find its first fault; the others ask for the senders, 4 bytes a place.
 
 ghost use Rattle.std.specs.Prelude.{◌≤◌, length};
-ghost use Rattle.cvl_base.specs.Limits.{most_elements};
+ghost use Rattle.cvl_base.specs.Limits.{most_places};
 ghost use Rattle.cvl_base.specs.Permutes.{back_of, default_of, select_of, simple_of};
 ghost use Rattle.cvl_base.specs.Rooms.{Overwrites, OverwritesOr, in_room};
 
@@ -25,7 +25,7 @@ pub fn simple_over<T: Copy, A: Memory>(
     index: &[i32],
     out: &mut [T],
 ) -> Result<(), Refused>
-    requires in_limit { length index.now ≤ most_elements }
+    requires in_limit { length index.now ≤ most_places }
     ensures { OverwritesOr (in_room (length out.old) (simple_of source.now index.now)) result out.old out.new }
 {
     check_agree(source.len(), index.len())?;
@@ -46,7 +46,7 @@ pub fn select_over<T: Copy, A: Memory>(
     flags: &[bool],
     out: &mut [T],
 ) -> Result<(), Refused>
-    requires in_limit { length index.now ≤ most_elements }
+    requires in_limit { length index.now ≤ most_places }
     ensures { OverwritesOr (in_room (length out.old) (select_of source.now index.now flags.now)) result out.old out.new }
 {
     check_agree(source.len(), index.len())?;
@@ -64,7 +64,7 @@ pub fn default_into_over<T: Copy, A: Memory>(
     defaults: &[T],
     out: &mut [T],
 ) -> Result<(), Refused>
-    requires in_limit { length index.now ≤ most_elements }
+    requires in_limit { length index.now ≤ most_places }
     ensures { OverwritesOr (in_room (length out.old) (default_of source.now index.now defaults.now)) result out.old out.new }
 {
     check_agree(source.len(), index.len())?;
@@ -74,7 +74,7 @@ pub fn default_into_over<T: Copy, A: Memory>(
 
 /// The same as [`back`](crate::back), over a room.
 pub fn back_over<T: Copy>(source: &[T], index: &[i32], out: &mut [T]) -> Result<(), Fault>
-    requires in_limit { length index.now ≤ most_elements }
+    requires in_limit { length index.now ≤ most_places }
     ensures { Overwrites (in_room (length out.old) (back_of source.now index.now)) result out.old out.new }
 {
     check_places_alone(index, source.len(), 0)?;

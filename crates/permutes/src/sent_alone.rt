@@ -2,7 +2,7 @@
 
 ghost use Rattle.std.specs.Prelude.{◌≤◌, Ok, length};
 ghost use Rattle.cvl_base.specs.Gives.{Gives, unless};
-ghost use Rattle.cvl_base.specs.Limits.{most_elements};
+ghost use Rattle.cvl_base.specs.Limits.{most_places};
 ghost use Rattle.cvl_base.specs.Permutes.{first_fault, wrongs};
 ghost use Rattle.permute_walks.specs.Senders.{senders_of};
 
@@ -15,7 +15,7 @@ pub(crate) fn senders_alone<A: Memory, D: Destinations>(
     places: usize,
     destinations: &D,
 ) -> Result<Vec<u32, A>, Refused>
-    requires few { length (D.destinations destinations.now) ≤ most_elements }
+    requires few { length (D.destinations destinations.now) ≤ most_places }
     ensures { Gives (λ v. v.items) result (unless (first_fault 0 (wrongs places (D.destinations destinations.now)))
         (Ok (senders_of 0 (D.destinations destinations.now) places))) }
 {
