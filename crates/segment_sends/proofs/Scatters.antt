@@ -8,7 +8,7 @@ use Rattle.std.proofs.Math.Seq.{take-add}
 use borrow.Rule.Slice.PartMut.{put_mid, same_len_mid}
 use Rattle.cvl_base.specs.declared.fault.FaultNo.{FaultNo}
 use Rattle.cvl_base.specs.Faults.{fault_at}
-use Rattle.cvl_base.specs.Limits.{most_elements}
+use Rattle.cvl_base.specs.Limits.{most_places}
 use Rattle.cvl_base.specs.Permutes.{all_destinations, first_fault, wrongs}
 use Rattle.fresh.specs.Parts.{part, length_part}
 use Rattle.segdes.specs.Starts.{start_of}
@@ -73,7 +73,7 @@ module _ (lengths : List ℕ) (index : List ℤ) (total : sum lengths ≡ length
 
   -- ---- the room
 
-  module _ {X : Type 0} (source : List X) (sourced : length source ≡ length index) (few : length index ≤ most_elements) (right : None ≡ fault_from 0 parts) where
+  module _ {X : Type 0} (source : List X) (sourced : length source ≡ length index) (few : length index ≤ most_places) (right : None ≡ fault_from 0 parts) where
     abbrev whole : List X
     whole = permuted source parts source
 

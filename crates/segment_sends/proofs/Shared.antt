@@ -8,7 +8,7 @@ use Rattle.std.proofs.lemmas.Bool.{and_parts, false≢true}
 use Rattle.std.proofs.lemmas.List.{drop_all, drop_more, take-append-le, take_all, take-take}
 use Rattle.std.proofs.lemmas.List.Sums.{sum-map, sum_by_more, sum_by_more_le, sum_by-take-le}
 use Rattle.std.proofs.Math.Seq.{drop-append-add}
-use Rattle.cvl_base.specs.Limits.{most_elements}
+use Rattle.cvl_base.specs.Limits.{most_places}
 use Rattle.cvl_base.specs.Permutes.{first_fault, wrongs}
 use Rattle.cvl_base.proofs.Lists.{sum-cons}
 use Rattle.fresh.specs.Parts.{part, length_part}
@@ -201,7 +201,7 @@ module _ {X : Type 0} {w : Sending X} {begin end : ℕ} {old : Stretch X} (share
       pub walked_before : run.first + length run.items + n ≤ length w.before
       walked_before = omega (arith, width, run_end, ends_before, ends_last)
 
-      pub walked_limit : place + length ts ≤ most_elements
+      pub walked_limit : place + length ts ≤ most_places
       walked_limit = omega (arith, share.few, to.there, ahead_within (λ p. length p.1) parts s lt, ap (λ (p : ℕ × List (Option ℤ)). length p.1) is)
 
       pub walked_more : (new : Stretch X) → None ≡ first_fault place (wrongs n ts)
@@ -319,7 +319,7 @@ module _ {X : Type 0} {w : Sending X} {begin end : ℕ} {old : Stretch X} (share
 
 -- ---- all segments
 
-module _ {X : Type 0} {w : Sending X} {old : Stretch X} (few : destinations_in w.parts ≤ most_elements) (long : places_in w.parts ≡ length w.before) (within : AreWithin w.widest w.parts)
+module _ {X : Type 0} {w : Sending X} {old : Stretch X} (few : destinations_in w.parts ≤ most_places) (long : places_in w.parts ≡ length w.before) (within : AreWithin w.widest w.parts)
     {block : Ptr} (is : old ≡ stretch block 0 [] (length w.before)) {count : ℕ} (all : count ≡ length w.parts) where
   pub whole_share : IsShare w 0 count old
   whole_share = record {

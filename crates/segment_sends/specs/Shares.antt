@@ -3,7 +3,7 @@
 use Rattle.std.specs.Prelude.{◌≡◌, ℕ, ◌+◌, ◌<◌, ◌≤◌, ℤ, Bool, true, List, [], length, slice_index_or, take, drop, Option}
 use Rattle.fresh.specs.Parts.{part}
 use Rattle.fresh.specs.Places.{Stretch, stretch}
-use Rattle.cvl_base.specs.Limits.{most_elements}
+use Rattle.cvl_base.specs.Limits.{most_places}
 use Rattle.cvl_base.specs.declared.fault.Fault.{Fault}
 use Rattle.segment_sends.specs.Parts.{destinations_in, fault_from, places_in, senders_from}
 use Rattle.permute_walks.specs.Senders.{written_over}
@@ -36,7 +36,7 @@ sending source parts before widest = record { source = source; parts = parts; be
 
 -- The segments from `begin` up to before `end`, whose places an empty run has. What stands before has as many places as all parts.
 pub record IsShare {X : Type 0} (w : Sending X) (begin end : ℕ) (run : Stretch X) : Type 0 where
-  pub few : destinations_in w.parts ≤ most_elements
+  pub few : destinations_in w.parts ≤ most_places
   pub as_long : places_in w.parts ≡ length w.before
   pub within : AreWithin w.widest w.parts
   pub in_order : begin ≤ end

@@ -2,7 +2,7 @@
 //! by segment in the same bytes. The second writes each element to its index.
 
 ghost use Rattle.std.specs.Prelude.{◌≡◌, ◌≤◌, ◌↔◌, filter_map, length, slice_get, slice_index, sum, ℕ, ◌<◌, IfOk, IsTrue, None};
-ghost use Rattle.cvl_base.specs.Limits.{most_elements};
+ghost use Rattle.cvl_base.specs.Limits.{most_places};
 ghost use Rattle.segment_sends.specs.Parts.{fault_from, parts_of, senders_from};
 
 use crate::segments::longest;
@@ -16,7 +16,7 @@ use std::alloc::Allocator;
 fn are_permutations_by<A: Allocator>(marks: &mut [bool], index: &[i32], d: &SegDes<A>) -> bool
     requires total { sum d.now ≡ length index.now }
     requires wide { (s : ℕ) → s < length d.now → slice_index d.now s ≤ length marks.old }
-    requires in_limit { length index.now ≤ most_elements }
+    requires in_limit { length index.now ≤ most_places }
     ensures { IsTrue result ↔ None ≡ fault_from 0 (parts_of d.now d.now index.now) }
 {
     for s in 0..d.count() {
@@ -38,7 +38,7 @@ pub fn are_permutations<A: Memory>(
     d: &SegDes<A>,
 ) -> Result<bool, NoResources>
     requires total { sum d.now ≡ length index.now }
-    requires in_limit { length index.now ≤ most_elements }
+    requires in_limit { length index.now ≤ most_places }
     ensures { IfOk result (λ are. IsTrue are ↔ None ≡ fault_from 0 (parts_of d.now d.now index.now)) }
 {
     let mut marks = vec![in alloc; false; longest(d)]?;
@@ -55,7 +55,7 @@ pub fn scatter_segments_over<T: Copy, A: Allocator>(
 )
     requires total { sum d.now ≡ length index.now }
     requires as_long { (length source.now ≡ length index.now) × (length out.old ≡ length index.now) }
-    requires in_limit { length index.now ≤ most_elements }
+    requires in_limit { length index.now ≤ most_places }
     requires apart { None ≡ fault_from 0 (parts_of d.now d.now index.now) }
     ensures { out.new ≡ filter_map (slice_get source.now) (senders_from 0 (parts_of d.now d.now index.now)) }
 {

@@ -6,7 +6,7 @@ ghost use Rattle.std.specs.Prelude.{◌≡◌, ◌+◌, ◌≤◌, List, false, 
 ghost use denote.Param.Send.{Frees, IsSend, IsSync};
 ghost use Rattle.fresh.specs.Parts.{part};
 ghost use Rattle.fresh.specs.Places.{with_items};
-ghost use Rattle.cvl_base.specs.Limits.{most_elements};
+ghost use Rattle.cvl_base.specs.Limits.{most_places};
 ghost use Rattle.cvl_base.specs.Permutes.{first_fault, wrongs};
 ghost use Rattle.segdes.specs.Shares.{IsShareEnd};
 ghost use Rattle.segment_sends.specs.Parts.{destinations_in, fault_from, places_in};
@@ -59,7 +59,7 @@ fn push_segment<T: Copy, D: Destinations>(
 ) -> (Run<T>, bool)
     requires room { length senders.old ≤ run.room }
     requires within { run.first + length run.items + length senders.old ≤ length before.now }
-    requires in_limit { first + length (D.destinations destinations.now) ≤ most_elements }
+    requires in_limit { first + length (D.destinations destinations.now) ≤ most_places }
     ensures right { result.1 ≡ true → None ≡ first_fault first (wrongs (length senders.old) (D.destinations destinations.now)) }
     ensures pushed { result.1 ≡ true → result.0 ≡ with_items run (written_over source.now
         (senders_of first (D.destinations destinations.now) (length senders.old))
@@ -274,7 +274,7 @@ where
     A: Memory,
     P: Parts + Sync,
     requires cut { P.AreCut parts.now }
-    requires few { destinations_in (P.parts parts.now) ≤ most_elements }
+    requires few { destinations_in (P.parts parts.now) ≤ most_places }
     requires as_long { places_in (P.parts parts.now) ≡ length before.now }
     requires within { AreWithin widest (P.parts parts.now) }
     ensures right { IfOk result (λ found. IfSome found (λ _. None ≡ fault_from 0 (P.parts parts.now))) }

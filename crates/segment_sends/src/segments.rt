@@ -2,7 +2,7 @@
 
 ghost use Rattle.std.specs.Prelude.{◌≡◌, ◌<◌, ◌≤◌, ℕ, ℤ, List, [], length, map, OnOk, Option, replicate, slice_index};
 ghost use Rattle.std.specs.Prelude.{slice_index_or, take};
-ghost use Rattle.cvl_base.specs.Limits.{most_elements};
+ghost use Rattle.cvl_base.specs.Limits.{most_places};
 ghost use Rattle.segment_sends.specs.Parts.{fault_from, places_in, senders_from, destinations_in};
 ghost use Rattle.segment_sends.specs.Shares.{AreWithin};
 ghost use Rattle.permute_walks.specs.Senders.{nobody, fault_told};
@@ -136,7 +136,7 @@ pub struct FlaggedParts<'a, A: Allocator> {
 
 impl<'a, A: Memory> Parts for FlaggedParts<'a, A> {
     ghost use Rattle.std.specs.Prelude.{◌≡◌, ◌≤◌, length, sum};
-    ghost use Rattle.cvl_base.specs.Limits.{most_elements};
+    ghost use Rattle.cvl_base.specs.Limits.{most_places};
     ghost use Rattle.segment_sends.specs.Parts.{flagged_parts};
 
     type Part = FlaggedDestinations<'a>;
@@ -146,7 +146,7 @@ impl<'a, A: Memory> Parts for FlaggedParts<'a, A> {
     ghost parts = { λ p. flagged_parts p.d.now p.index.now p.flags.now };
 
     ghost AreCut = { λ p. (sum p.d.now ≡ length p.index.now) × (sum p.d.now ≡ length p.flags.now)
-        × (length p.flags.now ≤ most_elements) };
+        × (length p.flags.now ≤ most_places) };
 
     #[tactic(auto, using(crate::proofs::Through::flagged_long))]
     fn descriptor(&self) -> &SegDes<A> {
@@ -180,7 +180,7 @@ pub(crate) fn send_parts<P: Parts>(senders: &mut [u32], parts: &P) -> Result<(),
     requires cut { P.AreCut parts.now }
     requires fresh { senders.old ≡ replicate (length senders.old) nobody }
     requires as_long { places_in (P.parts parts.now) ≡ length senders.old }
-    requires in_limit { destinations_in (P.parts parts.now) ≤ most_elements }
+    requires in_limit { destinations_in (P.parts parts.now) ≤ most_places }
     ensures fault { fault_told result ≡ fault_from 0 (P.parts parts.now) }
     ensures sent { OnOk result (senders.new ≡ senders_from 0 (P.parts parts.now)) }
 {

@@ -2,7 +2,7 @@
 
 ghost use Rattle.std.specs.Prelude.{◌≡◌, ◌≤◌, Ok};
 ghost use Rattle.cvl_base.specs.Gives.{Gives, unless};
-ghost use Rattle.cvl_base.specs.Limits.{most_elements};
+ghost use Rattle.cvl_base.specs.Limits.{most_places};
 ghost use Rattle.segment_sends.specs.Parts.{destinations_in, fault_from, places_in, senders_from};
 
 use crate::segments::{Parts, send_parts};
@@ -17,7 +17,7 @@ pub fn segment_senders_alone<A: Memory, P: Parts>(
     parts: &P,
 ) -> Result<Vec<u32, A>, Refused>
     requires cut { P.AreCut parts.now }
-    requires few { destinations_in (P.parts parts.now) ≤ most_elements }
+    requires few { destinations_in (P.parts parts.now) ≤ most_places }
     requires whole { places_in (P.parts parts.now) ≡ places }
     ensures { Gives (λ v. v.items) result (unless (fault_from 0 (P.parts parts.now)) (Ok (senders_from 0 (P.parts parts.now)))) }
 {

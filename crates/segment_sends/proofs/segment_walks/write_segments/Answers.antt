@@ -1,5 +1,5 @@
 use Rattle.std.proofs.Common.{rules, ◌+◌, ◌≤◌, ◌∙◌, ap, arith, length, refl, subst, sym}
-use Rattle.cvl_base.specs.Limits.{most_elements}
+use Rattle.cvl_base.specs.Limits.{most_places}
 use Rattle.fresh.specs.Places.{Stretch, with_items}
 use Rattle.fresh.specs.Parts.{part}
 use Rattle.segment_sends.proofs.Shared.{walked_all, walked_bad, walked_before, walked_limit, walked_more, walked_none, walked_rest_within, walked_room, walked_within}
@@ -47,7 +47,7 @@ pub overflow_add-first : goal.overflow_add-first
 overflow_add-first g c =
     let share = c.requires.share in
     let limit = walked_limit share c.loop-s.auto.s (c.loop-s.auto.s-end share.in_order) c.loop-s.invariant c.loop-s-test.true c.part-places.ensures c.split_at_mut-buffer.ensures.front_len in
-    let within : c.loop-s.first + c.count-first.result ≤ most_elements = omega (arith, c.count-first.ensures, limit) in
+    let within : c.loop-s.first + c.count-first.result ≤ most_places = omega (arith, c.count-first.ensures, limit) in
     search rules
 
 pub loop-s-preserved : goal.loop-s-preserved
