@@ -9,7 +9,7 @@ use Rattle.cvl_base.specs.Faults.{fault}
 use Rattle.cvl_base.specs.Elementwise.{if_as_long}
 use Rattle.cvl_base.specs.Gives.{◌>>=◌, unless}
 use Rattle.cvl_base.specs.Lists.{joined}
-use Rattle.cvl_base.specs.Limits.{most_elements}
+use Rattle.cvl_base.specs.Limits.{most_places}
 use Rattle.cvl_base.specs.Nests.{cut_of, nest}
 use Rattle.cvl_base.specs.Packs.{count_of}
 use Rattle.cvl_base.specs.Permutes.{all_destinations, back_of, default_of, flagged_destinations, select_of, sent_over, sent_to_all, simple_of}
@@ -134,7 +134,7 @@ module _ {X : Type 0} (source : List X) (index : List ℤ) (lengths : List ℕ) 
       ap (end_to_end (in_vector lengths) (of_three default_of))
       (beside-differ (beside (nest lengths source) (nest lengths index)) segments widths defaults nested default_total (λ same. differ (sym many ∙ same)))
 
-  module _ (few : length index ≤ most_elements) where
+  module _ (few : length index ≤ most_places) where
     small : length source ≤ nobody
     small = omega (arith, total, index_total, few)
 

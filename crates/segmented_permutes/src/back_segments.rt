@@ -4,7 +4,7 @@
 ghost use Rattle.std.specs.Prelude.{◌≡◌, ◌+◌, ◌-◌, ◌<◌, ◌≤◌, ◌++◌, [], length, map, slice_index_or, sum};
 ghost use Rattle.fresh.specs.Parts.{part};
 ghost use Rattle.fresh.specs.Places.{stretch};
-ghost use Rattle.cvl_base.specs.Limits.{most_elements};
+ghost use Rattle.cvl_base.specs.Limits.{most_places};
 ghost use Rattle.permute_walks.specs.Senders.{fault_told};
 ghost use Rattle.segmented_permutes.specs.Backs.{IsSegmentedBack, lists_at, outside_from};
 
@@ -26,7 +26,7 @@ pub(crate) fn check_segments<L: Look, A: Allocator>(
     requires allowed { L.MayLook looker.now }
     requires total { sum index_d.now ≡ length index.now }
     requires count { length source_d.now ≡ length index_d.now }
-    requires in_limit { length index.now ≤ most_elements }
+    requires in_limit { length index.now ≤ most_places }
     ensures { fault_told result ≡ outside_from 0 source_d.now index_d.now index.now }
 {
     for s in 0..index_d.count() {

@@ -2,7 +2,7 @@
 //! permute is that of a flat one at them.
 
 ghost use Rattle.std.specs.Prelude.{◌≡◌, ◌+◌, ◌≤◌, ◌++◌, IfOk, length, map, vec_capacity, vec_len};
-ghost use Rattle.cvl_base.specs.Limits.{most_elements};
+ghost use Rattle.cvl_base.specs.Limits.{most_places};
 ghost use Rattle.segmented_permutes.specs.FlatIndices.{flat_index, flat_indices};
 ghost use Rattle.segment_sends.specs.Parts.{destinations_in, places_in};
 
@@ -17,7 +17,7 @@ const OUTSIDE: i32 = -1;
 /// The flat index of an index into a segment of so many places, the first of which is place `start` of the whole.
 #[inline]
 fn flat_index(start: usize, places: usize, index: &i32) -> i32
-    requires { start + places ≤ most_elements }
+    requires { start + places ≤ most_places }
     ensures { result ≡ flat_index start places index.now }
 {
     match place_among(places, index) {
@@ -29,7 +29,7 @@ fn flat_index(start: usize, places: usize, index: &i32) -> i32
 /// Pushes the flat index of each index into such a segment. There must be room for them.
 fn push_flat<A: Allocator>(flat: &mut Vec<i32, A>, start: usize, places: usize, segment: &[i32])
     requires room { vec_len flat.old + length segment.now ≤ vec_capacity flat.old }
-    requires in_limit { start + places ≤ most_elements }
+    requires in_limit { start + places ≤ most_places }
     ensures pushed { flat.new.items ≡ flat.old.items ++ map (flat_index start places) segment.now }
     ensures as_long { vec_len flat.new ≡ vec_len flat.old + length segment.now }
     ensures capacity { vec_capacity flat.new ≡ vec_capacity flat.old }
@@ -47,7 +47,7 @@ pub(crate) fn flat_indices<P: Parts, A: Memory>(
 ) -> Result<Vec<i32, A>, NoResources>
     requires cut { P.AreCut parts.now }
     requires as_long { destinations_in (P.parts parts.now) ≡ length index.now }
-    requires in_limit { places_in (P.parts parts.now) ≤ most_elements }
+    requires in_limit { places_in (P.parts parts.now) ≤ most_places }
     ensures are { IfOk result (λ flat. flat.items ≡ flat_indices 0 (P.parts parts.now) index.now) }
     ensures as_long { IfOk result (λ flat. length flat.items ≡ length index.now) }
 {

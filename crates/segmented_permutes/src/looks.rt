@@ -2,7 +2,7 @@
 //! are many, or the thread that calls.
 
 ghost use Rattle.std.specs.Prelude.{◌≡◌, ◌+◌, ◌≤◌, length};
-ghost use Rattle.cvl_base.specs.Limits.{most_elements};
+ghost use Rattle.cvl_base.specs.Limits.{most_places};
 ghost use Rattle.permute_walks.specs.Indices.{first_outside};
 ghost use Rattle.permute_walks.specs.Senders.{fault_told};
 
@@ -17,7 +17,7 @@ pub(crate) trait Look {
     /// `IndexOutOfRange` at the first place whose index is none of so many places. The first index stands at place `first`.
     fn look(&self, index: &[i32], places: usize, first: usize) -> Result<(), Fault>
         requires allowed { MayLook self.now }
-        requires in_limit { first + length index.now ≤ most_elements }
+        requires in_limit { first + length index.now ≤ most_places }
         ensures { fault_told result ≡ first_outside first places index.now };
 }
 

@@ -5,7 +5,7 @@
 //! its longest segment, and for the senders only to find its first fault; the others ask for the senders, 4 bytes a place.
 
 ghost use Rattle.std.specs.Prelude.{◌≤◌, length};
-ghost use Rattle.cvl_base.specs.Limits.{most_elements};
+ghost use Rattle.cvl_base.specs.Limits.{most_places};
 ghost use Rattle.cvl_base.specs.Rooms.{Overwrites, OverwritesOr, in_room};
 ghost use Rattle.cvl_base.specs.SegmentedCalls.{seg_back_of, seg_default_of, seg_select_of, seg_simple_of};
 
@@ -28,7 +28,7 @@ pub fn seg_simple_over<T: Copy, A: Memory>(
     d: &SegDes<A>,
     out: &mut [T],
 ) -> Result<(), Refused>
-    requires in_limit { length index.now ≤ most_elements }
+    requires in_limit { length index.now ≤ most_places }
     ensures { OverwritesOr (in_room (length out.old) (seg_simple_of source.now index.now d.now)) result out.old out.new }
 {
     check_total(source, d)?;
@@ -56,7 +56,7 @@ pub fn seg_select_over<T: Copy, A: Memory>(
     d: &SegDes<A>,
     out: &mut [T],
 ) -> Result<(), Refused>
-    requires in_limit { length index.now ≤ most_elements }
+    requires in_limit { length index.now ≤ most_places }
     ensures { OverwritesOr (in_room (length out.old) (seg_select_of source.now index.now flags.now d.now))
         result out.old out.new }
 {
@@ -79,7 +79,7 @@ pub fn seg_default_into_over<T: Copy, A: Memory>(
     default_d: &SegDes<A>,
     out: &mut [T],
 ) -> Result<(), Refused>
-    requires in_limit { length index.now ≤ most_elements }
+    requires in_limit { length index.now ≤ most_places }
     ensures { OverwritesOr (in_room (length out.old)
         (seg_default_of source.now index.now defaults.now source_d.now default_d.now))
         result out.old out.new }
@@ -105,7 +105,7 @@ pub fn seg_back_over<T: Copy, A: Allocator>(
     index_d: &SegDes<A>,
     out: &mut [T],
 ) -> Result<(), Fault>
-    requires in_limit { length index.now ≤ most_elements }
+    requires in_limit { length index.now ≤ most_places }
     ensures { Overwrites (in_room (length out.old) (seg_back_of source.now index.now source_d.now index_d.now))
         result out.old out.new }
 {
