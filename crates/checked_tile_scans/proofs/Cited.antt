@@ -30,7 +30,7 @@ pub use Rattle.cvl_base.specs.Faults.{fault_at}
 pub use Rattle.cvl_base.specs.Gives.{Gives}
 pub use Rattle.cvl_base.specs.Integers.{sum_of, wrap}
 pub use Rattle.cvl_base.specs.ItemWords.{is_number, is_word}
-pub use Rattle.cvl_base.specs.Limits.{most_elements}
+pub use Rattle.cvl_base.specs.Limits.{most_elements, most_places}
 pub use Rattle.operators.specs.Exact.{total_of}
 pub use Rattle.operators.specs.ExactLaws.{exact_laws, InWords, word-in}
 pub use Rattle.operators.specs.NumberLaws.{number_words}

@@ -1,4 +1,4 @@
-use Rattle.checked_tile_scans.proofs.Cited.{◌≤◌, ◌∙◌, length, map, ap, sym, arith, Ok, Err, length-map, fitting, wrap, most_elements}
+use Rattle.checked_tile_scans.proofs.Cited.{◌≤◌, ◌∙◌, length, map, ap, sym, arith, Ok, Err, length-map, fitting, wrap, most_places}
 use Rattle.std.proofs.Math.Facts.{Fits-below}
 use Rattle.checked_tile_scans.specs.Checked.{segment_totals}
 use Rattle.checked_tile_scans.proofs.FirstWithout.{all_fit, fails_first, found_within}
@@ -23,7 +23,7 @@ overflow_cast-place g c =
     let xs = c.args.vector.now.elements.now in
     let totals = segment_totals d xs in
     let within = found_within 0 c.in-Some.place (map fitting totals) (sym c.in_ok-written.ensures.found ∙ c.in-Some.is) in
-    let small : c.in-Some.place ≤ most_elements = omega (arith, within, length-map totals fitting, length-segment_totals d xs, c.count.ensures.value, c.count.ensures.in_limit) in
+    let small : c.in-Some.place ≤ most_places = omega (arith, within, length-map totals fitting, length-segment_totals d xs, c.count.ensures.value, c.count.ensures.in_limit) in
     Fits-below tt small
 
 pub returns-in-Some-clause-values : goal.returns-in-Some-clause-values
