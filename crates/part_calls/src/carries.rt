@@ -11,7 +11,7 @@ use cvl_base::monoids::Add;
 use cvl_base::{Fault, FaultNo};
 use scan_walks::{fitting, fitting_of_scan, know_numbers, scan_over, total};
 
-/// What the integers add up to. It fits 54 bits.
+/// What the integers add up to. It fits 63 bits.
 pub fn exact_sum(a: &[i32]) -> Result<i64, Fault>
     ensures { result ≡ few_enough (length a.now) (Ok (total_of a.now)) }
 {

@@ -5,7 +5,7 @@
 //! A default permute's range is that of a simple permute, over a room that holds the defaults.
 
 ghost use Rattle.std.specs.Prelude.{◌≡◌, ◌+◌, ◌≤◌, length};
-ghost use Rattle.cvl_base.specs.Limits.{most_elements};
+ghost use Rattle.cvl_base.specs.Limits.{most_places};
 ghost use Rattle.permute_walks.specs.Marks.{words_for};
 ghost use Rattle.part_calls.specs.Ranges.{WritesRange, count_of_range, marks_of_range, room_of_range, select_range_of};
 ghost use Rattle.part_calls.specs.Ranges.{simple_range_of};
@@ -25,8 +25,8 @@ fn write_counted<T: Copy, D: Destinations>(
     marks: &mut [u32],
 ) -> usize
     requires sourced { length source.now ≡ length (D.destinations destinations.now) }
-    requires few { length (D.destinations destinations.now) ≤ most_elements }
-    requires within { lowest + length out.old ≤ most_elements }
+    requires few { length (D.destinations destinations.now) ≤ most_places }
+    requires within { lowest + length out.old ≤ most_places }
     requires as_long { words_for (length out.old) ≡ length marks.old }
     ensures written { out.new ≡ room_of_range source.now (D.destinations destinations.now) lowest out.old }
     ensures marked { marks.new ≡ marks_of_range (D.destinations destinations.now) lowest (length out.old) }
@@ -41,7 +41,7 @@ fn write_counted<T: Copy, D: Destinations>(
 /// these places, and tells how many they are. The room has the range's length, and the marks have a bit for each place of it, 32
 /// in a word, the lowest first; it does not matter what they hold before, and the bits behind the last place become 0.
 ///
-/// TooLong, without a place, where there are more than 4,194,304 indices or the range ends behind as many places; LengthMismatch,
+/// TooLong, without a place, where there are more than 2,147,483,647 indices or the range ends behind as many places; LengthMismatch,
 /// without a place, where source and index differ in length, or there are not just as many words of marks as the room's places
 /// take.
 pub fn simple_range<T: Copy>(

@@ -5,7 +5,7 @@ ghost use Rattle.cvl_base.specs.Gives.{Gives};
 ghost use Rattle.cvl_base.specs.Limits.{most_elements};
 ghost use Rattle.part_calls.specs.Pieces.{piece_of};
 
-use crate::limits::check_few;
+use crate::limits::check_words;
 use call_reader::read_vector_alone;
 use cvl_base::{Fault, Memory, Refused};
 
@@ -29,7 +29,7 @@ fn moved(fault: Fault, before: usize) -> Fault
 pub fn read_piece<A: Memory>(alloc: A, before: usize, text: &[u8]) -> Result<Vec<i32, A>, Refused>
     ensures { Gives (λ v. v.items) result (piece_of before text.now) }
 {
-    check_few(before)?;
+    check_words(before)?;
     match read_vector_alone(alloc, text) {
         Ok(numbers) => Ok(numbers),
         Err(Refused::Fault(fault)) => Err(Refused::Fault(moved(fault, before))),

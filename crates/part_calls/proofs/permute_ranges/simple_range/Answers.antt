@@ -1,6 +1,6 @@
 use Rattle.std.proofs.Common.{◌∙◌, ◌+◌, Ok, arith, eq-eqb, length, sym}
 use Rattle.std.proofs.lemmas.Bool.{le-ltb}
-use Rattle.cvl_base.specs.Limits.{most_elements}
+use Rattle.cvl_base.specs.Limits.{most_places}
 use Rattle.cvl_base.proofs.Permutes.{length-all_destinations}
 use Rattle.permute_walks.specs.Marks.{words_for}
 use Rattle.part_calls.proofs.permute_ranges.simple_range.Goals as goal
@@ -15,8 +15,8 @@ pub returns : goal.returns
 returns g c =
     let told = c.write_counted.ensures in let index = c.args.index.now in let out = c.args.out.now in
     rw (
-      le-ltb most_elements (length index) c.in_ok-check_few.ensures,
-      le-ltb most_elements (c.args.lowest + length out) c.in_ok-check_end.ensures,
+      le-ltb most_places (length index) c.in_ok-check_few.ensures,
+      le-ltb most_places (c.args.lowest + length out) c.in_ok-check_end.ensures,
       eq-eqb (length c.args.source.now) (length index) c.in_ok-check_agree.ensures,
       eq-eqb (words_for (length out)) (length c.args.marks.now) (sym c.words_for.ensures ∙ c.in_ok-check_agree-2.ensures),
     )
