@@ -1,16 +1,12 @@
--- That a part lies within the longest vector, and a piece within the longest text.
+-- That a part lies within the longest vector.
 -- Source: this library's profile.
 use Rattle.std.specs.Prelude.{ℕ, nat_lt, Result}
 use Rattle.cvl_base.specs.declared.fault.Fault.{Fault}
 use Rattle.cvl_base.specs.declared.fault.FaultNo.TheVariants as no
 use Rattle.cvl_base.specs.Faults.{fault}
 use Rattle.cvl_base.specs.Gives.{fault_if}
-use Rattle.cvl_base.specs.Limits.{most_elements, most_places}
+use Rattle.cvl_base.specs.Limits.{most_places}
 
 -- the call, where so many are no more than a vector may have elements
 abbrev pub few_enough : {Y : Type 0} → ℕ → Result Y Fault → Result Y Fault
 few_enough count call = fault_if (nat_lt most_places count) (fault no.TooLong) call
-
--- the call, where so many are no more than the words that a text may have
-abbrev pub few_words : {Y : Type 0} → ℕ → Result Y Fault → Result Y Fault
-few_words count call = fault_if (nat_lt most_elements count) (fault no.TooLong) call

@@ -4,8 +4,8 @@ use Rattle.std.specs.Prelude.{ℕ, ℤ, ◌+◌, List, Result}
 use Rattle.cvl_base.specs.declared.fault.Fault.{Fault}
 use Rattle.cvl_base.specs.Segmented.{moved}
 use Rattle.call_reader.specs.Inputs.{input_of}
-use Rattle.part_calls.specs.Limits.{few_words}
+use Rattle.part_calls.specs.Limits.{few_enough}
 
 -- the integers of a piece, behind so many words of the pieces before it, or its fault, at its place in the whole text
 abbrev pub piece_of : ℕ → List ℕ → Result (List ℤ) Fault
-piece_of before bytes = few_words before (moved (λ place. before + place) (input_of bytes))
+piece_of before bytes = few_enough before (moved (λ place. before + place) (input_of bytes))

@@ -1,11 +1,11 @@
-//! That a part lies within the longest vector, and a piece within the longest text.
+//! That a part lies within the longest vector.
 
 ghost use Rattle.std.specs.Prelude.{◌≡◌, ◌≤◌, ◌<◌, ◌+◌, MatchResult};
 ghost use Rattle.cvl_base.specs.declared.fault.FaultNo.TheVariants as no;
 ghost use Rattle.cvl_base.specs.Faults.{fault};
-ghost use Rattle.cvl_base.specs.Limits.{most_elements, most_places};
+ghost use Rattle.cvl_base.specs.Limits.{most_places};
 
-use cvl_base::limits::{MOST_ELEMENTS, MOST_PLACES};
+use cvl_base::limits::MOST_PLACES;
 use cvl_base::{Fault, FaultNo};
 
 /// Checks that there are at most 2,147,483,647, else TooLong, without a place.
@@ -25,16 +25,6 @@ pub(crate) fn check_end(lowest: usize, count: usize) -> Result<(), Fault>
 {
     check_few(lowest)?;
     if count > MOST_PLACES - lowest {
-        return Err(Fault::new(FaultNo::TooLong));
-    }
-    Ok(())
-}
-
-/// Checks that there are at most 4,194,304 words of a text, else TooLong, without a place.
-pub(crate) fn check_words(count: usize) -> Result<(), Fault>
-    ensures { MatchResult result (λ _. count ≤ most_elements) (λ f. (f ≡ fault no.TooLong) × (most_elements < count)) }
-{
-    if count > MOST_ELEMENTS {
         return Err(Fault::new(FaultNo::TooLong));
     }
     Ok(())

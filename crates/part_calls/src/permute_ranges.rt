@@ -41,9 +41,9 @@ fn write_counted<T: Copy, D: Destinations>(
 /// these places, and tells how many they are. The room has the range's length, and the marks have a bit for each place of it, 32
 /// in a word, the lowest first; it does not matter what they hold before, and the bits behind the last place become 0.
 ///
-/// TooLong, without a place, where there are more than 2,147,483,647 indices or the range ends behind as many places; LengthMismatch,
-/// without a place, where source and index differ in length, or there are not just as many words of marks as the room's places
-/// take.
+/// TooLong, without a place, where there are more than 2,147,483,647 indices or the range ends behind as many places;
+/// LengthMismatch, without a place, where source and index differ in length, or there are not just as many words of marks as the
+/// room's places take.
 pub fn simple_range<T: Copy>(
     source: &[T],
     index: &[i32],
