@@ -8,28 +8,27 @@ use Rattle.std.proofs.lemmas.List.Sums.{sum_by_more_le}
 use Rattle.std.proofs.lemmas.Slice.Zip.{get_or-zip, length-zip}
 use Rattle.cvl_base.specs.declared.fault.Fault.{Fault}
 use Rattle.cvl_base.specs.declared.fault.FaultNo.TheVariants as no
-use Rattle.cvl_base.specs.Distributes.{distribute_of, index_of}
+use Rattle.cvl_base.specs.Distributes.{distribute_within, index_within}
 use Rattle.cvl_base.specs.Faults.{fault}
 use Rattle.cvl_base.specs.Gives.{◌>>=◌}
 use Rattle.cvl_base.specs.Integers.{wrap}
-use Rattle.cvl_base.specs.Limits.{most_elements}
 use Rattle.cvl_base.specs.Lists.{joined}
 use Rattle.cvl_base.specs.Segmented.{beside, of_two, of_three, in_vector, end_to_end, moved, results_from}
-use Rattle.cvl_base.specs.SegmentedCalls.{seg_index_of}
-use Rattle.cvl_base.proofs.Distributes.{as_length-fits}
+use Rattle.cvl_base.specs.SegmentedCalls.{seg_index_within}
+use Rattle.cvl_base.proofs.Distributes.{length_within-fits}
 use Rattle.cvl_base.proofs.Lists.{sum-cons}
 use Rattle.cvl_base.proofs.Segmented.{beside-fits, beside-misfits}
 use Rattle.pack_dist.specs.Lists.{progressions_of}
 use Rattle.pack_dist.specs.Progressions.{progression}
 use Rattle.segdes.proofs.ListRuns.{whole-long}
 
--- a call of an argument and a length gives a list of that length where this is no longer than any vector
-pub record GivesLists {S X : Type 0} (call : S × ℕ → Result (List X) Fault) (list : S × ℕ → List X) : Type 0 where
-  pub gives : (x : S) (n : ℕ) → n ≤ most_elements → call (x, n) ≡ Ok (list (x, n))
+-- a call of an argument and a length gives a list of that length where this is no longer than the longest vector
+pub record GivesLists {S X : Type 0} (most : ℕ) (call : S × ℕ → Result (List X) Fault) (list : S × ℕ → List X) : Type 0 where
+  pub gives : (x : S) (n : ℕ) → n ≤ most → call (x, n) ≡ Ok (list (x, n))
   pub long : (x : S) (n : ℕ) → length (list (x, n)) ≡ n
 
-module _ {S X : Type 0} {call : S × ℕ → Result (List X) Fault} {list : S × ℕ → List X} (is : GivesLists call list) where
-  each-fits : (place : ℕ → ℕ → ℕ) (s : ℕ) (xs : List S) (lengths : List ℕ) → sum lengths ≤ most_elements → results_from place call s (zip xs lengths) ≡ Ok (map list (zip xs lengths))
+module _ {S X : Type 0} {most : ℕ} {call : S × ℕ → Result (List X) Fault} {list : S × ℕ → List X} (is : GivesLists most call list) where
+  each-fits : (place : ℕ → ℕ → ℕ) (s : ℕ) (xs : List S) (lengths : List ℕ) → sum lengths ≤ most → results_from place call s (zip xs lengths) ≡ Ok (map list (zip xs lengths))
   each-fits place s [] lengths small = refl
   each-fits place s (x ∷ xs) [] small = refl
   each-fits place s (x ∷ xs) (n ∷ ns) small =
@@ -46,7 +45,7 @@ module _ {S X : Type 0} {call : S × ℕ → Result (List X) Fault} {list : S ×
     pub lists-whole : sum lengths ≡ length (joined (map list (zip xs lengths)))
     lists-whole = sym (whole-long (map list (zip xs lengths)) lengths (lists-long xs lengths same))
 
-    pub lists-fit : sum lengths ≤ most_elements → end_to_end (in_vector lengths) call (beside (Ok xs) (Ok lengths)) ≡ Ok (joined (map list (zip xs lengths)))
+    pub lists-fit : sum lengths ≤ most → end_to_end (in_vector lengths) call (beside (Ok xs) (Ok lengths)) ≡ Ok (joined (map list (zip xs lengths)))
     lists-fit small =
         ap (end_to_end (in_vector lengths) call) (beside-fits xs lengths same)
         ∙ ap (λ r. r >>= λ lists. Ok (joined lists)) (each-fits (in_vector lengths) 0 xs lengths small)
@@ -67,9 +66,9 @@ module _ {S X : Type 0} {call : S × ℕ → Result (List X) Fault} {list : S ×
 
 -- ---- copies of a value
 
-pub copies : {X : Type 0} → GivesLists {S = X} {X = X} (of_two (λ value n. distribute_of value (pos n))) (λ p. replicate p.1 p.0)
-copies = record {
-  gives = λ value n small. ap (λ r. r >>= λ k. Ok (replicate k value)) (as_length-fits n small);
+pub copies : {X : Type 0} → (most : ℕ) → GivesLists {S = X} {X = X} most (of_two (λ value n. distribute_within most value (pos n))) (λ p. replicate p.1 p.0)
+copies most = record {
+  gives = λ value n small. ap (λ r. r >>= λ k. Ok (replicate k value)) (length_within-fits most n small);
   long = λ value n. length-replicate n value;
 }
 
@@ -78,9 +77,9 @@ copies = record {
 pub progression-long : (init stride : ℤ) (n : ℕ) → length (progression init stride n) ≡ n
 progression-long init stride n = length-map-range_with_len (λ k. wrap (init +ℤ pos k *ℤ stride)) 0 n
 
-pub numbers : GivesLists (of_three (λ init stride n. index_of init stride (pos n))) (λ p. progression p.0.0 p.0.1 p.1)
-numbers = record {
-  gives = λ p n small. ap (λ r. r >>= λ k. Ok (progression p.0 p.1 k)) (as_length-fits n small);
+pub numbers : (most : ℕ) → GivesLists most (of_three (λ init stride n. index_within most init stride (pos n))) (λ p. progression p.0.0 p.0.1 p.1)
+numbers most = record {
+  gives = λ p n small. ap (λ r. r >>= λ k. Ok (progression p.0 p.1 k)) (length_within-fits most n small);
   long = λ p n. progression-long p.0 p.1 n;
 }
 
@@ -88,20 +87,20 @@ numbers = record {
 pub in-steps : (inits strides : List ℤ) (lengths : List ℕ) → length (zip inits strides) ≡ length lengths → (s : ℕ) → s < length (progressions_of inits strides lengths)
     → (s < length inits) × (s < length strides)
 in-steps inits strides lengths same s lt =
-    let both = in-both numbers (zip inits strides) lengths same s lt in (omega (arith, both, length-zip inits strides), omega (arith, both, length-zip inits strides))
+    let both = in-both (numbers 0) (zip inits strides) lengths same s lt in (omega (arith, both, length-zip inits strides), omega (arith, both, length-zip inits strides))
 
-module _ (inits strides : List ℤ) (lengths : List ℕ) (pairs : length inits ≡ length strides) where
+module _ (most : ℕ) (inits strides : List ℤ) (lengths : List ℕ) (pairs : length inits ≡ length strides) where
   pub steps-long : length (zip inits strides) ≡ length inits
   steps-long = omega (arith, pairs, length-zip inits strides)
 
   abbrev call : Result (List (ℤ × ℤ)) Fault → Result (List ℤ) Fault
-  call steps = end_to_end (in_vector lengths) (of_three (λ init stride n. index_of init stride (pos n))) (beside steps (Ok lengths))
+  call steps = end_to_end (in_vector lengths) (of_three (λ init stride n. index_within most init stride (pos n))) (beside steps (Ok lengths))
 
-  pub index-misfits : length inits ≢ length lengths → seg_index_of inits strides lengths ≡ Err (fault no.LengthMismatch)
+  pub index-misfits : length inits ≢ length lengths → seg_index_within most inits strides lengths ≡ Err (fault no.LengthMismatch)
   index-misfits unlike =
       ap call (beside-fits inits strides pairs)
-      ∙ ap (end_to_end (in_vector lengths) (of_three (λ init stride n. index_of init stride (pos n))))
+      ∙ ap (end_to_end (in_vector lengths) (of_three (λ init stride n. index_within most init stride (pos n))))
       (beside-misfits (zip inits strides) lengths (λ same. unlike (sym steps-long ∙ same)))
 
-  pub index-fits : length inits ≡ length lengths → sum lengths ≤ most_elements → seg_index_of inits strides lengths ≡ Ok (joined (progressions_of inits strides lengths))
-  index-fits same small = ap call (beside-fits inits strides pairs) ∙ lists-fit numbers (zip inits strides) lengths (steps-long ∙ same) small
+  pub index-fits : length inits ≡ length lengths → sum lengths ≤ most → seg_index_within most inits strides lengths ≡ Ok (joined (progressions_of inits strides lengths))
+  index-fits same small = ap call (beside-fits inits strides pairs) ∙ lists-fit (numbers most) (zip inits strides) lengths (steps-long ∙ same) small

@@ -1,24 +1,23 @@
 //! The length that a count asks for, and the place that the index of a segment names.
 
 ghost use Rattle.std.specs.Prelude.{◌≡◌, ℕ, ◌+◌, ◌<◌, ◌≤◌, pos, IfOk, MatchResult};
-ghost use Rattle.cvl_base.specs.Distributes.{as_length};
+ghost use Rattle.cvl_base.specs.Distributes.{length_within};
 ghost use Rattle.cvl_base.specs.Faults.{fault_at};
-ghost use Rattle.cvl_base.specs.Limits.{most_elements};
+ghost use Rattle.cvl_base.specs.Limits.{most_places};
 ghost use Rattle.cvl_base.specs.declared.fault.FaultNo.TheVariants as no;
 
-use cvl_base::limits::MOST_ELEMENTS;
 use cvl_base::{Fault, FaultNo, place_among};
 
-/// The length that a count asks for: NegativeLength where it is negative, TooLong where it is above 4,194,304.
-pub(crate) fn length_for(count: &i32) -> Result<usize, Fault>
-    ensures value { result ≡ as_length count.now }
-    ensures in_limit { IfOk result (λ length. length ≤ most_elements) }
+/// The length that a count asks for: NegativeLength where it is negative, TooLong where it is above `most`.
+pub(crate) fn length_for(count: &i32, most: usize) -> Result<usize, Fault>
+    ensures value { result ≡ length_within most count.now }
+    ensures in_limit { IfOk result (λ length. length ≤ most) }
 {
     if *count < 0 {
         return Err(Fault::new(FaultNo::NegativeLength));
     }
     let length = *count as usize;
-    if length > MOST_ELEMENTS {
+    if length > most {
         return Err(Fault::new(FaultNo::TooLong));
     }
     Ok(length)
@@ -32,8 +31,8 @@ pub(crate) fn place_in_segment(
     length: usize,
     index: &i32,
 ) -> Result<usize, Fault>
-    requires few { s < most_elements }
-    requires in_limit { start + length ≤ most_elements }
+    requires few { s < most_places }
+    requires in_limit { start + length ≤ most_places }
     ensures within { IfOk result (λ place. place < start + length) }
     ensures named { MatchResult result
         (λ place. (k : ℕ) × (k < length) × (index.now ≡ pos k) × (place ≡ start + k))

@@ -1,10 +1,10 @@
 //! How many flags are true: of all, before each one, and of each segment.
 
-ghost use Rattle.std.specs.Prelude.{◌≡◌, ◌≤◌, pos, IfOk, length, map, unsigned_abs, vec_len};
+ghost use Rattle.std.specs.Prelude.{◌≡◌, ◌≤◌, pos, IfOk, length, map, sum, unsigned_abs, vec_len};
 ghost use Rattle.cvl_base.specs.Conversions.{integer_of};
 ghost use Rattle.cvl_base.specs.Descriptors.{AreLengths};
 ghost use Rattle.cvl_base.specs.Gives.{Gives};
-ghost use Rattle.cvl_base.specs.Limits.{most_elements};
+ghost use Rattle.cvl_base.specs.Limits.{most_elements, most_places};
 ghost use Rattle.cvl_base.specs.Packs.{count_of};
 ghost use Rattle.cvl_base.specs.SegmentedCalls.{seg_count_of};
 ghost use Rattle.pack_dist.specs.Kept.{ArePlaces};
@@ -30,9 +30,9 @@ impl Reading<bool, i32> for Ones {
 
 /// The number of true flags: `cnt_lub`.
 ///
-/// There are at most 4,194,304 flags. It takes no memory. Source: CVL's count.
+/// There are at most 2,147,483,647 flags. It takes no memory. Source: CVL's count.
 pub fn count_true(flags: &[bool]) -> i32
-    requires few { length flags.now ≤ most_elements }
+    requires few { length flags.now ≤ most_places }
     ensures { result ≡ pos (count_of flags.now) }
 {
     true_count(flags) as i32
@@ -47,7 +47,7 @@ pub(crate) fn counts_before<R: Threads + Sync, A: Memory, G: Gate>(
     flags: &[bool],
     gate: &G,
 ) -> Result<Vec<i32, A>, NoResources>
-    requires few { length flags.now ≤ most_elements }
+    requires few { length flags.now ≤ most_places }
     ensures values { IfOk result (λ places. ArePlaces flags.now places.items) }
     ensures as_long { IfOk result (λ places. vec_len places ≡ length flags.now) }
 {
@@ -66,6 +66,8 @@ pub fn seg_count<R: Threads + Sync, A: Memory>(
     flags: &[bool],
     d: &SegDes<A>,
 ) -> Result<Vec<i32, A>, Refused>
+    requires few { length d.now ≤ most_elements }
+    requires in_limit { sum d.now ≤ most_elements }
     ensures values { Gives (λ counts. map unsigned_abs counts.items) result
         (seg_count_of flags.now d.now) }
     ensures lengths { IfOk result (λ counts. AreLengths counts.items) }
@@ -83,12 +85,12 @@ pub fn seg_count_gated<R: Threads + Sync, A: Memory, G: Gate>(
     d: &SegDes<A>,
     gate: &G,
 ) -> Result<Vec<i32, A>, Refused>
+    requires few { length d.now ≤ most_elements }
+    requires in_limit { sum d.now ≤ most_elements }
     ensures values { Gives (λ counts. map unsigned_abs counts.items) result
         (seg_count_of flags.now d.now) }
     ensures lengths { IfOk result (λ counts. AreLengths counts.items) }
     ensures one_each { IfOk result (λ counts. vec_len counts ≡ length d.now) }
 {
-    // their contracts name the limits of a descriptor
-    let _limits = (d.count(), d.total());
     seg_reduce_readings_gated::<R, A, Add, bool, Ones, G>(rt, alloc, config, flags, d, gate)
 }

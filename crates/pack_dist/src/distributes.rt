@@ -1,17 +1,18 @@
 //! Distribute: copies of one value, or of one for each segment.
 
 ghost use Rattle.std.specs.Prelude.{◌≡◌, ◌+◌, ◌-◌, ◌≤◌, ◌++◌, IfOk, MatchResult, Ok, Err, length, sum, vec_len};
-ghost use Rattle.cvl_base.specs.Distributes.{distribute_of};
+ghost use Rattle.cvl_base.specs.Distributes.{distribute_of, distribute_within};
 ghost use Rattle.cvl_base.specs.Gives.{Gives};
-ghost use Rattle.cvl_base.specs.Limits.{most_elements};
+ghost use Rattle.cvl_base.specs.Limits.{most_elements, most_places};
 ghost use Rattle.cvl_base.specs.Lists.{joined};
 ghost use Rattle.cvl_base.specs.Rooms.{Overwrites, in_room};
-ghost use Rattle.cvl_base.specs.SegmentedCalls.{seg_distribute_of};
+ghost use Rattle.cvl_base.specs.SegmentedCalls.{seg_distribute_of, seg_distribute_within};
 ghost use Rattle.fresh.specs.Places.{stretch};
 ghost use Rattle.pack_dist.specs.Lists.{copies_of};
 
 use crate::checks::length_for;
 use crate::writes::{write_room, write_vector};
+use cvl_base::limits::{MOST_ELEMENTS, MOST_PLACES};
 use cvl_base::{Config, Fault, Memory, Refused, check_agree};
 use fresh::{Copies, Run};
 use segdes::{EndToEnd, SegDes, Segments};
@@ -32,7 +33,7 @@ pub fn distribute<T: Copy + Send + Sync, R: Threads + Sync, A: Memory>(
     ensures values { Gives (λ v. v.items) result (distribute_of value count) }
     ensures in_limit { IfOk result (λ v. vec_len v ≤ most_elements) }
 {
-    let length = length_for(&count)?;
+    let length = length_for(&count, MOST_ELEMENTS)?;
     let copies = Copies {
         item: value,
         count: length,
@@ -41,11 +42,11 @@ pub fn distribute<T: Copy + Send + Sync, R: Threads + Sync, A: Memory>(
 }
 
 /// The same as [`distribute`], over a room of the caller's, by the thread that calls: LengthMismatch, without a place, where the
-/// room isn't as long as the count says, which is checked last. It asks for no memory.
+/// room isn't as long as the count says, which is checked last. It makes up to 2,147,483,647 copies, and asks for no memory.
 pub fn distribute_over<T: Copy>(value: T, count: i32, out: &mut [T]) -> Result<(), Fault>
-    ensures { Overwrites (in_room (length out.old) (distribute_of value count)) result out.old out.new }
+    ensures { Overwrites (in_room (length out.old) (distribute_within most_places value count)) result out.old out.new }
 {
-    let length = length_for(&count)?;
+    let length = length_for(&count, MOST_PLACES)?;
     let copies = Copies {
         item: value,
         count: length,
@@ -57,7 +58,7 @@ pub fn distribute_over<T: Copy>(value: T, count: i32, out: &mut [T]) -> Result<(
 /// its like.
 ///
 /// There is one value for each segment, else LengthMismatch, without a place. The result is as long as the segments are
-/// in all. Source: CVL's segmented distribute.
+/// in all, at most 4,194,304 elements. Source: CVL's segmented distribute.
 pub fn seg_distribute<T: Copy + Send + Sync, R: Threads + Sync, A: Memory>(
     rt: &R,
     alloc: A,
@@ -65,43 +66,50 @@ pub fn seg_distribute<T: Copy + Send + Sync, R: Threads + Sync, A: Memory>(
     values: &[T],
     d: &SegDes<A>,
 ) -> Result<Vec<T, A>, Refused>
+    requires { sum d.now ≤ most_elements }
     ensures values { Gives (λ v. v.items) result (seg_distribute_of values.now d.now) }
     ensures as_long { IfOk result (λ v. vec_len v ≡ sum d.now) }
 {
-    let (copies, total) = segment_copies(values, d)?;
+    let (copies, total) = segment_copies(values, d, MOST_ELEMENTS)?;
     Ok(write_vector(rt, alloc, config, &copies, total, total)?)
 }
 
 /// The same as [`seg_distribute`], over a room of the caller's, by the thread that calls: LengthMismatch, without a place, where
-/// the room isn't as long as the segments are in all, which is checked last. It asks for no memory.
+/// the room isn't as long as the segments are in all, which is checked last. They are of up to 2,147,483,647 elements. It asks for no memory.
 pub fn seg_distribute_over<T: Copy, A: Allocator>(
     values: &[T],
     d: &SegDes<A>,
     out: &mut [T],
 ) -> Result<(), Fault>
-    ensures { Overwrites (in_room (length out.old) (seg_distribute_of values.now d.now)) result out.old out.new }
+    ensures { Overwrites (in_room (length out.old) (seg_distribute_within most_places values.now d.now)) result out.old out.new }
 {
-    let (copies, total) = segment_copies(values, d)?;
+    // its contract bounds it
+    let _total = d.total();
+    let (copies, total) = segment_copies(values, d, MOST_PLACES)?;
     write_room(&copies, total, out)
 }
 
 /// The copies of the segments' values and how many they are: LengthMismatch, without a place, where there isn't one value for
-/// each segment.
+/// each segment. The segments have at most `most` elements in all.
 fn segment_copies<'a, T: Copy, A: Allocator>(
     values: &'a [T],
     d: &'a SegDes<A>,
+    most: usize,
 ) -> Result<(EndToEnd<SegmentCopies<'a, T, A>>, usize), Fault>
+    requires { sum d.now ≤ most }
     ensures values { MatchResult result
-        (λ made. seg_distribute_of values.now d.now ≡ Ok (joined (copies_of made.0.segments.values.now made.0.segments.d.now)))
-        (λ f. seg_distribute_of values.now d.now ≡ Err f) }
+        (λ made. seg_distribute_within most values.now d.now ≡ Ok (joined (copies_of made.0.segments.values.now made.0.segments.d.now)))
+        (λ f. seg_distribute_within most values.now d.now ≡ Err f) }
     ensures items { IfOk result (λ made. made.1 ≡ length (joined (copies_of made.0.segments.values.now made.0.segments.d.now))) }
-    ensures total { IfOk result (λ made. (made.1 ≡ sum d.now) × (made.1 ≤ most_elements)) }
+    ensures total { IfOk result (λ made. (made.1 ≡ sum d.now) × (made.1 ≤ most_places)) }
 {
     check_agree(values.len(), d.count())?;
+    let total = d.total();
+    prove!(total <= most);
     let copies = EndToEnd {
         segments: SegmentCopies { values, d },
     };
-    Ok((copies, d.total()))
+    Ok((copies, total))
 }
 
 /// Copies of a value for each segment.

@@ -2,18 +2,19 @@
 
 ghost use Rattle.std.specs.Prelude.{◌≡◌, ◌+◌, ◌-◌, ◌<◌, ◌≤◌, ◌^◌, ◌++◌, IfOk, MatchResult, Ok, Err, length, sum, vec_len};
 ghost use Rattle.std.specs.List.{zip};
-ghost use Rattle.cvl_base.specs.Distributes.{index_of};
+ghost use Rattle.cvl_base.specs.Distributes.{index_of, index_within};
 ghost use Rattle.cvl_base.specs.Gives.{Gives};
-ghost use Rattle.cvl_base.specs.Limits.{most_elements};
+ghost use Rattle.cvl_base.specs.Limits.{most_elements, most_places};
 ghost use Rattle.cvl_base.specs.Lists.{joined};
 ghost use Rattle.cvl_base.specs.Rooms.{Overwrites, in_room};
-ghost use Rattle.cvl_base.specs.SegmentedCalls.{seg_index_of};
+ghost use Rattle.cvl_base.specs.SegmentedCalls.{seg_index_of, seg_index_within};
 ghost use Rattle.fresh.specs.Places.{stretch};
 ghost use Rattle.pack_dist.specs.Lists.{progressions_of};
 ghost use Rattle.pack_dist.specs.Progressions.{numbers_from};
 
 use crate::checks::length_for;
 use crate::writes::{write_room, write_vector};
+use cvl_base::limits::{MOST_ELEMENTS, MOST_PLACES};
 use cvl_base::{Config, Fault, Memory, Refused, check_agree};
 use fresh::{Run, Writer};
 use segdes::{EndToEnd, SegDes, Segments};
@@ -35,7 +36,7 @@ pub fn index<R: Threads + Sync, A: Memory>(
     ensures values { Gives (λ v. v.items) result (index_of init stride count) }
     ensures in_limit { IfOk result (λ v. vec_len v ≤ most_elements) }
 {
-    let length = length_for(&count)?;
+    let length = length_for(&count, MOST_ELEMENTS)?;
     let numbers = Progression {
         init,
         stride,
@@ -45,11 +46,11 @@ pub fn index<R: Threads + Sync, A: Memory>(
 }
 
 /// The same as [`index`], over a room of the caller's, by the thread that calls: LengthMismatch, without a place, where the room
-/// isn't as long as the count says, which is checked last. It asks for no memory.
+/// isn't as long as the count says, which is checked last. It makes up to 2,147,483,647 numbers, and asks for no memory.
 pub fn index_over(init: i32, stride: i32, count: i32, out: &mut [i32]) -> Result<(), Fault>
-    ensures { Overwrites (in_room (length out.old) (index_of init stride count)) result out.old out.new }
+    ensures { Overwrites (in_room (length out.old) (index_within most_places init stride count)) result out.old out.new }
 {
-    let length = length_for(&count)?;
+    let length = length_for(&count, MOST_PLACES)?;
     let numbers = Progression {
         init,
         stride,
@@ -62,7 +63,7 @@ pub fn index_over(init: i32, stride: i32, count: i32, out: &mut [i32]) -> Result
 /// another: `ind_lez`.
 ///
 /// There is one init and one stride for each segment, else LengthMismatch, without a place. The result is as long as the
-/// segments are in all. Source: CVL's segmented index.
+/// segments are in all, at most 4,194,304 numbers. Source: CVL's segmented index.
 pub fn seg_index<R: Threads + Sync, A: Memory>(
     rt: &R,
     alloc: A,
@@ -71,45 +72,51 @@ pub fn seg_index<R: Threads + Sync, A: Memory>(
     strides: &[i32],
     d: &SegDes<A>,
 ) -> Result<Vec<i32, A>, Refused>
+    requires { sum d.now ≤ most_elements }
     ensures values { Gives (λ v. v.items) result (seg_index_of inits.now strides.now d.now) }
     ensures as_long { IfOk result (λ v. vec_len v ≡ sum d.now) }
 {
-    let (numbers, total) = segment_progressions(inits, strides, d)?;
+    let (numbers, total) = segment_progressions(inits, strides, d, MOST_ELEMENTS)?;
     Ok(write_vector(rt, alloc, config, &numbers, total, total)?)
 }
 
 /// The same as [`seg_index`], over a room of the caller's, by the thread that calls: LengthMismatch, without a place, where the
-/// room isn't as long as the segments are in all, which is checked last. It asks for no memory.
+/// room isn't as long as the segments are in all, which is checked last. They are of up to 2,147,483,647 numbers. It asks for no memory.
 pub fn seg_index_over<A: Allocator>(
     inits: &[i32],
     strides: &[i32],
     d: &SegDes<A>,
     out: &mut [i32],
 ) -> Result<(), Fault>
-    ensures { Overwrites (in_room (length out.old) (seg_index_of inits.now strides.now d.now)) result out.old out.new }
+    ensures { Overwrites (in_room (length out.old) (seg_index_within most_places inits.now strides.now d.now)) result out.old out.new }
 {
-    let (numbers, total) = segment_progressions(inits, strides, d)?;
+    // its contract bounds it
+    let _total = d.total();
+    let (numbers, total) = segment_progressions(inits, strides, d, MOST_PLACES)?;
     write_room(&numbers, total, out)
 }
 
 /// The numbers of the segments and how many they are: LengthMismatch, without a place, where there aren't one init and one stride
-/// for each segment.
+/// for each segment. The segments have at most `most` elements in all.
 fn segment_progressions<'a, A: Allocator>(
     inits: &'a [i32],
     strides: &'a [i32],
     d: &'a SegDes<A>,
+    most: usize,
 ) -> Result<(EndToEnd<SegmentProgressions<'a, A>>, usize), Fault>
+    requires { sum d.now ≤ most }
     ensures values { MatchResult result
-        (λ made. seg_index_of inits.now strides.now d.now ≡ Ok (joined
+        (λ made. seg_index_within most inits.now strides.now d.now ≡ Ok (joined
         (progressions_of made.0.segments.inits.now made.0.segments.strides.now made.0.segments.d.now)))
-        (λ f. seg_index_of inits.now strides.now d.now ≡ Err f) }
+        (λ f. seg_index_within most inits.now strides.now d.now ≡ Err f) }
     ensures items { IfOk result (λ made. made.1 ≡ length (joined
         (progressions_of made.0.segments.inits.now made.0.segments.strides.now made.0.segments.d.now))) }
-    ensures total { IfOk result (λ made. (made.1 ≡ sum d.now) × (made.1 ≤ most_elements)) }
+    ensures total { IfOk result (λ made. (made.1 ≡ sum d.now) × (made.1 ≤ most_places)) }
 {
     check_agree(inits.len(), strides.len())?;
     check_agree(inits.len(), d.count())?;
     let total = d.total();
+    prove!(total <= most);
     let numbers = EndToEnd {
         segments: SegmentProgressions { inits, strides, d },
     };
@@ -122,7 +129,7 @@ struct Progression {
     init: i32,
     stride: i32,
     length: usize,
-    ghost few: { length ≤ most_elements },
+    ghost few: { length ≤ most_places },
 }
 
 impl Writer<i32> for Progression {
@@ -149,7 +156,7 @@ struct SegmentProgressions<'a, A: Allocator> {
     strides: &'a [i32],
     d: &'a SegDes<A>,
     ghost one_each: { length (zip inits.now strides.now) ≡ length d.now },
-    ghost few: { sum d.now ≤ most_elements },
+    ghost few: { sum d.now ≤ most_places },
 }
 
 impl<'a, A: Allocator> Clone for SegmentProgressions<'a, A> {

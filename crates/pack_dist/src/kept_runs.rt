@@ -1,7 +1,7 @@
 //! What a pack keeps, written in runs.
 
 ghost use Rattle.std.specs.Prelude.{◌≡◌, ◌+◌, ◌≤◌, [], length};
-ghost use Rattle.cvl_base.specs.Limits.{most_elements};
+ghost use Rattle.cvl_base.specs.Limits.{most_places};
 ghost use Rattle.cvl_base.specs.Packs.{count_of};
 ghost use Rattle.fresh.specs.Parts.{part};
 ghost use Rattle.fresh.specs.Places.{stretch};
@@ -16,7 +16,7 @@ pub(crate) struct Kept<'a, T: Copy> {
     pub(crate) values: &'a [T],
     pub(crate) flags: &'a [bool],
     pub(crate) places: &'a [i32],
-    ghost few: { length flags.now ≤ most_elements },
+    ghost few: { length flags.now ≤ most_places },
     ghost as_long: { length values.now ≡ length flags.now },
     ghost one_each: { length places.now ≡ length flags.now },
     ghost placed: { ArePlaces flags.now places.now },

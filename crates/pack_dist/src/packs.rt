@@ -2,7 +2,7 @@
 
 ghost use Rattle.std.specs.Prelude.{◌≡◌, ◌+◌, ◌-◌, ◌<◌, ◌≤◌, ◌++◌, IfOk, Ok, [], length, vec_len};
 ghost use Rattle.cvl_base.specs.Gives.{Gives};
-ghost use Rattle.cvl_base.specs.Limits.{most_elements};
+ghost use Rattle.cvl_base.specs.Limits.{most_places};
 ghost use Rattle.cvl_base.specs.Packs.{count_of, pack_of};
 ghost use Rattle.cvl_base.specs.Rooms.{OverwritesFront};
 ghost use Rattle.fresh.specs.Places.{stretch};
@@ -20,7 +20,7 @@ use tile_scans::scan_pace;
 
 /// The elements whose flag is true, in order: `pck_luz` and `pck_lub`.
 ///
-/// There are at most 4,194,304 flags. LengthMismatch, without a place, where there aren't as many flags as elements.
+/// There are at most 2,147,483,647 flags. LengthMismatch, without a place, where there aren't as many flags as elements.
 /// Source: CVL's pack.
 pub fn pack<T: Copy + Send + Sync, R: Threads + Sync, A: Memory>(
     rt: &R,
@@ -29,7 +29,7 @@ pub fn pack<T: Copy + Send + Sync, R: Threads + Sync, A: Memory>(
     values: &[T],
     flags: &[bool],
 ) -> Result<Vec<T, A>, Refused>
-    requires few { length flags.now ≤ most_elements }
+    requires few { length flags.now ≤ most_places }
     ensures values { Gives (λ v. v.items) result (pack_of values.now flags.now) }
     ensures no_longer { IfOk result (λ v. vec_len v ≤ length values.now) }
 {
@@ -45,7 +45,7 @@ pub fn pack_gated<T: Copy + Send + Sync, R: Threads + Sync, A: Memory, G: Gate>(
     flags: &[bool],
     gate: &G,
 ) -> Result<Vec<T, A>, Refused>
-    requires few { length flags.now ≤ most_elements }
+    requires few { length flags.now ≤ most_places }
     ensures values { Gives (λ v. v.items) result (pack_of values.now flags.now) }
     ensures no_longer { IfOk result (λ v. vec_len v ≤ length values.now) }
 {
@@ -63,7 +63,7 @@ pub fn pack_over<T: Copy>(
     out: &mut [T],
     count: &mut usize,
 ) -> Result<(), Fault>
-    requires few { length flags.now ≤ most_elements }
+    requires few { length flags.now ≤ most_places }
     ensures { OverwritesFront (pack_of values.now flags.now) result out.old out.new count.old count.new }
 {
     check_agree(values.len(), flags.len())?;
@@ -80,7 +80,7 @@ pub(crate) fn kept<T: Copy + Send + Sync, R: Threads + Sync, A: Memory, G: Gate>
     flags: &[bool],
     gate: &G,
 ) -> Result<Vec<T, A>, NoResources>
-    requires few { length flags.now ≤ most_elements }
+    requires few { length flags.now ≤ most_places }
     requires as_long { length values.now ≡ length flags.now }
     ensures values { IfOk result (λ v. v.items ≡ kept_of values.now flags.now) }
     ensures no_longer { IfOk result (λ v. vec_len v ≤ length values.now) }
@@ -105,7 +105,7 @@ fn kept_alone<T: Copy, A: Memory>(
     values: &[T],
     flags: &[bool],
 ) -> Result<Vec<T, A>, NoResources>
-    requires few { length flags.now ≤ most_elements }
+    requires few { length flags.now ≤ most_places }
     requires as_long { length values.now ≡ length flags.now }
     ensures values { IfOk result (λ v. v.items ≡ kept_of values.now flags.now) }
     ensures no_longer { IfOk result (λ v. vec_len v ≤ length values.now) }
@@ -123,7 +123,7 @@ pub(crate) fn kept_over<T: Copy>(
     out: &mut [T],
     count: &mut usize,
 ) -> Result<(), Fault>
-    requires few { length flags.now ≤ most_elements }
+    requires few { length flags.now ≤ most_places }
     requires as_long { length values.now ≡ length flags.now }
     ensures { OverwritesFront (Ok (kept_of values.now flags.now)) result out.old out.new count.old count.new }
 {
@@ -139,7 +139,7 @@ pub(crate) fn kept_over<T: Copy>(
 
 /// Writes the elements whose flag is true over a room of as many.
 fn write_kept<T: Copy>(values: &[T], flags: &[bool], out: &mut [T])
-    requires few { length flags.now ≤ most_elements }
+    requires few { length flags.now ≤ most_places }
     requires as_long { length values.now ≡ length flags.now }
     requires fits { length out.old ≡ count_of flags.now }
     ensures { out.new ≡ kept_of values.now flags.now }
@@ -157,7 +157,7 @@ fn write_kept<T: Copy>(values: &[T], flags: &[bool], out: &mut [T])
 /// How many flags are true, of which there is at least one: the place of the last, and one more where it is true.
 fn count_by_places(flags: &[bool], places: &[i32]) -> usize
     requires some { 0 < length flags.now }
-    requires few { length flags.now ≤ most_elements }
+    requires few { length flags.now ≤ most_places }
     requires places { ArePlaces flags.now places.now }
     requires one_each { length places.now ≡ length flags.now }
     ensures { result ≡ count_of flags.now }

@@ -1,7 +1,8 @@
 //! Segmented packs: of each segment the elements whose flag is true.
 
-ghost use Rattle.std.specs.Prelude.{◌≡◌, ◌≤◌, IfOk, Ok, length, vec_len};
+ghost use Rattle.std.specs.Prelude.{◌≡◌, ◌≤◌, IfOk, Ok, length, sum, vec_len};
 ghost use Rattle.cvl_base.specs.Gives.{Gives};
+ghost use Rattle.cvl_base.specs.Limits.{most_elements};
 ghost use Rattle.cvl_base.specs.Rooms.{OverwritesFront};
 ghost use Rattle.cvl_base.specs.SegmentedCalls.{seg_count_of, seg_pack_of};
 
@@ -65,7 +66,11 @@ pub fn packed_descriptor_gated<R: Threads + Sync, A: Memory, G: Gate>(
     d: &SegDes<A>,
     gate: &G,
 ) -> Result<SegDes<A>, Refused>
-    ensures { Gives (λ packed. packed) result (seg_count_of flags.now d.now) }
+    requires few { length d.now ≤ most_elements }
+    requires in_limit { sum d.now ≤ most_elements }
+    ensures values { Gives (λ packed. packed) result (seg_count_of flags.now d.now) }
+    ensures few { IfOk result (λ packed. length packed ≤ most_elements) }
+    ensures in_limit { IfOk result (λ packed. sum packed ≤ most_elements) }
 {
     let counts = seg_count_gated(rt, alloc, config, flags, d, gate)?;
     Ok(SegDes::new(alloc, Lengths::from_vec(counts))?)
@@ -84,6 +89,8 @@ pub fn seg_pack<T: Copy + Send + Sync, R: Threads + Sync, A: Memory>(
     flags: &[bool],
     d: &SegDes<A>,
 ) -> Result<(Vec<T, A>, SegDes<A>), Refused>
+    requires few { length d.now ≤ most_elements }
+    requires in_limit { sum d.now ≤ most_elements }
     ensures values { Gives (λ packed. packed.0.items) result
         (seg_pack_of values.now flags.now d.now) }
     ensures lengths { IfOk result (λ packed. seg_count_of flags.now d.now ≡ Ok packed.1) }

@@ -1,7 +1,7 @@
 //! The items of a writer, as a vector, or over a room of the caller's.
 
 ghost use Rattle.std.specs.Prelude.{◌≡◌, ◌≤◌, IfOk, Ok, length, vec_len};
-ghost use Rattle.cvl_base.specs.Limits.{most_elements};
+ghost use Rattle.cvl_base.specs.Limits.{most_places};
 ghost use Rattle.cvl_base.specs.Rooms.{Overwrites, in_room};
 
 use cvl_base::{Config, Fault, Memory, NoResources, check_agree};
@@ -34,7 +34,7 @@ pub(crate) fn write_room<T: Copy, W: Writer<T>>(
     out: &mut [T],
 ) -> Result<(), Fault>
     requires items { items ≡ length (W.whole writer.now) }
-    requires few { items ≤ most_elements }
+    requires few { items ≤ most_places }
     ensures { Overwrites (in_room (length out.old) (Ok (W.whole writer.now))) result out.old out.new }
 {
     check_agree(items, out.len())?;

@@ -1,9 +1,9 @@
-use Rattle.std.proofs.Common.{◌∙◌, arith}
+use Rattle.std.proofs.Common.{◌∙◌}
 use Rattle.pack_dist.proofs.Distributed.{copies, lists-fit, lists-whole}
 use Rattle.pack_dist.proofs.distributes.segment_copies.Goals as goal
 
 pub returns-clause-values : goal.returns-clause-values
-returns-clause-values g c = lists-fit copies c.args.values.now c.args.d.now (c.in_ok-check_agree.ensures ∙ c.count.ensures.value) (omega (arith, c.total.ensures))
+returns-clause-values g c = lists-fit (copies c.args.most) c.args.values.now c.args.d.now (c.in_ok-check_agree.ensures ∙ c.count.ensures.value) c.requires
 
 pub returns-clause-items : goal.returns-clause-items
-returns-clause-items g c = c.total.ensures.value ∙ lists-whole copies c.args.values.now c.args.d.now (c.in_ok-check_agree.ensures ∙ c.count.ensures.value)
+returns-clause-items g c = c.total-total.ensures.value ∙ lists-whole (copies c.args.most) c.args.values.now c.args.d.now (c.in_ok-check_agree.ensures ∙ c.count.ensures.value)
