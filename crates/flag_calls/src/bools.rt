@@ -2,7 +2,7 @@
 
 ghost use Rattle.std.specs.Prelude.{◌≤◌, Ok, length};
 ghost use Rattle.cvl_base.specs.Elementwise.{bools1_of, bools2_of, ints_from_bools, on_pairs};
-ghost use Rattle.cvl_base.specs.Limits.{most_elements};
+ghost use Rattle.cvl_base.specs.Limits.{most_places};
 ghost use Rattle.cvl_base.specs.Rooms.{Overwrites, in_room};
 ghost use Rattle.flag_calls.specs.Flags.{as_bytes, flags_of};
 
@@ -17,7 +17,7 @@ use elementwise::{
 /// Writes the operator's values on the pairs of flags, or tells `LengthMismatch` where the vectors and the room aren't equally
 /// long.
 fn pairs_over<O: Binary<bool, bool>>(a: &[u8], b: &[u8], out: &mut [u8]) -> Result<(), Fault>
-    requires { length a.now ≤ most_elements }
+    requires { length a.now ≤ most_places }
     ensures { Overwrites (in_room (length out.old) (as_bytes (on_pairs O.value (flags_of a.now) (flags_of b.now))))
         result out.old out.new }
 {
@@ -48,7 +48,7 @@ fn pairs_in_both<O: Binary<bool, bool>>(a: &mut [u8]) -> Result<(), Fault>
 /// The operator on each two flags at the same place: `and_wub` and its like. `LengthMismatch`, without a place, where the vectors
 /// and the room aren't equally long; the room is looked at last.
 pub fn bool2_over(op: BoolBinary, a: &[u8], b: &[u8], out: &mut [u8]) -> Result<(), Fault>
-    requires { length a.now ≤ most_elements }
+    requires { length a.now ≤ most_places }
     ensures { Overwrites (in_room (length out.old) (as_bytes (bools2_of op (flags_of a.now) (flags_of b.now))))
         result out.old out.new }
 {
@@ -94,7 +94,7 @@ pub fn bool2_in_both(op: BoolBinary, a: &mut [u8]) -> Result<(), Fault>
 
 /// The operator on each flag: `not_wub` and `cpy_wub`. `LengthMismatch`, without a place, where the room isn't as long.
 pub fn bool1_over(op: Unary, a: &[u8], out: &mut [u8]) -> Result<(), Fault>
-    requires { length a.now ≤ most_elements }
+    requires { length a.now ≤ most_places }
     ensures { Overwrites (in_room (length out.old) (as_bytes (Ok (bools1_of op (flags_of a.now))))) result out.old out.new }
 {
     match op {
@@ -116,7 +116,7 @@ pub fn bool1_in(op: Unary, a: &mut [u8]) -> Result<(), Fault>
 
 /// 1 for each true flag, and 0 for each false one: `int_wub`. `LengthMismatch`, without a place, where the room isn't as long.
 pub fn int_from_bool_over(a: &[u8], out: &mut [i32]) -> Result<(), Fault>
-    requires { length a.now ≤ most_elements }
+    requires { length a.now ≤ most_places }
     ensures { Overwrites (in_room (length out.old) (Ok (ints_from_bools (flags_of a.now)))) result out.old out.new }
 {
     on_each_over::<OneForTrue, u8, i32>(a, out)

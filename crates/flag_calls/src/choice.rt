@@ -3,7 +3,7 @@
 ghost use Rattle.std.specs.Prelude.{◌≡◌, ◌+◌, ◌≤◌, ◌<◌, [], length, map, slice_index_or};
 ghost use Rattle.std.specs.List.{zip};
 ghost use Rattle.cvl_base.specs.Elementwise.{choose_of, chosen};
-ghost use Rattle.cvl_base.specs.Limits.{most_elements};
+ghost use Rattle.cvl_base.specs.Limits.{most_places};
 ghost use Rattle.cvl_base.specs.Rooms.{Overwrites, in_room};
 ghost use Rattle.fresh.specs.Parts.{part};
 ghost use Rattle.fresh.specs.Places.{stretch};
@@ -63,7 +63,7 @@ fn choose_over<O: Single<T, T>, T: Copy>(
     b: &[T],
     out: &mut [T],
 ) -> Result<(), Fault>
-    requires { length bytes.now ≤ most_elements }
+    requires { length bytes.now ≤ most_places }
     ensures { Overwrites (in_room (length out.old) (choose_by flag_of O.value bytes.now a.now b.now)) result out.old out.new }
 {
     check_agree(bytes.len(), a.len())?;
@@ -99,7 +99,7 @@ fn choose_in<F: Single<u8, bool>, O: Single<T, T>, T: Copy>(
 /// At each place the element of `a` where the flag is true, else that of `b`: `sel_wuz` and its like. `LengthMismatch`, without a
 /// place, where the vectors and the room aren't equally long; the room is looked at last.
 pub fn select_over<T: Copy>(flags: &[u8], a: &[T], b: &[T], out: &mut [T]) -> Result<(), Fault>
-    requires { length flags.now ≤ most_elements }
+    requires { length flags.now ≤ most_places }
     ensures { Overwrites (in_room (length out.old) (choose_of (flags_of flags.now) a.now b.now)) result out.old out.new }
 {
     choose_over::<Same, T>(flags, a, b, out)
@@ -121,7 +121,7 @@ pub fn select_in_second<T: Copy>(flags: &[u8], a: &[T], b: &mut [T]) -> Result<(
 
 /// The same as [`select_over`], between flags: `sel_wub`.
 pub fn select_flags_over(flags: &[u8], a: &[u8], b: &[u8], out: &mut [u8]) -> Result<(), Fault>
-    requires { length flags.now ≤ most_elements }
+    requires { length flags.now ≤ most_places }
     ensures { Overwrites (in_room (length out.old) (as_bytes (choose_of (flags_of flags.now) (flags_of a.now) (flags_of b.now))))
         result out.old out.new }
 {

@@ -1,8 +1,8 @@
 //! How many flags are true: of all, and of each segment.
 
 ghost use Rattle.std.specs.Prelude.{◌≡◌, ◌≤◌, [], count_by, length, map, sum, unsigned_abs};
-ghost use Rattle.cvl_base.specs.Descriptors.{AreLengths};
-ghost use Rattle.cvl_base.specs.Limits.{most_elements};
+ghost use Rattle.cvl_base.specs.Descriptors.{AreLengthsWithin};
+ghost use Rattle.cvl_base.specs.Limits.{most_places};
 ghost use Rattle.cvl_base.specs.Nests.{cut_of};
 ghost use Rattle.cvl_base.specs.Packs.{count_of};
 ghost use Rattle.cvl_base.specs.Rooms.{Overwrites, in_room};
@@ -34,9 +34,9 @@ fn true_in_block(block: &[u8]) -> u8
     count
 }
 
-/// The same of any number of bytes up to 4,194,304, one by one.
+/// The same of any number of bytes up to 2,147,483,647, one by one.
 fn true_one_by_one(bytes: &[u8]) -> u32
-    requires { length bytes.now ≤ most_elements }
+    requires { length bytes.now ≤ most_places }
     ensures { result ≡ count_by flag_of bytes.now }
 {
     let mut count = 0;
@@ -46,9 +46,9 @@ fn true_one_by_one(bytes: &[u8]) -> u32
     count
 }
 
-/// How many of at most 4,194,304 bytes are true.
+/// How many of at most 2,147,483,647 bytes are true.
 fn true_count(bytes: &[u8]) -> usize
-    requires few { length bytes.now ≤ most_elements }
+    requires few { length bytes.now ≤ most_places }
     ensures value { result ≡ count_of (flags_of bytes.now) }
     ensures in_length { result ≤ length bytes.now }
 {
@@ -61,9 +61,9 @@ fn true_count(bytes: &[u8]) -> usize
     count + true_one_by_one(rest) as usize
 }
 
-/// The number of true flags, of which there are at most 4,194,304: `cnt_lub`.
+/// The number of true flags, of which there are at most 2,147,483,647: `cnt_lub`.
 pub fn count(flags: &[u8]) -> i32
-    requires few { length flags.now ≤ most_elements }
+    requires few { length flags.now ≤ most_places }
     ensures { result ≡ count_in flags.now }
 {
     true_count(flags) as i32
@@ -72,10 +72,10 @@ pub fn count(flags: &[u8]) -> i32
 /// Writes how many bytes of each of the segments with these lengths are true, one segment after another. The bytes begin with
 /// those of the segments. The run must have room for as many counts.
 fn counts_into(run: Run<i32>, lengths: &[i32], bytes: &[u8]) -> Run<i32>
-    requires lengths { AreLengths lengths.now }
+    requires lengths { AreLengthsWithin most_places lengths.now }
     requires covered { sum (map unsigned_abs lengths.now) ≤ length bytes.now }
     requires room { length lengths.now ≤ run.room }
-    requires few { length bytes.now ≤ most_elements }
+    requires few { length bytes.now ≤ most_places }
     ensures { result ≡ with_items run (map count_in (cut_of (map unsigned_abs lengths.now) bytes.now)) }
 {
     let (mut run, mut rest) = (run, bytes);
@@ -98,8 +98,8 @@ pub fn seg_count_over(flags: &[u8], d: &SegLengths, out: &mut [i32]) -> Result<(
     fill_slice(
         out,
         |run: Run<i32>| -> Run<i32>
-            requires { (run.items ≡ []) × (run.room ≡ length lengths.now) × AreLengths lengths.now
-                × (sum (map unsigned_abs lengths.now) ≡ length flags.now) × (length flags.now ≤ most_elements) }
+            requires { (run.items ≡ []) × (run.room ≡ length lengths.now) × AreLengthsWithin most_places lengths.now
+                × (sum (map unsigned_abs lengths.now) ≡ length flags.now) × (length flags.now ≤ most_places) }
             ensures { result ≡ with_items run (map count_in (cut_of (map unsigned_abs lengths.entry.now) flags.entry.now)) }
         { counts_into(run, lengths, flags) },
     );
