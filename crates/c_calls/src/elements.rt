@@ -13,7 +13,7 @@ use flag_calls::make_flags;
 use pack_dist::seg_extract;
 use std::alloc::Global;
 
-/// The number of true flags, of which there are at most 4,194,304, else TooLong, without a place.
+/// The number of true flags, of which there are at most 2,147,483,647, else TooLong, without a place.
 pub fn count(flags: &[u8]) -> Result<i32, Fault>
     ensures { result ≡ in_limit flags.now (Ok (pos (count_of (flags_of flags.now)))) }
 {

@@ -1,8 +1,9 @@
 //! Counts, single elements, and vectors of a given length: of whole vectors.
 
 ghost use Rattle.std.specs.Prelude.{Ok, length, pos};
-ghost use Rattle.cvl_base.specs.Distributes.{distribute_of, index_of};
+ghost use Rattle.cvl_base.specs.Distributes.{distribute_within, index_within};
 ghost use Rattle.cvl_base.specs.Extracts.{extract_of, replace_of};
+ghost use Rattle.cvl_base.specs.Limits.{most_places};
 ghost use Rattle.cvl_base.specs.Packs.{count_of};
 ghost use Rattle.c_calls.specs.Calls.{in_limit};
 ghost use Rattle.flag_calls.specs.Flags.{as_bytes, extract_flag_of, flags_of};
@@ -70,7 +71,7 @@ pub extern "C" fn cvl_replace_bool(
 /// So many copies of an integer: `dis_vuz`.
 #[unsafe(no_mangle)]
 pub extern "C" fn cvl_distribute_int(value: i32, count: i32, out: &mut [i32]) -> CvlStatus
-    ensures { Told (in_room (length out.old) (distribute_of value count)) result out.old out.new }
+    ensures { Told (in_room (length out.old) (distribute_within most_places value count)) result out.old out.new }
 {
     told_over::<i32>(distribute_over(value, count, out))
 }
@@ -78,7 +79,7 @@ pub extern "C" fn cvl_distribute_int(value: i32, count: i32, out: &mut [i32]) ->
 /// So many copies of a boolean: `dis_vub`.
 #[unsafe(no_mangle)]
 pub extern "C" fn cvl_distribute_bool(value: bool, count: i32, out: &mut [bool]) -> CvlStatus
-    ensures { Told (in_room (length out.old) (distribute_of value count)) result out.old out.new }
+    ensures { Told (in_room (length out.old) (distribute_within most_places value count)) result out.old out.new }
 {
     told_over::<bool>(distribute_over(value, count, out))
 }
@@ -86,7 +87,7 @@ pub extern "C" fn cvl_distribute_bool(value: bool, count: i32, out: &mut [bool])
 /// So many numbers from a first one on in equal steps: `ind_luz`.
 #[unsafe(no_mangle)]
 pub extern "C" fn cvl_index(init: i32, stride: i32, count: i32, out: &mut [i32]) -> CvlStatus
-    ensures { Told (in_room (length out.old) (index_of init stride count)) result out.old out.new }
+    ensures { Told (in_room (length out.old) (index_within most_places init stride count)) result out.old out.new }
 {
     told_over::<i32>(index_over(init, stride, count, out))
 }

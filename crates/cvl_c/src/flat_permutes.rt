@@ -1,4 +1,4 @@
-//! Permutes of whole vectors, by an index of at most 4,194,304 elements.
+//! Permutes of whole vectors, by an index of at most 2,147,483,647 elements.
 
 ghost use Rattle.std.specs.Prelude.{length};
 ghost use Rattle.cvl_base.specs.Permutes.{back_of, default_of, select_of, simple_of};

@@ -1,4 +1,4 @@
-//! The calls that work place by place, on vectors of at most 4,194,304 elements.
+//! The calls that work place by place, on vectors of at most 2,147,483,647 elements.
 
 ghost use Rattle.std.specs.Prelude.{Ok, length};
 ghost use Rattle.cvl_base.specs.Elementwise.{bools1_of, bools2_of, bools_from_ints, choose_of, compare_of, ints1_of, ints2_of};

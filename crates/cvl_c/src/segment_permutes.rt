@@ -1,4 +1,4 @@
-//! Permutes of each segment, by an index of at most 4,194,304 elements. Segments come as their lengths.
+//! Permutes of each segment, by an index of at most 2,147,483,647 elements. Segments come as their lengths.
 
 ghost use Rattle.std.specs.Prelude.{length};
 ghost use Rattle.cvl_base.specs.SegmentedCalls.{seg_back_of, seg_default_of, seg_select_of, seg_simple_of};

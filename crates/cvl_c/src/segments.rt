@@ -1,7 +1,8 @@
 //! Single elements of segments, and vectors of given segments. Segments come as their lengths.
 
 ghost use Rattle.std.specs.Prelude.{length};
-ghost use Rattle.cvl_base.specs.SegmentedCalls.{seg_distribute_of, seg_extract_of, seg_index_of, seg_replace_of};
+ghost use Rattle.cvl_base.specs.Limits.{most_places};
+ghost use Rattle.cvl_base.specs.SegmentedCalls.{seg_distribute_within, seg_extract_of, seg_index_within, seg_replace_of};
 ghost use Rattle.c_calls.specs.Calls.{by_segments};
 ghost use Rattle.flag_calls.specs.Flags.{made_flags};
 ghost use Rattle.c_calls.specs.Told.{ToldOr, in_room};
@@ -86,7 +87,8 @@ pub extern "C" fn cvl_seg_distribute_int(
     lengths: &[i32],
     out: &mut [i32],
 ) -> CvlStatus
-    ensures { ToldOr (in_room (length out.old) (by_segments lengths.now (seg_distribute_of values.now))) result out.old out.new }
+    ensures { ToldOr (in_room (length out.old) (by_segments lengths.now (seg_distribute_within most_places values.now)))
+        result out.old out.new }
 {
     let d = or_tell!(descriptor(alloc, lengths));
     told_over::<i32>(seg_distribute_over(values, &d, out))
@@ -100,7 +102,8 @@ pub extern "C" fn cvl_seg_distribute_bool(
     lengths: &[i32],
     out: &mut [bool],
 ) -> CvlStatus
-    ensures { ToldOr (in_room (length out.old) (by_segments lengths.now (seg_distribute_of values.now))) result out.old out.new }
+    ensures { ToldOr (in_room (length out.old) (by_segments lengths.now (seg_distribute_within most_places values.now)))
+        result out.old out.new }
 {
     let d = or_tell!(descriptor(alloc, lengths));
     told_over::<bool>(seg_distribute_over(values, &d, out))
@@ -115,7 +118,7 @@ pub extern "C" fn cvl_seg_index(
     lengths: &[i32],
     out: &mut [i32],
 ) -> CvlStatus
-    ensures { ToldOr (in_room (length out.old) (by_segments lengths.now (seg_index_of inits.now strides.now)))
+    ensures { ToldOr (in_room (length out.old) (by_segments lengths.now (seg_index_within most_places inits.now strides.now)))
         result out.old out.new }
 {
     let d = or_tell!(descriptor(alloc, lengths));

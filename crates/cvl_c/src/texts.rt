@@ -3,7 +3,7 @@
 ghost use Rattle.std.specs.Prelude.{Ok};
 ghost use Rattle.std.specs.Fmt.{signed_decimal};
 ghost use Rattle.call_reader.specs.Inputs.{input_of};
-ghost use Rattle.c_calls.specs.Calls.{in_limit};
+ghost use Rattle.c_calls.specs.Calls.{in_text_limit};
 ghost use Rattle.c_calls.specs.Told.{FrontToldOr};
 ghost use Rattle.value_texts.specs.Texts.{boolean_text, vector_text};
 
@@ -33,7 +33,7 @@ pub extern "C" fn cvl_write_ints(
     out: &mut [u8],
     count: &mut usize,
 ) -> CvlStatus
-    ensures { FrontToldOr (in_limit a.now (Ok (vector_text signed_decimal a.now))) result out.old out.new count.old count.new }
+    ensures { FrontToldOr (in_text_limit a.now (Ok (vector_text signed_decimal a.now))) result out.old out.new count.old count.new }
 {
     told_in_front(text(alloc, a), out, count)
 }
@@ -46,7 +46,7 @@ pub extern "C" fn cvl_write_bools(
     out: &mut [u8],
     count: &mut usize,
 ) -> CvlStatus
-    ensures { FrontToldOr (in_limit a.now (Ok (vector_text boolean_text a.now))) result out.old out.new count.old count.new }
+    ensures { FrontToldOr (in_text_limit a.now (Ok (vector_text boolean_text a.now))) result out.old out.new count.old count.new }
 {
     told_in_front(text(alloc, a), out, count)
 }
