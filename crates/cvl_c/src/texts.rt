@@ -33,7 +33,8 @@ pub extern "C" fn cvl_write_ints(
     out: &mut [u8],
     count: &mut usize,
 ) -> CvlStatus
-    ensures { FrontToldOr (in_text_limit a.now (Ok (vector_text signed_decimal a.now))) result out.old out.new count.old count.new }
+    ensures { FrontToldOr (in_text_limit a.now (Ok (vector_text signed_decimal a.now)))
+        result out.old out.new count.old count.new }
 {
     told_in_front(text(alloc, a), out, count)
 }
@@ -46,7 +47,8 @@ pub extern "C" fn cvl_write_bools(
     out: &mut [u8],
     count: &mut usize,
 ) -> CvlStatus
-    ensures { FrontToldOr (in_text_limit a.now (Ok (vector_text boolean_text a.now))) result out.old out.new count.old count.new }
+    ensures { FrontToldOr (in_text_limit a.now (Ok (vector_text boolean_text a.now)))
+        result out.old out.new count.old count.new }
 {
     told_in_front(text(alloc, a), out, count)
 }

@@ -75,7 +75,8 @@ pub fn seg_distribute<T: Copy + Send + Sync, R: Threads + Sync, A: Memory>(
 }
 
 /// The same as [`seg_distribute`], over a room of the caller's, by the thread that calls: LengthMismatch, without a place, where
-/// the room isn't as long as the segments are in all, which is checked last. They are of up to 2,147,483,647 elements. It asks for no memory.
+/// the room isn't as long as the segments are in all, which is checked last. They have up to 2,147,483,647 elements. It asks for
+/// no memory.
 pub fn seg_distribute_over<T: Copy, A: Allocator>(
     values: &[T],
     d: &SegDes<A>,
@@ -98,7 +99,8 @@ fn segment_copies<'a, T: Copy, A: Allocator>(
 ) -> Result<(EndToEnd<SegmentCopies<'a, T, A>>, usize), Fault>
     requires { sum d.now ≤ most }
     ensures values { MatchResult result
-        (λ made. seg_distribute_within most values.now d.now ≡ Ok (joined (copies_of made.0.segments.values.now made.0.segments.d.now)))
+        (λ made. seg_distribute_within most values.now d.now
+        ≡ Ok (joined (copies_of made.0.segments.values.now made.0.segments.d.now)))
         (λ f. seg_distribute_within most values.now d.now ≡ Err f) }
     ensures items { IfOk result (λ made. made.1 ≡ length (joined (copies_of made.0.segments.values.now made.0.segments.d.now))) }
     ensures total { IfOk result (λ made. (made.1 ≡ sum d.now) × (made.1 ≤ most_places)) }

@@ -81,14 +81,16 @@ pub fn seg_index<R: Threads + Sync, A: Memory>(
 }
 
 /// The same as [`seg_index`], over a room of the caller's, by the thread that calls: LengthMismatch, without a place, where the
-/// room isn't as long as the segments are in all, which is checked last. They are of up to 2,147,483,647 numbers. It asks for no memory.
+/// room isn't as long as the segments are in all, which is checked last. They have up to 2,147,483,647 places. It asks for no
+/// memory.
 pub fn seg_index_over<A: Allocator>(
     inits: &[i32],
     strides: &[i32],
     d: &SegDes<A>,
     out: &mut [i32],
 ) -> Result<(), Fault>
-    ensures { Overwrites (in_room (length out.old) (seg_index_within most_places inits.now strides.now d.now)) result out.old out.new }
+    ensures { Overwrites (in_room (length out.old) (seg_index_within most_places inits.now strides.now d.now))
+        result out.old out.new }
 {
     // its contract bounds it
     let _total = d.total();

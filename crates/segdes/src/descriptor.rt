@@ -1,6 +1,7 @@
 //! Descriptors.
 
-ghost use Rattle.std.specs.Prelude.{◌≡◌, ℕ, ◌+◌, ◌<◌, ◌≤◌, pos, length, map, sum, slice_index, unsigned_abs, vec_len, Err, IfOk, MatchResult};
+ghost use Rattle.std.specs.Prelude.{◌≡◌, ℕ, ◌+◌, ◌<◌, ◌≤◌, pos, length, map, sum, slice_index, unsigned_abs};
+ghost use Rattle.std.specs.Prelude.{Err, IfOk, MatchResult};
 ghost use Rattle.cvl_base.specs.Descriptors.{AreLengthsWithin, descriptor_of, descriptor_within};
 ghost use Rattle.cvl_base.specs.Gives.{Gives};
 ghost use Rattle.cvl_base.specs.Limits.{most_elements, most_places};

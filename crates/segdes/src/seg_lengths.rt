@@ -38,7 +38,8 @@ impl<'a> SegLengths<'a> {
     /// The lengths are at most 2,147,483,647 themselves.
     pub fn of(lengths: &'a [i32]) -> Result<SegLengths<'a>, Fault>
         requires { length lengths.now ≤ most_places }
-        ensures { MatchResult result (λ d. descriptor_within most_places lengths.now ≡ Ok d) (λ f. descriptor_within most_places lengths.now ≡ Err f) }
+        ensures { MatchResult result (λ d. descriptor_within most_places lengths.now ≡ Ok d)
+            (λ f. descriptor_within most_places lengths.now ≡ Err f) }
     {
         let total = check_lengths(lengths, MOST_PLACES)?;
         Ok(SegLengths { lengths, total })
