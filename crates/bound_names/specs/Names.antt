@@ -1,16 +1,20 @@
 -- The bound names: a finite map from names to values, as the list of its entries in the order of the names.
 -- Source: this library's script format.
-use Rattle.std.specs.Prelude.{◌≡◌, ◌≢◌, ℕ, ◌+◌, Bool, List, length, nat_le, nat_lt, Option, Some, None, ◌||◌, is_some, if◌then◌else◌}
+use Rattle.std.specs.Prelude.{◌≡◌, ◌≢◌, ℕ, ◌+◌, ◌≤◌, Bool, List, length, nat_le, nat_lt, sum, Option, Some, None, ◌||◌, is_some, if◌then◌else◌}
 use Rattle.std.specs.Ordering.{nat_cmp}
 use Rattle.std.specs.Cmp.Lexicographic.{slice_cmp}
 use Rattle.std.specs.Map.{lookup, remove_entry}
 use Rattle.std.specs.BTreeMap.{insert_entry, is_at}
 use Rattle.cvl_base.specs.declared.value.Value.{Value}
-use Rattle.cvl_base.specs.Limits.{most_names}
+use Rattle.cvl_base.specs.Limits.{most_elements, most_names}
 
 -- a value, under a name that `impl Model` can say
 abbrev pub BoundValue : Type 0 → Type 0
 BoundValue A = Value A
+
+-- the lengths of a bound descriptor are as many as a bound vector may have elements, and add up to as many
+abbrev pub AreInLimit : List ℕ → Type 0
+AreInLimit lengths = (length lengths ≤ most_elements) × (sum lengths ≤ most_elements)
 
 abbrev pub Entries : Type 0 → Type 0
 Entries A = List (List ℕ × Value A)

@@ -1,8 +1,9 @@
 //! Bound values, a descriptor with the starts of its segments beside it.
 
-ghost use Rattle.std.specs.Prelude.{◌≡◌, ◌≤◌, IfOk, None, option_copied, vec_len};
+ghost use Rattle.std.specs.Prelude.{◌≡◌, ◌≤◌, IfOk, IfSome, None, option_copied, vec_len};
 ghost use Rattle.cvl_base.specs.Limits.{most_elements};
 ghost use Rattle.bound_names.specs.Arguments.{lengths_of};
+ghost use Rattle.bound_names.specs.Names.{AreInLimit};
 
 use cvl_base::{Bools, Ints, Memory, NoResources, Value};
 use segdes::SegDes;
@@ -17,15 +18,15 @@ pub struct Bound<A: Memory> {
 }
 
 impl<A: Memory> Model for Bound<A> {
-    ghost use Rattle.std.specs.Prelude.{◌≡◌};
-    ghost use Rattle.bound_names.specs.Names.{BoundValue};
+    ghost use Rattle.std.specs.Prelude.{◌≡◌, IfSome};
+    ghost use Rattle.bound_names.specs.Names.{AreInLimit, BoundValue};
     ghost use Rattle.bound_names.specs.Arguments.{lengths_of};
 
     ghost Value = { BoundValue A };
 
     ghost view = { λ b. b.value };
 
-    ghost invariant = { λ b. b.descriptor ≡ lengths_of b.value };
+    ghost invariant = { λ b. (b.descriptor ≡ lengths_of b.value) × IfSome b.descriptor AreInLimit };
 }
 
 impl<A: Memory> Bound<A> {
@@ -56,8 +57,9 @@ impl<A: Memory> Bound<A> {
         }
     }
 
-    /// A descriptor, whose lengths are copied into the value.
+    /// A descriptor of at most 4,194,304 segments and elements, whose lengths are copied into the value.
     pub fn from_descriptor(alloc: A, descriptor: SegDes<A>) -> Result<Bound<A>, NoResources>
+        requires { AreInLimit descriptor }
         ensures { IfOk result (λ bound. bound ≡ Value.Descriptor descriptor) }
     {
         let lengths = descriptor.to_lengths(alloc)?;
@@ -76,7 +78,8 @@ impl<A: Memory> Bound<A> {
 
     /// The descriptor with its starts, where the value is one.
     pub fn descriptor(&self) -> Option<&SegDes<A>>
-        ensures { option_copied result ≡ lengths_of self.now }
+        ensures value { option_copied result ≡ lengths_of self.now }
+        ensures in_limit { IfSome (option_copied result) AreInLimit }
     {
         self.descriptor.as_ref()
     }

@@ -1,13 +1,13 @@
 //! The operands of a call: what each of its arguments holds.
 
-ghost use Rattle.std.specs.Prelude.{◌≡◌, ◌≤◌, Some, length, option_copied, sum};
+ghost use Rattle.std.specs.Prelude.{◌≡◌, ◌≤◌, IfSome, Some, length, option_copied, sum};
 ghost use Rattle.cvl_base.specs.declared.kind.Kind.TheVariants as kind;
 ghost use Rattle.cvl_base.specs.Limits.{most_elements};
 ghost use Rattle.bound_names.specs.Arguments.{boolean_in, booleans_in, descriptor_in, integer_in, integers_in, lengths_in};
+ghost use Rattle.bound_names.specs.Names.{AreInLimit};
 ghost use Rattle.bound_names.specs.Operands.{held, kind_held};
 
 use crate::bound::Bound;
-use cvl_base::limits::MOST_ELEMENTS;
 use cvl_base::{Kind, Memory, Value};
 use segdes::SegDes;
 
@@ -78,10 +78,7 @@ impl<'a, A: Memory> Operand<'a, A> {
         ensures total_in_limit { sum result.now ≤ most_elements }
     {
         match self.descriptor_if_any() {
-            Some(descriptor) => {
-                prove!(descriptor.count() <= MOST_ELEMENTS && descriptor.total() <= MOST_ELEMENTS);
-                descriptor
-            }
+            Some(descriptor) => descriptor,
             None => unreachable!(),
         }
     }
@@ -146,7 +143,8 @@ impl<'a, A: Memory> Operand<'a, A> {
 
     /// The descriptor, with its starts, where it is one.
     pub fn descriptor_if_any(&self) -> Option<&'a SegDes<A>>
-        ensures { option_copied result ≡ descriptor_in (held self.now) }
+        ensures value { option_copied result ≡ descriptor_in (held self.now) }
+        ensures in_limit { IfSome (option_copied result) AreInLimit }
     {
         match *self {
             Operand::Bound(bound) => bound.descriptor(),
