@@ -1,6 +1,6 @@
 //! Nested texts, each read by as many threads as its length pays for.
 
-ghost use Rattle.std.specs.Prelude.{◌≡◌, ◌≤◌, IfOk, IfSome, sum, vec_len};
+ghost use Rattle.std.specs.Prelude.{◌≡◌, ◌≤◌, IfOk, IfSome, length, sum, vec_len};
 ghost use Rattle.cvl_base.specs.Gives.{Gives};
 ghost use Rattle.cvl_base.specs.Limits.{most_elements};
 ghost use Rattle.call_reader.specs.NestedTexts.{nested_of};
@@ -49,6 +49,7 @@ fn described<A: Memory>(
     ensures values { Gives (λ p. (p.0.items, p.1)) result (nested_of bytes.now) }
     ensures total { IfOk result (λ p. sum p.1 ≡ vec_len p.0) }
     ensures in_limit { IfOk result (λ p. vec_len p.0 ≤ most_elements) }
+    ensures few { IfOk result (λ p. length p.1 ≤ most_elements) }
 {
     let _bytes = bytes;
     let descriptor = SegDes::new(alloc, Lengths::from_vec(lengths))?;
@@ -63,6 +64,7 @@ pub fn read_nested_alone<A: Memory>(
     ensures values { Gives (λ p. (p.0.items, p.1)) result (nested_of bytes.now) }
     ensures total { IfOk result (λ p. sum p.1 ≡ vec_len p.0) }
     ensures in_limit { IfOk result (λ p. vec_len p.0 ≤ most_elements) }
+    ensures few { IfOk result (λ p. length p.1 ≤ most_elements) }
 {
     let (numbers, lengths) = nest_alone(alloc, bytes)?;
     described(alloc, bytes, numbers, lengths)
@@ -84,6 +86,7 @@ pub fn read_nested<R: Threads + Sync, A: Memory>(
     ensures values { Gives (λ p. (p.0.items, p.1)) result (nested_of bytes.now) }
     ensures total { IfOk result (λ p. sum p.1 ≡ vec_len p.0) }
     ensures in_limit { IfOk result (λ p. vec_len p.0 ≤ most_elements) }
+    ensures few { IfOk result (λ p. length p.1 ≤ most_elements) }
 {
     let threads = threads_reading(config, bytes.len());
     if threads.get() >= 2 {
