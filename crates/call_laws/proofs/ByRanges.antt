@@ -1,5 +1,5 @@
 -- Permutes by ranges of their result.
-use Rattle.call_laws.proofs.Cited.{◌≡◌, ◌≤◌, ◌∙◌, ℕ, List, length, map, sym, ap, arith, ℤ, unwrap_or, Option, Ok, enumerate_from, most_elements, first_fault, sent_over, sent_to, sent_to_all, wrongs}
+use Rattle.call_laws.proofs.Cited.{◌≡◌, ◌≤◌, ◌∙◌, ℕ, List, length, map, sym, ap, arith, ℤ, unwrap_or, Option, Ok, enumerate_from, most_places, first_fault, sent_over, sent_to, sent_to_all, wrongs}
 use Rattle.call_laws.proofs.Cited.{count_destinations, last_senders}
 use Rattle.permute_walks.specs.Senders.{IsStored, count_sent, written_over}
 use Rattle.permute_walks.proofs.LastSent.{lasts_stored}
@@ -7,7 +7,7 @@ use Rattle.permute_walks.proofs.Taken.{taken_over_flat}
 use Rattle.call_laws.proofs.Sending.{all-is_over, unless-Ok}
 
 -- as many are counted as take part where there is a result, which is then what was written
-module _ {X : Type 0} (source : List X) (ts : List (Option ℤ)) (n : ℕ) (long : length source ≡ n) (also_long : length ts ≡ n) (few : n ≤ most_elements) (room : List X) where
+module _ {X : Type 0} (source : List X) (ts : List (Option ℤ)) (n : ℕ) (long : length source ≡ n) (also_long : length ts ≡ n) (few : n ≤ most_places) (room : List X) where
   abbrev lasts : List ℕ
   lasts = last_senders 0 ts 0 (length room)
 

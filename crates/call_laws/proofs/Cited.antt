@@ -18,14 +18,14 @@ pub use Rattle.std.proofs.lemmas.Slice.Zip.{length-zip}
 pub use Rattle.std.specs.List.{AllPass, enumerate_from, fold, list_any, range_with_len}
 pub use Rattle.std.specs.Option.{ok_or}
 pub use Rattle.std.specs.Prelude.{◌↔◌, sum}
-pub use Rattle.cvl_base.proofs.Distributes.{as_length-fits}
+pub use Rattle.cvl_base.proofs.Distributes.{as_length-fits, length_within-fits}
 pub use Rattle.cvl_base.proofs.Elementwise.{if_as_long-fits, if_as_long-misfits}
 pub use Rattle.cvl_base.proofs.Lists.{element, sum-cons}
 pub use Rattle.cvl_base.proofs.Nests.{length-cut, nest-fits, nest-misfits}
 pub use Rattle.cvl_base.proofs.Permutes.{length-all_destinations, length-flagged_destinations}
 pub use Rattle.cvl_base.proofs.Segmented.{results-ok}
 pub use Rattle.cvl_base.specs.CheckedSums.{fitting}
-pub use Rattle.cvl_base.specs.Distributes.{distribute_of, index_of}
+pub use Rattle.cvl_base.specs.Distributes.{distribute_of, distribute_within, index_of, index_within}
 pub use Rattle.cvl_base.specs.Elementwise.{if_as_long, values_from}
 pub use Rattle.cvl_base.specs.Exact.{total_of}
 pub use Rattle.cvl_base.specs.Extracts.{element_at, extract_of, replace_of}
@@ -33,7 +33,7 @@ pub use Rattle.cvl_base.specs.Faults.{fault, fault_at}
 pub use Rattle.cvl_base.specs.Folds.{fold_of, scan_of}
 pub use Rattle.cvl_base.specs.Gives.{◌>>=◌, fault_if, unless}
 pub use Rattle.cvl_base.specs.Integers.{wrap}
-pub use Rattle.cvl_base.specs.Limits.{most_elements}
+pub use Rattle.cvl_base.specs.Limits.{most_elements, most_places}
 pub use Rattle.cvl_base.specs.Lists.{joined}
 pub use Rattle.cvl_base.specs.Monoid.{MonoidLaws}
 pub use Rattle.cvl_base.specs.Nests.{cut_of, nest}

@@ -7,7 +7,6 @@ use Rattle.cvl_base.specs.declared.fault.FaultNo.TheVariants as no
 use Rattle.cvl_base.specs.Faults.{fault}
 use Rattle.cvl_base.specs.Folds.{scan_of}
 use Rattle.cvl_base.specs.Gives.{◌>>=◌, after, fault_if, unless}
-use Rattle.cvl_base.specs.Limits.{most_elements}
 use Rattle.cvl_base.specs.Segmented.{moved}
 
 -- each part's scan from what stands before the part on
@@ -25,13 +24,13 @@ placed_fault (Ok x) = None
 placed_fault (Err f) = option_map (λ _. f) f.place
 
 -- the descriptor of lengths in two parts, where the second starts at a place of the whole. A negative length is at fault, which has a
--- place, the first part's before the second's; else the total is, which is both parts' totals added, where it is above the limit
-abbrev pub descriptor_in_two : ℕ → Result (List ℕ) Fault → Result (List ℕ) Fault → Result (List ℕ) Fault
-descriptor_in_two start first second =
+-- place, the first part's before the second's; else the total is, which is both parts' totals added, where it is above `most`
+abbrev pub descriptor_in_two : ℕ → ℕ → Result (List ℕ) Fault → Result (List ℕ) Fault → Result (List ℕ) Fault
+descriptor_in_two most start first second =
     unless (placed_fault first)
     (unless (placed_fault (moved (λ place. start + place) second))
     (first >>= λ lengths. second >>= λ more.
-    fault_if (nat_lt most_elements (sum lengths + sum more)) (fault no.TooLong) (Ok (lengths ++ more))))
+    fault_if (nat_lt most (sum lengths + sum more)) (fault no.TooLong) (Ok (lengths ++ more))))
 
 -- a replace on a copy in two parts: the first part's where it has the index, beside the second part as it was, else the second part's
 -- behind the first as it was

@@ -3,8 +3,8 @@
 
 ghost use Rattle.std.specs.Prelude.{◌≡◌, ℕ, ℤ, Bool, List, ◌++◌, length, sum};
 ghost use Rattle.call_laws.specs.InParts.{in_two};
-ghost use Rattle.cvl_base.specs.SegmentedCalls.{seg_back_of, seg_default_of, seg_distribute_of, seg_extract_of, seg_index_of};
-ghost use Rattle.cvl_base.specs.SegmentedCalls.{seg_pack_of, seg_replace_of, seg_select_of, seg_simple_of};
+ghost use Rattle.cvl_base.specs.SegmentedCalls.{seg_back_of, seg_default_of, seg_distribute_within, seg_extract_of};
+ghost use Rattle.cvl_base.specs.SegmentedCalls.{seg_index_within, seg_pack_of, seg_replace_of, seg_select_of, seg_simple_of};
 
 /// A segmented permute or pack whose vectors are all cut between the same two segments is that of the first segments and that
 /// of the others. The place of a fault of the others is moved by the length of the first part of the index.
@@ -43,15 +43,15 @@ pub fn segmented_permutes_in_parts<T>()
 /// The same of segmented calls that take one value or index for each segment, which are cut where the lengths are. The place of
 /// a fault of an extract or a replace is moved by the number of the first segments.
 pub fn segmented_values_in_parts<T>()
-    ensures distribute { (lengths later : List ℕ) (values more : List T) → length values ≡ length lengths
+    ensures distribute { (most : ℕ) (lengths later : List ℕ) (values more : List T) → length values ≡ length lengths
         → length more ≡ length later →
-        seg_distribute_of (values ++ more) (lengths ++ later)
-        ≡ in_two (sum lengths) (seg_distribute_of values lengths) (seg_distribute_of more later) }
-    ensures index { (lengths later : List ℕ) (inits more strides others : List ℤ) →
+        seg_distribute_within most (values ++ more) (lengths ++ later)
+        ≡ in_two (sum lengths) (seg_distribute_within most values lengths) (seg_distribute_within most more later) }
+    ensures index { (most : ℕ) (lengths later : List ℕ) (inits more strides others : List ℤ) →
         length inits ≡ length lengths → length strides ≡ length lengths → length more ≡ length later
         → length others ≡ length later →
-        seg_index_of (inits ++ more) (strides ++ others) (lengths ++ later)
-        ≡ in_two (sum lengths) (seg_index_of inits strides lengths) (seg_index_of more others later) }
+        seg_index_within most (inits ++ more) (strides ++ others) (lengths ++ later)
+        ≡ in_two (sum lengths) (seg_index_within most inits strides lengths) (seg_index_within most more others later) }
     ensures extract { (lengths later : List ℕ) (xs more : List T) (index others : List ℤ) →
         sum lengths ≡ length xs → sum later ≡ length more → length index ≡ length lengths → length others ≡ length later →
         seg_extract_of (xs ++ more) (index ++ others) (lengths ++ later)

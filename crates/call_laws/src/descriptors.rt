@@ -3,7 +3,7 @@
 ghost use Rattle.std.specs.Prelude.{◌≡◌, ◌↔◌, ◌<◌, ◌≤◌, ℕ, ℤ, pos, List, ◌++◌, length, map, sum};
 ghost use Rattle.call_laws.specs.InParts.{descriptor_in_two};
 ghost use Rattle.cvl_base.specs.declared.fault.FaultNo.TheVariants as no;
-ghost use Rattle.cvl_base.specs.Descriptors.{AreLengths, IsFirstNegative, descriptor_of};
+ghost use Rattle.cvl_base.specs.Descriptors.{AreLengths, IsFirstNegative, descriptor_of, descriptor_within};
 ghost use Rattle.cvl_base.specs.Faults.{fault, fault_at};
 ghost use Rattle.cvl_base.specs.Limits.{most_elements};
 
@@ -20,8 +20,8 @@ pub fn descriptor_law()
 
 /// A descriptor of lengths that are cut in two is the parts' descriptors one after another, and its total theirs added. The fault
 /// is the first part's negative length, else the second's, moved by the number of the first part's lengths. Where no length is
-/// negative, it is the total where that is above 4,194,304, though each part's own may be in the limit.
+/// negative, it is the total where that is above the limit, whatever that is, though each part's own may be in the limit.
 pub fn descriptor_in_parts()
-    ensures { (lengths more : List ℤ) →
-        descriptor_of (lengths ++ more) ≡ descriptor_in_two (length lengths) (descriptor_of lengths) (descriptor_of more) }
+    ensures { (most : ℕ) (lengths more : List ℤ) → descriptor_within most (lengths ++ more)
+        ≡ descriptor_in_two most (length lengths) (descriptor_within most lengths) (descriptor_within most more) }
 {}

@@ -2,7 +2,7 @@
 
 ghost use Rattle.std.specs.Prelude.{◌≡◌, ◌+◌, ◌≤◌, ℕ, ℤ, Bool, Option, List, ◌++◌, length};
 ghost use Rattle.call_laws.specs.InParts.{in_two};
-ghost use Rattle.cvl_base.specs.Limits.{most_elements};
+ghost use Rattle.cvl_base.specs.Limits.{most_places};
 ghost use Rattle.cvl_base.specs.Packs.{count_of};
 ghost use Rattle.cvl_base.specs.Permutes.{all_destinations, back_of, default_of, flagged_destinations, select_of, simple_of};
 ghost use Rattle.part_calls.specs.Ranges.{count_of_range, room_of_range};
@@ -25,11 +25,11 @@ pub fn range_in_parts<T>()
 /// A simple permute by ranges of its result: it has one exactly where as many places are sent something as there are indices,
 /// and that is then what was written, over any room of its length.
 pub fn simple_permute_by_ranges<T>()
-    ensures written { (source room : List T) (index : List ℤ) → length source ≡ length index → length index ≤ most_elements →
+    ensures written { (source room : List T) (index : List ℤ) → length source ≡ length index → length index ≤ most_places →
         length room ≡ length index → count_of_range (all_destinations index) 0 (length room) ≡ length index →
         simple_of source index ≡ Ok (room_of_range source (all_destinations index) 0 room) }
     ensures counted { (source room result : List T) (index : List ℤ) → length source ≡ length index
-        → length index ≤ most_elements →
+        → length index ≤ most_places →
         length room ≡ length index → simple_of source index ≡ Ok result →
         count_of_range (all_destinations index) 0 (length room) ≡ length index }
 {}
@@ -37,23 +37,23 @@ pub fn simple_permute_by_ranges<T>()
 /// The same of a select permute, in which as many indices take part as there are true flags.
 pub fn select_permute_by_ranges<T>()
     ensures written { (source room : List T) (index : List ℤ) (flags : List Bool) → length source ≡ length index
-        → length index ≤ most_elements →
+        → length index ≤ most_places →
         length index ≡ length flags → length room ≡ count_of flags
         → count_of_range (flagged_destinations index flags) 0 (length room) ≡ count_of flags →
         select_of source index flags ≡ Ok (room_of_range source (flagged_destinations index flags) 0 room) }
     ensures counted { (source room result : List T) (index : List ℤ) (flags : List Bool) → length source ≡ length index
-        → length index ≤ most_elements →
+        → length index ≤ most_places →
         length index ≡ length flags → length room ≡ count_of flags → select_of source index flags ≡ Ok result →
         count_of_range (flagged_destinations index flags) 0 (length room) ≡ count_of flags }
 {}
 
 /// The same of a default permute, whose room holds the defaults.
 pub fn default_permute_by_ranges<T>()
-    ensures written { (source defaults : List T) (index : List ℤ) → length source ≡ length index → length index ≤ most_elements →
+    ensures written { (source defaults : List T) (index : List ℤ) → length source ≡ length index → length index ≤ most_places →
         count_of_range (all_destinations index) 0 (length defaults) ≡ length index →
         default_of source index defaults ≡ Ok (room_of_range source (all_destinations index) 0 defaults) }
     ensures counted { (source defaults result : List T) (index : List ℤ) → length source ≡ length index
-        → length index ≤ most_elements →
+        → length index ≤ most_places →
         default_of source index defaults ≡ Ok result
         → count_of_range (all_destinations index) 0 (length defaults) ≡ length index }
 {}

@@ -1,5 +1,5 @@
 use Rattle.call_laws.proofs.Cited.{◌≡◌, ◌+◌, ◌∷◌, ◌++◌, ◌∙◌, ℕ, Bool, true, false, ℤ, List, [], length, map, sum, refl, ap, arith, Some, None, Ok, Option, Result, cond, nat_lt}
-use Rattle.call_laws.proofs.Cited.{option_map, lt-ltb, ltb-true, map-append, sum_by-append, fault, fault_at, unless, fault_if, most_elements}
+use Rattle.call_laws.proofs.Cited.{option_map, lt-ltb, ltb-true, map-append, sum_by-append, fault, fault_at, unless, fault_if}
 use Rattle.std.proofs.Common.{unsigned_abs}
 use Rattle.std.specs.Prelude.{position}
 use Rattle.std.specs.Int.{is_negative}
@@ -47,18 +47,18 @@ module _ (test : ℤ → Bool) where
 abbrev make : Option ℕ → Bool → List ℕ → Result (List ℕ) Fault
 make place above sizes = unless (option_map (fault_at no.NegativeLength) place) (fault_if above (fault no.TooLong) (Ok sizes))
 
-two : (start : ℕ) (p q : Option ℕ) (first second : List ℕ) (above also_above : Bool) → nat_lt most_elements (sum first) ≡ above → nat_lt most_elements (sum second) ≡ also_above
-    → make (or-else p (option_map (λ k. start + k) q)) (nat_lt most_elements (sum first + sum second)) (first ++ second)
-    ≡ descriptor_in_two start (make p above first) (make q also_above second)
-two start (Some k) q first second above also_above e f = refl
-two start None (Some k) first second true also_above e f = refl
-two start None (Some k) first second false also_above e f = refl
-two start None None first second true true e f = rw (lt-ltb most_elements (sum first + sum second) (omega (arith, ltb-true most_elements (sum first) e)))
-two start None None first second true false e f = rw (lt-ltb most_elements (sum first + sum second) (omega (arith, ltb-true most_elements (sum first) e)))
-two start None None first second false true e f = rw (lt-ltb most_elements (sum first + sum second) (omega (arith, ltb-true most_elements (sum second) f)))
-two start None None first second false false e f = refl
+two : (most start : ℕ) (p q : Option ℕ) (first second : List ℕ) (above also_above : Bool) → nat_lt most (sum first) ≡ above → nat_lt most (sum second) ≡ also_above
+    → make (or-else p (option_map (λ k. start + k) q)) (nat_lt most (sum first + sum second)) (first ++ second)
+    ≡ descriptor_in_two most start (make p above first) (make q also_above second)
+two most start (Some k) q first second above also_above e f = refl
+two most start None (Some k) first second true also_above e f = refl
+two most start None (Some k) first second false also_above e f = refl
+two most start None None first second true true e f = rw (lt-ltb most (sum first + sum second) (omega (arith, ltb-true most (sum first) e)))
+two most start None None first second true false e f = rw (lt-ltb most (sum first + sum second) (omega (arith, ltb-true most (sum first) e)))
+two most start None None first second false true e f = rw (lt-ltb most (sum first + sum second) (omega (arith, ltb-true most (sum second) f)))
+two most start None None first second false false e f = refl
 
 pub returns : goal.returns
-returns c = λ lengths more.
+returns c = λ most lengths more.
     rw (position-two is_negative lengths more, map-append unsigned_abs lengths more, sum_by-append (λ n. n) (map unsigned_abs lengths) (map unsigned_abs more))
-    (two (length lengths) (position is_negative lengths) (position is_negative more) (map unsigned_abs lengths) (map unsigned_abs more) _ _ refl refl)
+    (two most (length lengths) (position is_negative lengths) (position is_negative more) (map unsigned_abs lengths) (map unsigned_abs more) _ _ refl refl)

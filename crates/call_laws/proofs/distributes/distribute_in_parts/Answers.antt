@@ -1,5 +1,5 @@
 use Rattle.call_laws.proofs.Cited.{◌≡◌, ◌+◌, ◌+ℤ◌, ◌*ℤ◌, ◌∙◌, ℕ, ℤ, map, pos, sym, ap, arith, Ok, range_with_len, ints, map-append, get_or-map-range_with_len, length-map-range_with_len, wrap}
-use Rattle.call_laws.proofs.Cited.{as_length-fits}
+use Rattle.call_laws.proofs.Cited.{length_within-fits}
 use Rattle.std.proofs.Common.{w32}
 use Rattle.std.proofs.lemmas.Int.{int_wrap-add_left}
 use Rattle.std.proofs.lemmas.List.{replicate-append-replicate}
@@ -13,9 +13,9 @@ steps-on init stride m k = omega (arith, ints)
 
 pub returns : goal.returns
 returns g c = record {
-  copies = λ value m n few.
-      rw (as_length-fits (m + n) few, as_length-fits m (omega (arith, few)), as_length-fits n (omega (arith, few))) (ap Ok (sym (replicate-append-replicate m n value)));
-  steps = λ init stride m n few.
+  copies = λ most value m n few.
+      rw (length_within-fits most (m + n) few, length_within-fits most m (omega (arith, few)), length_within-fits most n (omega (arith, few))) (ap Ok (sym (replicate-append-replicate m n value)));
+  steps = λ most init stride m n few.
       let number = λ (k : ℕ). wrap (init +ℤ pos k *ℤ stride) in
       let later = λ (k : ℕ). wrap (wrap (init +ℤ pos m *ℤ stride) +ℤ pos k *ℤ stride) in
       let on : (k : ℕ) → number (m + k) ≡ later k =
@@ -23,6 +23,6 @@ returns g c = record {
       let second : map number (range_with_len (0 + m) n) ≡ map later (range_with_len 0 n) =
       fill_by_all later (map number (range_with_len (0 + m) n)) n init (length-map-range_with_len number (0 + m) n)
       (λ k within. get_or-map-range_with_len number (0 + m) n k (m + k) init within (omega arith) ∙ on k) in
-      rw (as_length-fits (m + n) few, as_length-fits m (omega (arith, few)), as_length-fits n (omega (arith, few)), range_both 0 m n)
+      rw (length_within-fits most (m + n) few, length_within-fits most m (omega (arith, few)), length_within-fits most n (omega (arith, few)), range_both 0 m n)
       (ap Ok (map-append number (range_with_len 0 m) (range_with_len (0 + m) n) ∙ rw second));
 }
