@@ -1,9 +1,9 @@
 /*
  * cvl.h: the vector calls of CVL, the C Vector Library, on a caller's own memory.
  *
- * Written by bindings/generate from bindings/table.py; edit that and not this file.
+ * Written by the generator of the repository from its table of calls; edit the table and not this file.
  *
- * Link with -lcvl, of which ./install makes an archive and a shared object; docs/embedding.md shows how. C99 to C23, and C++.
+ * Link with -lcvl, an archive and a shared object; docs/programs.md shows how. C99 to C23, and C++.
  *
  * Every call answers a CvlStatus: number 0 where all is done, the number of a fault, with its place or -1, 100 where memory ran
  * out, 101 where there is no descriptor, or 102 where arrays overlap. Where all is done the result is in the caller's room, the

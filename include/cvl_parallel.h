@@ -1,7 +1,7 @@
 /*
  * cvl_parallel.h: the calls of cvl.h again, each in parts, by threads of the caller's own.
  *
- * Written by bindings/generate from bindings/table.py; edit that and not this file.
+ * Written by the generator of the repository from its table of calls; edit the table and not this file.
  *
  * Each call has a second form, with `_on` after its name and a pool before its arguments: cvl_add_wuz_on(&pool, a, b, out, n) is
  * cvl_add_wuz(a, b, out, n), and cvl_int2_on(&pool, ..) is cvl_int2(..). The status is that of the plain call, with the same place, and

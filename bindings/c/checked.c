@@ -2,7 +2,7 @@
  * The functions of cvl.h: each family, which looks at what its export cannot see and then calls it, and which takes the threads
  * of the process where it is long; each call of the table by its family; the families on segments with a descriptor in the
  * place of lengths; and the names of faults.
- * Written by bindings/generate from bindings/table.py; edit that and not this file.
+ * Written by the generator of the repository from its table of calls; edit the table and not this file.
  */
 #include "families.h"
 #include "segments.h"

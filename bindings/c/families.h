@@ -2,7 +2,7 @@
  * families.h: the proved exports under their names beneath; each family that is cut, by the thread that calls and by those of
  * the process; and of each family: whether arrays meet that may not; whether all agrees that can be compared at once, so that
  * what is told first is no fault of these; and the export, or the one in place.
- * Written by bindings/generate from bindings/table.py; edit that and not this file.
+ * Written by the generator of the repository from its table of calls; edit the table and not this file.
  */
 #ifndef CVL_FAMILIES_H
 #define CVL_FAMILIES_H

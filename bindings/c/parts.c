@@ -1,7 +1,7 @@
 /*
  * The functions of cvl_parallel.h: each family in parts, and by the threads of the process, and each call of the table by its
  * family.
- * Written by bindings/generate from bindings/table.py; edit that and not this file.
+ * Written by the generator of the repository from its table of calls; edit the table and not this file.
  */
 #include "parts.h"
 

@@ -9,7 +9,9 @@ import table
 
 HEAD = """# The header for C
 
-What `include/cvl.h` says, written as it is by `bindings/generate` from `bindings/table.py`. [Calls from code of one's own](embedding.md) shows how a program is built over the library, and [Common mistakes](mistakes.md) what goes wrong first.
+What `include/cvl.h` says. [Programs over the installed library](programs.md) shows how a program is built, [Calls from code of one's own](embedding.md) how one is without installing, and [Common mistakes](mistakes.md) what goes wrong first.
+
+The page is written, as the header is, by `bindings/generate` from `bindings/table.py`.
 """
 
 

@@ -8,7 +8,7 @@ sys.path.insert(0, str(pathlib.Path(__file__).resolve().parent.parent))
 
 import table
 
-NOTE = "Written by bindings/generate from bindings/table.py; edit that and not this file."
+NOTE = "Written by the generator of the repository from its table of calls; edit the table and not this file."
 
 # An argument of a function in C: its name, its type, the operand that it is of, and whether it is a number of elements, which
 # then is that of the extent `size`.

@@ -1,12 +1,10 @@
 #!/usr/bin/env python3
-"""When the archive is built again, and what the command install puts, lists and removes: on trees of files that are made for it, without
-the kit, in a second.
+"""When the archive is built again, where things are built, and which words compile and link it: on trees of files that are
+made for it, without the kit, in a second.
 
     test_archive.py
 """
 
-import importlib.machinery
-import importlib.util
 import os
 import pathlib
 import sys
@@ -19,17 +17,8 @@ TOP = pathlib.Path(__file__).resolve().parents[2]
 sys.path.insert(0, str(TOP / "bindings"))
 
 import archive
-
-
-def command(name):
-    """A command of this repository as a module."""
-    loader = importlib.machinery.SourceFileLoader(name, str(TOP / name))
-    module = importlib.util.module_from_spec(importlib.util.spec_from_loader(name, loader))
-    loader.exec_module(module)
-    return module
-
-
-install = command("install")
+import proved
+from installer import building
 
 
 class Tree(unittest.TestCase):
@@ -48,10 +37,6 @@ class Tree(unittest.TestCase):
             os.utime(path, (time, time))
         return path
 
-    def found(self):
-        """Each file and folder below the top."""
-        return sorted(str(path.relative_to(self.top)) for path in self.top.rglob("*"))
-
 
 class Left(Tree):
     """Whether what was built is taken as it is."""
@@ -64,13 +49,11 @@ class Left(Tree):
         self.write("crates/sums/out/rlib/sums.rlib", time=2000)
         for folder in self.top.glob("crates/sums/**"):
             os.utime(folder, (1000, 1000))
-        patched = mock.patch.object(archive, "TOP", self.top)
-        patched.start()
-        self.addCleanup(patched.stop)
+        self.crates = proved.Crates(self.top)
 
     def is_left(self):
-        found = archive.is_left("sums", "rlib/sums.rlib")
-        self.assertEqual(archive.gate_left({"sums"}), found)
+        found = self.crates.is_left("sums", "rlib/sums.rlib")
+        self.assertEqual(self.crates.gate_left({"sums"}), found)
         return found
 
     def test_what_is_newer_than_all_texts_is_taken(self):
@@ -91,84 +74,113 @@ class Left(Tree):
 
     def test_what_was_not_built_is_not_taken(self):
         (self.top / "crates/sums/out/rlib/sums.rlib").unlink()
-        self.assertFalse(archive.is_left("sums", "rlib/sums.rlib"))
+        self.assertFalse(self.crates.is_left("sums", "rlib/sums.rlib"))
+
+    def test_what_the_command_lib_left_is_for_it_to_take(self):
+        self.write("crates/sums/out/rlib/stamp")
+        self.assertFalse(self.crates.gate_left({"sums"}))
 
 
-class Installed(Tree):
-    """What stands below a prefix."""
+class Copied(Tree):
+    """A checkout that is copied, to be built elsewhere."""
 
     def setUp(self):
         super().setUp()
-        self.root = self.top / "root"
-        self.package = "lib/python3.9/site-packages/cvl/__init__.py"
+        self.write("top/crates/sums/src/lib.rt", "text")
+        self.write("top/crates/sums/out/rlib/sums.rlib", "made")
+        self.write("top/cvl", "program").chmod(0o555)
+        self.copy = self.top / "copy"
 
-    def put(self, *names):
-        source = self.write("source", "text")
-        install.put(self.root, [(source, name) for name in ("lib/libcvl.so.1", *names)])
+    def again(self):
+        building.copied(self.top / "top", self.copy)
+        return sorted(str(path.relative_to(self.copy)) for path in self.copy.rglob("*") if path.is_file())
 
-    def test_uninstalling_leaves_what_was_there(self):
-        self.write("root/bin/other")
-        self.write("root/lib/python3.9/site-packages/other.py")
-        self.write("root/lib/python3.9/site-packages/__pycache__/other.pyc")
-        (self.root / "share/man").mkdir(parents=True)
-        before = self.found()
-        self.put("bin/cvl", "include/cvl.h", "share/man/man1/cvl.1", self.package)
-        self.write(f"root/{pathlib.PurePath(self.package).parent}/__pycache__/__init__.pyc")
-        install.uninstall(self.root)
-        (self.top / "source").unlink()
-        self.assertEqual(self.found(), before)
+    def test_all_but_what_was_built_is_copied(self):
+        self.assertEqual(self.again(), ["crates/sums/src/lib.rt", "cvl"])
+        self.assertTrue(os.stat(self.copy / "cvl").st_mode & 0o300 == 0o300)
 
-    def test_uninstalling_leaves_nothing_of_its_own(self):
-        self.put("bin/cvl", self.package)
-        self.assertEqual(os.readlink(self.root / "lib/libcvl.so"), "libcvl.so.1")
-        install.uninstall(self.root)
-        self.assertEqual(self.found(), ["root", "source"])
+    def test_what_is_the_same_is_left_alone_with_what_was_built_of_it(self):
+        self.again()
+        self.write("copy/crates/sums/out/rlib/sums.rlib", "built")
+        os.utime(self.copy / "crates/sums/src/lib.rt", (1000, 1000))
+        self.assertIn("crates/sums/out/rlib/sums.rlib", self.again())
+        self.assertEqual((self.copy / "crates/sums/src/lib.rt").stat().st_mtime, 1000)
 
-    def test_a_newer_version_removes_what_it_has_no_more(self):
-        self.put("bin/cvl", "include/old.h", "share/old/page")
-        self.put("bin/cvl", "include/cvl.h")
-        files = ["bin/cvl", "include/cvl.h", "lib/libcvl.so", "lib/libcvl.so.1", "share/cvl/installed"]
-        folders = ["bin", "include", "lib", "share", "share/cvl"]
-        self.assertEqual(self.found(), sorted(["root", "source", *(f"root/{name}" for name in files + folders)]))
-        install.uninstall(self.root)
-        self.assertEqual(self.found(), ["root", "source"])
-
-    def test_modes_and_text(self):
-        self.put("bin/cvl", "include/cvl.h")
-        self.assertEqual([oct((self.root / name).stat().st_mode)[-3:] for name in ("bin/cvl", "include/cvl.h")], ["755", "644"])
-        self.assertEqual((self.root / "bin/cvl").read_text(), "text")
+    def test_what_was_changed_or_is_gone_follows(self):
+        self.write("top/crates/sums/src/more.rt", "more")
+        self.again()
+        self.write("top/crates/sums/src/lib.rt", "another text")
+        (self.top / "top/crates/sums/src/more.rt").unlink()
+        self.assertEqual(self.again(), ["crates/sums/src/lib.rt", "cvl"])
+        self.assertEqual((self.copy / "crates/sums/src/lib.rt").read_text(), "another text")
 
 
-class Packaged(Tree):
-    """The whole command, without what it proves and links."""
+class Built(Tree):
+    """Where things are built."""
 
-    def install(self, prefix, destination):
-        def build_both(cpu, jobs, work):
-            for name in ("cvl", "libcvl.a", "libcvl.so.1"):
-                (work / name).write_text(name)
+    def build(self, own, left):
+        """The folders of the checkouts that are proved, and where the archive is built over what was left."""
+        proved_in, over = [], []
+        with mock.patch.object(proved.Crates, "build_all", lambda self, *given: proved_in.append(self.top)), \
+                mock.patch.object(proved.Crates, "build_over_gate", lambda self, made: over.append(made)), \
+                mock.patch.object(building.Build, "is_left", left), mock.patch("builtins.print"), mock.patch.dict(os.environ), \
+                mock.patch.object(building, "copied", lambda top, copy: copy):  # fmt: skip
+            os.environ.pop("CVL_ARCHIVE", None)
+            build = building.Build("", 1, str(own) if own else "")
+            build._both(self.top)
+            return build, proved_in, over
 
-        places = {"DESTDIR": str(destination) if destination else ""}
-        with mock.patch.object(install, "build_both", build_both), mock.patch.object(install, "link", lambda *given: None), \
-                mock.patch.object(install.shutil, "which", lambda name: name), mock.patch.dict(os.environ, places), \
-                mock.patch("builtins.print"):  # fmt: skip
-            install.main([str(prefix), f"--python={sys.executable}"])
-        return pathlib.Path(f"{destination or ''}{prefix}")
+    def test_in_the_checkout(self):
+        build, proved_in, _ = self.build(None, False)
+        self.assertEqual((proved_in, build.writes), ([TOP], TOP / "crates"))
+        _, _, over = self.build(None, True)
+        self.assertEqual(over, [TOP / "crates/cvl_c/out/libcvl_c.a"])
 
-    def test_the_files_name_the_prefix_alone(self):
-        root = self.install("/opt/vectors", self.top)
-        said = dict(line.split("=", 1) for line in (root / "lib/pkgconfig/cvl.pc").read_text().split("\n") if "=" in line.split(" ")[0])
-        self.assertEqual(said["prefix"], "/opt/vectors")
-        told = (root / "share/cvl/installed").read_text()
-        self.assertNotIn(str(self.top), told)
+    def test_in_a_folder_of_ones_own_the_checkout_is_not_written(self):
+        build, proved_in, _ = self.build(self.top, False)
+        self.assertEqual((proved_in, build.writes), ([self.top / "source"], self.top))
+        _, _, over = self.build(self.top, True)
+        self.assertEqual(over, [self.top / "libcvl_c.a"])
 
-    def test_the_packages_are_whole(self):
-        root = self.install(self.top / "prefix", None)
-        (site,) = root.glob("lib/python*/site-packages/cvl")
-        for given, there in ((TOP / "bindings/python/cvl", site), (TOP / "bindings/rust/src", root / "share/cvl/rust/src")):
-            wanted = {path.name for path in given.iterdir() if path.suffix in (".py", ".pyi", ".rs", ".typed")}
-            self.assertEqual({path.name for path in there.iterdir()}, wanted)
-        install.main(["--uninstall", str(root)])
-        self.assertFalse(any(root.iterdir()))
+    def test_what_is_given_is_taken(self):
+        given = {"CVL_PROGRAM": "/some/cvl", "CVL_ARCHIVE": "/some/libcvl_c.a"}
+        with mock.patch.dict(os.environ, given):
+            build = building.Build("", 1, "")
+            self.assertEqual((build._both(self.top), build.writes), (("/some/cvl", "/some/libcvl_c.a"), None))
+
+
+class Words(unittest.TestCase):
+    """What the caller's variables say to the compiler and the linker."""
+
+    def words(self, function, **variables):
+        unset = {name: "" for name in ("CC", "CPPFLAGS", "CFLAGS", "LDFLAGS")}
+        with mock.patch.dict(os.environ, {**unset, **variables}):
+            return function()
+
+    def test_a_compiler_with_options(self):
+        self.assertEqual(self.words(archive.compiling, CC="gcc -m64 '-DA=b c'")[:3], ["gcc", "-m64", "-DA=b c"])
+        self.assertEqual(self.words(archive.linking, CC="gcc -m64")[:2], ["gcc", "-m64"])
+
+    def test_options_of_the_caller_stand_in_the_place_of_the_usual(self):
+        self.assertIn("-O2", self.words(archive.compiling))
+        found = self.words(archive.compiling, CFLAGS="-O1 -g", CPPFLAGS="-DA")
+        self.assertEqual(found[:4], ["cc", "-DA", "-O1", "-g"])
+        self.assertNotIn("-O2", found)
+        self.assertIn("-Wl,-x", self.words(archive.linking, LDFLAGS="-Wl,-x"))
+
+    def test_what_the_library_needs_comes_after_the_options_of_the_caller(self):
+        found = self.words(archive.compiling, CFLAGS="-flto -fno-PIC -std=c89")
+        self.assertGreater(found.index("-fno-lto"), found.index("-flto"))
+        self.assertGreater(found.index("-fPIC"), found.index("-fno-PIC"))
+        self.assertGreater(found.index("-std=c11"), found.index("-std=c89"))
+
+    def test_a_quote_that_is_left_open_is_told(self):
+        with self.assertRaisesRegex(SystemExit, "CC cannot be read as words"):
+            self.words(archive.compiling, CC="gcc '-m64")
+
+    def test_a_program_that_is_not_there_is_told(self):
+        with self.assertRaisesRegex(SystemExit, "no-such-program cannot be run"):
+            archive.run("no-such-program")
 
 
 if __name__ == "__main__":

@@ -2,7 +2,7 @@
  * careless_rows.h: a row for each function of cvl.h and cvl_parallel.h: its name; a letter for each of its arrays; which may be the room,
  * with a stroke between those that may not be it at once; and its arguments. examples/c/careless.c reads it.
  *
- * Written by bindings/generate from bindings/table.py; edit that and not this file.
+ * Written by the generator of the repository from its table of calls; edit the table and not this file.
  */
 ROW(cvl_add_wuz, "iiI", "01", (p[0], p[1], p[2], n))
 ROW(cvl_mul_wuz, "iiI", "01", (p[0], p[1], p[2], n))

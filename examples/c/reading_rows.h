@@ -3,7 +3,7 @@
  * by its role, its kind and how long it is; which may be the room, with a stroke where only one may be it; the operators; the operand that may
  * be too long; whether it is a call of the table; and its arguments. examples/c/differential.c reads it.
  *
- * Written by bindings/generate from bindings/table.py; edit that and not this file.
+ * Written by the generator of the repository from its table of calls; edit the table and not this file.
  */
 ROW(cvl_int2, PAIRS, "rinrinRin", "01", 0, 11, 0, false, (g->op, (const int32_t *)g->at[0], g->len[0], (const int32_t *)g->at[1], g->len[1], (int32_t *)g->at[2], g->len[2]))
 ROW(cvl_bool2, PAIRS, "rfnrfnRfn", "01", 4, 6, 0, false, (g->op, (const bool *)g->at[0], g->len[0], (const bool *)g->at[1], g->len[1], (bool *)g->at[2], g->len[2]))

@@ -1,4 +1,4 @@
-"""What the library is told and tells. Written by bindings/generate from bindings/table.py; edit that and not this file."""
+"""What the library is told and tells. Written by the generator of the repository from its table of calls; edit the table and not this file."""
 
 MOST_ELEMENTS = 4194304
 LENGTH_MISMATCH = 7

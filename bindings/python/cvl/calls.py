@@ -1,7 +1,7 @@
 """Each call of the table, by its name. A vector is a numpy array of int32 or of bool in one dimension, which is not copied;
 segments are a `Segments`, or their lengths as an array of int32. A result is a new array, or stands in `out`.
 
-Written by bindings/generate from bindings/table.py; edit that and not this file.
+Written by the generator of the repository from its table of calls; edit the table and not this file.
 """
 
 from ctypes import byref, c_int32, c_size_t, c_uint8

@@ -1,4 +1,4 @@
-# The kinds of what each call takes and gives. Written by bindings/generate from bindings/table.py; edit that and not this file.
+# The kinds of what each call takes and gives. Written by the generator of the repository from its table of calls; edit the table and not this file.
 
 from typing import SupportsIndex, TypeVar, Union, overload
 

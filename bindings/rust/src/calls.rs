@@ -1,7 +1,7 @@
 //! Each call of the table, by its name: over slices, with a new vector for its result; under a name that ends
 //! in `_into`, into a room; and under one that ends in `_in`, in the place of an argument, where a call may.
 //!
-//! Written by bindings/generate from bindings/table.py; edit that and not this file.
+//! Written by the generator of the repository from its table of calls; edit the table and not this file.
 
 use crate::fault::{told, Fault};
 use crate::lengths::{as_long, limit, places, same, true_flags, zeros};

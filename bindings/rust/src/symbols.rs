@@ -1,6 +1,6 @@
 //! The functions of the library, one for each call, and numbers of the header.
 //!
-//! Written by bindings/generate from bindings/table.py; edit that and not this file.
+//! Written by the generator of the repository from its table of calls; edit the table and not this file.
 
 use crate::fault::Status;
 

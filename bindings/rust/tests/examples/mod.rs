@@ -1,6 +1,6 @@
 //! The example of each call: its result, the same in a room, and in the place of an argument.
 //!
-//! Written by bindings/generate from bindings/table.py; edit that and not this file.
+//! Written by the generator of the repository from its table of calls; edit the table and not this file.
 
 #![allow(clippy::bool_assert_comparison)]
 

@@ -1,0 +1,525 @@
+"""What is written in Fortran: the module over the families of the library, and the program that runs the example of each call."""
+
+import textwrap
+
+import in_c
+import rows
+import table
+
+WIDTH = 128
+
+# Families of integers and of booleans, flat and on segments, have one name in Fortran, which the kinds and ranks of arguments
+# tell apart.
+OF_KINDS = {"int2": "binary", "bool2": "binary", "int1": "unary", "bool1": "unary"}
+UNMERGED = ("int_from_bool", "bool_from_int")
+
+# The types of what is taken, and of a single value that is written.
+TYPES = {
+    "ints": "integer(c_int32_t)", "flags": "logical(c_bool)", "text": "character(*)", "marks": "integer(c_int32_t)",
+    "int": "integer(c_int32_t)", "flag": "logical(c_bool)", "sum": "integer(c_int64_t)", "size": "integer(c_size_t)",
+}  # fmt: skip
+
+
+def generic(family):
+    """The name that a family shares with those of other kinds and on segments."""
+    if family.name in UNMERGED:
+        return f"cvl_{family.name}"
+    words = [word for word in family.name.split("_") if word not in ("seg", "int", "bool", "ints", "bools")]
+    return f"cvl_{OF_KINDS.get(family.name) or '_'.join(words)}"
+
+
+def _wide(operand):
+    """Whether it is a number that may be given in 32 bits too."""
+    return operand.role in ("place", "count")
+
+
+def _type(operand):
+    """The type of an operand in Fortran."""
+    return "integer(c_int64_t)" if _wide(operand) else TYPES[operand.kind]
+
+
+def _is_text(operand):
+    return rows.is_array(operand) and operand.kind == "text"
+
+
+def _is_pointed(operand):
+    """Whether it is an array that is handed over by its address."""
+    return operand.role in ("reads", "room", "lengths") and operand.kind != "text"
+
+
+def _folded(line, indent, mark="    "):
+    """A line of code, cut where it is too long."""
+    lines = textwrap.wrap(line, WIDTH - len(indent) - 2, subsequent_indent=mark, break_long_words=False, break_on_hyphens=False)
+    return [f"{indent}{part}{' &' if k + 1 < len(lines) else ''}" for k, part in enumerate(lines)]
+
+
+def _comment(*paragraphs):
+    return [f"    ! {line}" for paragraph in paragraphs if paragraph for line in textwrap.wrap(paragraph, WIDTH - 6)]
+
+
+# ---- the families as C has them ----
+
+
+def _c_declaration(argument):
+    """An argument of a function in C."""
+    operand = argument.operand
+    if operand is None:
+        return "integer(c_int32_t), value", argument.name
+    if argument.size:
+        return "integer(c_size_t), value", argument.name
+    if operand.role == "lengths":
+        return "type(lengths_of), value", argument.name
+    if _is_text(operand):
+        return f"character(kind=c_char), intent({'in' if operand.role == 'reads' else 'inout'})", f"{argument.name}(*)"
+    if rows.is_array(operand):
+        return "type(c_ptr), value", argument.name
+    if operand.role in ("single", "told"):
+        return f"{_type(operand)}, intent(inout)", argument.name
+    return f"{_type(operand)}, value", argument.name
+
+
+def _declared(pairs, indent):
+    """Declarations, those of one type that follow one another on one line."""
+    lines, last = [], None
+    for kind, name in pairs:
+        if kind == last:
+            lines[-1] += f", {name}"
+        else:
+            lines.append(f"{kind} :: {name}")
+        last = kind
+    return [part for line in lines for part in _folded(line, indent)]
+
+
+def _interface(family):
+    arguments = rows.FAMILIES[family.name].arguments
+    names = ", ".join(argument.name for argument in arguments)
+    head = f'function c_{family.name}({names}) result(answer) bind(c, name="cvl_{family.name}")'
+    return [
+        *_folded(head, "        "),
+        *_folded("import :: c_bool, c_char, c_int32_t, c_int64_t, c_ptr, c_size_t, cvl_status, lengths_of", "            "),
+        *_declared([_c_declaration(argument) for argument in arguments], "            "),
+        "            type(cvl_status) :: answer",
+        f"        end function c_{family.name}",
+    ]
+
+
+# ---- the procedures ----
+
+
+def _declaration(operand, narrow, place):
+    """The type and the name of a dummy argument; `place` is an operand that is the room."""
+    written = operand.role in ("room", "single", "told") or operand == place
+    intent = f"intent({'inout' if written else 'in'})"
+    if _is_text(operand):
+        return f"{_type(operand)}, {intent}", operand.name
+    if _is_pointed(operand):
+        return f"{_type(operand)}, {intent}, target, contiguous", f"{operand.name}(:)"
+    kind = "integer(c_int32_t)" if narrow and _wide(operand) else _type(operand)
+    return f"{kind}, {intent}", operand.name
+
+
+def _given(row, argument, place):
+    """An argument in the call of C: in place, the operand stands where the room does."""
+    operand = argument.operand
+    if operand is None:
+        return f"CVL_{row.operator}" if row.operator else argument.name
+    if place is not None and operand.role == "room":
+        operand = place
+    if argument.size:
+        return f"{'len' if _is_text(operand) else 'size'}({operand.name}, kind=c_size_t)"
+    return f"at({operand.name})" if operand.role in ("reads", "room") and _is_pointed(operand) else \
+        f"cut({operand.name})" if operand.role == "lengths" else operand.name  # fmt: skip
+
+
+class Procedure:
+    """A procedure of the module: of a call or a family; in the place of an operand; with the places and counts of 32 bits."""
+
+    def __init__(self, row, place=None, narrow=False):
+        self.row, self.place, self.narrow = row, place, narrow
+        self.operands = [operand for operand in row.operands if place is None or operand.role != "room"]
+        self.public = f"cvl_{row.name}" if row.call else generic(row.family)
+        self.public += "_in" if place else ""
+
+    @property
+    def has_wide(self):
+        return any(map(_wide, self.operands))
+
+    @property
+    def name(self):
+        """Its own name, where several share the public one."""
+        if self.row.call and not self.has_wide:
+            return self.public
+        end = ("_32" if self.narrow else "_64") if self.has_wide else ""
+        return f"{self.row.name}{'_in' if self.place else ''}{'_of' if self.row.call else ''}{end}"
+
+    @property
+    def words(self):
+        operator = ["op"] if self.row.family.operators and not self.row.call else []
+        return [*operator, *(operand.name for operand in self.operands), "status"]
+
+    def _calls(self):
+        """The line that makes the call: with numbers of 32 bits, the procedure that takes 64."""
+        if self.narrow:
+            wide = Procedure(self.row, self.place)
+            words = [f"int({o.name}, c_int64_t)" if _wide(o) else o.name for o in self.operands]
+            return f"call {wide.name}({', '.join([*self.words[: -len(words) - 1], *words, 'status'])})"
+        family = rows.FAMILIES[self.row.family.name]
+        given = ", ".join(_given(self.row, argument, self.place) for argument in family.arguments)
+        return f'call tell("{self.public}", c_{family.name}({given}), status)'
+
+    def _said(self):
+        if self.narrow:
+            return []
+        family = self.row.family
+        said = self.row.call.sentence if self.row.call else family.sentence
+        if self.place:
+            return _comment(f"{self.public}: the same in the place of {self.place.name}.")
+        faults = rows.fault_text(self.row)
+        return _comment(f"{self.public}: {said} {family.shape}".rstrip(), family.told, f"Faults: {faults}" if faults else "")
+
+    def lines(self):
+        pairs = [("integer(c_int32_t), intent(in)", "op")] if "op" in self.words else []
+        pairs += [_declaration(operand, self.narrow, self.place) for operand in self.operands]
+        pairs.append(("type(cvl_status), intent(out), optional", "status"))
+        return [
+            *self._said(),
+            *_folded(f"subroutine {self.name}({', '.join(self.words)})", "    "),
+            *_declared(pairs, "        "),
+            "",
+            *_folded(self._calls(), "        "),
+            f"    end subroutine {self.name}",
+            "",
+        ]
+
+
+def _forms(row):
+    """The procedures of a call or a family."""
+    places = [None] + [o for o in row.operands if row.family.in_place and (o.name,) == row.family.in_place[0]]
+    for place in places:
+        procedure = Procedure(row, place)
+        yield procedure
+        if procedure.has_wide:
+            yield Procedure(row, place, narrow=True)
+
+
+def procedures():
+    """All procedures, calls first. What makes lengths segments is of scripts alone."""
+    found = [*rows.CALLS, *(row for row in rows.FAMILIES.values())]
+    return [procedure for row in found for procedure in _forms(row)]
+
+
+def _generics():
+    """The public names that several procedures share, with these."""
+    found = {}
+    for procedure in procedures():
+        found.setdefault(procedure.public, []).append(procedure.name)
+    return {name: names for name, names in found.items() if names != [name]}
+
+
+HEAD = f"""! cvl: the vector calls of CVL, over arrays of integer(c_int32_t) and of logical(c_bool).
+!
+! {rows.NOTE}
+!
+! Compile it with the program, and link with the library: gfortran cvl.f90 program.f90 -lcvl. Fortran 2008.
+!
+! Each call is a subroutine, as cvl_add_wuz(a, b, out, status). The arrays come in the order of the call's operands, and each
+! knows how long it is. The lengths of segments are an array of integers, one for each segment, empty ones too. The room is an
+! array of the caller's for the result, which is as long as that. Places, indices and the places of faults count from 0, as in
+! all other languages.
+!
+! status tells how a call ended: status%number is CVL_DONE, or the number of a fault, status%place its place or -1. At a fault
+! the rooms are as they were. A call without a status stops the program at a fault, and says which one on standard error.
+!
+! The families are there by their names and the number of an operator, as cvl_scan(CVL_ADD, a, out) and, with lengths, by
+! segments, as cvl_scan(CVL_ADD, a, lengths, out): of integers and of booleans, by what is given. A room may not be an argument
+! too: a call that may be made in place has a subroutine for that, as cvl_add_suz_in(a). A place and a count may have 32 bits
+! or 64.
+module cvl
+    use, intrinsic :: iso_c_binding, only: c_bool, c_char, c_f_pointer, c_int32_t, c_int64_t, c_loc, c_null_ptr, c_ptr, c_size_t
+    use, intrinsic :: iso_fortran_env, only: error_unit
+    implicit none
+    private
+
+    ! the kinds of what calls take
+    public :: c_bool, c_int32_t, c_int64_t, c_size_t
+"""
+
+KINDS = """
+    ! How a call ended.
+    type, public, bind(c) :: cvl_status
+        integer(c_int32_t) :: number = 0 ! CVL_DONE, the number of a fault, or 100 or more
+        integer(c_int64_t) :: place = -1 ! the place of the fault, counted from 0, or -1
+    end type cvl_status
+
+    ! Lengths of segments, as C takes them.
+    type, bind(c) :: lengths_of
+        type(c_ptr) :: lengths
+        integer(c_size_t) :: segments
+    end type lengths_of
+
+    ! The address of an array.
+    interface at
+        module procedure at_ints, at_flags
+    end interface at
+"""
+
+WITHOUT_ROWS = """
+        function c_version() result(text) bind(c, name="cvl_version")
+            import :: c_ptr
+            type(c_ptr) :: text
+        end function c_version
+
+        function c_fault_name(number) result(text) bind(c, name="cvl_fault_name")
+            import :: c_int32_t, c_ptr
+            integer(c_int32_t), value :: number
+            type(c_ptr) :: text
+        end function c_fault_name
+
+        function c_strlen(text) result(length) bind(c, name="strlen")
+            import :: c_ptr, c_size_t
+            type(c_ptr), value :: text
+            integer(c_size_t) :: length
+        end function c_strlen
+    end interface
+"""
+
+TAIL = """
+    ! The version of the library, as "1.0.0".
+    function cvl_version() result(version)
+        character(:), allocatable :: version
+
+        version = text_of(c_version())
+    end function cvl_version
+
+    ! The name of the number of a status, as "DivideByZero"; "Unknown" where it is no such number.
+    function cvl_fault_name(number) result(name)
+        integer(c_int32_t), intent(in) :: number
+        character(:), allocatable :: name
+
+        name = text_of(c_fault_name(number))
+    end function cvl_fault_name
+
+    ! A text of C's.
+    function text_of(from) result(text)
+        type(c_ptr), intent(in) :: from
+        character(:), allocatable :: text
+        character(kind=c_char), pointer :: letters(:)
+        integer :: k
+
+        call c_f_pointer(from, letters, [c_strlen(from)])
+        allocate (character(size(letters)) :: text)
+        do k = 1, size(letters)
+            text(k:k) = letters(k)
+        end do
+    end function text_of
+
+    function at_ints(array) result(address)
+        integer(c_int32_t), intent(in), target, contiguous :: array(:)
+        type(c_ptr) :: address
+
+        address = c_null_ptr
+        if (size(array) > 0) address = c_loc(array)
+    end function at_ints
+
+    function at_flags(array) result(address)
+        logical(c_bool), intent(in), target, contiguous :: array(:)
+        type(c_ptr) :: address
+
+        address = c_null_ptr
+        if (size(array) > 0) address = c_loc(array)
+    end function at_flags
+
+    function cut(lengths) result(found)
+        integer(c_int32_t), intent(in), target, contiguous :: lengths(:)
+        type(lengths_of) :: found
+
+        found = lengths_of(at(lengths), size(lengths, kind=c_size_t))
+    end function cut
+
+    ! Gives the status to who asks for it; else a fault ends the program.
+    subroutine tell(name, answer, status)
+        character(*), intent(in) :: name
+        type(cvl_status), intent(in) :: answer
+        type(cvl_status), intent(out), optional :: status
+
+        if (present(status)) then
+            status = answer
+        else if (answer%number /= CVL_DONE) then
+            write (error_unit, "(3a, i0, 2a)", advance="no") &
+                "cvl: ", name, ": fault ", answer%number, " ", cvl_fault_name(answer%number)
+            if (answer%place >= 0) write (error_unit, "(a, i0)", advance="no") " at ", answer%place
+            write (error_unit, "(a)") ""
+            error stop 1
+        end if
+    end subroutine tell
+end module cvl
+"""
+
+
+def _constant(name, value, kind="integer(c_int32_t)"):
+    return f"    {kind}, parameter, public :: CVL_{name} = {value}"
+
+
+def _constants():
+    yield "    ! The version of this module; cvl_version() tells that of the library."
+    for part, number in zip(("MAJOR", "MINOR", "PATCH"), table.VERSION.split(".")):
+        yield _constant(f"VERSION_{part}", number, "integer")
+    yield from ("", "    ! The most elements of a vector, and the greatest total of lengths.")
+    yield _constant("MOST_ELEMENTS", table.MOST_ELEMENTS)
+    yield from ("", "    ! The numbers of a status.")
+    yield from (_constant(in_c.constant(name), number) for number, name in table.STATUSES)
+    yield from ("", "    ! The numbers of operators.")
+    yield from (f"{_constant(found.name, found.number)} ! {found.sentence}" for found in table.OPERATORS)
+    yield ""
+
+
+def _publics():
+    yield "    public :: cvl_fault_name, cvl_version"
+    for procedure in dict.fromkeys(procedure.public for procedure in procedures()):
+        yield f"    public :: {procedure}"
+    for name, names in _generics().items():
+        yield ""
+        yield f"    interface {name}"
+        yield from _folded(f"module procedure {', '.join(names)}", "        ")
+        yield f"    end interface {name}"
+
+
+def module():
+    """`bindings/fortran/cvl.f90`."""
+    lines = [*HEAD.split("\n"), *_constants(), *_publics(), *KINDS.split("\n")[:-1], "", "    interface"]
+    for row in rows.FAMILIES.values():
+        lines += [*_interface(row.family), ""]
+    lines = lines[:-1] + WITHOUT_ROWS.split("\n")[:-1] + ["", "contains", ""]
+    for procedure in procedures():
+        lines += procedure.lines()
+    return "\n".join(lines[:-1]) + TAIL
+
+
+# ---- the program that runs the examples ----
+
+
+def _number(word):
+    """An integer; the least of 32 bits has no literal."""
+    return "-2147483647 - 1" if word == "-2147483648" else word
+
+
+def _literal(operand, words, single=False):
+    """The words of an example as a literal."""
+    if operand.kind == "text":
+        return words.replace("\\n", '" // new_line("a") // "')
+    found = [f".{word}." if operand.kind in ("flag", "flags") else _number(word) for word in words.split()]
+    if rows.is_array(operand) or operand.role == "lengths":
+        return f"[{TYPES[operand.kind]} :: {', '.join(found)}]"
+    kind = _type(operand)
+    return f"int({found[0]}, {kind[8:-1]})" if kind.startswith("integer") else f"logical({found[0]}, c_bool)"
+
+
+def _filled(operand):
+    """What a room holds before a call."""
+    return '"?"' if _is_text(operand) else ".true." if operand.kind in ("flag", "flags") else "77"
+
+
+def _length(operand, row):
+    """How long the room of an example is: of a range and of marks, what the example says."""
+    words = row.example[operand.name]
+    if _is_text(operand):
+        return len(words) - 2
+    return len(words.split())
+
+
+def _room(operand, row):
+    """The declaration of a room."""
+    if _is_text(operand):
+        return f"character({_length(operand, row)}) :: {operand.name}"
+    return f"{_type(operand)} :: {operand.name}" + (f"({_length(operand, row)})" if rows.is_array(operand) else "")
+
+
+def _words_of(row, operand, place):
+    """An operand as it is given."""
+    if operand == place or operand.role in ("room", "single", "told"):
+        return operand.name
+    return _literal(operand, row.example[operand.name])
+
+
+def _example(procedure, example):
+    """The lines of a subroutine that runs an example through one procedure."""
+    row, place = procedure.row, procedure.place
+    row = row if row.example else ExampleOf(row, example)
+    written = [place] if place else row.written
+    operator = [f"CVL_{example.operator}"] if "op" in procedure.words else []
+    arguments = ", ".join([*operator, *(_words_of(row, operand, place) for operand in procedure.operands), "status"])
+    name = f"test_{row.name}{'_in' if place else ''}" if procedure.row.call else f"test_{procedure.public[4:]}_{example.name}"
+    lines = [f"    subroutine {name}()"]
+    for operand in written:
+        kept = place and f"{_type(operand)} :: {operand.name}({len(row.example[operand.name].split())})"
+        lines.append(f"        {kept or _room(operand, row)}")
+    lines.append("")
+    for operand in written:
+        held = _literal(operand, row.example[operand.name]) if place else _filled(operand)
+        lines += _folded(f"{operand.name} = {held}", "        ")
+    lines += _folded(f"call {procedure.public}({arguments})", "        ")
+    for operand in written:
+        wanted = _literal(operand, row.example["out" if place else operand.name])
+        lines += _folded(f'call same("{name[5:]}", status, {_agree(operand, wanted)})', "        ")
+    return name, [*lines, f"    end subroutine {name}", ""]
+
+
+def _agree(operand, wanted):
+    """Whether a room holds what is wanted."""
+    equal = ".eqv." if operand.kind in ("flag", "flags") else "=="
+    compared = f"{operand.name} {equal} {wanted}"
+    return f"all({compared})" if rows.is_array(operand) and operand.kind != "text" else compared
+
+
+class ExampleOf:
+    """A family with the example of one of its calls."""
+
+    def __init__(self, family, call):
+        self.name, self.family, self.call, self.operands = family.name, family.family, None, family.operands
+        self.written, self.example = family.written, call.example
+
+
+def _examples():
+    """Each procedure, but those that take numbers of 32 bits, with its example: of a family those of its calls."""
+    for row in rows.CALLS:
+        for procedure in _forms(row):
+            if not procedure.narrow:
+                yield _example(procedure, row)
+        for procedure in _forms(rows.FAMILIES[row.family.name]):
+            if not procedure.narrow:
+                yield _example(procedure, row)
+    for row in rows.FAMILIES.values():
+        if row.example:
+            yield _example(Procedure(row), row)
+
+
+PROGRAM_HEAD = f"""! The example of each call, through its subroutine, in place, and through its family.
+!
+! {rows.NOTE}
+program calls
+    use cvl
+    implicit none
+    type(cvl_status) :: status
+    integer :: count_of_wrong = 0
+
+"""
+
+PROGRAM_TAIL = """    subroutine same(name, status, agrees)
+        character(*), intent(in) :: name
+        type(cvl_status), intent(in) :: status
+        logical, intent(in) :: agrees
+
+        if (status%number == CVL_DONE .and. agrees) return
+        count_of_wrong = count_of_wrong + 1
+        print "(2a, i0)", name, " is not its example, with the status ", status%number
+    end subroutine same
+end program calls
+"""
+
+
+def program():
+    """`bindings/fortran/tests/calls.f90`."""
+    found = list(_examples())
+    lines = [f"    call {name}()" for name, _ in found]
+    lines += ["    if (count_of_wrong > 0) error stop 1", f'    print "(a)", "{len(found)} examples"', "contains"]
+    return PROGRAM_HEAD + "\n".join([*lines, *(line for _, part in found for line in part), ""]) + PROGRAM_TAIL

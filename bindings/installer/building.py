@@ -1,0 +1,82 @@
+"""Builds the program and the library, in a folder of one's own where that is wanted."""
+
+import os
+import pathlib
+import shutil
+
+import archive
+import proved
+
+# what a copy of the checkout leaves out
+LEFT_OUT = {".git", "out", "__pycache__"}
+
+
+def _text_of(top):
+    """The files of a checkout that proofs and builds read, as paths below it."""
+    for folder, folders, names in os.walk(top):
+        folders[:] = sorted(set(folders) - LEFT_OUT)
+        yield from (pathlib.Path(folder, name).relative_to(top) for name in sorted(names))
+
+
+def copied(top, copy):
+    """Makes a copy of the checkout like it: what is the same is left alone, so that what was built of it stands."""
+    wanted = set(_text_of(top))
+    for name in set(_text_of(copy)) - wanted if copy.exists() else ():
+        (copy / name).unlink()
+    for name in wanted:
+        made = copy / name
+        if made.exists() and made.read_bytes() == (top / name).read_bytes():
+            continue
+        made.parent.mkdir(parents=True, exist_ok=True)
+        shutil.copyfile(top / name, made)
+        shutil.copymode(top / name, made)
+        made.chmod(made.stat().st_mode | 0o200)
+    return copy
+
+
+class Build:
+    """What is to be built, and where."""
+
+    def __init__(self, cpu, jobs, own):
+        self.cpu, self.jobs = cpu, jobs
+        # the folder of the caller's own, or nothing
+        self.own = pathlib.Path(os.path.abspath(own)) if own else None
+        self.crates = proved.Crates()
+        self.given = {name: os.environ.get(name) for name in ("CVL_ARCHIVE", "CVL_PROGRAM")}
+
+    @property
+    def is_given(self):
+        return all(self.given.values())
+
+    @property
+    def is_left(self):
+        """Whether `rt ci` has proved all here, and left the program."""
+        names = self.crates.wanted(proved.PROGRAM, proved.LIBRARY) - {proved.PROGRAM, proved.LIBRARY}
+        return not self.cpu and self.crates.gate_left(names) and self.crates.is_left(proved.PROGRAM, proved.PROGRAM)
+
+    @property
+    def writes(self):
+        """The folder that is written while things are built, or nothing."""
+        if self.own:
+            return self.own
+        return None if self.is_given else proved.TOP / "crates"
+
+    def _both(self, work):
+        """Where the program and the archive of the exports are, once they are built."""
+        if self.is_given:
+            return self.given["CVL_PROGRAM"], self.given["CVL_ARCHIVE"]
+        if self.is_left:
+            print("rt ci has proved all crates here: the archive is built over its libraries", flush=True)
+            made = self.own / "libcvl_c.a" if self.own else self.crates.archive
+            self.crates.build_over_gate(made)
+            return self.crates.program, made
+        crates = proved.Crates(copied(proved.TOP, self.own / "source")) if self.own else self.crates
+        crates.build_all(self.cpu, self.jobs, work)
+        return crates.program, crates.archive
+
+    def run(self, work):
+        """The program and the library, in the folder `work`."""
+        program, exports = self._both(work)
+        if work / "cvl" != pathlib.Path(program):
+            shutil.copy(program, work / "cvl")
+        archive.shared(archive.library(work, exports, [f"-march={self.cpu}"] if self.cpu else []))

@@ -1,0 +1,134 @@
+"""The crates of which the program and the library are made: which these are, what stands built of them, and building them."""
+
+import concurrent.futures
+import pathlib
+import subprocess
+import sys
+import time
+
+TOP = pathlib.Path(__file__).resolve().parent.parent
+PROGRAM, LIBRARY = "cvl", "cvl_c"
+
+
+def stop(said):
+    sys.exit(f"{pathlib.Path(sys.argv[0]).name}: {said}")
+
+
+def kit():
+    """The folder of the kit."""
+    told = subprocess.run(["rt", "doc"], capture_output=True, text=True, check=True)
+    return pathlib.Path(told.stdout.strip()).parent
+
+
+class Crates:
+    """The crates of a checkout."""
+
+    def __init__(self, top=TOP):
+        self.top = top
+        self.program = self.made(PROGRAM, PROGRAM)
+        self.archive = self.made(LIBRARY, f"lib{LIBRARY}.a")
+
+    def folder(self, name):
+        return self.top / "crates" / name
+
+    def made(self, name, file):
+        return self.folder(name) / "out" / file
+
+    def below(self):
+        """Each crate and those that it stands on, which `crates.txt` names; the kit's own are left out."""
+        found = {}
+        for line in (self.top / "crates.txt").read_text().split("\n"):
+            head, colon, below = line.partition("#")[0].partition(":")
+            if colon:
+                found[head.split()[0]] = below.split()
+        return {name: [word for word in below if word in found] for name, below in found.items()}
+
+    def wanted(self, *names):
+        """These crates and all below them."""
+        below, found, left = self.below(), set(), list(names)
+        while left:
+            name = left.pop()
+            if name not in found:
+                found.add(name)
+                left += below[name]
+        return found
+
+    def changed(self, name):
+        """When the text of a crate was changed last."""
+        folder = self.folder(name)
+        parts = [folder / part for part in ("src", "specs", "proofs") if (folder / part).exists()]
+        return max(path.stat().st_mtime for part in parts for path in (part, *part.rglob("*")))
+
+    def is_left(self, name, file):
+        """Whether this file stands in the folder `out` of a crate, and no text of the crate was changed after that."""
+        made = self.made(name, file)
+        return made.exists() and made.stat().st_mtime >= self.changed(name)
+
+    def gate_left(self, names):
+        """Whether `rt ci` left the libraries of these crates. Those of `rt lib` have a stamp, and `rt lib` takes them itself."""
+        return all(self.is_left(name, f"rlib/{name}.rlib") and not self.made(name, "rlib/stamp").exists() for name in names)
+
+    def gate_left_libraries(self):
+        """Whether `rt ci` left the libraries that the archive stands on."""
+        return self.gate_left(self.wanted(LIBRARY) - {LIBRARY})
+
+    def build_over_gate(self, made):
+        """Builds the archive over the libraries that `rt ci` left, where that was not done yet."""
+        libraries = [self.made(name, f"rlib/{name}.rlib") for name in sorted(self.wanted(LIBRARY) - {LIBRARY})]
+        newest = max([self.changed(LIBRARY), *(path.stat().st_mtime for path in libraries)])
+        if made.exists() and made.stat().st_mtime >= newest:
+            return
+        found, below = kit(), self.below()[LIBRARY]
+        words = [found / "bin/rattle", "build", "--crate-name", LIBRARY, "src/lib.rt", "--crate-type", "staticlib"]
+        words += ["--links", f"{LIBRARY}=", "--jobs", "2", "--backend", "llvm"]
+        words += ["--toolchain", found / "toolchain", "--logic-built", found / "logic_built"]
+        words += ["--antt-project", found / "rattle/logic/antt-project.json", "--extern", f"std={found}/rlibs/std.rlib"]
+        words += ["-L", f"dependency={found}/rlibs"]
+        for path in libraries:
+            words += ["--extern", f"{path.stem}={path}"] if path.stem in below else []
+            words += ["-L", f"dependency={path.parent}"]
+        made.parent.mkdir(parents=True, exist_ok=True)
+        words = [str(word) for word in (*words, "-o", made)]
+        told = subprocess.run(words, cwd=self.folder(LIBRARY), capture_output=True, text=True, stdin=subprocess.DEVNULL)
+        if told.returncode != 0:
+            stop(f"the archive was not built:\n{(told.stdout + told.stderr)[-4000:]}")
+
+    def build_archive(self):
+        """Builds the archive, and answers where it is."""
+        if self.gate_left_libraries():
+            self.build_over_gate(self.archive)
+            return self.archive
+        told = subprocess.run(["rt", "lib"], cwd=self.folder(LIBRARY), stdin=subprocess.DEVNULL, stdout=sys.stderr)
+        if told.returncode != 0:
+            stop("the archive was not built")
+        return self.archive
+
+    def _build(self, name, cpu, log):
+        """Proves and builds one crate, whose lower ones are built."""
+        words = ["rt", "run"] if name == PROGRAM else ["rt", "lib"]
+        if cpu and name in (PROGRAM, LIBRARY):
+            words.append(f"--cpu={cpu}")
+        if name == PROGRAM:
+            words += ["--", "--help"]
+        with open(log, "wb") as told:
+            return subprocess.run(words, cwd=self.folder(name), stdin=subprocess.DEVNULL, stdout=told, stderr=told).returncode
+
+    def build_all(self, cpu, jobs, logs):
+        """Proves and builds the program, the archive and all below them, some crates side by side, and tells how far it is."""
+        below = self.below()
+        left, done, at_work = self.wanted(PROGRAM, LIBRARY), set(), {}
+        count, begun, start = len(left), 0, time.monotonic()
+        with concurrent.futures.ThreadPoolExecutor(jobs) as pool:
+            while left or at_work:
+                ready = sorted(name for name in left if done.issuperset(below[name]))
+                for name in ready[: jobs - len(at_work)]:
+                    left.discard(name)
+                    begun += 1
+                    print(f"crate {begun} of {count}: {name}, after {time.monotonic() - start:.0f} s", flush=True)
+                    at_work[pool.submit(self._build, name, cpu, logs / f"{name}.log")] = name
+                ended, _ = concurrent.futures.wait(at_work, return_when=concurrent.futures.FIRST_COMPLETED)
+                for future in ended:
+                    name = at_work.pop(future)
+                    if future.result() != 0:
+                        stop(f"{name} was not built:\n{(logs / f'{name}.log').read_text(errors='replace')[-4000:]}")
+                    done.add(name)
