@@ -17,7 +17,8 @@
 ! too: a call that may be made in place has a subroutine for that, as cvl_add_suz_in(a). A place and a count may have 32 bits
 ! or 64.
 module cvl
-    use, intrinsic :: iso_c_binding, only: c_bool, c_char, c_f_pointer, c_int32_t, c_int64_t, c_loc, c_null_ptr, c_ptr, c_size_t
+    use, intrinsic :: iso_c_binding, only: &
+        c_bool, c_char, c_f_pointer, c_int, c_int32_t, c_int64_t, c_loc, c_null_ptr, c_ptr, c_size_t
     use, intrinsic :: iso_fortran_env, only: error_unit
     implicit none
     private
@@ -71,7 +72,7 @@ module cvl
     integer(c_int32_t), parameter, public :: CVL_NOT = 18 ! on one vector: each bit, or each boolean, inverted
     integer(c_int32_t), parameter, public :: CVL_CPY = 19 ! the same again
 
-    public :: cvl_fault_name, cvl_version
+    public :: cvl_fault_name, cvl_set_threads, cvl_threads, cvl_version
     public :: cvl_add_wuz
     public :: cvl_add_wuz_in
     public :: cvl_mul_wuz
@@ -1331,6 +1332,17 @@ module cvl
             integer(c_int32_t), value :: number
             type(c_ptr) :: text
         end function c_fault_name
+
+        function c_set_threads(threads) result(error) bind(c, name="cvl_set_threads")
+            import :: c_int, c_size_t
+            integer(c_size_t), value :: threads
+            integer(c_int) :: error
+        end function c_set_threads
+
+        function c_threads() result(threads) bind(c, name="cvl_threads")
+            import :: c_size_t
+            integer(c_size_t) :: threads
+        end function c_threads
 
         function c_strlen(text) result(length) bind(c, name="strlen")
             import :: c_ptr, c_size_t
@@ -4294,6 +4306,27 @@ contains
 
         name = text_of(c_fault_name(number))
     end function cvl_fault_name
+
+    ! Says how many threads there are for long calls, 1 to 64, with the one that calls. error is 0, or the number of an error of
+    ! POSIX, after which there are as many as before; where it is left out an error ends the program.
+    subroutine cvl_set_threads(threads, error)
+        integer, intent(in) :: threads
+        integer, intent(out), optional :: error
+        integer :: found
+
+        found = c_set_threads(int(threads, c_size_t))
+        if (present(error)) then
+            error = found
+        else if (found /= 0) then
+            write (error_unit, "(a, i0, a, i0)") "cvl: cvl_set_threads: no ", threads, " threads, error ", found
+            error stop 1
+        end if
+    end subroutine cvl_set_threads
+
+    ! How many threads there are for long calls.
+    integer function cvl_threads()
+        cvl_threads = int(c_threads())
+    end function cvl_threads
 
     ! A text of C's.
     function text_of(from) result(text)

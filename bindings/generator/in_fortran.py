@@ -235,7 +235,8 @@ HEAD = f"""! cvl: the vector calls of CVL, over arrays of integer(c_int32_t) and
 ! too: a call that may be made in place has a subroutine for that, as cvl_add_suz_in(a). A place and a count may have 32 bits
 ! or 64.
 module cvl
-    use, intrinsic :: iso_c_binding, only: c_bool, c_char, c_f_pointer, c_int32_t, c_int64_t, c_loc, c_null_ptr, c_ptr, c_size_t
+    use, intrinsic :: iso_c_binding, only: &
+        c_bool, c_char, c_f_pointer, c_int, c_int32_t, c_int64_t, c_loc, c_null_ptr, c_ptr, c_size_t
     use, intrinsic :: iso_fortran_env, only: error_unit
     implicit none
     private
@@ -275,6 +276,17 @@ WITHOUT_ROWS = """
             type(c_ptr) :: text
         end function c_fault_name
 
+        function c_set_threads(threads) result(error) bind(c, name="cvl_set_threads")
+            import :: c_int, c_size_t
+            integer(c_size_t), value :: threads
+            integer(c_int) :: error
+        end function c_set_threads
+
+        function c_threads() result(threads) bind(c, name="cvl_threads")
+            import :: c_size_t
+            integer(c_size_t) :: threads
+        end function c_threads
+
         function c_strlen(text) result(length) bind(c, name="strlen")
             import :: c_ptr, c_size_t
             type(c_ptr), value :: text
@@ -298,6 +310,27 @@ TAIL = """
 
         name = text_of(c_fault_name(number))
     end function cvl_fault_name
+
+    ! Says how many threads there are for long calls, 1 to 64, with the one that calls. error is 0, or the number of an error of
+    ! POSIX, after which there are as many as before; where it is left out an error ends the program.
+    subroutine cvl_set_threads(threads, error)
+        integer, intent(in) :: threads
+        integer, intent(out), optional :: error
+        integer :: found
+
+        found = c_set_threads(int(threads, c_size_t))
+        if (present(error)) then
+            error = found
+        else if (found /= 0) then
+            write (error_unit, "(a, i0, a, i0)") "cvl: cvl_set_threads: no ", threads, " threads, error ", found
+            error stop 1
+        end if
+    end subroutine cvl_set_threads
+
+    ! How many threads there are for long calls.
+    integer function cvl_threads()
+        cvl_threads = int(c_threads())
+    end function cvl_threads
 
     ! A text of C's.
     function text_of(from) result(text)
@@ -374,7 +407,7 @@ def _constants():
 
 
 def _publics():
-    yield "    public :: cvl_fault_name, cvl_version"
+    yield "    public :: cvl_fault_name, cvl_set_threads, cvl_threads, cvl_version"
     for procedure in dict.fromkeys(procedure.public for procedure in procedures()):
         yield f"    public :: {procedure}"
     for name, names in _generics().items():
@@ -410,8 +443,8 @@ def _literal(operand, words, single=False):
     found = [f".{word}." if operand.kind in ("flag", "flags") else _number(word) for word in words.split()]
     if rows.is_array(operand) or operand.role == "lengths":
         return f"[{TYPES[operand.kind]} :: {', '.join(found)}]"
-    kind = _type(operand)
-    return f"int({found[0]}, {kind[8:-1]})" if kind.startswith("integer") else f"logical({found[0]}, c_bool)"
+    # of one value the kind stands behind it
+    return f"{found[0]}_{_type(operand).partition('(')[2][:-1]}"
 
 
 def _filled(operand):
@@ -466,9 +499,9 @@ def _example(procedure, example):
 
 def _agree(operand, wanted):
     """Whether a room holds what is wanted."""
-    equal = ".eqv." if operand.kind in ("flag", "flags") else "=="
-    compared = f"{operand.name} {equal} {wanted}"
-    return f"all({compared})" if rows.is_array(operand) and operand.kind != "text" else compared
+    compared = f"{operand.name} {'.eqv.' if operand.kind in ('flag', 'flags') else '=='} {wanted}"
+    compared = f"all({compared})" if rows.is_array(operand) and operand.kind != "text" else compared
+    return f"logical({compared})" if operand.kind in ("flag", "flags") else compared
 
 
 class ExampleOf:

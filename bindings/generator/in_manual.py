@@ -134,6 +134,7 @@ def page():
         ".SH CALLS", *_first(_paragraphs(CALLS)), *_of_rows(rows.CALLS, table.OF_CALLS),
         ".SH FAMILIES", *_first(_paragraphs(FAMILIES)), *_of_rows(rows.FAMILIES.values(), {}),
         ".SH DESCRIPTORS", *_first(_paragraphs(about.DESCRIPTORS)), *_without_rows(about.OF_DESCRIPTORS),
+        ".SH THREADS", *_first(_paragraphs(about.THREADS)), *_without_rows(about.OF_THREADS),
         ".SH CALLS IN PARTS", *_first(_paragraphs(PARTS)),
         ".SH OTHER FUNCTIONS", *list(_without_rows([*about.OF_VERSIONS, *about.OF_FLAGS])),
         ".SH RETURN VALUE",

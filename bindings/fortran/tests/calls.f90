@@ -754,7 +754,7 @@ contains
 
         out = .true.
         call cvl_not_wub([logical(c_bool) :: .false., .true.], out, status)
-        call same("not_wub", status, all(out .eqv. [logical(c_bool) :: .true., .false.]))
+        call same("not_wub", status, logical(all(out .eqv. [logical(c_bool) :: .true., .false.])))
     end subroutine test_not_wub
 
     subroutine test_not_wub_in()
@@ -762,7 +762,7 @@ contains
 
         a = [logical(c_bool) :: .false., .true.]
         call cvl_not_wub_in(a, status)
-        call same("not_wub_in", status, all(a .eqv. [logical(c_bool) :: .true., .false.]))
+        call same("not_wub_in", status, logical(all(a .eqv. [logical(c_bool) :: .true., .false.])))
     end subroutine test_not_wub_in
 
     subroutine test_unary_not_wub()
@@ -770,7 +770,7 @@ contains
 
         out = .true.
         call cvl_unary(CVL_NOT, [logical(c_bool) :: .false., .true.], out, status)
-        call same("unary_not_wub", status, all(out .eqv. [logical(c_bool) :: .true., .false.]))
+        call same("unary_not_wub", status, logical(all(out .eqv. [logical(c_bool) :: .true., .false.])))
     end subroutine test_unary_not_wub
 
     subroutine test_unary_in_not_wub()
@@ -778,7 +778,7 @@ contains
 
         a = [logical(c_bool) :: .false., .true.]
         call cvl_unary_in(CVL_NOT, a, status)
-        call same("unary_in_not_wub", status, all(a .eqv. [logical(c_bool) :: .true., .false.]))
+        call same("unary_in_not_wub", status, logical(all(a .eqv. [logical(c_bool) :: .true., .false.])))
     end subroutine test_unary_in_not_wub
 
     subroutine test_cpy_wuz()
@@ -818,7 +818,7 @@ contains
 
         out = .true.
         call cvl_cpy_wub([logical(c_bool) :: .true., .false.], out, status)
-        call same("cpy_wub", status, all(out .eqv. [logical(c_bool) :: .true., .false.]))
+        call same("cpy_wub", status, logical(all(out .eqv. [logical(c_bool) :: .true., .false.])))
     end subroutine test_cpy_wub
 
     subroutine test_cpy_wub_in()
@@ -826,7 +826,7 @@ contains
 
         a = [logical(c_bool) :: .true., .false.]
         call cvl_cpy_wub_in(a, status)
-        call same("cpy_wub_in", status, all(a .eqv. [logical(c_bool) :: .true., .false.]))
+        call same("cpy_wub_in", status, logical(all(a .eqv. [logical(c_bool) :: .true., .false.])))
     end subroutine test_cpy_wub_in
 
     subroutine test_unary_cpy_wub()
@@ -834,7 +834,7 @@ contains
 
         out = .true.
         call cvl_unary(CVL_CPY, [logical(c_bool) :: .true., .false.], out, status)
-        call same("unary_cpy_wub", status, all(out .eqv. [logical(c_bool) :: .true., .false.]))
+        call same("unary_cpy_wub", status, logical(all(out .eqv. [logical(c_bool) :: .true., .false.])))
     end subroutine test_unary_cpy_wub
 
     subroutine test_unary_in_cpy_wub()
@@ -842,7 +842,7 @@ contains
 
         a = [logical(c_bool) :: .true., .false.]
         call cvl_unary_in(CVL_CPY, a, status)
-        call same("unary_in_cpy_wub", status, all(a .eqv. [logical(c_bool) :: .true., .false.]))
+        call same("unary_in_cpy_wub", status, logical(all(a .eqv. [logical(c_bool) :: .true., .false.])))
     end subroutine test_unary_in_cpy_wub
 
     subroutine test_grt_wuz()
@@ -850,7 +850,7 @@ contains
 
         out = .true.
         call cvl_grt_wuz([integer(c_int32_t) :: 1, 2, 3], [integer(c_int32_t) :: 2, 2, 2], out, status)
-        call same("grt_wuz", status, all(out .eqv. [logical(c_bool) :: .false., .false., .true.]))
+        call same("grt_wuz", status, logical(all(out .eqv. [logical(c_bool) :: .false., .false., .true.])))
     end subroutine test_grt_wuz
 
     subroutine test_compare_grt_wuz()
@@ -858,7 +858,7 @@ contains
 
         out = .true.
         call cvl_compare(CVL_GRT, [integer(c_int32_t) :: 1, 2, 3], [integer(c_int32_t) :: 2, 2, 2], out, status)
-        call same("compare_grt_wuz", status, all(out .eqv. [logical(c_bool) :: .false., .false., .true.]))
+        call same("compare_grt_wuz", status, logical(all(out .eqv. [logical(c_bool) :: .false., .false., .true.])))
     end subroutine test_compare_grt_wuz
 
     subroutine test_les_wuz()
@@ -866,7 +866,7 @@ contains
 
         out = .true.
         call cvl_les_wuz([integer(c_int32_t) :: 1, 2, 3], [integer(c_int32_t) :: 2, 2, 2], out, status)
-        call same("les_wuz", status, all(out .eqv. [logical(c_bool) :: .true., .false., .false.]))
+        call same("les_wuz", status, logical(all(out .eqv. [logical(c_bool) :: .true., .false., .false.])))
     end subroutine test_les_wuz
 
     subroutine test_compare_les_wuz()
@@ -874,7 +874,7 @@ contains
 
         out = .true.
         call cvl_compare(CVL_LES, [integer(c_int32_t) :: 1, 2, 3], [integer(c_int32_t) :: 2, 2, 2], out, status)
-        call same("compare_les_wuz", status, all(out .eqv. [logical(c_bool) :: .true., .false., .false.]))
+        call same("compare_les_wuz", status, logical(all(out .eqv. [logical(c_bool) :: .true., .false., .false.])))
     end subroutine test_compare_les_wuz
 
     subroutine test_geq_wuz()
@@ -882,7 +882,7 @@ contains
 
         out = .true.
         call cvl_geq_wuz([integer(c_int32_t) :: 1, 2, 3], [integer(c_int32_t) :: 2, 2, 2], out, status)
-        call same("geq_wuz", status, all(out .eqv. [logical(c_bool) :: .false., .true., .true.]))
+        call same("geq_wuz", status, logical(all(out .eqv. [logical(c_bool) :: .false., .true., .true.])))
     end subroutine test_geq_wuz
 
     subroutine test_compare_geq_wuz()
@@ -890,7 +890,7 @@ contains
 
         out = .true.
         call cvl_compare(CVL_GEQ, [integer(c_int32_t) :: 1, 2, 3], [integer(c_int32_t) :: 2, 2, 2], out, status)
-        call same("compare_geq_wuz", status, all(out .eqv. [logical(c_bool) :: .false., .true., .true.]))
+        call same("compare_geq_wuz", status, logical(all(out .eqv. [logical(c_bool) :: .false., .true., .true.])))
     end subroutine test_compare_geq_wuz
 
     subroutine test_leq_wuz()
@@ -898,7 +898,7 @@ contains
 
         out = .true.
         call cvl_leq_wuz([integer(c_int32_t) :: 1, 2, 3], [integer(c_int32_t) :: 2, 2, 2], out, status)
-        call same("leq_wuz", status, all(out .eqv. [logical(c_bool) :: .true., .true., .false.]))
+        call same("leq_wuz", status, logical(all(out .eqv. [logical(c_bool) :: .true., .true., .false.])))
     end subroutine test_leq_wuz
 
     subroutine test_compare_leq_wuz()
@@ -906,7 +906,7 @@ contains
 
         out = .true.
         call cvl_compare(CVL_LEQ, [integer(c_int32_t) :: 1, 2, 3], [integer(c_int32_t) :: 2, 2, 2], out, status)
-        call same("compare_leq_wuz", status, all(out .eqv. [logical(c_bool) :: .true., .true., .false.]))
+        call same("compare_leq_wuz", status, logical(all(out .eqv. [logical(c_bool) :: .true., .true., .false.])))
     end subroutine test_compare_leq_wuz
 
     subroutine test_eql_wuz()
@@ -914,7 +914,7 @@ contains
 
         out = .true.
         call cvl_eql_wuz([integer(c_int32_t) :: 1, 2, 3], [integer(c_int32_t) :: 2, 2, 2], out, status)
-        call same("eql_wuz", status, all(out .eqv. [logical(c_bool) :: .false., .true., .false.]))
+        call same("eql_wuz", status, logical(all(out .eqv. [logical(c_bool) :: .false., .true., .false.])))
     end subroutine test_eql_wuz
 
     subroutine test_compare_eql_wuz()
@@ -922,7 +922,7 @@ contains
 
         out = .true.
         call cvl_compare(CVL_EQL, [integer(c_int32_t) :: 1, 2, 3], [integer(c_int32_t) :: 2, 2, 2], out, status)
-        call same("compare_eql_wuz", status, all(out .eqv. [logical(c_bool) :: .false., .true., .false.]))
+        call same("compare_eql_wuz", status, logical(all(out .eqv. [logical(c_bool) :: .false., .true., .false.])))
     end subroutine test_compare_eql_wuz
 
     subroutine test_neq_wuz()
@@ -930,7 +930,7 @@ contains
 
         out = .true.
         call cvl_neq_wuz([integer(c_int32_t) :: 1, 2, 3], [integer(c_int32_t) :: 2, 2, 2], out, status)
-        call same("neq_wuz", status, all(out .eqv. [logical(c_bool) :: .true., .false., .true.]))
+        call same("neq_wuz", status, logical(all(out .eqv. [logical(c_bool) :: .true., .false., .true.])))
     end subroutine test_neq_wuz
 
     subroutine test_compare_neq_wuz()
@@ -938,7 +938,7 @@ contains
 
         out = .true.
         call cvl_compare(CVL_NEQ, [integer(c_int32_t) :: 1, 2, 3], [integer(c_int32_t) :: 2, 2, 2], out, status)
-        call same("compare_neq_wuz", status, all(out .eqv. [logical(c_bool) :: .true., .false., .true.]))
+        call same("compare_neq_wuz", status, logical(all(out .eqv. [logical(c_bool) :: .true., .false., .true.])))
     end subroutine test_compare_neq_wuz
 
     subroutine test_and_wub()
@@ -947,7 +947,7 @@ contains
         out = .true.
         call cvl_and_wub([logical(c_bool) :: .true., .true., .false., .false.], [logical(c_bool) :: .true., .false., .true., &
             .false.], out, status)
-        call same("and_wub", status, all(out .eqv. [logical(c_bool) :: .true., .false., .false., .false.]))
+        call same("and_wub", status, logical(all(out .eqv. [logical(c_bool) :: .true., .false., .false., .false.])))
     end subroutine test_and_wub
 
     subroutine test_and_wub_in()
@@ -955,7 +955,7 @@ contains
 
         a = [logical(c_bool) :: .true., .true., .false., .false.]
         call cvl_and_wub_in(a, [logical(c_bool) :: .true., .false., .true., .false.], status)
-        call same("and_wub_in", status, all(a .eqv. [logical(c_bool) :: .true., .false., .false., .false.]))
+        call same("and_wub_in", status, logical(all(a .eqv. [logical(c_bool) :: .true., .false., .false., .false.])))
     end subroutine test_and_wub_in
 
     subroutine test_binary_and_wub()
@@ -964,7 +964,7 @@ contains
         out = .true.
         call cvl_binary(CVL_AND, [logical(c_bool) :: .true., .true., .false., .false.], [logical(c_bool) :: .true., .false., &
             .true., .false.], out, status)
-        call same("binary_and_wub", status, all(out .eqv. [logical(c_bool) :: .true., .false., .false., .false.]))
+        call same("binary_and_wub", status, logical(all(out .eqv. [logical(c_bool) :: .true., .false., .false., .false.])))
     end subroutine test_binary_and_wub
 
     subroutine test_binary_in_and_wub()
@@ -972,7 +972,7 @@ contains
 
         a = [logical(c_bool) :: .true., .true., .false., .false.]
         call cvl_binary_in(CVL_AND, a, [logical(c_bool) :: .true., .false., .true., .false.], status)
-        call same("binary_in_and_wub", status, all(a .eqv. [logical(c_bool) :: .true., .false., .false., .false.]))
+        call same("binary_in_and_wub", status, logical(all(a .eqv. [logical(c_bool) :: .true., .false., .false., .false.])))
     end subroutine test_binary_in_and_wub
 
     subroutine test_ior_wub()
@@ -981,7 +981,7 @@ contains
         out = .true.
         call cvl_ior_wub([logical(c_bool) :: .true., .true., .false., .false.], [logical(c_bool) :: .true., .false., .true., &
             .false.], out, status)
-        call same("ior_wub", status, all(out .eqv. [logical(c_bool) :: .true., .true., .true., .false.]))
+        call same("ior_wub", status, logical(all(out .eqv. [logical(c_bool) :: .true., .true., .true., .false.])))
     end subroutine test_ior_wub
 
     subroutine test_ior_wub_in()
@@ -989,7 +989,7 @@ contains
 
         a = [logical(c_bool) :: .true., .true., .false., .false.]
         call cvl_ior_wub_in(a, [logical(c_bool) :: .true., .false., .true., .false.], status)
-        call same("ior_wub_in", status, all(a .eqv. [logical(c_bool) :: .true., .true., .true., .false.]))
+        call same("ior_wub_in", status, logical(all(a .eqv. [logical(c_bool) :: .true., .true., .true., .false.])))
     end subroutine test_ior_wub_in
 
     subroutine test_binary_ior_wub()
@@ -998,7 +998,7 @@ contains
         out = .true.
         call cvl_binary(CVL_IOR, [logical(c_bool) :: .true., .true., .false., .false.], [logical(c_bool) :: .true., .false., &
             .true., .false.], out, status)
-        call same("binary_ior_wub", status, all(out .eqv. [logical(c_bool) :: .true., .true., .true., .false.]))
+        call same("binary_ior_wub", status, logical(all(out .eqv. [logical(c_bool) :: .true., .true., .true., .false.])))
     end subroutine test_binary_ior_wub
 
     subroutine test_binary_in_ior_wub()
@@ -1006,7 +1006,7 @@ contains
 
         a = [logical(c_bool) :: .true., .true., .false., .false.]
         call cvl_binary_in(CVL_IOR, a, [logical(c_bool) :: .true., .false., .true., .false.], status)
-        call same("binary_in_ior_wub", status, all(a .eqv. [logical(c_bool) :: .true., .true., .true., .false.]))
+        call same("binary_in_ior_wub", status, logical(all(a .eqv. [logical(c_bool) :: .true., .true., .true., .false.])))
     end subroutine test_binary_in_ior_wub
 
     subroutine test_xor_wub()
@@ -1015,7 +1015,7 @@ contains
         out = .true.
         call cvl_xor_wub([logical(c_bool) :: .true., .true., .false., .false.], [logical(c_bool) :: .true., .false., .true., &
             .false.], out, status)
-        call same("xor_wub", status, all(out .eqv. [logical(c_bool) :: .false., .true., .true., .false.]))
+        call same("xor_wub", status, logical(all(out .eqv. [logical(c_bool) :: .false., .true., .true., .false.])))
     end subroutine test_xor_wub
 
     subroutine test_xor_wub_in()
@@ -1023,7 +1023,7 @@ contains
 
         a = [logical(c_bool) :: .true., .true., .false., .false.]
         call cvl_xor_wub_in(a, [logical(c_bool) :: .true., .false., .true., .false.], status)
-        call same("xor_wub_in", status, all(a .eqv. [logical(c_bool) :: .false., .true., .true., .false.]))
+        call same("xor_wub_in", status, logical(all(a .eqv. [logical(c_bool) :: .false., .true., .true., .false.])))
     end subroutine test_xor_wub_in
 
     subroutine test_binary_xor_wub()
@@ -1032,7 +1032,7 @@ contains
         out = .true.
         call cvl_binary(CVL_XOR, [logical(c_bool) :: .true., .true., .false., .false.], [logical(c_bool) :: .true., .false., &
             .true., .false.], out, status)
-        call same("binary_xor_wub", status, all(out .eqv. [logical(c_bool) :: .false., .true., .true., .false.]))
+        call same("binary_xor_wub", status, logical(all(out .eqv. [logical(c_bool) :: .false., .true., .true., .false.])))
     end subroutine test_binary_xor_wub
 
     subroutine test_binary_in_xor_wub()
@@ -1040,7 +1040,7 @@ contains
 
         a = [logical(c_bool) :: .true., .true., .false., .false.]
         call cvl_binary_in(CVL_XOR, a, [logical(c_bool) :: .true., .false., .true., .false.], status)
-        call same("binary_in_xor_wub", status, all(a .eqv. [logical(c_bool) :: .false., .true., .true., .false.]))
+        call same("binary_in_xor_wub", status, logical(all(a .eqv. [logical(c_bool) :: .false., .true., .true., .false.])))
     end subroutine test_binary_in_xor_wub
 
     subroutine test_sel_wuz()
@@ -1083,7 +1083,7 @@ contains
         out = .true.
         call cvl_sel_wub([logical(c_bool) :: .true., .false.], [logical(c_bool) :: .true., .true.], [logical(c_bool) :: &
             .false., .false.], out, status)
-        call same("sel_wub", status, all(out .eqv. [logical(c_bool) :: .true., .false.]))
+        call same("sel_wub", status, logical(all(out .eqv. [logical(c_bool) :: .true., .false.])))
     end subroutine test_sel_wub
 
     subroutine test_sel_wub_in()
@@ -1091,7 +1091,7 @@ contains
 
         a = [logical(c_bool) :: .true., .true.]
         call cvl_sel_wub_in([logical(c_bool) :: .true., .false.], a, [logical(c_bool) :: .false., .false.], status)
-        call same("sel_wub_in", status, all(a .eqv. [logical(c_bool) :: .true., .false.]))
+        call same("sel_wub_in", status, logical(all(a .eqv. [logical(c_bool) :: .true., .false.])))
     end subroutine test_sel_wub_in
 
     subroutine test_select_sel_wub()
@@ -1100,7 +1100,7 @@ contains
         out = .true.
         call cvl_select([logical(c_bool) :: .true., .false.], [logical(c_bool) :: .true., .true.], [logical(c_bool) :: &
             .false., .false.], out, status)
-        call same("select_sel_wub", status, all(out .eqv. [logical(c_bool) :: .true., .false.]))
+        call same("select_sel_wub", status, logical(all(out .eqv. [logical(c_bool) :: .true., .false.])))
     end subroutine test_select_sel_wub
 
     subroutine test_select_in_sel_wub()
@@ -1108,7 +1108,7 @@ contains
 
         a = [logical(c_bool) :: .true., .true.]
         call cvl_select_in([logical(c_bool) :: .true., .false.], a, [logical(c_bool) :: .false., .false.], status)
-        call same("select_in_sel_wub", status, all(a .eqv. [logical(c_bool) :: .true., .false.]))
+        call same("select_in_sel_wub", status, logical(all(a .eqv. [logical(c_bool) :: .true., .false.])))
     end subroutine test_select_in_sel_wub
 
     subroutine test_int_wub()
@@ -1132,7 +1132,7 @@ contains
 
         out = .true.
         call cvl_boo_wuz([integer(c_int32_t) :: 0, -3, 7], out, status)
-        call same("boo_wuz", status, all(out .eqv. [logical(c_bool) :: .false., .true., .true.]))
+        call same("boo_wuz", status, logical(all(out .eqv. [logical(c_bool) :: .false., .true., .true.])))
     end subroutine test_boo_wuz
 
     subroutine test_bool_from_int_boo_wuz()
@@ -1140,7 +1140,7 @@ contains
 
         out = .true.
         call cvl_bool_from_int([integer(c_int32_t) :: 0, -3, 7], out, status)
-        call same("bool_from_int_boo_wuz", status, all(out .eqv. [logical(c_bool) :: .false., .true., .true.]))
+        call same("bool_from_int_boo_wuz", status, logical(all(out .eqv. [logical(c_bool) :: .false., .true., .true.])))
     end subroutine test_bool_from_int_boo_wuz
 
     subroutine test_add_suz()
@@ -1180,7 +1180,7 @@ contains
 
         out = 77
         call cvl_add_ruz([integer(c_int32_t) :: 3, 1, 4], out, status)
-        call same("add_ruz", status, out == int(8, c_int32_t))
+        call same("add_ruz", status, out == 8_c_int32_t)
     end subroutine test_add_ruz
 
     subroutine test_reduce_add_ruz()
@@ -1188,7 +1188,7 @@ contains
 
         out = 77
         call cvl_reduce(CVL_ADD, [integer(c_int32_t) :: 3, 1, 4], out, status)
-        call same("reduce_add_ruz", status, out == int(8, c_int32_t))
+        call same("reduce_add_ruz", status, out == 8_c_int32_t)
     end subroutine test_reduce_add_ruz
 
     subroutine test_mul_suz()
@@ -1228,7 +1228,7 @@ contains
 
         out = 77
         call cvl_mul_ruz([integer(c_int32_t) :: 3, 1, 4], out, status)
-        call same("mul_ruz", status, out == int(12, c_int32_t))
+        call same("mul_ruz", status, out == 12_c_int32_t)
     end subroutine test_mul_ruz
 
     subroutine test_reduce_mul_ruz()
@@ -1236,7 +1236,7 @@ contains
 
         out = 77
         call cvl_reduce(CVL_MUL, [integer(c_int32_t) :: 3, 1, 4], out, status)
-        call same("reduce_mul_ruz", status, out == int(12, c_int32_t))
+        call same("reduce_mul_ruz", status, out == 12_c_int32_t)
     end subroutine test_reduce_mul_ruz
 
     subroutine test_min_suz()
@@ -1276,7 +1276,7 @@ contains
 
         out = 77
         call cvl_min_ruz([integer(c_int32_t) :: 3, 1, 4], out, status)
-        call same("min_ruz", status, out == int(1, c_int32_t))
+        call same("min_ruz", status, out == 1_c_int32_t)
     end subroutine test_min_ruz
 
     subroutine test_reduce_min_ruz()
@@ -1284,7 +1284,7 @@ contains
 
         out = 77
         call cvl_reduce(CVL_MIN, [integer(c_int32_t) :: 3, 1, 4], out, status)
-        call same("reduce_min_ruz", status, out == int(1, c_int32_t))
+        call same("reduce_min_ruz", status, out == 1_c_int32_t)
     end subroutine test_reduce_min_ruz
 
     subroutine test_max_suz()
@@ -1324,7 +1324,7 @@ contains
 
         out = 77
         call cvl_max_ruz([integer(c_int32_t) :: 3, 1, 4], out, status)
-        call same("max_ruz", status, out == int(4, c_int32_t))
+        call same("max_ruz", status, out == 4_c_int32_t)
     end subroutine test_max_ruz
 
     subroutine test_reduce_max_ruz()
@@ -1332,7 +1332,7 @@ contains
 
         out = 77
         call cvl_reduce(CVL_MAX, [integer(c_int32_t) :: 3, 1, 4], out, status)
-        call same("reduce_max_ruz", status, out == int(4, c_int32_t))
+        call same("reduce_max_ruz", status, out == 4_c_int32_t)
     end subroutine test_reduce_max_ruz
 
     subroutine test_and_suz()
@@ -1372,7 +1372,7 @@ contains
 
         out = 77
         call cvl_and_ruz([integer(c_int32_t) :: 3, 1, 4], out, status)
-        call same("and_ruz", status, out == int(0, c_int32_t))
+        call same("and_ruz", status, out == 0_c_int32_t)
     end subroutine test_and_ruz
 
     subroutine test_reduce_and_ruz()
@@ -1380,7 +1380,7 @@ contains
 
         out = 77
         call cvl_reduce(CVL_AND, [integer(c_int32_t) :: 3, 1, 4], out, status)
-        call same("reduce_and_ruz", status, out == int(0, c_int32_t))
+        call same("reduce_and_ruz", status, out == 0_c_int32_t)
     end subroutine test_reduce_and_ruz
 
     subroutine test_ior_suz()
@@ -1420,7 +1420,7 @@ contains
 
         out = 77
         call cvl_ior_ruz([integer(c_int32_t) :: 3, 1, 4], out, status)
-        call same("ior_ruz", status, out == int(7, c_int32_t))
+        call same("ior_ruz", status, out == 7_c_int32_t)
     end subroutine test_ior_ruz
 
     subroutine test_reduce_ior_ruz()
@@ -1428,7 +1428,7 @@ contains
 
         out = 77
         call cvl_reduce(CVL_IOR, [integer(c_int32_t) :: 3, 1, 4], out, status)
-        call same("reduce_ior_ruz", status, out == int(7, c_int32_t))
+        call same("reduce_ior_ruz", status, out == 7_c_int32_t)
     end subroutine test_reduce_ior_ruz
 
     subroutine test_xor_suz()
@@ -1468,7 +1468,7 @@ contains
 
         out = 77
         call cvl_xor_ruz([integer(c_int32_t) :: 3, 1, 4], out, status)
-        call same("xor_ruz", status, out == int(6, c_int32_t))
+        call same("xor_ruz", status, out == 6_c_int32_t)
     end subroutine test_xor_ruz
 
     subroutine test_reduce_xor_ruz()
@@ -1476,7 +1476,7 @@ contains
 
         out = 77
         call cvl_reduce(CVL_XOR, [integer(c_int32_t) :: 3, 1, 4], out, status)
-        call same("reduce_xor_ruz", status, out == int(6, c_int32_t))
+        call same("reduce_xor_ruz", status, out == 6_c_int32_t)
     end subroutine test_reduce_xor_ruz
 
     subroutine test_and_sub()
@@ -1484,7 +1484,7 @@ contains
 
         out = .true.
         call cvl_and_sub([logical(c_bool) :: .true., .false., .true.], out, status)
-        call same("and_sub", status, all(out .eqv. [logical(c_bool) :: .true., .true., .false.]))
+        call same("and_sub", status, logical(all(out .eqv. [logical(c_bool) :: .true., .true., .false.])))
     end subroutine test_and_sub
 
     subroutine test_and_sub_in()
@@ -1492,7 +1492,7 @@ contains
 
         a = [logical(c_bool) :: .true., .false., .true.]
         call cvl_and_sub_in(a, status)
-        call same("and_sub_in", status, all(a .eqv. [logical(c_bool) :: .true., .true., .false.]))
+        call same("and_sub_in", status, logical(all(a .eqv. [logical(c_bool) :: .true., .true., .false.])))
     end subroutine test_and_sub_in
 
     subroutine test_scan_and_sub()
@@ -1500,7 +1500,7 @@ contains
 
         out = .true.
         call cvl_scan(CVL_AND, [logical(c_bool) :: .true., .false., .true.], out, status)
-        call same("scan_and_sub", status, all(out .eqv. [logical(c_bool) :: .true., .true., .false.]))
+        call same("scan_and_sub", status, logical(all(out .eqv. [logical(c_bool) :: .true., .true., .false.])))
     end subroutine test_scan_and_sub
 
     subroutine test_scan_in_and_sub()
@@ -1508,7 +1508,7 @@ contains
 
         a = [logical(c_bool) :: .true., .false., .true.]
         call cvl_scan_in(CVL_AND, a, status)
-        call same("scan_in_and_sub", status, all(a .eqv. [logical(c_bool) :: .true., .true., .false.]))
+        call same("scan_in_and_sub", status, logical(all(a .eqv. [logical(c_bool) :: .true., .true., .false.])))
     end subroutine test_scan_in_and_sub
 
     subroutine test_and_rub()
@@ -1516,7 +1516,7 @@ contains
 
         out = .true.
         call cvl_and_rub([logical(c_bool) :: .true., .false., .true.], out, status)
-        call same("and_rub", status, out .eqv. logical(.false., c_bool))
+        call same("and_rub", status, logical(out .eqv. .false._c_bool))
     end subroutine test_and_rub
 
     subroutine test_reduce_and_rub()
@@ -1524,7 +1524,7 @@ contains
 
         out = .true.
         call cvl_reduce(CVL_AND, [logical(c_bool) :: .true., .false., .true.], out, status)
-        call same("reduce_and_rub", status, out .eqv. logical(.false., c_bool))
+        call same("reduce_and_rub", status, logical(out .eqv. .false._c_bool))
     end subroutine test_reduce_and_rub
 
     subroutine test_ior_sub()
@@ -1532,7 +1532,7 @@ contains
 
         out = .true.
         call cvl_ior_sub([logical(c_bool) :: .true., .false., .true.], out, status)
-        call same("ior_sub", status, all(out .eqv. [logical(c_bool) :: .false., .true., .true.]))
+        call same("ior_sub", status, logical(all(out .eqv. [logical(c_bool) :: .false., .true., .true.])))
     end subroutine test_ior_sub
 
     subroutine test_ior_sub_in()
@@ -1540,7 +1540,7 @@ contains
 
         a = [logical(c_bool) :: .true., .false., .true.]
         call cvl_ior_sub_in(a, status)
-        call same("ior_sub_in", status, all(a .eqv. [logical(c_bool) :: .false., .true., .true.]))
+        call same("ior_sub_in", status, logical(all(a .eqv. [logical(c_bool) :: .false., .true., .true.])))
     end subroutine test_ior_sub_in
 
     subroutine test_scan_ior_sub()
@@ -1548,7 +1548,7 @@ contains
 
         out = .true.
         call cvl_scan(CVL_IOR, [logical(c_bool) :: .true., .false., .true.], out, status)
-        call same("scan_ior_sub", status, all(out .eqv. [logical(c_bool) :: .false., .true., .true.]))
+        call same("scan_ior_sub", status, logical(all(out .eqv. [logical(c_bool) :: .false., .true., .true.])))
     end subroutine test_scan_ior_sub
 
     subroutine test_scan_in_ior_sub()
@@ -1556,7 +1556,7 @@ contains
 
         a = [logical(c_bool) :: .true., .false., .true.]
         call cvl_scan_in(CVL_IOR, a, status)
-        call same("scan_in_ior_sub", status, all(a .eqv. [logical(c_bool) :: .false., .true., .true.]))
+        call same("scan_in_ior_sub", status, logical(all(a .eqv. [logical(c_bool) :: .false., .true., .true.])))
     end subroutine test_scan_in_ior_sub
 
     subroutine test_ior_rub()
@@ -1564,7 +1564,7 @@ contains
 
         out = .true.
         call cvl_ior_rub([logical(c_bool) :: .true., .false., .true.], out, status)
-        call same("ior_rub", status, out .eqv. logical(.true., c_bool))
+        call same("ior_rub", status, logical(out .eqv. .true._c_bool))
     end subroutine test_ior_rub
 
     subroutine test_reduce_ior_rub()
@@ -1572,7 +1572,7 @@ contains
 
         out = .true.
         call cvl_reduce(CVL_IOR, [logical(c_bool) :: .true., .false., .true.], out, status)
-        call same("reduce_ior_rub", status, out .eqv. logical(.true., c_bool))
+        call same("reduce_ior_rub", status, logical(out .eqv. .true._c_bool))
     end subroutine test_reduce_ior_rub
 
     subroutine test_xor_sub()
@@ -1580,7 +1580,7 @@ contains
 
         out = .true.
         call cvl_xor_sub([logical(c_bool) :: .true., .false., .true.], out, status)
-        call same("xor_sub", status, all(out .eqv. [logical(c_bool) :: .false., .true., .true.]))
+        call same("xor_sub", status, logical(all(out .eqv. [logical(c_bool) :: .false., .true., .true.])))
     end subroutine test_xor_sub
 
     subroutine test_xor_sub_in()
@@ -1588,7 +1588,7 @@ contains
 
         a = [logical(c_bool) :: .true., .false., .true.]
         call cvl_xor_sub_in(a, status)
-        call same("xor_sub_in", status, all(a .eqv. [logical(c_bool) :: .false., .true., .true.]))
+        call same("xor_sub_in", status, logical(all(a .eqv. [logical(c_bool) :: .false., .true., .true.])))
     end subroutine test_xor_sub_in
 
     subroutine test_scan_xor_sub()
@@ -1596,7 +1596,7 @@ contains
 
         out = .true.
         call cvl_scan(CVL_XOR, [logical(c_bool) :: .true., .false., .true.], out, status)
-        call same("scan_xor_sub", status, all(out .eqv. [logical(c_bool) :: .false., .true., .true.]))
+        call same("scan_xor_sub", status, logical(all(out .eqv. [logical(c_bool) :: .false., .true., .true.])))
     end subroutine test_scan_xor_sub
 
     subroutine test_scan_in_xor_sub()
@@ -1604,7 +1604,7 @@ contains
 
         a = [logical(c_bool) :: .true., .false., .true.]
         call cvl_scan_in(CVL_XOR, a, status)
-        call same("scan_in_xor_sub", status, all(a .eqv. [logical(c_bool) :: .false., .true., .true.]))
+        call same("scan_in_xor_sub", status, logical(all(a .eqv. [logical(c_bool) :: .false., .true., .true.])))
     end subroutine test_scan_in_xor_sub
 
     subroutine test_xor_rub()
@@ -1612,7 +1612,7 @@ contains
 
         out = .true.
         call cvl_xor_rub([logical(c_bool) :: .true., .false., .true.], out, status)
-        call same("xor_rub", status, out .eqv. logical(.false., c_bool))
+        call same("xor_rub", status, logical(out .eqv. .false._c_bool))
     end subroutine test_xor_rub
 
     subroutine test_reduce_xor_rub()
@@ -1620,7 +1620,7 @@ contains
 
         out = .true.
         call cvl_reduce(CVL_XOR, [logical(c_bool) :: .true., .false., .true.], out, status)
-        call same("reduce_xor_rub", status, out .eqv. logical(.false., c_bool))
+        call same("reduce_xor_rub", status, logical(out .eqv. .false._c_bool))
     end subroutine test_reduce_xor_rub
 
     subroutine test_tot_suz()
@@ -1660,7 +1660,7 @@ contains
 
         out = 77
         call cvl_tot_ruz([integer(c_int32_t) :: 3, 1, 4], out, status)
-        call same("tot_ruz", status, out == int(8, c_int32_t))
+        call same("tot_ruz", status, out == 8_c_int32_t)
     end subroutine test_tot_ruz
 
     subroutine test_checked_reduce_tot_ruz()
@@ -1668,7 +1668,7 @@ contains
 
         out = 77
         call cvl_checked_reduce([integer(c_int32_t) :: 3, 1, 4], out, status)
-        call same("checked_reduce_tot_ruz", status, out == int(8, c_int32_t))
+        call same("checked_reduce_tot_ruz", status, out == 8_c_int32_t)
     end subroutine test_checked_reduce_tot_ruz
 
     subroutine test_cnt_lub()
@@ -1676,7 +1676,7 @@ contains
 
         out = 77
         call cvl_cnt_lub([logical(c_bool) :: .false., .true., .true., .false., .true.], out, status)
-        call same("cnt_lub", status, out == int(3, c_int32_t))
+        call same("cnt_lub", status, out == 3_c_int32_t)
     end subroutine test_cnt_lub
 
     subroutine test_count_cnt_lub()
@@ -1684,46 +1684,46 @@ contains
 
         out = 77
         call cvl_count([logical(c_bool) :: .false., .true., .true., .false., .true.], out, status)
-        call same("count_cnt_lub", status, out == int(3, c_int32_t))
+        call same("count_cnt_lub", status, out == 3_c_int32_t)
     end subroutine test_count_cnt_lub
 
     subroutine test_ext_vuz()
         integer(c_int32_t) :: out
 
         out = 77
-        call cvl_ext_vuz([integer(c_int32_t) :: 4, 5, 6], int(2, c_int64_t), out, status)
-        call same("ext_vuz", status, out == int(6, c_int32_t))
+        call cvl_ext_vuz([integer(c_int32_t) :: 4, 5, 6], 2_c_int64_t, out, status)
+        call same("ext_vuz", status, out == 6_c_int32_t)
     end subroutine test_ext_vuz
 
     subroutine test_extract_ext_vuz()
         integer(c_int32_t) :: out
 
         out = 77
-        call cvl_extract([integer(c_int32_t) :: 4, 5, 6], int(2, c_int64_t), out, status)
-        call same("extract_ext_vuz", status, out == int(6, c_int32_t))
+        call cvl_extract([integer(c_int32_t) :: 4, 5, 6], 2_c_int64_t, out, status)
+        call same("extract_ext_vuz", status, out == 6_c_int32_t)
     end subroutine test_extract_ext_vuz
 
     subroutine test_ext_vub()
         logical(c_bool) :: out
 
         out = .true.
-        call cvl_ext_vub([logical(c_bool) :: .true., .true., .false.], int(0, c_int64_t), out, status)
-        call same("ext_vub", status, out .eqv. logical(.true., c_bool))
+        call cvl_ext_vub([logical(c_bool) :: .true., .true., .false.], 0_c_int64_t, out, status)
+        call same("ext_vub", status, logical(out .eqv. .true._c_bool))
     end subroutine test_ext_vub
 
     subroutine test_extract_ext_vub()
         logical(c_bool) :: out
 
         out = .true.
-        call cvl_extract([logical(c_bool) :: .true., .true., .false.], int(0, c_int64_t), out, status)
-        call same("extract_ext_vub", status, out .eqv. logical(.true., c_bool))
+        call cvl_extract([logical(c_bool) :: .true., .true., .false.], 0_c_int64_t, out, status)
+        call same("extract_ext_vub", status, logical(out .eqv. .true._c_bool))
     end subroutine test_extract_ext_vub
 
     subroutine test_rep_vuz()
         integer(c_int32_t) :: out(3)
 
         out = 77
-        call cvl_rep_vuz([integer(c_int32_t) :: 1, 2, 3], int(1, c_int64_t), int(9, c_int32_t), out, status)
+        call cvl_rep_vuz([integer(c_int32_t) :: 1, 2, 3], 1_c_int64_t, 9_c_int32_t, out, status)
         call same("rep_vuz", status, all(out == [integer(c_int32_t) :: 1, 9, 3]))
     end subroutine test_rep_vuz
 
@@ -1731,7 +1731,7 @@ contains
         integer(c_int32_t) :: out(3)
 
         out = 77
-        call cvl_replace([integer(c_int32_t) :: 1, 2, 3], int(1, c_int64_t), int(9, c_int32_t), out, status)
+        call cvl_replace([integer(c_int32_t) :: 1, 2, 3], 1_c_int64_t, 9_c_int32_t, out, status)
         call same("replace_rep_vuz", status, all(out == [integer(c_int32_t) :: 1, 9, 3]))
     end subroutine test_replace_rep_vuz
 
@@ -1739,25 +1739,23 @@ contains
         logical(c_bool) :: out(3)
 
         out = .true.
-        call cvl_rep_vub([logical(c_bool) :: .true., .true., .true.], int(2, c_int64_t), logical(.false., c_bool), out, &
-            status)
-        call same("rep_vub", status, all(out .eqv. [logical(c_bool) :: .true., .true., .false.]))
+        call cvl_rep_vub([logical(c_bool) :: .true., .true., .true.], 2_c_int64_t, .false._c_bool, out, status)
+        call same("rep_vub", status, logical(all(out .eqv. [logical(c_bool) :: .true., .true., .false.])))
     end subroutine test_rep_vub
 
     subroutine test_replace_rep_vub()
         logical(c_bool) :: out(3)
 
         out = .true.
-        call cvl_replace([logical(c_bool) :: .true., .true., .true.], int(2, c_int64_t), logical(.false., c_bool), out, &
-            status)
-        call same("replace_rep_vub", status, all(out .eqv. [logical(c_bool) :: .true., .true., .false.]))
+        call cvl_replace([logical(c_bool) :: .true., .true., .true.], 2_c_int64_t, .false._c_bool, out, status)
+        call same("replace_rep_vub", status, logical(all(out .eqv. [logical(c_bool) :: .true., .true., .false.])))
     end subroutine test_replace_rep_vub
 
     subroutine test_dis_vuz()
         integer(c_int32_t) :: out(3)
 
         out = 77
-        call cvl_dis_vuz(int(7, c_int32_t), int(3, c_int64_t), out, status)
+        call cvl_dis_vuz(7_c_int32_t, 3_c_int64_t, out, status)
         call same("dis_vuz", status, all(out == [integer(c_int32_t) :: 7, 7, 7]))
     end subroutine test_dis_vuz
 
@@ -1765,7 +1763,7 @@ contains
         integer(c_int32_t) :: out(3)
 
         out = 77
-        call cvl_distribute(int(7, c_int32_t), int(3, c_int64_t), out, status)
+        call cvl_distribute(7_c_int32_t, 3_c_int64_t, out, status)
         call same("distribute_dis_vuz", status, all(out == [integer(c_int32_t) :: 7, 7, 7]))
     end subroutine test_distribute_dis_vuz
 
@@ -1773,23 +1771,23 @@ contains
         logical(c_bool) :: out(2)
 
         out = .true.
-        call cvl_dis_vub(logical(.true., c_bool), int(2, c_int64_t), out, status)
-        call same("dis_vub", status, all(out .eqv. [logical(c_bool) :: .true., .true.]))
+        call cvl_dis_vub(.true._c_bool, 2_c_int64_t, out, status)
+        call same("dis_vub", status, logical(all(out .eqv. [logical(c_bool) :: .true., .true.])))
     end subroutine test_dis_vub
 
     subroutine test_distribute_dis_vub()
         logical(c_bool) :: out(2)
 
         out = .true.
-        call cvl_distribute(logical(.true., c_bool), int(2, c_int64_t), out, status)
-        call same("distribute_dis_vub", status, all(out .eqv. [logical(c_bool) :: .true., .true.]))
+        call cvl_distribute(.true._c_bool, 2_c_int64_t, out, status)
+        call same("distribute_dis_vub", status, logical(all(out .eqv. [logical(c_bool) :: .true., .true.])))
     end subroutine test_distribute_dis_vub
 
     subroutine test_ind_luz()
         integer(c_int32_t) :: out(3)
 
         out = 77
-        call cvl_ind_luz(int(10, c_int32_t), int(-2, c_int32_t), int(3, c_int64_t), out, status)
+        call cvl_ind_luz(10_c_int32_t, -2_c_int32_t, 3_c_int64_t, out, status)
         call same("ind_luz", status, all(out == [integer(c_int32_t) :: 10, 8, 6]))
     end subroutine test_ind_luz
 
@@ -1797,7 +1795,7 @@ contains
         integer(c_int32_t) :: out(3)
 
         out = 77
-        call cvl_index(int(10, c_int32_t), int(-2, c_int32_t), int(3, c_int64_t), out, status)
+        call cvl_index(10_c_int32_t, -2_c_int32_t, 3_c_int64_t, out, status)
         call same("index_ind_luz", status, all(out == [integer(c_int32_t) :: 10, 8, 6]))
     end subroutine test_index_ind_luz
 
@@ -1806,7 +1804,7 @@ contains
 
         total = 77
         call cvl_mke_fov([integer(c_int32_t) :: 2, 0, 3], total, status)
-        call same("mke_fov", status, total == int(5, c_size_t))
+        call same("mke_fov", status, total == 5_c_size_t)
     end subroutine test_mke_fov
 
     subroutine test_make_descriptor_mke_fov()
@@ -1814,7 +1812,7 @@ contains
 
         total = 77
         call cvl_make_descriptor([integer(c_int32_t) :: 2, 0, 3], total, status)
-        call same("make_descriptor_mke_fov", status, total == int(5, c_size_t))
+        call same("make_descriptor_mke_fov", status, total == 5_c_size_t)
     end subroutine test_make_descriptor_mke_fov
 
     subroutine test_tot_sez()
@@ -1889,7 +1887,7 @@ contains
         out = .true.
         call cvl_ext_veb([logical(c_bool) :: .true., .true., .false.], [integer(c_int32_t) :: 0, 1], [integer(c_int32_t) :: 1, &
             2], out, status)
-        call same("ext_veb", status, all(out .eqv. [logical(c_bool) :: .true., .false.]))
+        call same("ext_veb", status, logical(all(out .eqv. [logical(c_bool) :: .true., .false.])))
     end subroutine test_ext_veb
 
     subroutine test_extract_ext_veb()
@@ -1898,7 +1896,7 @@ contains
         out = .true.
         call cvl_extract([logical(c_bool) :: .true., .true., .false.], [integer(c_int32_t) :: 0, 1], [integer(c_int32_t) :: 1, &
             2], out, status)
-        call same("extract_ext_veb", status, all(out .eqv. [logical(c_bool) :: .true., .false.]))
+        call same("extract_ext_veb", status, logical(all(out .eqv. [logical(c_bool) :: .true., .false.])))
     end subroutine test_extract_ext_veb
 
     subroutine test_rep_vez()
@@ -1925,7 +1923,7 @@ contains
         out = .true.
         call cvl_rep_veb([logical(c_bool) :: .true., .true., .false.], [integer(c_int32_t) :: 0, 1], [logical(c_bool) :: &
             .false., .true.], [integer(c_int32_t) :: 1, 2], out, status)
-        call same("rep_veb", status, all(out .eqv. [logical(c_bool) :: .false., .true., .true.]))
+        call same("rep_veb", status, logical(all(out .eqv. [logical(c_bool) :: .false., .true., .true.])))
     end subroutine test_rep_veb
 
     subroutine test_replace_rep_veb()
@@ -1934,7 +1932,7 @@ contains
         out = .true.
         call cvl_replace([logical(c_bool) :: .true., .true., .false.], [integer(c_int32_t) :: 0, 1], [logical(c_bool) :: &
             .false., .true.], [integer(c_int32_t) :: 1, 2], out, status)
-        call same("replace_rep_veb", status, all(out .eqv. [logical(c_bool) :: .false., .true., .true.]))
+        call same("replace_rep_veb", status, logical(all(out .eqv. [logical(c_bool) :: .false., .true., .true.])))
     end subroutine test_replace_rep_veb
 
     subroutine test_dis_vez()
@@ -1958,7 +1956,7 @@ contains
 
         out = .true.
         call cvl_dis_veb([logical(c_bool) :: .true., .false.], [integer(c_int32_t) :: 1, 2], out, status)
-        call same("dis_veb", status, all(out .eqv. [logical(c_bool) :: .true., .false., .false.]))
+        call same("dis_veb", status, logical(all(out .eqv. [logical(c_bool) :: .true., .false., .false.])))
     end subroutine test_dis_veb
 
     subroutine test_distribute_dis_veb()
@@ -1966,7 +1964,7 @@ contains
 
         out = .true.
         call cvl_distribute([logical(c_bool) :: .true., .false.], [integer(c_int32_t) :: 1, 2], out, status)
-        call same("distribute_dis_veb", status, all(out .eqv. [logical(c_bool) :: .true., .false., .false.]))
+        call same("distribute_dis_veb", status, logical(all(out .eqv. [logical(c_bool) :: .true., .false., .false.])))
     end subroutine test_distribute_dis_veb
 
     subroutine test_ind_lez()
@@ -2329,7 +2327,7 @@ contains
         out = .true.
         call cvl_and_seb([logical(c_bool) :: .true., .false., .true., .false., .true.], [integer(c_int32_t) :: 2, 0, 3], out, &
             status)
-        call same("and_seb", status, all(out .eqv. [logical(c_bool) :: .true., .true., .true., .true., .false.]))
+        call same("and_seb", status, logical(all(out .eqv. [logical(c_bool) :: .true., .true., .true., .true., .false.])))
     end subroutine test_and_seb
 
     subroutine test_and_seb_in()
@@ -2337,7 +2335,7 @@ contains
 
         a = [logical(c_bool) :: .true., .false., .true., .false., .true.]
         call cvl_and_seb_in(a, [integer(c_int32_t) :: 2, 0, 3], status)
-        call same("and_seb_in", status, all(a .eqv. [logical(c_bool) :: .true., .true., .true., .true., .false.]))
+        call same("and_seb_in", status, logical(all(a .eqv. [logical(c_bool) :: .true., .true., .true., .true., .false.])))
     end subroutine test_and_seb_in
 
     subroutine test_scan_and_seb()
@@ -2346,7 +2344,8 @@ contains
         out = .true.
         call cvl_scan(CVL_AND, [logical(c_bool) :: .true., .false., .true., .false., .true.], [integer(c_int32_t) :: 2, 0, 3], &
             out, status)
-        call same("scan_and_seb", status, all(out .eqv. [logical(c_bool) :: .true., .true., .true., .true., .false.]))
+        call same("scan_and_seb", status, logical(all(out .eqv. [logical(c_bool) :: .true., .true., .true., .true., &
+            .false.])))
     end subroutine test_scan_and_seb
 
     subroutine test_scan_in_and_seb()
@@ -2354,7 +2353,8 @@ contains
 
         a = [logical(c_bool) :: .true., .false., .true., .false., .true.]
         call cvl_scan_in(CVL_AND, a, [integer(c_int32_t) :: 2, 0, 3], status)
-        call same("scan_in_and_seb", status, all(a .eqv. [logical(c_bool) :: .true., .true., .true., .true., .false.]))
+        call same("scan_in_and_seb", status, logical(all(a .eqv. [logical(c_bool) :: .true., .true., .true., .true., &
+            .false.])))
     end subroutine test_scan_in_and_seb
 
     subroutine test_and_reb()
@@ -2363,7 +2363,7 @@ contains
         out = .true.
         call cvl_and_reb([logical(c_bool) :: .true., .false., .true., .false., .true.], [integer(c_int32_t) :: 2, 0, 3], out, &
             status)
-        call same("and_reb", status, all(out .eqv. [logical(c_bool) :: .false., .true., .false.]))
+        call same("and_reb", status, logical(all(out .eqv. [logical(c_bool) :: .false., .true., .false.])))
     end subroutine test_and_reb
 
     subroutine test_reduce_and_reb()
@@ -2372,7 +2372,7 @@ contains
         out = .true.
         call cvl_reduce(CVL_AND, [logical(c_bool) :: .true., .false., .true., .false., .true.], [integer(c_int32_t) :: 2, 0, &
             3], out, status)
-        call same("reduce_and_reb", status, all(out .eqv. [logical(c_bool) :: .false., .true., .false.]))
+        call same("reduce_and_reb", status, logical(all(out .eqv. [logical(c_bool) :: .false., .true., .false.])))
     end subroutine test_reduce_and_reb
 
     subroutine test_ior_seb()
@@ -2381,7 +2381,7 @@ contains
         out = .true.
         call cvl_ior_seb([logical(c_bool) :: .true., .false., .true., .false., .true.], [integer(c_int32_t) :: 2, 0, 3], out, &
             status)
-        call same("ior_seb", status, all(out .eqv. [logical(c_bool) :: .false., .true., .false., .true., .true.]))
+        call same("ior_seb", status, logical(all(out .eqv. [logical(c_bool) :: .false., .true., .false., .true., .true.])))
     end subroutine test_ior_seb
 
     subroutine test_ior_seb_in()
@@ -2389,7 +2389,7 @@ contains
 
         a = [logical(c_bool) :: .true., .false., .true., .false., .true.]
         call cvl_ior_seb_in(a, [integer(c_int32_t) :: 2, 0, 3], status)
-        call same("ior_seb_in", status, all(a .eqv. [logical(c_bool) :: .false., .true., .false., .true., .true.]))
+        call same("ior_seb_in", status, logical(all(a .eqv. [logical(c_bool) :: .false., .true., .false., .true., .true.])))
     end subroutine test_ior_seb_in
 
     subroutine test_scan_ior_seb()
@@ -2398,7 +2398,8 @@ contains
         out = .true.
         call cvl_scan(CVL_IOR, [logical(c_bool) :: .true., .false., .true., .false., .true.], [integer(c_int32_t) :: 2, 0, 3], &
             out, status)
-        call same("scan_ior_seb", status, all(out .eqv. [logical(c_bool) :: .false., .true., .false., .true., .true.]))
+        call same("scan_ior_seb", status, logical(all(out .eqv. [logical(c_bool) :: .false., .true., .false., .true., &
+            .true.])))
     end subroutine test_scan_ior_seb
 
     subroutine test_scan_in_ior_seb()
@@ -2406,7 +2407,8 @@ contains
 
         a = [logical(c_bool) :: .true., .false., .true., .false., .true.]
         call cvl_scan_in(CVL_IOR, a, [integer(c_int32_t) :: 2, 0, 3], status)
-        call same("scan_in_ior_seb", status, all(a .eqv. [logical(c_bool) :: .false., .true., .false., .true., .true.]))
+        call same("scan_in_ior_seb", status, logical(all(a .eqv. [logical(c_bool) :: .false., .true., .false., .true., &
+            .true.])))
     end subroutine test_scan_in_ior_seb
 
     subroutine test_ior_reb()
@@ -2415,7 +2417,7 @@ contains
         out = .true.
         call cvl_ior_reb([logical(c_bool) :: .true., .false., .true., .false., .true.], [integer(c_int32_t) :: 2, 0, 3], out, &
             status)
-        call same("ior_reb", status, all(out .eqv. [logical(c_bool) :: .true., .false., .true.]))
+        call same("ior_reb", status, logical(all(out .eqv. [logical(c_bool) :: .true., .false., .true.])))
     end subroutine test_ior_reb
 
     subroutine test_reduce_ior_reb()
@@ -2424,7 +2426,7 @@ contains
         out = .true.
         call cvl_reduce(CVL_IOR, [logical(c_bool) :: .true., .false., .true., .false., .true.], [integer(c_int32_t) :: 2, 0, &
             3], out, status)
-        call same("reduce_ior_reb", status, all(out .eqv. [logical(c_bool) :: .true., .false., .true.]))
+        call same("reduce_ior_reb", status, logical(all(out .eqv. [logical(c_bool) :: .true., .false., .true.])))
     end subroutine test_reduce_ior_reb
 
     subroutine test_xor_seb()
@@ -2433,7 +2435,7 @@ contains
         out = .true.
         call cvl_xor_seb([logical(c_bool) :: .true., .false., .true., .false., .true.], [integer(c_int32_t) :: 2, 0, 3], out, &
             status)
-        call same("xor_seb", status, all(out .eqv. [logical(c_bool) :: .false., .true., .false., .true., .true.]))
+        call same("xor_seb", status, logical(all(out .eqv. [logical(c_bool) :: .false., .true., .false., .true., .true.])))
     end subroutine test_xor_seb
 
     subroutine test_xor_seb_in()
@@ -2441,7 +2443,7 @@ contains
 
         a = [logical(c_bool) :: .true., .false., .true., .false., .true.]
         call cvl_xor_seb_in(a, [integer(c_int32_t) :: 2, 0, 3], status)
-        call same("xor_seb_in", status, all(a .eqv. [logical(c_bool) :: .false., .true., .false., .true., .true.]))
+        call same("xor_seb_in", status, logical(all(a .eqv. [logical(c_bool) :: .false., .true., .false., .true., .true.])))
     end subroutine test_xor_seb_in
 
     subroutine test_scan_xor_seb()
@@ -2450,7 +2452,8 @@ contains
         out = .true.
         call cvl_scan(CVL_XOR, [logical(c_bool) :: .true., .false., .true., .false., .true.], [integer(c_int32_t) :: 2, 0, 3], &
             out, status)
-        call same("scan_xor_seb", status, all(out .eqv. [logical(c_bool) :: .false., .true., .false., .true., .true.]))
+        call same("scan_xor_seb", status, logical(all(out .eqv. [logical(c_bool) :: .false., .true., .false., .true., &
+            .true.])))
     end subroutine test_scan_xor_seb
 
     subroutine test_scan_in_xor_seb()
@@ -2458,7 +2461,8 @@ contains
 
         a = [logical(c_bool) :: .true., .false., .true., .false., .true.]
         call cvl_scan_in(CVL_XOR, a, [integer(c_int32_t) :: 2, 0, 3], status)
-        call same("scan_in_xor_seb", status, all(a .eqv. [logical(c_bool) :: .false., .true., .false., .true., .true.]))
+        call same("scan_in_xor_seb", status, logical(all(a .eqv. [logical(c_bool) :: .false., .true., .false., .true., &
+            .true.])))
     end subroutine test_scan_in_xor_seb
 
     subroutine test_xor_reb()
@@ -2467,7 +2471,7 @@ contains
         out = .true.
         call cvl_xor_reb([logical(c_bool) :: .true., .false., .true., .false., .true.], [integer(c_int32_t) :: 2, 0, 3], out, &
             status)
-        call same("xor_reb", status, all(out .eqv. [logical(c_bool) :: .true., .false., .false.]))
+        call same("xor_reb", status, logical(all(out .eqv. [logical(c_bool) :: .true., .false., .false.])))
     end subroutine test_xor_reb
 
     subroutine test_reduce_xor_reb()
@@ -2476,7 +2480,7 @@ contains
         out = .true.
         call cvl_reduce(CVL_XOR, [logical(c_bool) :: .true., .false., .true., .false., .true.], [integer(c_int32_t) :: 2, 0, &
             3], out, status)
-        call same("reduce_xor_reb", status, all(out .eqv. [logical(c_bool) :: .true., .false., .false.]))
+        call same("reduce_xor_reb", status, logical(all(out .eqv. [logical(c_bool) :: .true., .false., .false.])))
     end subroutine test_reduce_xor_reb
 
     subroutine test_pck_luz()
@@ -2488,7 +2492,7 @@ contains
         call cvl_pck_luz([integer(c_int32_t) :: 1, 2, 3, 4, 5], [logical(c_bool) :: .false., .true., .true., .false., .true.], &
             out, count, status)
         call same("pck_luz", status, all(out == [integer(c_int32_t) :: 2, 3, 5]))
-        call same("pck_luz", status, count == int(3, c_size_t))
+        call same("pck_luz", status, count == 3_c_size_t)
     end subroutine test_pck_luz
 
     subroutine test_pack_pck_luz()
@@ -2500,7 +2504,7 @@ contains
         call cvl_pack([integer(c_int32_t) :: 1, 2, 3, 4, 5], [logical(c_bool) :: .false., .true., .true., .false., .true.], &
             out, count, status)
         call same("pack_pck_luz", status, all(out == [integer(c_int32_t) :: 2, 3, 5]))
-        call same("pack_pck_luz", status, count == int(3, c_size_t))
+        call same("pack_pck_luz", status, count == 3_c_size_t)
     end subroutine test_pack_pck_luz
 
     subroutine test_pck_lub()
@@ -2511,8 +2515,8 @@ contains
         count = 77
         call cvl_pck_lub([logical(c_bool) :: .true., .false., .true.], [logical(c_bool) :: .false., .true., .true.], out, &
             count, status)
-        call same("pck_lub", status, all(out .eqv. [logical(c_bool) :: .false., .true.]))
-        call same("pck_lub", status, count == int(2, c_size_t))
+        call same("pck_lub", status, logical(all(out .eqv. [logical(c_bool) :: .false., .true.])))
+        call same("pck_lub", status, count == 2_c_size_t)
     end subroutine test_pck_lub
 
     subroutine test_pack_pck_lub()
@@ -2523,8 +2527,8 @@ contains
         count = 77
         call cvl_pack([logical(c_bool) :: .true., .false., .true.], [logical(c_bool) :: .false., .true., .true.], out, count, &
             status)
-        call same("pack_pck_lub", status, all(out .eqv. [logical(c_bool) :: .false., .true.]))
-        call same("pack_pck_lub", status, count == int(2, c_size_t))
+        call same("pack_pck_lub", status, logical(all(out .eqv. [logical(c_bool) :: .false., .true.])))
+        call same("pack_pck_lub", status, count == 2_c_size_t)
     end subroutine test_pack_pck_lub
 
     subroutine test_pck_lez()
@@ -2536,7 +2540,7 @@ contains
         call cvl_pck_lez([integer(c_int32_t) :: 1, 2, 3, 4, 5], [logical(c_bool) :: .false., .true., .true., .false., .true.], &
             [integer(c_int32_t) :: 2, 0, 3], out, count, status)
         call same("pck_lez", status, all(out == [integer(c_int32_t) :: 2, 3, 5]))
-        call same("pck_lez", status, count == int(3, c_size_t))
+        call same("pck_lez", status, count == 3_c_size_t)
     end subroutine test_pck_lez
 
     subroutine test_pack_pck_lez()
@@ -2548,7 +2552,7 @@ contains
         call cvl_pack([integer(c_int32_t) :: 1, 2, 3, 4, 5], [logical(c_bool) :: .false., .true., .true., .false., .true.], &
             [integer(c_int32_t) :: 2, 0, 3], out, count, status)
         call same("pack_pck_lez", status, all(out == [integer(c_int32_t) :: 2, 3, 5]))
-        call same("pack_pck_lez", status, count == int(3, c_size_t))
+        call same("pack_pck_lez", status, count == 3_c_size_t)
     end subroutine test_pack_pck_lez
 
     subroutine test_pck_leb()
@@ -2559,8 +2563,8 @@ contains
         count = 77
         call cvl_pck_leb([logical(c_bool) :: .true., .false., .true.], [logical(c_bool) :: .false., .true., .true.], &
             [integer(c_int32_t) :: 1, 2], out, count, status)
-        call same("pck_leb", status, all(out .eqv. [logical(c_bool) :: .false., .true.]))
-        call same("pck_leb", status, count == int(2, c_size_t))
+        call same("pck_leb", status, logical(all(out .eqv. [logical(c_bool) :: .false., .true.])))
+        call same("pck_leb", status, count == 2_c_size_t)
     end subroutine test_pck_leb
 
     subroutine test_pack_pck_leb()
@@ -2571,8 +2575,8 @@ contains
         count = 77
         call cvl_pack([logical(c_bool) :: .true., .false., .true.], [logical(c_bool) :: .false., .true., .true.], &
             [integer(c_int32_t) :: 1, 2], out, count, status)
-        call same("pack_pck_leb", status, all(out .eqv. [logical(c_bool) :: .false., .true.]))
-        call same("pack_pck_leb", status, count == int(2, c_size_t))
+        call same("pack_pck_leb", status, logical(all(out .eqv. [logical(c_bool) :: .false., .true.])))
+        call same("pack_pck_leb", status, count == 2_c_size_t)
     end subroutine test_pack_pck_leb
 
     subroutine test_pck_fov()
@@ -2632,7 +2636,7 @@ contains
 
         out = .true.
         call cvl_smp_pub([logical(c_bool) :: .true., .false., .false.], [integer(c_int32_t) :: 2, 0, 1], out, status)
-        call same("smp_pub", status, all(out .eqv. [logical(c_bool) :: .false., .false., .true.]))
+        call same("smp_pub", status, logical(all(out .eqv. [logical(c_bool) :: .false., .false., .true.])))
     end subroutine test_smp_pub
 
     subroutine test_permute_smp_pub()
@@ -2640,7 +2644,7 @@ contains
 
         out = .true.
         call cvl_permute([logical(c_bool) :: .true., .false., .false.], [integer(c_int32_t) :: 2, 0, 1], out, status)
-        call same("permute_smp_pub", status, all(out .eqv. [logical(c_bool) :: .false., .false., .true.]))
+        call same("permute_smp_pub", status, logical(all(out .eqv. [logical(c_bool) :: .false., .false., .true.])))
     end subroutine test_permute_smp_pub
 
     subroutine test_sel_puz()
@@ -2667,7 +2671,7 @@ contains
         out = .true.
         call cvl_sel_pub([logical(c_bool) :: .true., .true., .false., .true.], [integer(c_int32_t) :: 1, 9, 0, 9], &
             [logical(c_bool) :: .true., .false., .true., .false.], out, status)
-        call same("sel_pub", status, all(out .eqv. [logical(c_bool) :: .false., .true.]))
+        call same("sel_pub", status, logical(all(out .eqv. [logical(c_bool) :: .false., .true.])))
     end subroutine test_sel_pub
 
     subroutine test_select_permute_sel_pub()
@@ -2676,7 +2680,7 @@ contains
         out = .true.
         call cvl_select_permute([logical(c_bool) :: .true., .true., .false., .true.], [integer(c_int32_t) :: 1, 9, 0, 9], &
             [logical(c_bool) :: .true., .false., .true., .false.], out, status)
-        call same("select_permute_sel_pub", status, all(out .eqv. [logical(c_bool) :: .false., .true.]))
+        call same("select_permute_sel_pub", status, logical(all(out .eqv. [logical(c_bool) :: .false., .true.])))
     end subroutine test_select_permute_sel_pub
 
     subroutine test_def_puz()
@@ -2703,7 +2707,7 @@ contains
         out = .true.
         call cvl_def_pub([logical(c_bool) :: .true., .false.], [integer(c_int32_t) :: 3, 1], [logical(c_bool) :: .false., &
             .true., .true., .false.], out, status)
-        call same("def_pub", status, all(out .eqv. [logical(c_bool) :: .false., .false., .true., .true.]))
+        call same("def_pub", status, logical(all(out .eqv. [logical(c_bool) :: .false., .false., .true., .true.])))
     end subroutine test_def_pub
 
     subroutine test_default_permute_def_pub()
@@ -2712,7 +2716,8 @@ contains
         out = .true.
         call cvl_default_permute([logical(c_bool) :: .true., .false.], [integer(c_int32_t) :: 3, 1], [logical(c_bool) :: &
             .false., .true., .true., .false.], out, status)
-        call same("default_permute_def_pub", status, all(out .eqv. [logical(c_bool) :: .false., .false., .true., .true.]))
+        call same("default_permute_def_pub", status, logical(all(out .eqv. [logical(c_bool) :: .false., .false., .true., &
+            .true.])))
     end subroutine test_default_permute_def_pub
 
     subroutine test_bck_puz()
@@ -2736,7 +2741,7 @@ contains
 
         out = .true.
         call cvl_bck_pub([logical(c_bool) :: .true., .false., .false.], [integer(c_int32_t) :: 2, 2, 0, 0], out, status)
-        call same("bck_pub", status, all(out .eqv. [logical(c_bool) :: .false., .false., .true., .true.]))
+        call same("bck_pub", status, logical(all(out .eqv. [logical(c_bool) :: .false., .false., .true., .true.])))
     end subroutine test_bck_pub
 
     subroutine test_back_permute_bck_pub()
@@ -2744,7 +2749,8 @@ contains
 
         out = .true.
         call cvl_back_permute([logical(c_bool) :: .true., .false., .false.], [integer(c_int32_t) :: 2, 2, 0, 0], out, status)
-        call same("back_permute_bck_pub", status, all(out .eqv. [logical(c_bool) :: .false., .false., .true., .true.]))
+        call same("back_permute_bck_pub", status, logical(all(out .eqv. [logical(c_bool) :: .false., .false., .true., &
+            .true.])))
     end subroutine test_back_permute_bck_pub
 
     subroutine test_smp_pez()
@@ -2771,7 +2777,7 @@ contains
         out = .true.
         call cvl_smp_peb([logical(c_bool) :: .true., .false., .false., .false., .true.], [integer(c_int32_t) :: 1, 0, 2, 0, &
             1], [integer(c_int32_t) :: 2, 0, 3], out, status)
-        call same("smp_peb", status, all(out .eqv. [logical(c_bool) :: .false., .true., .false., .true., .false.]))
+        call same("smp_peb", status, logical(all(out .eqv. [logical(c_bool) :: .false., .true., .false., .true., .false.])))
     end subroutine test_smp_peb
 
     subroutine test_permute_smp_peb()
@@ -2780,7 +2786,8 @@ contains
         out = .true.
         call cvl_permute([logical(c_bool) :: .true., .false., .false., .false., .true.], [integer(c_int32_t) :: 1, 0, 2, 0, &
             1], [integer(c_int32_t) :: 2, 0, 3], out, status)
-        call same("permute_smp_peb", status, all(out .eqv. [logical(c_bool) :: .false., .true., .false., .true., .false.]))
+        call same("permute_smp_peb", status, logical(all(out .eqv. [logical(c_bool) :: .false., .true., .false., .true., &
+            .false.])))
     end subroutine test_permute_smp_peb
 
     subroutine test_sel_pez()
@@ -2807,7 +2814,7 @@ contains
         out = .true.
         call cvl_sel_peb([logical(c_bool) :: .true., .false., .true., .true., .false.], [integer(c_int32_t) :: 9, 0, 1, 9, 0], &
             [logical(c_bool) :: .false., .true., .true., .false., .true.], [integer(c_int32_t) :: 2, 0, 3], out, status)
-        call same("sel_peb", status, all(out .eqv. [logical(c_bool) :: .false., .false., .true.]))
+        call same("sel_peb", status, logical(all(out .eqv. [logical(c_bool) :: .false., .false., .true.])))
     end subroutine test_sel_peb
 
     subroutine test_select_permute_sel_peb()
@@ -2817,7 +2824,7 @@ contains
         call cvl_select_permute([logical(c_bool) :: .true., .false., .true., .true., .false.], [integer(c_int32_t) :: 9, 0, 1, &
             9, 0], [logical(c_bool) :: .false., .true., .true., .false., .true.], [integer(c_int32_t) :: 2, 0, 3], out, &
             status)
-        call same("select_permute_sel_peb", status, all(out .eqv. [logical(c_bool) :: .false., .false., .true.]))
+        call same("select_permute_sel_peb", status, logical(all(out .eqv. [logical(c_bool) :: .false., .false., .true.])))
     end subroutine test_select_permute_sel_peb
 
     subroutine test_def_pez()
@@ -2845,7 +2852,7 @@ contains
         out = .true.
         call cvl_def_peb([logical(c_bool) :: .true., .false.], [integer(c_int32_t) :: 1, 0], [logical(c_bool) :: .false., &
             .false., .true., .true.], [integer(c_int32_t) :: 1, 1], [integer(c_int32_t) :: 2, 2], out, status)
-        call same("def_peb", status, all(out .eqv. [logical(c_bool) :: .false., .true., .false., .true.]))
+        call same("def_peb", status, logical(all(out .eqv. [logical(c_bool) :: .false., .true., .false., .true.])))
     end subroutine test_def_peb
 
     subroutine test_default_permute_def_peb()
@@ -2854,7 +2861,8 @@ contains
         out = .true.
         call cvl_default_permute([logical(c_bool) :: .true., .false.], [integer(c_int32_t) :: 1, 0], [logical(c_bool) :: &
             .false., .false., .true., .true.], [integer(c_int32_t) :: 1, 1], [integer(c_int32_t) :: 2, 2], out, status)
-        call same("default_permute_def_peb", status, all(out .eqv. [logical(c_bool) :: .false., .true., .false., .true.]))
+        call same("default_permute_def_peb", status, logical(all(out .eqv. [logical(c_bool) :: .false., .true., .false., &
+            .true.])))
     end subroutine test_default_permute_def_peb
 
     subroutine test_bck_pez()
@@ -2881,7 +2889,7 @@ contains
         out = .true.
         call cvl_bck_peb([logical(c_bool) :: .true., .false., .false., .false., .true.], [integer(c_int32_t) :: 1, 1, 1, 2], &
             [integer(c_int32_t) :: 2, 0, 3], [integer(c_int32_t) :: 3, 0, 1], out, status)
-        call same("bck_peb", status, all(out .eqv. [logical(c_bool) :: .false., .false., .false., .true.]))
+        call same("bck_peb", status, logical(all(out .eqv. [logical(c_bool) :: .false., .false., .false., .true.])))
     end subroutine test_bck_peb
 
     subroutine test_back_permute_bck_peb()
@@ -2890,7 +2898,8 @@ contains
         out = .true.
         call cvl_back_permute([logical(c_bool) :: .true., .false., .false., .false., .true.], [integer(c_int32_t) :: 1, 1, 1, &
             2], [integer(c_int32_t) :: 2, 0, 3], [integer(c_int32_t) :: 3, 0, 1], out, status)
-        call same("back_permute_bck_peb", status, all(out .eqv. [logical(c_bool) :: .false., .false., .false., .true.]))
+        call same("back_permute_bck_peb", status, logical(all(out .eqv. [logical(c_bool) :: .false., .false., .false., &
+            .true.])))
     end subroutine test_back_permute_bck_peb
 
     subroutine test_read_read_ints()
@@ -2901,7 +2910,7 @@ contains
         count = 77
         call cvl_read("5 -1" // new_line("a") // "007 -0", out, count, status)
         call same("read_read_ints", status, all(out == [integer(c_int32_t) :: 5, -1, 7, 0]))
-        call same("read_read_ints", status, count == int(4, c_size_t))
+        call same("read_read_ints", status, count == 4_c_size_t)
     end subroutine test_read_read_ints
 
     subroutine test_write_write_ints()
@@ -2912,7 +2921,7 @@ contains
         count = 77
         call cvl_write([integer(c_int32_t) :: 0, -3, 4], out, count, status)
         call same("write_write_ints", status, out == "[0 -3 4]")
-        call same("write_write_ints", status, count == int(8, c_size_t))
+        call same("write_write_ints", status, count == 8_c_size_t)
     end subroutine test_write_write_ints
 
     subroutine test_write_write_bools()
@@ -2923,7 +2932,7 @@ contains
         count = 77
         call cvl_write([logical(c_bool) :: .true., .false.], out, count, status)
         call same("write_write_bools", status, out == "[T F]")
-        call same("write_write_bools", status, count == int(5, c_size_t))
+        call same("write_write_bools", status, count == 5_c_size_t)
     end subroutine test_write_write_bools
 
     subroutine test_read_seg_read_ints()
@@ -2938,9 +2947,9 @@ contains
         segments = 77
         call cvl_read("[[1 2] [] [3]]", out, count, lengths, segments, status)
         call same("read_seg_read_ints", status, all(out == [integer(c_int32_t) :: 1, 2, 3]))
-        call same("read_seg_read_ints", status, count == int(3, c_size_t))
+        call same("read_seg_read_ints", status, count == 3_c_size_t)
         call same("read_seg_read_ints", status, all(lengths == [integer(c_int32_t) :: 2, 0, 1]))
-        call same("read_seg_read_ints", status, segments == int(3, c_size_t))
+        call same("read_seg_read_ints", status, segments == 3_c_size_t)
     end subroutine test_read_seg_read_ints
 
     subroutine test_write_seg_write_ints()
@@ -2951,7 +2960,7 @@ contains
         count = 77
         call cvl_write([integer(c_int32_t) :: 5, 1, 7], [integer(c_int32_t) :: 0, 2, 1], out, count, status)
         call same("write_seg_write_ints", status, out == "[[] [5 1] [7]]")
-        call same("write_seg_write_ints", status, count == int(14, c_size_t))
+        call same("write_seg_write_ints", status, count == 14_c_size_t)
     end subroutine test_write_seg_write_ints
 
     subroutine test_write_seg_write_bools()
@@ -2962,7 +2971,7 @@ contains
         count = 77
         call cvl_write([logical(c_bool) :: .true., .false.], [integer(c_int32_t) :: 1, 1], out, count, status)
         call same("write_seg_write_bools", status, out == "[[T] [F]]")
-        call same("write_seg_write_bools", status, count == int(9, c_size_t))
+        call same("write_seg_write_bools", status, count == 9_c_size_t)
     end subroutine test_write_seg_write_bools
 
     subroutine test_exact_sum_exact_sum()
@@ -2970,14 +2979,14 @@ contains
 
         out = 77
         call cvl_exact_sum([integer(c_int32_t) :: 2147483647, 1], out, status)
-        call same("exact_sum_exact_sum", status, out == int(2147483648, c_int64_t))
+        call same("exact_sum_exact_sum", status, out == 2147483648_c_int64_t)
     end subroutine test_exact_sum_exact_sum
 
     subroutine test_checked_scan_after_checked_scan_after()
         integer(c_int32_t) :: out(3)
 
         out = 77
-        call cvl_checked_scan_after(int(10, c_int64_t), [integer(c_int32_t) :: 3, 1, 4], out, status)
+        call cvl_checked_scan_after(10_c_int64_t, [integer(c_int32_t) :: 3, 1, 4], out, status)
         call same("checked_scan_after_checked_scan_after", status, all(out == [integer(c_int32_t) :: 10, 13, 14]))
     end subroutine test_checked_scan_after_checked_scan_after
 
@@ -2989,11 +2998,11 @@ contains
         out = 77
         marks = 77
         written = 77
-        call cvl_permute_range([integer(c_int32_t) :: 5, 6, 7], [integer(c_int32_t) :: 2, 0, 1], int(1, c_size_t), out, marks, &
+        call cvl_permute_range([integer(c_int32_t) :: 5, 6, 7], [integer(c_int32_t) :: 2, 0, 1], 1_c_size_t, out, marks, &
             written, status)
         call same("permute_range_permute_int_range", status, all(out == [integer(c_int32_t) :: 7, 5]))
         call same("permute_range_permute_int_range", status, all(marks == [integer(c_int32_t) :: 3]))
-        call same("permute_range_permute_int_range", status, written == int(2, c_size_t))
+        call same("permute_range_permute_int_range", status, written == 2_c_size_t)
     end subroutine test_permute_range_permute_int_range
 
     subroutine test_permute_range_permute_bool_range()
@@ -3004,11 +3013,11 @@ contains
         out = .true.
         marks = 77
         written = 77
-        call cvl_permute_range([logical(c_bool) :: .true., .false., .true.], [integer(c_int32_t) :: 2, 0, 1], int(1, &
-            c_size_t), out, marks, written, status)
-        call same("permute_range_permute_bool_range", status, all(out .eqv. [logical(c_bool) :: .true., .true.]))
+        call cvl_permute_range([logical(c_bool) :: .true., .false., .true.], [integer(c_int32_t) :: 2, 0, 1], 1_c_size_t, out, &
+            marks, written, status)
+        call same("permute_range_permute_bool_range", status, logical(all(out .eqv. [logical(c_bool) :: .true., .true.])))
         call same("permute_range_permute_bool_range", status, all(marks == [integer(c_int32_t) :: 3]))
-        call same("permute_range_permute_bool_range", status, written == int(2, c_size_t))
+        call same("permute_range_permute_bool_range", status, written == 2_c_size_t)
     end subroutine test_permute_range_permute_bool_range
 
     subroutine test_select_permute_range_select_permute_int_range()
@@ -3020,10 +3029,10 @@ contains
         marks = 77
         written = 77
         call cvl_select_permute_range([integer(c_int32_t) :: 5, 6, 7], [integer(c_int32_t) :: 1, 9, 0], [logical(c_bool) :: &
-            .true., .false., .true.], int(0, c_size_t), out, marks, written, status)
+            .true., .false., .true.], 0_c_size_t, out, marks, written, status)
         call same("select_permute_range_select_permute_int_range", status, all(out == [integer(c_int32_t) :: 7]))
         call same("select_permute_range_select_permute_int_range", status, all(marks == [integer(c_int32_t) :: 1]))
-        call same("select_permute_range_select_permute_int_range", status, written == int(1, c_size_t))
+        call same("select_permute_range_select_permute_int_range", status, written == 1_c_size_t)
     end subroutine test_select_permute_range_select_permute_int_range
 
     subroutine test_select_permute_range_select_permute_bool_range()
@@ -3035,10 +3044,11 @@ contains
         marks = 77
         written = 77
         call cvl_select_permute_range([logical(c_bool) :: .true., .false., .false.], [integer(c_int32_t) :: 1, 9, 0], &
-            [logical(c_bool) :: .true., .false., .true.], int(0, c_size_t), out, marks, written, status)
-        call same("select_permute_range_select_permute_bool_range", status, all(out .eqv. [logical(c_bool) :: .false.]))
+            [logical(c_bool) :: .true., .false., .true.], 0_c_size_t, out, marks, written, status)
+        call same("select_permute_range_select_permute_bool_range", status, logical(all(out .eqv. [logical(c_bool) :: &
+            .false.])))
         call same("select_permute_range_select_permute_bool_range", status, all(marks == [integer(c_int32_t) :: 1]))
-        call same("select_permute_range_select_permute_bool_range", status, written == int(1, c_size_t))
+        call same("select_permute_range_select_permute_bool_range", status, written == 1_c_size_t)
     end subroutine test_select_permute_range_select_permute_bool_range
 
     subroutine test_read_after_read_ints_after()
@@ -3047,9 +3057,9 @@ contains
 
         out = 77
         count = 77
-        call cvl_read_after(int(3, c_size_t), "9 10", out, count, status)
+        call cvl_read_after(3_c_size_t, "9 10", out, count, status)
         call same("read_after_read_ints_after", status, all(out == [integer(c_int32_t) :: 9, 10]))
-        call same("read_after_read_ints_after", status, count == int(2, c_size_t))
+        call same("read_after_read_ints_after", status, count == 2_c_size_t)
     end subroutine test_read_after_read_ints_after
 
     subroutine same(name, status, agrees)

@@ -14,6 +14,7 @@ program faults
     call packs
     call texts
     call names
+    call threads
     if (count_of_wrong > 0) error stop 1
     print "(a)", "faults are told"
 contains
@@ -151,8 +152,27 @@ contains
         call wanted("a nested text is read", is(status, CVL_DONE, -1) .and. all(out == [1, 2, 3]) .and. all(lengths == [2, 1]))
         text = "?"
         call cvl_write([0_c_int32_t, -3_c_int32_t], text, count, status)
-        call wanted("a text is written", is(status, CVL_DONE, -1) .and. count == 6 .and. text(:6) == "[0 -3]" .and. text(7:) == "")
+        call wanted("a text is written", is(status, CVL_DONE, -1) .and. count == 6 .and. text == "[0 -3]")
     end subroutine texts
+
+    ! More threads than there may be, and a call that is long enough for several.
+    subroutine threads
+        integer(c_int32_t), parameter :: most = 300000
+        integer(c_int32_t), allocatable :: a(:), out(:)
+        integer :: error
+
+        call wanted("there is one thread at first", cvl_threads() == 1)
+        call cvl_set_threads(65, error)
+        call wanted("65 threads are too many", error /= 0 .and. cvl_threads() == 1)
+        call cvl_set_threads(-1, error)
+        call wanted("-1 threads are none", error /= 0 .and. cvl_threads() == 1)
+        call cvl_set_threads(3)
+        call wanted("there are three threads", cvl_threads() == 3)
+        allocate (a(most), out(most), source=1_c_int32_t)
+        call cvl_add_suz(a, out)
+        call wanted("a long scan by three threads", out(1) == 0 .and. all(out(2:) - out(:most - 1) == 1))
+        call cvl_set_threads(1)
+    end subroutine threads
 
     subroutine names
         character(16) :: version
