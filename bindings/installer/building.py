@@ -61,10 +61,8 @@ class Build:
             return self.own
         return None if self.is_given else proved.TOP / "crates"
 
-    def _both(self, work):
+    def _built(self, work):
         """Where the program and the archive of the exports are, once they are built."""
-        if self.is_given:
-            return self.given["CVL_PROGRAM"], self.given["CVL_ARCHIVE"]
         if self.is_left:
             print("rt ci has proved all crates here: the archive is built over its libraries", flush=True)
             made = self.own / "libcvl_c.a" if self.own else self.crates.archive
@@ -74,9 +72,14 @@ class Build:
         crates.build_all(self.cpu, self.jobs, work)
         return crates.program, crates.archive
 
+    def both(self, work):
+        """Where the program and the archive of the exports are: those that were given, and else those that are built."""
+        found = self._built(work) if not self.is_given else (None, None)
+        return self.given["CVL_PROGRAM"] or found[0], self.given["CVL_ARCHIVE"] or found[1]
+
     def run(self, work):
         """The program and the library, in the folder `work`."""
-        program, exports = self._both(work)
+        program, exports = self.both(work)
         if work / "cvl" != pathlib.Path(program):
             shutil.copy(program, work / "cvl")
         archive.shared(archive.library(work, exports, [f"-march={self.cpu}"] if self.cpu else []))

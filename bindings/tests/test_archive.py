@@ -125,9 +125,9 @@ class Built(Tree):
                 mock.patch.object(proved.Crates, "build_over_gate", lambda self, made: over.append(made)), \
                 mock.patch.object(building.Build, "is_left", left), mock.patch("builtins.print"), mock.patch.dict(os.environ), \
                 mock.patch.object(building, "copied", lambda top, copy: copy):  # fmt: skip
-            os.environ.pop("CVL_ARCHIVE", None)
+            os.environ.update(CVL_ARCHIVE="", CVL_PROGRAM="")
             build = building.Build("", 1, str(own) if own else "")
-            build._both(self.top)
+            build.both(self.top)
             return build, proved_in, over
 
     def test_in_the_checkout(self):
@@ -146,7 +146,7 @@ class Built(Tree):
         given = {"CVL_PROGRAM": "/some/cvl", "CVL_ARCHIVE": "/some/libcvl_c.a"}
         with mock.patch.dict(os.environ, given):
             build = building.Build("", 1, "")
-            self.assertEqual((build._both(self.top), build.writes), (("/some/cvl", "/some/libcvl_c.a"), None))
+            self.assertEqual((build.both(self.top), build.writes), (("/some/cvl", "/some/libcvl_c.a"), None))
 
 
 class Words(unittest.TestCase):
