@@ -323,6 +323,7 @@ class Pages(Tree):
             before, after = ((folder / f"{name}.md").read_text() for folder in (TOP / "docs", self.top))
             self.assertGreater(len(after), 0.6 * len(before), name)
             self.assertEqual(after.split("\n")[0], before.split("\n")[0])
+            self.assertEqual(after.count("!["), before.count("!["), f"the pictures of {name}")
 
     def test_what_help_names_is_there(self):
         told = (TOP / "crates/acceptance/src/programs.rt").read_text()
