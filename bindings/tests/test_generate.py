@@ -11,10 +11,11 @@ import unittest
 
 sys.dont_write_bytecode = True
 TOP = pathlib.Path(__file__).resolve().parents[2]
-sys.path.insert(0, str(TOP / "bindings/generator"))
+sys.path[:0] = [str(TOP / "bindings"), str(TOP / "bindings/generator")]
 
 import call_table
 import exports
+import in_map
 import packages
 import rows
 
@@ -88,6 +89,44 @@ class Held(unittest.TestCase):
     def test_each_export(self):
         self.assertEqual({line.split()[0] for line in rows.export_differences({})}, set(self.exports))
         self.exports_told({"cvl_new": []})
+
+
+class Versions(unittest.TestCase):
+    """Under which version the linker has each name, over versions that follow one another."""
+
+    def after(self, *steps):
+        """What stands in the file after versions with their names, and what was told of the last."""
+        text, told = "", []
+        for version, names in steps:
+            told = list(in_map.differences(text, names.split(), version))
+            text = in_map.written(text, names.split(), version)
+        return {node: " ".join(sorted(names)) for node, names in in_map.nodes(text).items()}, told, text
+
+    def test_a_name_stays_under_the_version_that_it_came_with(self):
+        first, later = ("1.0.0", "cvl_a cvl_b"), ("1.1.0", "cvl_a cvl_b cvl_c")
+        self.assertEqual(self.after(first)[0], {"CVL_1.0": "cvl_a cvl_b"})
+        self.assertEqual(self.after(first, later)[0], {"CVL_1.0": "cvl_a cvl_b", "CVL_1.1": "cvl_c"})
+        last = "1.2.3", "cvl_a cvl_b cvl_c cvl_d"
+        found, told, text = self.after(first, later, ("1.1.1", later[1]), last, last)
+        self.assertEqual((found, told), ({"CVL_1.0": "cvl_a cvl_b", "CVL_1.1": "cvl_c", "CVL_1.2": "cvl_d"}, []))
+        self.assertEqual(text.count("local: *;"), 1)
+        self.assertTrue(text.endswith("} CVL_1.1;\n"))
+
+    def test_a_version_without_new_names_has_no_node(self):
+        found, _, text = self.after(("1.0.0", "cvl_a"), ("1.1.0", "cvl_a"))
+        self.assertEqual((found, text), (self.after(("1.0.0", "cvl_a"))[0], self.after(("1.0.0", "cvl_a"))[2]))
+
+    def test_names_of_the_version_at_hand_may_change(self):
+        found, told, _ = self.after(("1.0.0", "cvl_a"), ("1.1.0", "cvl_a cvl_b"), ("1.1.0", "cvl_a cvl_c"))
+        self.assertEqual((found, told), ({"CVL_1.0": "cvl_a", "CVL_1.1": "cvl_c"}, []))
+
+    def test_a_name_of_an_earlier_version_that_is_gone_is_told(self):
+        _, told, _ = self.after(("1.0.0", "cvl_a cvl_b"), ("1.1.0", "cvl_a"))
+        self.assertEqual([line.split()[0] for line in told], ["cvl_b"])
+
+    def test_another_first_number_begins_anew(self):
+        found, told, _ = self.after(("1.0.0", "cvl_a cvl_b"), ("1.1.0", "cvl_a cvl_b cvl_c"), ("2.0.0", "cvl_a cvl_d"))
+        self.assertEqual((found, told), ({"CVL_2.0": "cvl_a cvl_d"}, []))
 
 
 if __name__ == "__main__":
