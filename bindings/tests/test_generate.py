@@ -119,6 +119,8 @@ class Versions(unittest.TestCase):
     def test_names_of_the_version_at_hand_may_change(self):
         found, told, _ = self.after(("1.0.0", "cvl_a"), ("1.1.0", "cvl_a cvl_b"), ("1.1.0", "cvl_a cvl_c"))
         self.assertEqual((found, told), ({"CVL_1.0": "cvl_a", "CVL_1.1": "cvl_c"}, []))
+        found, _, _ = self.after(("1.0.0", "cvl_a"), ("1.1.0", "cvl_a cvl_b"), ("1.1.0", "cvl_a cvl_b cvl_c"))
+        self.assertEqual(found, {"CVL_1.0": "cvl_a", "CVL_1.1": "cvl_b cvl_c"})
 
     def test_a_name_of_an_earlier_version_that_is_gone_is_told(self):
         _, told, _ = self.after(("1.0.0", "cvl_a cvl_b"), ("1.1.0", "cvl_a"))
