@@ -4279,9 +4279,9 @@ contains
 
     ! cvl_read_after: The integers of one piece of a text that is cut at white space, as cvl_read_ints reads them. `before` is
     ! how many words the pieces before it have, so that a fault's place is that in the whole text.
-    ! Faults: 13 TooLong, without a place, where `before` is more than 4194304 or the piece itself has more words; else 15
-    ! BadInput at the first word of the piece that is no integer. That all pieces together have at most 4194304 words is the
-    ! caller's to see.
+    ! Faults: 13 TooLong, without a place, where `before` is more than 4194304, or the piece itself has more than 4194304 words;
+    ! else 15 BadInput at the first word of the piece that is no integer. That all pieces together have at most 4194304 words is
+    ! the caller's to see.
     subroutine read_ints_after(before, text, out, count, status)
         integer(c_size_t), intent(in) :: before
         character(*), intent(in) :: text
