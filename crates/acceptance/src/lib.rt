@@ -15,6 +15,8 @@ mod memory_of_calls;
 #[cfg(test)]
 mod programs;
 #[cfg(test)]
+mod racing;
+#[cfg(test)]
 mod requests;
 #[cfg(test)]
 mod sessions;
