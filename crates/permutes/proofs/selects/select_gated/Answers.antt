@@ -9,7 +9,8 @@ elements_to-requires-clause-few g c κs within = omega (arith, count-flagged_des
 
 pub returns-clause-values : goal.returns-clause-values
 returns-clause-values g c =
-    let call = select_sent c.args.source.now c.args.index.now c.in_ok-check_agree.ensures (omega (arith, c.requires.in_limit)) c.args.flags.now _ c.true_count-places.ensures.value c.in_ok-check_agree-2.ensures in
+    let call = select_sent c.args.source.now c.args.index.now c.in_ok-check_agree.ensures (omega (arith, c.requires.in_limit)) c.args.flags.now _ c.true_count-places.ensures.value
+    c.in_ok-check_agree-2.ensures in
     subst (Gives (λ v. v.items) c.elements_to.result) (sym call.is) (c.elements_to.ensures.values call.sent)
 
 pub elements_to-requires-clause-sourced : goal.elements_to-requires-clause-sourced

@@ -28,8 +28,8 @@ returns-in_err-check_agree-clause-values g c =
 
 pub returns-in-Some-clause-values : goal.returns-in-Some-clause-values
 returns-in-Some-clause-values g c =
-    let call = seg_default_sent c.args.source.now c.args.index.now c.args.source_d.now c.in_ok-check_total.ensures.agrees c.in_ok-check_total-2.ensures.agrees (omega (arith, c.requires.in_limit)) c.args.defaults.now
-    c.args.default_d.now c.in_ok-check_total-3.ensures.agrees (omega (arith, c.in_ok-check_agree.ensures)) in
+    let call = seg_default_sent c.args.source.now c.args.index.now c.args.source_d.now c.in_ok-check_total.ensures.agrees c.in_ok-check_total-2.ensures.agrees (omega (arith, c.requires.in_limit))
+    c.args.defaults.now c.args.default_d.now c.in_ok-check_total-3.ensures.agrees (omega (arith, c.in_ok-check_agree.ensures)) in
     call.is
     ∙ ap (λ f. unless f (Ok (permuted c.args.source.now (parts_of c.args.source_d.now c.args.default_d.now c.args.index.now) c.args.defaults.now)))
     (sym (found_gives _ c.in_ok-elements.field-0 c.in-Some.elements c.in-Some.is c.in_ok-elements.ensures.right))
@@ -37,12 +37,12 @@ returns-in-Some-clause-values g c =
 
 pub elements_or_defaults_found-requires-clause-as_long : goal.elements_or_defaults_found-requires-clause-as_long
 elements_or_defaults_found-requires-clause-as_long g c κs within =
-    let call = seg_default_sent c.args.source.now c.args.index.now c.args.source_d.now c.in_ok-check_total.ensures.agrees c.in_ok-check_total-2.ensures.agrees (omega (arith, c.requires.in_limit)) c.args.defaults.now
-    c.args.default_d.now c.in_ok-check_total-3.ensures.agrees (omega (arith, c.in_ok-check_agree.ensures)) in
+    let call = seg_default_sent c.args.source.now c.args.index.now c.args.source_d.now c.in_ok-check_total.ensures.agrees c.in_ok-check_total-2.ensures.agrees (omega (arith, c.requires.in_limit))
+    c.args.defaults.now c.args.default_d.now c.in_ok-check_total-3.ensures.agrees (omega (arith, c.in_ok-check_agree.ensures)) in
     senders_long call (λ (v : Vec ℕ g.row.A.Denot). v.items) (λ v. vec_len v) (λ v. omega (arith, v.ok.0)) c.segment_senders-found.result c.segment_senders-found.ensures
 
 pub returns-clause-values : goal.returns-clause-values
 returns-clause-values g c =
-    let call = seg_default_sent c.args.source.now c.args.index.now c.args.source_d.now c.in_ok-check_total.ensures.agrees c.in_ok-check_total-2.ensures.agrees (omega (arith, c.requires.in_limit)) c.args.defaults.now
-    c.args.default_d.now c.in_ok-check_total-3.ensures.agrees (omega (arith, c.in_ok-check_agree.ensures)) in
+    let call = seg_default_sent c.args.source.now c.args.index.now c.args.source_d.now c.in_ok-check_total.ensures.agrees c.in_ok-check_total-2.ensures.agrees (omega (arith, c.requires.in_limit))
+    c.args.defaults.now c.args.default_d.now c.in_ok-check_total-3.ensures.agrees (omega (arith, c.in_ok-check_agree.ensures)) in
     subst (Gives (λ v. v.items) c.elements_or_defaults_found.result) (sym call.is) (c.elements_or_defaults_found.ensures.values _ _ c.segment_senders-found.ensures (λ none. call.as_many))

@@ -15,7 +15,8 @@ permuted_segments-requires-clause-as_long g c κs within = places-parts c.args.d
 pub returns-in-Some-clause-values : goal.returns-in-Some-clause-values
 returns-in-Some-clause-values g c =
     let total = c.in_ok-check_total.ensures.agrees in let index_total = c.in_ok-check_total-2.ensures.agrees in
-    sent_written (seg_simple_sent c.args.source.now c.args.index.now c.args.d.now total index_total (omega (arith, c.requires.in_limit))) c.args.source.now c.in-Some.elements.items (sym total ∙ index_total)
+    sent_written (seg_simple_sent c.args.source.now c.args.index.now c.args.d.now total index_total (omega (arith, c.requires.in_limit))) c.args.source.now c.in-Some.elements.items
+    (sym total ∙ index_total)
     (found_gives _ c.in_ok-elements.field-0 c.in-Some.elements c.in-Some.is c.in_ok-elements.ensures.right)
     (found_gives _ c.in_ok-elements.field-0 c.in-Some.elements c.in-Some.is c.in_ok-elements.ensures.written)
 
