@@ -1,6 +1,7 @@
 -- The bound names: a finite map from names to values, as the list of its entries in the order of the names.
 -- Source: this library's script format.
-use Rattle.std.specs.Prelude.{◌≡◌, ◌≢◌, ℕ, ◌+◌, ◌≤◌, Bool, List, length, nat_le, nat_lt, sum, Option, Some, None, ◌||◌, is_some, if◌then◌else◌}
+use Rattle.std.specs.Prelude.{◌≡◌, ◌≢◌, ℕ, ◌+◌, ◌≤◌, Bool, List, length, nat_le, nat_lt, sum}
+use Rattle.std.specs.Prelude.{Option, Some, None, ◌||◌, is_some, if◌then◌else◌}
 use Rattle.std.specs.Ordering.{nat_cmp}
 use Rattle.std.specs.Cmp.Lexicographic.{slice_cmp}
 use Rattle.std.specs.Map.{lookup, remove_entry}

@@ -5,6 +5,7 @@ ghost use Rattle.cvl_base.specs.declared.kind.Kind.TheVariants as kind;
 ghost use Rattle.cvl_base.specs.Gives.{Gives};
 ghost use Rattle.cvl_base.specs.Limits.{most_elements};
 ghost use Rattle.bound_names.specs.Arguments.{integer_in};
+ghost use Rattle.bound_names.specs.Names.{AreInLimit};
 ghost use Rattle.bound_names.specs.Operands.{held, kind_held};
 ghost use Rattle.vector_handles.specs.CallValues.{integers_of, nest_of, numbered};
 
@@ -40,7 +41,7 @@ impl<'a, R: Threads + Sync, A: Memory> Asked<'a, R, A> {
     /// The integers of a nested input and their descriptor: an input that is a vector is no nested text, `BadInput` at 0.
     pub(crate) fn nest_of(&self, input: &Input<A>) -> Result<(Vec<i32, A>, SegDes<A>), Refused>
         ensures meaning { Gives (λ nest. (nest.0.items, nest.1)) result (nest_of input.now) }
-        ensures in_limit { IfOk result (λ nest. vec_len nest.0 ≤ most_elements) }
+        ensures in_limit { IfOk result (λ nest. (vec_len nest.0 ≤ most_elements) × AreInLimit nest.1) }
     {
         match input {
             Input::Bytes(bytes) => read_nested(self.rt, self.alloc, self.config, bytes.as_slice()),

@@ -3,6 +3,7 @@
 ghost use Rattle.std.specs.Prelude.{◌≤◌, IfOk, vec_len};
 ghost use Rattle.cvl_base.specs.declared.operation.Op.TheVariants as op;
 ghost use Rattle.cvl_base.specs.Limits.{most_elements};
+ghost use Rattle.bound_names.specs.Names.{AreInLimit};
 ghost use Rattle.bound_names.specs.Operands.{AreTaken};
 ghost use Rattle.vector_handles.specs.Answers.{IsNestOf, IsTablePair};
 
@@ -36,12 +37,12 @@ impl<R: Threads + Sync, A: Memory> Asked<'_, R, A> {
     }
 }
 
-/// The vector and the descriptor that a reader gave, at most 4,194,304 integers, or the reader's refusal.
+/// The vector and the descriptor that a reader gave, both in the limit, or the reader's refusal.
 fn bound_nest<A: Memory>(
     alloc: A,
     answer: Result<(Vec<i32, A>, SegDes<A>), Refused>,
 ) -> Result<(Bound<A>, Bound<A>), Refused>
-    requires { IfOk answer (λ nest. vec_len nest.0 ≤ most_elements) }
+    requires { IfOk answer (λ nest. (vec_len nest.0 ≤ most_elements) × AreInLimit nest.1) }
     ensures { IsNestOf (λ nest. (nest.0.items, nest.1)) answer result }
 {
     let (values, descriptor) = answer?;
