@@ -75,13 +75,9 @@ contains
 
     subroutine arrays_that_overlap
         type(cvl_status) :: status
-        integer(c_int32_t), target :: a(4)
-        integer(c_int32_t), pointer :: front(:), back(:)
+        integer(c_int32_t) :: a(4) = [1, 2, 3, 4]
 
-        a = [1, 2, 3, 4]
-        front => a(1:3)
-        back => a(2:4)
-        call cvl_add_suz(front, back, status)
+        call cvl_add_suz(a(1:3), a(2:4), status)
         call wanted("an overlap is told", is(status, CVL_OVERLAP, -1) .and. all(a == [1, 2, 3, 4]))
     end subroutine arrays_that_overlap
 
