@@ -70,7 +70,7 @@ CUTS = {
 }
 
 # The most elements of a vector; and of one whose text is read or written at once.
-MOST_ELEMENTS = 4194304
+MOST_ELEMENTS = 2147483647
 MOST_OF_TEXT = 4194304
 
 # The faults that calls share.

@@ -48,17 +48,17 @@
  *
  *   - 102 Overlap; where there is no descriptor, 101 NoDescriptor, before overlaps of other arguments than it;
  *   - 2 UnknownCall, without a place, where a number is that of no operator of the family;
- *   - 13 TooLong, without a place, where the vector that a call goes by has more than 4194304 elements: its first vector, the
- *     flags of a pack, or the index of a permute; on segments after the lengths. A call on segments other than a permute asks
- *     no vector: there are at most 4194304 lengths, which add up to at most as much, and a longer vector has not as many
- *     elements as they add up to, which is 7. A vector that is too long is not read;
+ *   - 13 TooLong, without a place, where the vector that a call goes by has more than 2147483647 elements: its first vector,
+ *     the flags of a pack, or the index of a permute; on segments after the lengths. A call on segments other than a permute
+ *     asks no vector: there are at most 2147483647 lengths, which add up to at most as much, and a longer vector has not as
+ *     many elements as they add up to, which is 7. A vector that is too long is not read;
  *   - 13, 12 and 13 again by the lengths of segments;
  *   - 7 LengthMismatch, without a place, where vectors that belong together are not equally long, and then where a room is not
  *     as long as the result, or shorter where a count is told;
  *   - 100 NoResources;
  *   - the faults of elements, in the order of the comment. Of a text that is read a room that is too short comes last.
  *
- * Other vectors may be longer than 4194304 elements where they need not be as long as another: the source of a back permute,
+ * Other vectors may be longer than 2147483647 elements where they need not be as long as another: the source of a back permute,
  * the defaults of a permute, and the vectors of which one element is taken or replaced.
  *
  * Each call of the table has its name with the prefix cvl_, as cvl_add_wuz. Where CVL_SHORT_NAMES is defined before this header
@@ -120,7 +120,7 @@ enum {
 };
 
 /* The most elements of a vector, and the greatest total of a descriptor; and of a vector whose text is read or written at once. */
-enum { CVL_MOST_ELEMENTS = 4194304, CVL_MOST_OF_TEXT = 4194304 };
+enum { CVL_MOST_ELEMENTS = 2147483647, CVL_MOST_OF_TEXT = 4194304 };
 
 /* The lengths of segments, one for each, empty ones too: CvlLengths rows = {lengths, segments}. */
 typedef struct CvlLengths {
@@ -542,8 +542,8 @@ CVL_CHECKED CvlStatus cvl_checked_scan_after(int64_t before, const int32_t *a, s
  * another range, its own marks, and all of source and index. Where all parts together wrote index_len places, the ranges, one
  * after another, are the permute. Else an index is out of range or repeated: cvl_permute_int tells which. A place that nothing
  * is sent to stays as it was, so that over ranges that hold the defaults before the parts are def_puz.
- * Faults: 13 TooLong, by the index, and where the range ends behind place 4194304; 7 LengthMismatch, where source and index are
- * not equally long, or marks_len is not (out_len + 31) / 32. At a fault all rooms are as they were.
+ * Faults: 13 TooLong, by the index, and where the range ends behind place 2147483647; 7 LengthMismatch, where source and index
+ * are not equally long, or marks_len is not (out_len + 31) / 32. At a fault all rooms are as they were.
  * source = 5 6 7, index = 2 0 1, lowest = 1, out_len = 2: out = 7 5, marks = 3, written = 2
  */
 CVL_CHECKED CvlStatus cvl_permute_int_range(const int32_t *source, size_t source_len, const int32_t *index, size_t index_len,
@@ -579,8 +579,8 @@ CVL_CHECKED CvlStatus cvl_select_permute_bool_range(const bool *source, size_t s
 /*
  * cvl_read_ints_after: The integers of one piece of a text that is cut at white space, as cvl_read_ints reads them. `before` is
  * how many words the pieces before it have, so that a fault's place is that in the whole text.
- * Faults: 13 TooLong, without a place, where `before` is more than 4194304, or the piece itself has more than 4194304 words;
- * else 15 BadInput at the first word of the piece that is no integer. That all pieces together have at most 4194304 words is
+ * Faults: 13 TooLong, without a place, where `before` is more than 2147483647, or the piece itself has more than 4194304 words;
+ * else 15 BadInput at the first word of the piece that is no integer. That all pieces together have at most 2147483647 words is
  * the caller's to see.
  * before = 3, text = "9 10": out = 9 10, count = 2
  */
@@ -1054,7 +1054,7 @@ CVL_CHECKED CvlStatus cvl_rep_vub(const bool *vector, int64_t index, bool value,
 
 /*
  * cvl_dis_vuz: count copies of the value; out has count elements.
- * Faults: 12 NegativeLength, without a place, where count is below 0; 13 TooLong where it is above 4194304.
+ * Faults: 12 NegativeLength, without a place, where count is below 0; 13 TooLong where it is above 2147483647.
  * In place: no, 102 Overlap.
  * value = 7, count = 3: out = 7 7 7
  */
@@ -1062,7 +1062,7 @@ CVL_CHECKED CvlStatus cvl_dis_vuz(int32_t value, int64_t count, int32_t *CVL_RES
 
 /*
  * cvl_dis_vub: count copies of the value; out has count elements.
- * Faults: 12 NegativeLength, without a place, where count is below 0; 13 TooLong where it is above 4194304.
+ * Faults: 12 NegativeLength, without a place, where count is below 0; 13 TooLong where it is above 2147483647.
  * In place: no, 102 Overlap.
  * value = true, count = 2: out = true true
  */
@@ -1070,7 +1070,7 @@ CVL_CHECKED CvlStatus cvl_dis_vub(bool value, int64_t count, bool *CVL_RESTRICT 
 
 /*
  * cvl_ind_luz: The numbers init + k * stride, wrapped, for k from 0 to count - 1; out has count elements.
- * Faults: 12 NegativeLength, without a place, where count is below 0; 13 TooLong where it is above 4194304.
+ * Faults: 12 NegativeLength, without a place, where count is below 0; 13 TooLong where it is above 2147483647.
  * In place: no, 102 Overlap.
  * init = 10, stride = -2, count = 3: out = 10 8 6
  */
@@ -1080,8 +1080,8 @@ CVL_CHECKED CvlStatus cvl_ind_luz(int32_t init, int32_t stride, int64_t count, i
 
 /*
  * Segments come as their lengths, one for each segment, empty ones too. Each call on segments has these faults first, by the
- * lengths: 13 TooLong, without a place, where there are more than 4194304; 12 NegativeLength at the first that is below 0; 13
- * TooLong, without a place, where they add up to more than 4194304.
+ * lengths: 13 TooLong, without a place, where there are more than 2147483647; 12 NegativeLength at the first that is below 0;
+ * 13 TooLong, without a place, where they add up to more than 2147483647.
  */
 
 /*
@@ -1417,7 +1417,7 @@ CVL_CHECKED CvlStatus cvl_cnt_leb(const bool *flags, size_t n, CvlLengths length
 
 /*
  * In a simple, a select and a default permute the index of a place tells where its element goes, and no two may go to one
- * place. 13 TooLong stands where the index has more than 4194304 elements, and comes first.
+ * place. 13 TooLong stands where the index has more than 2147483647 elements, and comes first.
  */
 
 /*
@@ -1633,8 +1633,9 @@ CvlStatus cvl_segments_free(CvlSegments *segments);
 
 /*
  * Makes the descriptor of segments with these lengths, empty ones too. After a fault of the lengths there is none.
- * Faults: 13 TooLong, without a place, where there are more than 4194304 lengths; 12 NegativeLength at the first that is below
- * 0; 13 TooLong, without a place, where they add up to more than 4194304; else 101 NoDescriptor where `segments` is null.
+ * Faults: 13 TooLong, without a place, where there are more than 2147483647 lengths; 12 NegativeLength at the first that is
+ * below 0; 13 TooLong, without a place, where they add up to more than 2147483647; else 101 NoDescriptor where `segments` is
+ * null.
  */
 CVL_CHECKED CvlStatus cvl_segments_new(CvlLengths lengths, CvlSegments *segments);
 

@@ -32,7 +32,7 @@ module cvl
     integer, parameter, public :: CVL_VERSION_PATCH = 0
 
     ! The most elements of a vector, and the greatest total of lengths.
-    integer(c_int32_t), parameter, public :: CVL_MOST_ELEMENTS = 4194304
+    integer(c_int32_t), parameter, public :: CVL_MOST_ELEMENTS = 2147483647
 
     ! The numbers of a status.
     integer(c_int32_t), parameter, public :: CVL_DONE = 0
@@ -2289,7 +2289,7 @@ contains
     end subroutine rep_vub_of_32
 
     ! cvl_dis_vuz: count copies of the value; out has count elements.
-    ! Faults: 12 NegativeLength, without a place, where count is below 0; 13 TooLong where it is above 4194304.
+    ! Faults: 12 NegativeLength, without a place, where count is below 0; 13 TooLong where it is above 2147483647.
     subroutine dis_vuz_of_64(value, count, out, status)
         integer(c_int32_t), intent(in) :: value
         integer(c_int64_t), intent(in) :: count
@@ -2308,7 +2308,7 @@ contains
     end subroutine dis_vuz_of_32
 
     ! cvl_dis_vub: count copies of the value; out has count elements.
-    ! Faults: 12 NegativeLength, without a place, where count is below 0; 13 TooLong where it is above 4194304.
+    ! Faults: 12 NegativeLength, without a place, where count is below 0; 13 TooLong where it is above 2147483647.
     subroutine dis_vub_of_64(value, count, out, status)
         logical(c_bool), intent(in) :: value
         integer(c_int64_t), intent(in) :: count
@@ -2328,7 +2328,7 @@ contains
     end subroutine dis_vub_of_32
 
     ! cvl_ind_luz: The numbers init + k * stride, wrapped, for k from 0 to count - 1; out has count elements.
-    ! Faults: 12 NegativeLength, without a place, where count is below 0; 13 TooLong where it is above 4194304.
+    ! Faults: 12 NegativeLength, without a place, where count is below 0; 13 TooLong where it is above 2147483647.
     subroutine ind_luz_of_64(init, stride, count, out, status)
         integer(c_int32_t), intent(in) :: init, stride
         integer(c_int64_t), intent(in) :: count
@@ -3519,7 +3519,7 @@ contains
     end subroutine replace_bool_32
 
     ! cvl_distribute: Copies of a value, count of them.
-    ! Faults: 12 NegativeLength, without a place, where count is below 0; 13 TooLong where it is above 4194304.
+    ! Faults: 12 NegativeLength, without a place, where count is below 0; 13 TooLong where it is above 2147483647.
     subroutine distribute_int_64(value, count, out, status)
         integer(c_int32_t), intent(in) :: value
         integer(c_int64_t), intent(in) :: count
@@ -3538,7 +3538,7 @@ contains
     end subroutine distribute_int_32
 
     ! cvl_distribute: Copies of a value, count of them.
-    ! Faults: 12 NegativeLength, without a place, where count is below 0; 13 TooLong where it is above 4194304.
+    ! Faults: 12 NegativeLength, without a place, where count is below 0; 13 TooLong where it is above 2147483647.
     subroutine distribute_bool_64(value, count, out, status)
         logical(c_bool), intent(in) :: value
         integer(c_int64_t), intent(in) :: count
@@ -3558,7 +3558,7 @@ contains
     end subroutine distribute_bool_32
 
     ! cvl_index: The numbers init + k * stride, each wrapped to 32 bits, count of them.
-    ! Faults: 12 NegativeLength, without a place, where count is below 0; 13 TooLong where it is above 4194304.
+    ! Faults: 12 NegativeLength, without a place, where count is below 0; 13 TooLong where it is above 2147483647.
     subroutine index_64(init, stride, count, out, status)
         integer(c_int32_t), intent(in) :: init, stride
         integer(c_int64_t), intent(in) :: count
@@ -4215,8 +4215,8 @@ contains
     ! another range, its own marks, and all of source and index. Where all parts together wrote index_len places, the ranges,
     ! one after another, are the permute. Else an index is out of range or repeated: cvl_permute_int tells which. A place that
     ! nothing is sent to stays as it was, so that over ranges that hold the defaults before the parts are def_puz.
-    ! Faults: 13 TooLong, by the index, and where the range ends behind place 4194304; 7 LengthMismatch, where source and index
-    ! are not equally long, or marks_len is not (out_len + 31) / 32. At a fault all rooms are as they were.
+    ! Faults: 13 TooLong, by the index, and where the range ends behind place 2147483647; 7 LengthMismatch, where source and
+    ! index are not equally long, or marks_len is not (out_len + 31) / 32. At a fault all rooms are as they were.
     subroutine permute_int_range(source, index, lowest, out, marks, written, status)
         integer(c_int32_t), intent(in), target, contiguous :: source(:), index(:)
         integer(c_size_t), intent(in) :: lowest
@@ -4279,9 +4279,9 @@ contains
 
     ! cvl_read_after: The integers of one piece of a text that is cut at white space, as cvl_read_ints reads them. `before` is
     ! how many words the pieces before it have, so that a fault's place is that in the whole text.
-    ! Faults: 13 TooLong, without a place, where `before` is more than 4194304, or the piece itself has more than 4194304 words;
-    ! else 15 BadInput at the first word of the piece that is no integer. That all pieces together have at most 4194304 words is
-    ! the caller's to see.
+    ! Faults: 13 TooLong, without a place, where `before` is more than 2147483647, or the piece itself has more than 4194304
+    ! words; else 15 BadInput at the first word of the piece that is no integer. That all pieces together have at most
+    ! 2147483647 words is the caller's to see.
     subroutine read_ints_after(before, text, out, count, status)
         integer(c_size_t), intent(in) :: before
         character(*), intent(in) :: text

@@ -1,6 +1,6 @@
 """What the library is told and tells. Written by the generator of the repository from its table of calls; edit the table and not this file."""
 
-MOST_ELEMENTS = 4194304
+MOST_ELEMENTS = 2147483647
 LENGTH_MISMATCH = 7
 NEGATIVE_LENGTH = 12
 TOO_LONG = 13

@@ -1109,7 +1109,7 @@ def rep_vub(vector, index, value, *, out=None):
 def dis_vuz(value, count, *, out=None):
     """count copies of the value; out has count elements.
 
-    Faults: 12 NegativeLength, without a place, where count is below 0; 13 TooLong where it is above 4194304.
+    Faults: 12 NegativeLength, without a place, where count is below 0; 13 TooLong where it is above 2147483647.
 
     >>> import cvl, numpy
     >>> value = 7
@@ -1127,7 +1127,7 @@ def dis_vuz(value, count, *, out=None):
 def dis_vub(value, count, *, out=None):
     """count copies of the value; out has count elements.
 
-    Faults: 12 NegativeLength, without a place, where count is below 0; 13 TooLong where it is above 4194304.
+    Faults: 12 NegativeLength, without a place, where count is below 0; 13 TooLong where it is above 2147483647.
 
     >>> import cvl, numpy
     >>> value = True
@@ -1145,7 +1145,7 @@ def dis_vub(value, count, *, out=None):
 def ind_luz(init, stride, count, *, out=None):
     """The numbers init + k * stride, wrapped, for k from 0 to count - 1; out has count elements.
 
-    Faults: 12 NegativeLength, without a place, where count is below 0; 13 TooLong where it is above 4194304.
+    Faults: 12 NegativeLength, without a place, where count is below 0; 13 TooLong where it is above 2147483647.
 
     >>> import cvl, numpy
     >>> init = 10

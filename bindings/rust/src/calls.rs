@@ -1647,7 +1647,7 @@ pub fn rep_vub_into(vector: &[bool], index: i64, value: bool, out: &mut [bool]) 
 /// count copies of the value; out has count elements.
 ///
 /// Faults: 12 NegativeLength, without a place, where count is below 0; 13 TooLong where it is
-/// above 4194304.
+/// above 2147483647.
 ///
 /// ```
 /// assert_eq!(cvl::dis_vuz(7, 3)?, [7, 7, 7]);
@@ -1668,7 +1668,7 @@ pub fn dis_vuz_into(value: i32, count: i64, out: &mut [i32]) -> Result<(), Fault
 /// count copies of the value; out has count elements.
 ///
 /// Faults: 12 NegativeLength, without a place, where count is below 0; 13 TooLong where it is
-/// above 4194304.
+/// above 2147483647.
 ///
 /// ```
 /// assert_eq!(cvl::dis_vub(true, 2)?, [true, true]);
@@ -1689,7 +1689,7 @@ pub fn dis_vub_into(value: bool, count: i64, out: &mut [bool]) -> Result<(), Fau
 /// The numbers init + k * stride, wrapped, for k from 0 to count - 1; out has count elements.
 ///
 /// Faults: 12 NegativeLength, without a place, where count is below 0; 13 TooLong where it is
-/// above 4194304.
+/// above 2147483647.
 ///
 /// ```
 /// assert_eq!(cvl::ind_luz(10, -2, 3)?, [10, 8, 6]);

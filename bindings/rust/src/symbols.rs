@@ -5,7 +5,7 @@
 use crate::fault::Status;
 
 /// The most elements of a vector, and the greatest total of segments.
-pub const MOST_ELEMENTS: usize = 4_194_304;
+pub const MOST_ELEMENTS: usize = 2_147_483_647;
 
 /// The number of the fault that lengths differ which must agree.
 pub(crate) const LENGTH_MISMATCH: u32 = 7;
