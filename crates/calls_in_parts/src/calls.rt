@@ -10,7 +10,7 @@ use c_calls::packs::{pack, pack_each};
 use c_calls::place_by_place::{bool_from_int, compare, int2, select_int};
 use c_calls::texts::text;
 use call_reader::read_vector_alone;
-use cvl_base::limits::MOST_ELEMENTS;
+use cvl_base::limits::MOST_PLACES;
 use cvl_base::{Fault, Refused};
 use pack_dist::{distribute_over, index_over, replace};
 use part_calls::permute_ranges::{select_range, simple_range};
@@ -168,7 +168,7 @@ impl Call {
     /// What the parts give together. Where as many places are sent something as indices take part, none of these is bad; and
     /// where the parts' totals are in the limit together, each part has one. Else the plain call tells the fault.
     pub fn joined(&self, alloc: Global, so_far: SoFar) -> Answer {
-        if matches!(self, Call::Total(_)) && so_far.sum <= MOST_ELEMENTS as i64 {
+        if matches!(self, Call::Total(_)) && so_far.sum <= MOST_PLACES as i64 {
             return alone(alloc, so_far.sum);
         }
         let senders = match self {

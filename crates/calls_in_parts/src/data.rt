@@ -18,11 +18,11 @@ pub const DEFAULTS: [i32; 12] = [-1, -2, -3, -4, -5, -6, -7, -8, -9, -10, -11, -
 pub const SEGMENTS: &[i32] = &[0, 3, 0, 0, 4, 1, 0, 2, 0];
 
 /// Lengths of which none is negative, two are, and all together are above the limit.
-const LENGTHS: [i32; 10] = [0, 3, 0, 4194290, 4, 1, 0, 2, 0, 4];
+const LENGTHS: [i32; 10] = [0, 3, 0, MOST - 14, 4, 1, 0, 2, 0, 4];
 
-const NEGATIVES: [i32; 10] = [0, 3, 4194304, 9, -2, 1, 0, 4194305, -1, 4];
+const NEGATIVES: [i32; 10] = [0, 3, MOST, 9, -2, 1, 0, MOST, -1, 4];
 
-const ABOVE_LIMIT: [i32; 10] = [0, 3, 0, 4194290, 4, 1, 0, 2, 0, 5];
+const ABOVE_LIMIT: [i32; 10] = [0, 3, 0, MOST - 14, 4, 1, 0, 2, 0, 5];
 
 const WHOLE: &[i32] = &[10];
 
