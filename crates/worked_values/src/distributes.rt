@@ -2,8 +2,9 @@
 
 ghost use Rattle.std.specs.Prelude.{◌≡◌, negsuc, pos, true, ℤ, []};
 ghost use Rattle.cvl_base.specs.declared.fault.FaultNo.TheVariants as no;
-ghost use Rattle.cvl_base.specs.Distributes.{as_length, distribute_of, index_of};
+ghost use Rattle.cvl_base.specs.Distributes.{as_length, distribute_of, distribute_within, index_of, length_within};
 ghost use Rattle.cvl_base.specs.Faults.{fault};
+ghost use Rattle.cvl_base.specs.Limits.{most_places};
 ghost use Rattle.cvl_base.specs.SegmentedCalls.{seg_distribute_of, seg_index_of};
 ghost use Rattle.worked_values.specs.Written.{bools, ints, length_mismatch, lengths};
 
@@ -14,6 +15,8 @@ pub fn distribute()
     ensures booleans { distribute_of true (pos 3) ≡ Ok (bools "T T T") }
     ensures no_copies { distribute_of (pos 7) (pos 0) ≡ Ok [] }
     ensures count_at_limit { as_length (pos 4194304) ≡ Ok 4194304 }
+    ensures long_count_at_limit { length_within most_places (pos 2147483647) ≡ Ok 2147483647 }
+    ensures far_too_many_integers { distribute_within most_places (pos 7) (pos 2147483648) ≡ Err (fault no.TooLong) }
     ensures too_many_integers { distribute_of (pos 7) (pos 4194305) ≡ Err (fault no.TooLong) }
     ensures too_many_booleans { distribute_of true (pos 4194305) ≡ Err (fault no.TooLong) }
     ensures negative_count_of_integers { distribute_of (pos 7) (negsuc 0) ≡ Err (fault no.NegativeLength) }
