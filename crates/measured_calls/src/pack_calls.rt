@@ -26,7 +26,7 @@ pub fn call<R: Threads + Sync>(
         vectors.flags.some.as_slice(),
     );
     let (firsts, d) = (vectors.firsts.as_slice(), &vectors.segments);
-    if flags.len() > MOST_ELEMENTS {
+    if flags.len().max(d.count()).max(d.total()) > MOST_ELEMENTS {
         return None;
     }
     let first = firsts.first().copied().unwrap_or(0);

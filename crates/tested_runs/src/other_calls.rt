@@ -1,6 +1,9 @@
 //! The calls that no script makes as they stand: scans and reduces by the monoid itself, a permute over a room, a pack that gives
 //! its lengths too, and the recipes.
 
+ghost use Rattle.std.specs.Prelude.{◌≤◌, length, sum};
+ghost use Rattle.cvl_base.specs.Limits.{most_elements};
+
 use cvl_base::monoids::Add;
 use cvl_base::{Config, Memory, Refused};
 use elementwise::int_from_bool;
@@ -40,7 +43,10 @@ fn packed<R: Threads + Sync, A: Memory>(
     heap: A,
     config: Config,
     d: &SegDes<A>,
-) -> Result<Vec<i32, A>, Refused> {
+) -> Result<Vec<i32, A>, Refused>
+    requires few { length d.now ≤ most_elements }
+    requires in_limit { sum d.now ≤ most_elements }
+{
     let flags = &[true, false, true, true, false];
     let (mut values, lengths) = seg_pack(rt, heap, config, XS, flags, d)?;
     values.extend_from_slice(lengths.lengths())?;
