@@ -1,58 +1,139 @@
-"""What is written in Rust: a safe function for each call, one that writes into a room, and the symbols that they call."""
+"""What is written in Rust over slices: a safe function for each call, and for texts and what a part of a call needs; one that
+writes into a room; one in the place of an argument; and their examples as tests."""
 
+import re
 import textwrap
 
+import in_c
 import packages
 import rows
 import table
+from in_rust_sys import documented, shown
 from packages import name_of
 
-WIDTH = 98
-
-HEAD = f"""//! Each call of the table, by its name: over slices, with a new vector for its result; under a name that ends
-//! in `_into`, into a room; and under one that ends in `_in`, in the place of an argument, where a call may.
+HEAD = """//! {about}
 //!
-//! {rows.NOTE}
+//! {note}
 
-use crate::fault::{{told, Fault}};
-use crate::lengths::{{as_long, limit, places, same, true_flags, zeros}};
-use crate::segments::Segments;
-use crate::symbols;
+{uses}
 """
 
-TAKEN = {"ints": "&[i32]", "flags": "&[bool]", "int": "i32", "flag": "bool"}
-GIVEN = {"ints": "Vec<i32>", "flags": "Vec<bool>", "int": "i32", "flag": "bool"}
-ROOMS = {"ints": "&mut [i32]", "flags": "&mut [bool]"}
+TAKEN = {
+    "ints": "&[i32]", "flags": "&[bool]", "text": "impl AsRef<[u8]>", "int": "i32", "flag": "bool", "sum": "i64", "size": "usize",
+}
+GIVEN = {"ints": "Vec<i32>", "flags": "Vec<bool>", "text": "String", "int": "i32", "flag": "bool", "sum": "i64"}
+ROOMS = {"ints": "&mut [i32]", "flags": "&mut [bool]", "text": "&mut [u8]", "marks": "&mut [u32]"}
+
+# How many places are enough for a result of which nobody knows the length before. In a text that is written an integer has up to
+# 11 bytes and a blank, a boolean one and a blank, a list two brackets and a blank, and all together two brackets.
+ENOUGH = {
+    "read_ints": "most_words(text)",
+    "read_ints_after": "most_words(text)",
+    "write_ints": "12 * a.len() + 2",
+    "write_bools": "2 * a.len() + 2",
+    "seg_write_ints": "12 * a.len() + 3 * segments.len() + 2",
+    "seg_write_bools": "2 * a.len() + 3 * segments.len() + 2",
+}
+
+# This one gives two vectors, and is written by hand.
+BY_HAND = ("seg_read_ints",)
+
+OF_CALLS = {call.family.name for call in packages.CALLS}
+
+# The functions that are no call: texts, scans after a carry, exact sums, and a range of a permute.
+FAMILIES = [packages.Call(row) for name, row in rows.FAMILIES.items() if name not in OF_CALLS and name not in BY_HAND]
 
 
-def _literal(call, operand):
-    words = call.words(operand)
-    return f"&[{', '.join(words)}]" if operand.role in ("reads", "lengths") else words[0]
+def _has_ranges(function):
+    """Whether its rooms are a range of the result, which may hold something already."""
+    return any(operand.extent == "range" for operand in function.row.operands)
 
 
-def _cuts(call):
+def _words(operand, words):
+    """An operand of an example in Rust."""
+    if operand.kind == "text":
+        return words
+    return f"&[{', '.join(words.split())}]" if operand.role in ("reads", "lengths") else words
+
+
+def _literal(function, operand):
+    return _words(operand, function.row.example[operand.name])
+
+
+def _operator_of_example(function):
+    return "Add" if any("int" in operand.kind for operand in function.operands) else "Ior"
+
+
+def _cuts(function):
     """The lines of an example that make the segments."""
-    return [f"let {name_of(cut)} = cvl::Segments::new({_literal(call, cut)})?;" for cut in call.cuts]
+    return [f"let {name_of(cut)} = cvl::Segments::new({_literal(function, cut)})?;" for cut in function.cuts]
 
 
-def _shown(call, operand):
-    return f"&{name_of(operand)}" if operand.role == "lengths" else _literal(call, operand)
+def _operator(function, text):
+    """A function of a family takes its operator."""
+    return [text] if function.row.call is None and function.family.operators else []
 
 
-def _example(call):
-    yield from _cuts(call)
-    shown = f"cvl::{call.name}({', '.join(_shown(call, operand) for operand in call.operands)})?"
-    if call.gives_segments:
-        yield f"assert_eq!({shown}.lengths(), [{', '.join(call.given)}]);"
-    else:
-        yield f"assert_eq!({shown}, [{', '.join(call.given)}]);" if call.fills else f"assert_eq!({shown}, {call.given[0]});"
+def _example_arguments(function, place=None):
+    found = _operator(function, f"cvl::Operator::{_operator_of_example(function)}")
+    for operand in function.operands:
+        if operand == place:
+            found.append(f"&mut {operand.name}")
+        else:
+            found.append(f"&{name_of(operand)}" if operand.role == "lengths" else _literal(function, operand))
+    return found
 
 
-def _comment(call):
-    lines = textwrap.wrap(call.row.sentences, WIDTH - 4)
-    lines += ["", *textwrap.wrap(f"Faults: {call.faults}", WIDTH - 4)] if call.faults else []
-    lines += ["", "```", *_example(call), "# Ok::<(), cvl::Fault>(())", "```"]
-    return [f"/// {line}".rstrip() for line in lines]
+def _result(function):
+    """The result of the example in Rust."""
+    if function.result is not None and function.result.kind == "text":
+        return function.row.example["out"]
+    return f"[{', '.join(function.given)}]" if function.fills or function.gives_segments else function.given[0]
+
+
+def _asserted(left, right):
+    """A comparison, on several lines where one is too short."""
+    line = f"assert_eq!({left}, {right});"
+    return [line] if len(line) <= 118 else ["assert_eq!(", f"    {left},", f"    {right}", ");"]
+
+
+def _example(function):
+    yield from _cuts(function)
+    if _has_ranges(function):
+        yield from _example_of_range(function)
+        return
+    call = f"cvl::{function.name}({', '.join(_example_arguments(function))})?"
+    yield from _asserted(f"{call}{'.lengths()' if function.gives_segments else ''}", _result(function))
+
+
+def _example_of_range(function):
+    example, arguments = function.row.example, ", ".join(_example_arguments(function))
+    start = "0" if function.result.kind == "ints" else "false"
+    yield f"let (mut out, mut marks) = ([{start}; {example['out_len']}], [0; 1]);"
+    yield from _asserted(f"cvl::{function.name}({arguments}, &mut out, &mut marks)?", example["written"])
+    yield f"assert_eq!((out, marks), ([{', '.join(function.given)}], [{example['marks']}]));"
+
+
+def _has_example(function):
+    return function.row.example is not None
+
+
+def _in_rust(text):
+    """A sentence of the table as Rust has it: a function of a family without its prefix."""
+    return re.sub(r"CVL_(\w+)", lambda found: f"`{found[1].title()}`", text).replace("cvl_", "")
+
+
+def _comment(function):
+    faults = rows.fault_text(function.row)
+    lines = documented(_in_rust(function.row.sentences), faults and f"Faults: {_in_rust(faults)}", indent="")
+    if _has_example(function):
+        lines += _in_comment(_example(function))
+    return lines
+
+
+def _in_comment(lines):
+    """An example in a comment."""
+    return ["///", "/// ```", *(f"/// {line}" for line in lines), "/// # Ok::<(), cvl::Fault>(())", "/// ```"]
 
 
 def _type_taken(operand):
@@ -61,119 +142,203 @@ def _type_taken(operand):
     return "i64" if operand.role in ("place", "count") else TAKEN[operand.kind]
 
 
-def _taken(call, place=None):
+def _taken(function, place=None):
     """The parameters, of which one may be the room."""
-    return [f"{name_of(o)}: {ROOMS[o.kind] if o == place else _type_taken(o)}" for o in call.operands]
+    operands = [f"{name_of(o)}: {ROOMS[o.kind] if o == place else _type_taken(o)}" for o in function.operands]
+    return _operator(function, "operator: Operator") + operands
 
 
-def _alike(call, extent):
+def _passed(function):
+    """The parameters as a function passes them on."""
+    return _operator(function, "operator") + [name_of(operand) for operand in function.operands]
+
+
+def _text(function):
+    """A text that is taken as any bytes."""
+    return ["let text = text.as_ref();"] if any(operand.kind == "text" for operand in function.operands) else []
+
+
+def _alike(function, extent):
     """The lengths that have to be as one another, the arrays' first."""
-    found = [f"{operand.name}.len()" for operand in call.alike(extent)]
+    found = [f"{operand.name}.len()" for operand in function.alike(extent)]
     if extent == "segments":
-        return [*found, *(f"{name_of(cut)}.len()" for cut in call.cuts)]
-    return [*found, *(f"{name_of(cut)}.total()" for cut in call.cuts if cut.extent == extent)]
+        return [*found, *(f"{name_of(cut)}.len()" for cut in function.cuts)]
+    return [*found, *(f"{name_of(cut)}.total()" for cut in function.cuts if cut.extent == extent)]
 
 
-def _checks(call):
-    """The lines that tell a length that is too great, and then those that do not agree."""
-    if call.limited:
-        yield f"limit({call.limited.name}.len())?;"
-    for extent in dict.fromkeys([*call.extents, *(["segments"] if call.cuts else [])]):
-        if len(_alike(call, extent)) > 1:
-            yield f"same(&[{', '.join(_alike(call, extent))}])?;"
+def _checks(function):
+    """The lines that tell a length that is too great, and then those that do not agree, before memory is asked for."""
+    if function.limited:
+        yield f"limit({function.limited.name}.len())?;"
+    for extent in dict.fromkeys([*function.extents, *(["segments"] if function.cuts else [])]):
+        if len(_alike(function, extent)) > 1:
+            yield f"same(&[{', '.join(_alike(function, extent))}])?;"
 
 
-def _extent(call):
+def _extent(function):
     """How long the result is."""
-    by = call.measure()
+    by = function.measure()
     if by:
         return f"{name_of(by)}.total()" if by.role == "lengths" else f"true_flags({by.name})"
-    return "places(count)?" if call.result.extent == "count" else _alike(call, call.result.extent)[0]
+    return "places(count)?" if function.result.extent == "count" else _alike(function, function.result.extent)[0]
 
 
-def _argument(call, argument):
+def _argument(function, argument):
+    """What the library is given: each array with its length, whatever the others have."""
     operand = argument.operand
+    if operand is None:
+        return f"cvl_sys::CVL_{function.row.operator}" if function.row.operator else "operator as u32"
     if argument.size:
-        return "out.len()" if argument.size in ("trues", "total", "room") else f"{call.alike(argument.size)[0].name}.len()"
-    cast = ".cast()" if operand.kind == "flags" else ""
+        return f"{operand.name}.len()"
     return {
-        "reads": f"{operand.name}.as_ptr(){cast}", "room": f"out.as_mut_ptr(){cast}", "single": "&mut out", "told": f"&mut {operand.name}",
+        "reads": f"{operand.name}.as_ptr()",
+        "room": f"{operand.name}.as_mut_ptr()",
+        "single": "&mut out",
+        "told": f"&mut {operand.name}",
         "lengths": f"{name_of(operand)}.given()",
-    }.get(operand.role, f"{operand.name}.into()" if operand.kind == "flag" else operand.name)
+    }.get(operand.role, operand.name)
 
 
-def _called(call, arguments=None):
-    given = ", ".join(arguments or (_argument(call, argument) for argument in call.row.arguments))
-    return f"told(unsafe {{ symbols::cvl_{call.name}({given}) }})"
+def _called(function, place=None):
+    """The call of the library, where an operand may be the room."""
+    given = []
+    for argument in rows._of_family(function.family):
+        if place is not None and argument.operand in (place, function.result):
+            given.append(f"{place.name}.len()" if argument.size else "out")
+        else:
+            given.append(_argument(function, argument))
+    name = f"cvl_{function.family.name}"
+    names = f"{name}" if function.family.cut is None else f"{name} | {name}_on"
+    return f"call!({names}: {', '.join(given)})"
 
 
-def _function(head, answer, body):
-    return [f"pub fn {head} -> Result<{answer}, Fault> {{", *(f"    {line}" for line in body), "}"]
+def _function(name, taken, answer, body):
+    head = shown(f"pub fn {name}", taken, f" -> Result<{answer}, Fault> {{", indent="")
+    return [*head, *(f"    {line}" for line in _wrapped(body)), "}"]
 
 
-def _single(call):
-    """A call that gives one value."""
-    flag = call.result.kind == "flag"
-    body = [f"let mut out = {'0u8' if flag else '0'};", f"{_called(call)}?;", "Ok(out != 0)" if flag else "Ok(out)"]
-    return _function(f"{call.name}({', '.join(_taken(call))})", GIVEN[call.result.kind], body)
+def _wrapped(body):
+    for line in body:
+        yield from textwrap.wrap(line, 118, subsequent_indent="    ", break_long_words=False, break_on_hyphens=False)
 
 
-def _into(call):
-    """The call into a room."""
-    body, answer, room = [*_checks(call)], "()", "as long as the result"
-    if call.counts:
-        body += ["let mut count = 0;", f"{_called(call)}?;", "Ok(count)"]
-        answer, room = "usize", "as long as the result or longer, and how many elements that has"
+def _single(function):
+    """A function that gives one value."""
+    zero = "false" if function.result.kind == "flag" else "0"
+    body = [f"let mut out = {zero};", f"{_called(function)}?;", "Ok(out)"]
+    return _function(function.name, _taken(function), GIVEN[function.result.kind], body)
+
+
+def _range(function):
+    """A range of a result, into rooms of the caller's."""
+    taken = [*_taken(function), *(f"{room.name}: {ROOMS[room.kind]}" for room in function.row.rooms)]
+    return _function(function.name, taken, "usize", ["let mut written = 0;", f"{_called(function)}?;", "Ok(written)"])
+
+
+def _into(function):
+    """The function into a room."""
+    body, answer, room = [*_text(function)], "()", "as long as the result"
+    if function.counts:
+        body += ["let mut count = 0;", f"{_called(function)}?;", "Ok(count)"]
+        answer, room = "usize", "as long as the result or longer, and how long that is"
     else:
-        body += [] if call.measure() else [f"as_long(out, {_extent(call)})?;"]
-        body.append(_called(call))
-    said = f"/// [`{call.name}`] into a room that is {room}; a fault leaves the room as it was."
-    return [said, *_function(f"{call.name}_into({', '.join([*_taken(call), f'out: {ROOMS[call.result.kind]}'])})", answer, body)]
+        body.append(_called(function))
+    said = documented(f"[`{function.name}`] into a room that is {room}; a fault leaves the room as it was.", indent="")
+    taken = [*_taken(function), f"out: {ROOMS[function.result.kind]}"]
+    return [*said, *_function(f"{function.name}_into", taken, answer, body)]
 
 
-def _several(call):
-    """A call that gives a vector, and the same into a room."""
-    names = ", ".join([*map(name_of, call.operands), "&mut out"])
-    filled = f"{call.name}_into({names})?;"
-    body = [*_checks(call), f"let mut out = zeros({_extent(call)})?;"]
-    body += [f"let count = {filled}", "out.truncate(count);"] if call.counts else [filled]
-    body.append("Segments::new(&out)" if call.gives_segments else "Ok(out)")
-    given = "Segments" if call.gives_segments else GIVEN[call.result.kind]
-    return [*_function(f"{call.name}({', '.join(_taken(call))})", given, body), "", *_into(call)]
+def _several(function):
+    """A function that gives a vector or a text, and the same into a room."""
+    given = "Segments" if function.gives_segments else GIVEN[function.result.kind]
+    body = [*_text(function), *_checks(function), *(_counted(function) if function.counts else _filled(function))]
+    return [*_function(function.name, _taken(function), given, body), "", *_into(function)]
 
 
-def _within(call, place):
-    """The call in the place of an operand."""
-    yield f"/// [`{call.name}`] in the place of `{place.name}`; a fault leaves it as it was."
-    yield from ("///", "/// ```")
-    yield from (f"/// {line}" for line in _cuts(call))
-    yield f"/// let mut {place.name} = [{', '.join(call.words(place))}];"
-    shown = (f"&mut {place.name}" if operand == place else _shown(call, operand) for operand in call.operands)
-    yield f"/// cvl::{call.name}_in({', '.join(shown)})?;"
-    yield f"/// assert_eq!({place.name}, [{', '.join(call.given)}]);"
-    yield from ("/// # Ok::<(), cvl::Fault>(())", "/// ```")
-    arguments = [
-        "out" if not argument.size and argument.operand in (place, call.result) else _argument(call, argument)
-        for argument in call.row.arguments
-    ]
-    cast = ".cast()" if place.kind == "flags" else ""
-    body = [*_checks(call), f"let out = {place.name}.as_mut_ptr(){cast};", _called(call, arguments)]
-    yield from _function(f"{call.name}_in({', '.join(_taken(call, place))})", "()", body)
+def _filled(function):
+    """The lines of a function whose result is as long as is known before."""
+    yield f"let mut out = zeros({_extent(function)})?;"
+    yield f"{function.name}_into({', '.join([*_passed(function), '&mut out'])})?;"
+    yield "Segments::new(&out)" if function.gives_segments else "Ok(out)"
 
 
-def _call(call):
-    if call.makes_segments:
-        code = _function(f"{call.name}(lengths: &[i32])", "Segments", ["Segments::new(lengths)"])
+def _counted(function):
+    """The line of one whose result is told to be so long."""
+    places = ENOUGH.get(function.family.name) or _extent(function)
+    filled = f"counted({places}, |out| {function.name}_into({', '.join([*_passed(function), 'out'])}))"
+    yield f"{filled}.map(text_of)" if function.result.kind == "text" else filled
+
+
+def _within(function, place):
+    """The function in the place of an operand."""
+    yield f"/// [`{function.name}`] in the place of `{place.name}`; a fault leaves it as it was."
+    if _has_example(function):
+        yield from _in_comment([*_cuts(function), *_example_within(function, place)])
+    body = [f"let out = {place.name}.as_mut_ptr();", _called(function, place)]
+    yield from _function(f"{function.name}_in", _taken(function, place), "()", body)
+
+
+def _example_within(function, place):
+    yield f"let mut {place.name} = [{', '.join(function.words(place))}];"
+    yield f"cvl::{function.name}_in({', '.join(_example_arguments(function, place))})?;"
+    yield f"assert_eq!({place.name}, {_result(function)});"
+
+
+def _written(function):
+    if function.makes_segments:
+        code = _function(function.name, ["lengths: &[i32]"], "Segments", ["Segments::new(lengths)"])
+    elif _has_ranges(function):
+        code = _range(function)
     else:
-        code = _several(call) if call.result.role == "room" else _single(call)
-    if call.in_place:
-        code += ["", *_within(call, call.in_place[0])]
-    return "\n".join(["", *_comment(call), *code, ""])
+        code = _several(function) if function.result.role == "room" else _single(function)
+    if function.in_place:
+        code += ["", *_within(function, function.in_place[0])]
+    return "\n".join(["", *_comment(function), *code, ""])
 
 
 def calls():
     """`bindings/rust/src/calls.rs`."""
-    return HEAD + "".join(map(_call, packages.CALLS))
+    about = (
+        "Each call of the table, by its name: over slices, with a new vector for its result; under a name that ends in `_into`,\n"
+        "//! into a room; and under one that ends in `_in`, in the place of an argument, where a call may."
+    )
+    uses = (
+        "use alloc::vec::Vec;\n\n"
+        "use crate::fault::Fault;\nuse crate::lengths::{counted, limit, places, same, true_flags, zeros};\n"
+        "use crate::pool::call;\nuse crate::segments::Segments;"
+    )
+    return HEAD.format(about=about, note=rows.NOTE, uses=uses) + "".join(map(_written, packages.CALLS))
+
+
+def families():
+    """`bindings/rust/src/families.rs`."""
+    about = "What is no call: texts, and what a part of a call needs that the whole does not."
+    uses = (
+        "use alloc::string::String;\nuse alloc::vec::Vec;\n\n"
+        "use crate::fault::Fault;\nuse crate::lengths::{counted, limit, most_words, same, text_of, zeros};\n"
+        "use crate::numbers::Operator;\nuse crate::pool::call;\nuse crate::segments::Segments;"
+    )
+    return HEAD.format(about=about, note=rows.NOTE, uses=uses) + "".join(map(_written, FAMILIES))
+
+
+def _operators():
+    """The operators that a function of a family takes here."""
+    numbers = {name for function in FAMILIES for name in function.family.operators}
+    return [found for found in table.OPERATORS if found.name in numbers]
+
+
+def numbers():
+    """`bindings/rust/src/numbers.rs`."""
+    lines = ["//! The numbers of faults and of operators.", "//!", f"//! {rows.NOTE}", ""]
+    lines += ["/// The numbers of faults, as [`Fault::number`](crate::Fault::number) tells them.", "pub mod faults {"]
+    for number, name in table.STATUSES[1:]:
+        lines += [f"    /// {name}.", f"    pub const {in_c.constant(name)}: u32 = cvl_sys::CVL_{in_c.constant(name)};"]
+    lines += ["}", "", "/// An operator of a function that goes on from a part."]
+    lines += ["#[derive(Clone, Copy, Debug, PartialEq, Eq, Hash)]", "#[non_exhaustive]", "#[repr(u32)]", "pub enum Operator {"]
+    for found in _operators():
+        said = found.sentence[0].upper() + found.sentence[1:]
+        lines += [f"    /// {said}.", f"    {found.name.title()} = cvl_sys::CVL_{found.name},"]
+    return "\n".join([*lines, "}", ""])
 
 
 EXAMPLES_HEAD = f"""//! The example of each call: its result, the same in a room, and in the place of an argument.
@@ -181,84 +346,68 @@ EXAMPLES_HEAD = f"""//! The example of each call: its result, the same in a room
 //! {rows.NOTE}
 
 #![allow(clippy::bool_assert_comparison)]
+
+use super::{{differ, refuses}};
 """
 
 
-def _example_test(call):
+def _room_of_example(function):
+    """A room for the example, with other elements than the result's."""
+    if function.result.kind == "text":
+        return f"let mut room = [b'?'; {len(function.row.example['out'].strip(chr(34)))}];"
+    words = ["7" if function.result.kind == "ints" else "true"] * len(function.given)
+    return f"let mut room = [{', '.join(words)}];"
+
+
+def _example_test(function):
     """The lines of a test of the example."""
-    arguments = [_shown(call, operand) for operand in call.operands]
-    given = ", ".join(call.given)
-    yield from _cuts(call)
-    shown = f"cvl::{call.name}({', '.join(arguments)})"
-    if not call.fills:
-        yield f"assert_eq!({shown}?.lengths(), [{given}]);" if call.gives_segments else f"assert_eq!({shown}?, {given});"
-        return
-    yield f"assert_eq!({shown}?, [{given}]);"
-    yield f"let mut room = [{', '.join(['7' if call.result.kind == 'ints' else 'true'] * len(call.given))}];"
-    into = f"cvl::{call.name}_into({', '.join([*arguments, '&mut room'])})?"
-    yield f"assert_eq!({into}, {len(call.given)});" if call.counts else f"{into};"
-    yield f"assert_eq!(room, [{given}]);"
-    for place in call.in_place[:1]:
-        yield f"let mut {place.name} = [{', '.join(call.words(place))}];"
-        arguments[call.operands.index(place)] = f"&mut {place.name}"
-        yield f"cvl::{call.name}_in({', '.join(arguments)})?;"
-        yield f"assert_eq!({place.name}, [{given}]);"
+    yield from _example(function)
+    if function.fills and not _has_ranges(function):
+        yield _room_of_example(function)
+        yield from _example_into(function)
+        yield from _other_lengths(function)
+        yield f"assert_eq!(room, {'*b' if function.result.kind == 'text' else ''}{_result(function)});"
+        for place in function.in_place[:1]:
+            yield from _example_within(function, place)
+
+
+def _example_into(function):
+    given = [*_example_arguments(function), "&mut room"]
+    if function.counts:
+        yield from _asserted(f"cvl::{function.name}_into({', '.join(given)})?", function.row.example["count"])
+    else:
+        yield from shown(f"cvl::{function.name}_into", given, "?;", indent="")
+
+
+def _other_lengths(function):
+    """Rooms and arrays of another length: they are refused, and what stands in the room stays."""
+    lengths = "&[room.len() - 1]" if function.counts else "&[room.len() - 1, room.len() + 1]"
+    given = ", ".join([*_example_arguments(function), "room"])
+    yield from shown("refuses", [lengths, f"|room| cvl::{function.name}_into({given}).map(|_| ())", "room[0]"], ";", indent="")
+    for k, operand in enumerate(function.operands):
+        if _has_partner(function, operand):
+            given = _example_arguments(function)
+            given[k + len(_operator(function, ""))] = _shorter(function, operand)
+            yield from shown("differ", [f"cvl::{function.name}_into({', '.join([*given, '&mut room'])})"], ";", indent="")
+            if len(_alike(function, operand.extent)) > 1:
+                yield from shown("differ", [f"cvl::{function.name}({', '.join(given)})"], ";", indent="")
+
+
+def _has_partner(function, operand):
+    """Whether an array has to be as long as another, as lengths say, or as the room."""
+    if operand.role != "reads" or operand.kind == "text":
+        return False
+    return len(_alike(function, operand.extent)) > 1 or function.result.extent == operand.extent
+
+
+def _shorter(function, operand):
+    return f"&[{', '.join(function.words(operand)[:-1])}]"
 
 
 def examples():
     """`bindings/rust/tests/examples/mod.rs`."""
     lines = [EXAMPLES_HEAD]
-    for call in packages.CALLS:
-        body = [*_example_test(call), "Ok(())"]
-        lines += ["#[test]", f"fn {call.name}() -> Result<(), cvl::Fault> {{", *(f"    {line}" for line in body), "}", ""]
+    for function in [*packages.CALLS, *filter(_has_example, FAMILIES)]:
+        body = [*_example_test(function), "Ok(())"]
+        lines += ["#[test]", f"fn {function.name}() -> Result<(), cvl::Fault> {{", *(f"    {line}" for line in body), "}", ""]
     return "\n".join(lines)
-
-
-def _type(argument):
-    """The type in Rust of an argument in C: a boolean is a byte, of which the library looks at whether it is 0."""
-    of_one = {"int32_t": "i32", "bool": "u8", "size_t": "usize", "int64_t": "i64", "CvlLengths": "Lengths"}
-    kind = of_one[argument.type.replace("const ", "").strip(" *")]
-    if "*" not in argument.type:
-        return kind
-    return f"*const {kind}" if argument.type.startswith("const ") else f"*mut {kind}"
-
-
-NUMBERS = (
-    ("LENGTH_MISMATCH", "LengthMismatch", "lengths differ which must agree"),
-    ("NEGATIVE_LENGTH", "NegativeLength", "a count is below 0"),
-    ("TOO_LONG", "TooLong", "there are more elements than a vector may have"),
-    ("NO_RESOURCES", "NoResources", "there is no memory"),
-)
-
-
-def symbols():
-    """`bindings/rust/src/symbols.rs`."""
-    numbers = []
-    for name, said, why in NUMBERS:
-        numbers += [f"/// The number of the fault that {why}.", f"pub(crate) const {name}: u32 = {packages.number_of(said)};", ""]
-    lines = [
-        "//! The functions of the library, one for each call, and numbers of the header.",
-        "//!",
-        f"//! {rows.NOTE}",
-        "",
-        "use crate::fault::Status;",
-        "",
-        "/// The most elements of a vector, and the greatest total of segments.",
-        f"pub const MOST_ELEMENTS: usize = {table.MOST_ELEMENTS:_};",
-        "",
-        *numbers,
-        "/// Lengths of segments: where they are, and how many.",
-        "#[repr(C)]",
-        "pub struct Lengths {",
-        "    pub lengths: *const i32,",
-        "    pub segments: usize,",
-        "}",
-        "",
-        'extern "C" {',
-        "    pub fn cvl_version() -> *const std::os::raw::c_char;",
-        "    pub fn cvl_fault_name(number: u32) -> *const std::os::raw::c_char;",
-    ]
-    for call in packages.CALLS:
-        taken = ", ".join(f"{argument.name}: {_type(argument)}" for argument in call.row.arguments)
-        lines.append(f"    pub fn cvl_{call.name}({taken}) -> Status;")
-    return "\n".join([*lines, "}", ""])

@@ -1,12 +1,14 @@
-//! Each call of the table, by its name: over slices, with a new vector for its result; under a name that ends
-//! in `_into`, into a room; and under one that ends in `_in`, in the place of an argument, where a call may.
+//! Each call of the table, by its name: over slices, with a new vector for its result; under a name that ends in `_into`,
+//! into a room; and under one that ends in `_in`, in the place of an argument, where a call may.
 //!
 //! Written by the generator of the repository from its table of calls; edit the table and not this file.
 
-use crate::fault::{told, Fault};
-use crate::lengths::{as_long, limit, places, same, true_flags, zeros};
+use alloc::vec::Vec;
+
+use crate::fault::Fault;
+use crate::lengths::{counted, limit, places, same, true_flags, zeros};
+use crate::pool::call;
 use crate::segments::Segments;
-use crate::symbols;
 
 /// The wrapped sums. a, b and out have n elements.
 ///
@@ -26,10 +28,7 @@ pub fn add_wuz(a: &[i32], b: &[i32]) -> Result<Vec<i32>, Fault> {
 
 /// [`add_wuz`] into a room that is as long as the result; a fault leaves the room as it was.
 pub fn add_wuz_into(a: &[i32], b: &[i32], out: &mut [i32]) -> Result<(), Fault> {
-    limit(a.len())?;
-    same(&[a.len(), b.len()])?;
-    as_long(out, a.len())?;
-    told(unsafe { symbols::cvl_add_wuz(a.as_ptr(), b.as_ptr(), out.as_mut_ptr(), a.len()) })
+    call!(cvl_int2 | cvl_int2_on: cvl_sys::CVL_ADD, a.as_ptr(), a.len(), b.as_ptr(), b.len(), out.as_mut_ptr(), out.len())
 }
 
 /// [`add_wuz`] in the place of `a`; a fault leaves it as it was.
@@ -41,10 +40,8 @@ pub fn add_wuz_into(a: &[i32], b: &[i32], out: &mut [i32]) -> Result<(), Fault> 
 /// # Ok::<(), cvl::Fault>(())
 /// ```
 pub fn add_wuz_in(a: &mut [i32], b: &[i32]) -> Result<(), Fault> {
-    limit(a.len())?;
-    same(&[a.len(), b.len()])?;
     let out = a.as_mut_ptr();
-    told(unsafe { symbols::cvl_add_wuz(out, b.as_ptr(), out, a.len()) })
+    call!(cvl_int2 | cvl_int2_on: cvl_sys::CVL_ADD, out, a.len(), b.as_ptr(), b.len(), out, a.len())
 }
 
 /// The wrapped products. a, b and out have n elements.
@@ -65,10 +62,7 @@ pub fn mul_wuz(a: &[i32], b: &[i32]) -> Result<Vec<i32>, Fault> {
 
 /// [`mul_wuz`] into a room that is as long as the result; a fault leaves the room as it was.
 pub fn mul_wuz_into(a: &[i32], b: &[i32], out: &mut [i32]) -> Result<(), Fault> {
-    limit(a.len())?;
-    same(&[a.len(), b.len()])?;
-    as_long(out, a.len())?;
-    told(unsafe { symbols::cvl_mul_wuz(a.as_ptr(), b.as_ptr(), out.as_mut_ptr(), a.len()) })
+    call!(cvl_int2 | cvl_int2_on: cvl_sys::CVL_MUL, a.as_ptr(), a.len(), b.as_ptr(), b.len(), out.as_mut_ptr(), out.len())
 }
 
 /// [`mul_wuz`] in the place of `a`; a fault leaves it as it was.
@@ -80,10 +74,8 @@ pub fn mul_wuz_into(a: &[i32], b: &[i32], out: &mut [i32]) -> Result<(), Fault> 
 /// # Ok::<(), cvl::Fault>(())
 /// ```
 pub fn mul_wuz_in(a: &mut [i32], b: &[i32]) -> Result<(), Fault> {
-    limit(a.len())?;
-    same(&[a.len(), b.len()])?;
     let out = a.as_mut_ptr();
-    told(unsafe { symbols::cvl_mul_wuz(out, b.as_ptr(), out, a.len()) })
+    call!(cvl_int2 | cvl_int2_on: cvl_sys::CVL_MUL, out, a.len(), b.as_ptr(), b.len(), out, a.len())
 }
 
 /// The lesser of each two. a, b and out have n elements.
@@ -104,10 +96,7 @@ pub fn min_wuz(a: &[i32], b: &[i32]) -> Result<Vec<i32>, Fault> {
 
 /// [`min_wuz`] into a room that is as long as the result; a fault leaves the room as it was.
 pub fn min_wuz_into(a: &[i32], b: &[i32], out: &mut [i32]) -> Result<(), Fault> {
-    limit(a.len())?;
-    same(&[a.len(), b.len()])?;
-    as_long(out, a.len())?;
-    told(unsafe { symbols::cvl_min_wuz(a.as_ptr(), b.as_ptr(), out.as_mut_ptr(), a.len()) })
+    call!(cvl_int2 | cvl_int2_on: cvl_sys::CVL_MIN, a.as_ptr(), a.len(), b.as_ptr(), b.len(), out.as_mut_ptr(), out.len())
 }
 
 /// [`min_wuz`] in the place of `a`; a fault leaves it as it was.
@@ -119,10 +108,8 @@ pub fn min_wuz_into(a: &[i32], b: &[i32], out: &mut [i32]) -> Result<(), Fault> 
 /// # Ok::<(), cvl::Fault>(())
 /// ```
 pub fn min_wuz_in(a: &mut [i32], b: &[i32]) -> Result<(), Fault> {
-    limit(a.len())?;
-    same(&[a.len(), b.len()])?;
     let out = a.as_mut_ptr();
-    told(unsafe { symbols::cvl_min_wuz(out, b.as_ptr(), out, a.len()) })
+    call!(cvl_int2 | cvl_int2_on: cvl_sys::CVL_MIN, out, a.len(), b.as_ptr(), b.len(), out, a.len())
 }
 
 /// The greater of each two. a, b and out have n elements.
@@ -143,10 +130,7 @@ pub fn max_wuz(a: &[i32], b: &[i32]) -> Result<Vec<i32>, Fault> {
 
 /// [`max_wuz`] into a room that is as long as the result; a fault leaves the room as it was.
 pub fn max_wuz_into(a: &[i32], b: &[i32], out: &mut [i32]) -> Result<(), Fault> {
-    limit(a.len())?;
-    same(&[a.len(), b.len()])?;
-    as_long(out, a.len())?;
-    told(unsafe { symbols::cvl_max_wuz(a.as_ptr(), b.as_ptr(), out.as_mut_ptr(), a.len()) })
+    call!(cvl_int2 | cvl_int2_on: cvl_sys::CVL_MAX, a.as_ptr(), a.len(), b.as_ptr(), b.len(), out.as_mut_ptr(), out.len())
 }
 
 /// [`max_wuz`] in the place of `a`; a fault leaves it as it was.
@@ -158,10 +142,8 @@ pub fn max_wuz_into(a: &[i32], b: &[i32], out: &mut [i32]) -> Result<(), Fault> 
 /// # Ok::<(), cvl::Fault>(())
 /// ```
 pub fn max_wuz_in(a: &mut [i32], b: &[i32]) -> Result<(), Fault> {
-    limit(a.len())?;
-    same(&[a.len(), b.len()])?;
     let out = a.as_mut_ptr();
-    told(unsafe { symbols::cvl_max_wuz(out, b.as_ptr(), out, a.len()) })
+    call!(cvl_int2 | cvl_int2_on: cvl_sys::CVL_MAX, out, a.len(), b.as_ptr(), b.len(), out, a.len())
 }
 
 /// And, bit by bit. a, b and out have n elements.
@@ -182,10 +164,7 @@ pub fn and_wuz(a: &[i32], b: &[i32]) -> Result<Vec<i32>, Fault> {
 
 /// [`and_wuz`] into a room that is as long as the result; a fault leaves the room as it was.
 pub fn and_wuz_into(a: &[i32], b: &[i32], out: &mut [i32]) -> Result<(), Fault> {
-    limit(a.len())?;
-    same(&[a.len(), b.len()])?;
-    as_long(out, a.len())?;
-    told(unsafe { symbols::cvl_and_wuz(a.as_ptr(), b.as_ptr(), out.as_mut_ptr(), a.len()) })
+    call!(cvl_int2 | cvl_int2_on: cvl_sys::CVL_AND, a.as_ptr(), a.len(), b.as_ptr(), b.len(), out.as_mut_ptr(), out.len())
 }
 
 /// [`and_wuz`] in the place of `a`; a fault leaves it as it was.
@@ -197,10 +176,8 @@ pub fn and_wuz_into(a: &[i32], b: &[i32], out: &mut [i32]) -> Result<(), Fault> 
 /// # Ok::<(), cvl::Fault>(())
 /// ```
 pub fn and_wuz_in(a: &mut [i32], b: &[i32]) -> Result<(), Fault> {
-    limit(a.len())?;
-    same(&[a.len(), b.len()])?;
     let out = a.as_mut_ptr();
-    told(unsafe { symbols::cvl_and_wuz(out, b.as_ptr(), out, a.len()) })
+    call!(cvl_int2 | cvl_int2_on: cvl_sys::CVL_AND, out, a.len(), b.as_ptr(), b.len(), out, a.len())
 }
 
 /// Or, bit by bit. a, b and out have n elements.
@@ -221,10 +198,7 @@ pub fn ior_wuz(a: &[i32], b: &[i32]) -> Result<Vec<i32>, Fault> {
 
 /// [`ior_wuz`] into a room that is as long as the result; a fault leaves the room as it was.
 pub fn ior_wuz_into(a: &[i32], b: &[i32], out: &mut [i32]) -> Result<(), Fault> {
-    limit(a.len())?;
-    same(&[a.len(), b.len()])?;
-    as_long(out, a.len())?;
-    told(unsafe { symbols::cvl_ior_wuz(a.as_ptr(), b.as_ptr(), out.as_mut_ptr(), a.len()) })
+    call!(cvl_int2 | cvl_int2_on: cvl_sys::CVL_IOR, a.as_ptr(), a.len(), b.as_ptr(), b.len(), out.as_mut_ptr(), out.len())
 }
 
 /// [`ior_wuz`] in the place of `a`; a fault leaves it as it was.
@@ -236,10 +210,8 @@ pub fn ior_wuz_into(a: &[i32], b: &[i32], out: &mut [i32]) -> Result<(), Fault> 
 /// # Ok::<(), cvl::Fault>(())
 /// ```
 pub fn ior_wuz_in(a: &mut [i32], b: &[i32]) -> Result<(), Fault> {
-    limit(a.len())?;
-    same(&[a.len(), b.len()])?;
     let out = a.as_mut_ptr();
-    told(unsafe { symbols::cvl_ior_wuz(out, b.as_ptr(), out, a.len()) })
+    call!(cvl_int2 | cvl_int2_on: cvl_sys::CVL_IOR, out, a.len(), b.as_ptr(), b.len(), out, a.len())
 }
 
 /// Exclusive or, bit by bit. a, b and out have n elements.
@@ -260,10 +232,7 @@ pub fn xor_wuz(a: &[i32], b: &[i32]) -> Result<Vec<i32>, Fault> {
 
 /// [`xor_wuz`] into a room that is as long as the result; a fault leaves the room as it was.
 pub fn xor_wuz_into(a: &[i32], b: &[i32], out: &mut [i32]) -> Result<(), Fault> {
-    limit(a.len())?;
-    same(&[a.len(), b.len()])?;
-    as_long(out, a.len())?;
-    told(unsafe { symbols::cvl_xor_wuz(a.as_ptr(), b.as_ptr(), out.as_mut_ptr(), a.len()) })
+    call!(cvl_int2 | cvl_int2_on: cvl_sys::CVL_XOR, a.as_ptr(), a.len(), b.as_ptr(), b.len(), out.as_mut_ptr(), out.len())
 }
 
 /// [`xor_wuz`] in the place of `a`; a fault leaves it as it was.
@@ -275,10 +244,8 @@ pub fn xor_wuz_into(a: &[i32], b: &[i32], out: &mut [i32]) -> Result<(), Fault> 
 /// # Ok::<(), cvl::Fault>(())
 /// ```
 pub fn xor_wuz_in(a: &mut [i32], b: &[i32]) -> Result<(), Fault> {
-    limit(a.len())?;
-    same(&[a.len(), b.len()])?;
     let out = a.as_mut_ptr();
-    told(unsafe { symbols::cvl_xor_wuz(out, b.as_ptr(), out, a.len()) })
+    call!(cvl_int2 | cvl_int2_on: cvl_sys::CVL_XOR, out, a.len(), b.as_ptr(), b.len(), out, a.len())
 }
 
 /// The wrapped differences. a, b and out have n elements.
@@ -299,10 +266,7 @@ pub fn sub_wuz(a: &[i32], b: &[i32]) -> Result<Vec<i32>, Fault> {
 
 /// [`sub_wuz`] into a room that is as long as the result; a fault leaves the room as it was.
 pub fn sub_wuz_into(a: &[i32], b: &[i32], out: &mut [i32]) -> Result<(), Fault> {
-    limit(a.len())?;
-    same(&[a.len(), b.len()])?;
-    as_long(out, a.len())?;
-    told(unsafe { symbols::cvl_sub_wuz(a.as_ptr(), b.as_ptr(), out.as_mut_ptr(), a.len()) })
+    call!(cvl_int2 | cvl_int2_on: cvl_sys::CVL_SUB, a.as_ptr(), a.len(), b.as_ptr(), b.len(), out.as_mut_ptr(), out.len())
 }
 
 /// [`sub_wuz`] in the place of `a`; a fault leaves it as it was.
@@ -314,14 +278,11 @@ pub fn sub_wuz_into(a: &[i32], b: &[i32], out: &mut [i32]) -> Result<(), Fault> 
 /// # Ok::<(), cvl::Fault>(())
 /// ```
 pub fn sub_wuz_in(a: &mut [i32], b: &[i32]) -> Result<(), Fault> {
-    limit(a.len())?;
-    same(&[a.len(), b.len()])?;
     let out = a.as_mut_ptr();
-    told(unsafe { symbols::cvl_sub_wuz(out, b.as_ptr(), out, a.len()) })
+    call!(cvl_int2 | cvl_int2_on: cvl_sys::CVL_SUB, out, a.len(), b.as_ptr(), b.len(), out, a.len())
 }
 
-/// The quotients, truncated toward zero; -2147483648 by -1 is -2147483648. a, b and out have n
-/// elements.
+/// The quotients, truncated toward zero; -2147483648 by -1 is -2147483648. a, b and out have n elements.
 ///
 /// Faults: 13 TooLong; 8 DivideByZero at the first divisor that is 0.
 ///
@@ -339,10 +300,7 @@ pub fn div_wuz(a: &[i32], b: &[i32]) -> Result<Vec<i32>, Fault> {
 
 /// [`div_wuz`] into a room that is as long as the result; a fault leaves the room as it was.
 pub fn div_wuz_into(a: &[i32], b: &[i32], out: &mut [i32]) -> Result<(), Fault> {
-    limit(a.len())?;
-    same(&[a.len(), b.len()])?;
-    as_long(out, a.len())?;
-    told(unsafe { symbols::cvl_div_wuz(a.as_ptr(), b.as_ptr(), out.as_mut_ptr(), a.len()) })
+    call!(cvl_int2 | cvl_int2_on: cvl_sys::CVL_DIV, a.as_ptr(), a.len(), b.as_ptr(), b.len(), out.as_mut_ptr(), out.len())
 }
 
 /// [`div_wuz`] in the place of `a`; a fault leaves it as it was.
@@ -354,10 +312,8 @@ pub fn div_wuz_into(a: &[i32], b: &[i32], out: &mut [i32]) -> Result<(), Fault> 
 /// # Ok::<(), cvl::Fault>(())
 /// ```
 pub fn div_wuz_in(a: &mut [i32], b: &[i32]) -> Result<(), Fault> {
-    limit(a.len())?;
-    same(&[a.len(), b.len()])?;
     let out = a.as_mut_ptr();
-    told(unsafe { symbols::cvl_div_wuz(out, b.as_ptr(), out, a.len()) })
+    call!(cvl_int2 | cvl_int2_on: cvl_sys::CVL_DIV, out, a.len(), b.as_ptr(), b.len(), out, a.len())
 }
 
 /// The remainders of the quotients, with the dividends' signs. a, b and out have n elements.
@@ -378,10 +334,7 @@ pub fn mod_wuz(a: &[i32], b: &[i32]) -> Result<Vec<i32>, Fault> {
 
 /// [`mod_wuz`] into a room that is as long as the result; a fault leaves the room as it was.
 pub fn mod_wuz_into(a: &[i32], b: &[i32], out: &mut [i32]) -> Result<(), Fault> {
-    limit(a.len())?;
-    same(&[a.len(), b.len()])?;
-    as_long(out, a.len())?;
-    told(unsafe { symbols::cvl_mod_wuz(a.as_ptr(), b.as_ptr(), out.as_mut_ptr(), a.len()) })
+    call!(cvl_int2 | cvl_int2_on: cvl_sys::CVL_MOD, a.as_ptr(), a.len(), b.as_ptr(), b.len(), out.as_mut_ptr(), out.len())
 }
 
 /// [`mod_wuz`] in the place of `a`; a fault leaves it as it was.
@@ -393,10 +346,8 @@ pub fn mod_wuz_into(a: &[i32], b: &[i32], out: &mut [i32]) -> Result<(), Fault> 
 /// # Ok::<(), cvl::Fault>(())
 /// ```
 pub fn mod_wuz_in(a: &mut [i32], b: &[i32]) -> Result<(), Fault> {
-    limit(a.len())?;
-    same(&[a.len(), b.len()])?;
     let out = a.as_mut_ptr();
-    told(unsafe { symbols::cvl_mod_wuz(out, b.as_ptr(), out, a.len()) })
+    call!(cvl_int2 | cvl_int2_on: cvl_sys::CVL_MOD, out, a.len(), b.as_ptr(), b.len(), out, a.len())
 }
 
 /// The elements of a, shifted left by those of b. a, b and out have n elements.
@@ -417,10 +368,7 @@ pub fn lsh_wuz(a: &[i32], b: &[i32]) -> Result<Vec<i32>, Fault> {
 
 /// [`lsh_wuz`] into a room that is as long as the result; a fault leaves the room as it was.
 pub fn lsh_wuz_into(a: &[i32], b: &[i32], out: &mut [i32]) -> Result<(), Fault> {
-    limit(a.len())?;
-    same(&[a.len(), b.len()])?;
-    as_long(out, a.len())?;
-    told(unsafe { symbols::cvl_lsh_wuz(a.as_ptr(), b.as_ptr(), out.as_mut_ptr(), a.len()) })
+    call!(cvl_int2 | cvl_int2_on: cvl_sys::CVL_LSH, a.as_ptr(), a.len(), b.as_ptr(), b.len(), out.as_mut_ptr(), out.len())
 }
 
 /// [`lsh_wuz`] in the place of `a`; a fault leaves it as it was.
@@ -432,14 +380,11 @@ pub fn lsh_wuz_into(a: &[i32], b: &[i32], out: &mut [i32]) -> Result<(), Fault> 
 /// # Ok::<(), cvl::Fault>(())
 /// ```
 pub fn lsh_wuz_in(a: &mut [i32], b: &[i32]) -> Result<(), Fault> {
-    limit(a.len())?;
-    same(&[a.len(), b.len()])?;
     let out = a.as_mut_ptr();
-    told(unsafe { symbols::cvl_lsh_wuz(out, b.as_ptr(), out, a.len()) })
+    call!(cvl_int2 | cvl_int2_on: cvl_sys::CVL_LSH, out, a.len(), b.as_ptr(), b.len(), out, a.len())
 }
 
-/// The elements of a, shifted right by those of b, with their signs. a, b and out have n
-/// elements.
+/// The elements of a, shifted right by those of b, with their signs. a, b and out have n elements.
 ///
 /// Faults: 13 TooLong; 9 ShiftOutOfRange at the first element of b outside 0 to 31.
 ///
@@ -457,10 +402,7 @@ pub fn rsh_wuz(a: &[i32], b: &[i32]) -> Result<Vec<i32>, Fault> {
 
 /// [`rsh_wuz`] into a room that is as long as the result; a fault leaves the room as it was.
 pub fn rsh_wuz_into(a: &[i32], b: &[i32], out: &mut [i32]) -> Result<(), Fault> {
-    limit(a.len())?;
-    same(&[a.len(), b.len()])?;
-    as_long(out, a.len())?;
-    told(unsafe { symbols::cvl_rsh_wuz(a.as_ptr(), b.as_ptr(), out.as_mut_ptr(), a.len()) })
+    call!(cvl_int2 | cvl_int2_on: cvl_sys::CVL_RSH, a.as_ptr(), a.len(), b.as_ptr(), b.len(), out.as_mut_ptr(), out.len())
 }
 
 /// [`rsh_wuz`] in the place of `a`; a fault leaves it as it was.
@@ -472,10 +414,8 @@ pub fn rsh_wuz_into(a: &[i32], b: &[i32], out: &mut [i32]) -> Result<(), Fault> 
 /// # Ok::<(), cvl::Fault>(())
 /// ```
 pub fn rsh_wuz_in(a: &mut [i32], b: &[i32]) -> Result<(), Fault> {
-    limit(a.len())?;
-    same(&[a.len(), b.len()])?;
     let out = a.as_mut_ptr();
-    told(unsafe { symbols::cvl_rsh_wuz(out, b.as_ptr(), out, a.len()) })
+    call!(cvl_int2 | cvl_int2_on: cvl_sys::CVL_RSH, out, a.len(), b.as_ptr(), b.len(), out, a.len())
 }
 
 /// Each bit inverted. a and out have n elements.
@@ -495,9 +435,7 @@ pub fn not_wuz(a: &[i32]) -> Result<Vec<i32>, Fault> {
 
 /// [`not_wuz`] into a room that is as long as the result; a fault leaves the room as it was.
 pub fn not_wuz_into(a: &[i32], out: &mut [i32]) -> Result<(), Fault> {
-    limit(a.len())?;
-    as_long(out, a.len())?;
-    told(unsafe { symbols::cvl_not_wuz(a.as_ptr(), out.as_mut_ptr(), a.len()) })
+    call!(cvl_int1 | cvl_int1_on: cvl_sys::CVL_NOT, a.as_ptr(), a.len(), out.as_mut_ptr(), out.len())
 }
 
 /// [`not_wuz`] in the place of `a`; a fault leaves it as it was.
@@ -509,9 +447,8 @@ pub fn not_wuz_into(a: &[i32], out: &mut [i32]) -> Result<(), Fault> {
 /// # Ok::<(), cvl::Fault>(())
 /// ```
 pub fn not_wuz_in(a: &mut [i32]) -> Result<(), Fault> {
-    limit(a.len())?;
     let out = a.as_mut_ptr();
-    told(unsafe { symbols::cvl_not_wuz(out, out, a.len()) })
+    call!(cvl_int1 | cvl_int1_on: cvl_sys::CVL_NOT, out, a.len(), out, a.len())
 }
 
 /// Each boolean inverted. a and out have n elements.
@@ -531,9 +468,7 @@ pub fn not_wub(a: &[bool]) -> Result<Vec<bool>, Fault> {
 
 /// [`not_wub`] into a room that is as long as the result; a fault leaves the room as it was.
 pub fn not_wub_into(a: &[bool], out: &mut [bool]) -> Result<(), Fault> {
-    limit(a.len())?;
-    as_long(out, a.len())?;
-    told(unsafe { symbols::cvl_not_wub(a.as_ptr().cast(), out.as_mut_ptr().cast(), a.len()) })
+    call!(cvl_bool1 | cvl_bool1_on: cvl_sys::CVL_NOT, a.as_ptr(), a.len(), out.as_mut_ptr(), out.len())
 }
 
 /// [`not_wub`] in the place of `a`; a fault leaves it as it was.
@@ -545,9 +480,8 @@ pub fn not_wub_into(a: &[bool], out: &mut [bool]) -> Result<(), Fault> {
 /// # Ok::<(), cvl::Fault>(())
 /// ```
 pub fn not_wub_in(a: &mut [bool]) -> Result<(), Fault> {
-    limit(a.len())?;
-    let out = a.as_mut_ptr().cast();
-    told(unsafe { symbols::cvl_not_wub(out, out, a.len()) })
+    let out = a.as_mut_ptr();
+    call!(cvl_bool1 | cvl_bool1_on: cvl_sys::CVL_NOT, out, a.len(), out, a.len())
 }
 
 /// Each integer copied. a and out have n elements.
@@ -567,9 +501,7 @@ pub fn cpy_wuz(a: &[i32]) -> Result<Vec<i32>, Fault> {
 
 /// [`cpy_wuz`] into a room that is as long as the result; a fault leaves the room as it was.
 pub fn cpy_wuz_into(a: &[i32], out: &mut [i32]) -> Result<(), Fault> {
-    limit(a.len())?;
-    as_long(out, a.len())?;
-    told(unsafe { symbols::cvl_cpy_wuz(a.as_ptr(), out.as_mut_ptr(), a.len()) })
+    call!(cvl_int1 | cvl_int1_on: cvl_sys::CVL_CPY, a.as_ptr(), a.len(), out.as_mut_ptr(), out.len())
 }
 
 /// [`cpy_wuz`] in the place of `a`; a fault leaves it as it was.
@@ -581,9 +513,8 @@ pub fn cpy_wuz_into(a: &[i32], out: &mut [i32]) -> Result<(), Fault> {
 /// # Ok::<(), cvl::Fault>(())
 /// ```
 pub fn cpy_wuz_in(a: &mut [i32]) -> Result<(), Fault> {
-    limit(a.len())?;
     let out = a.as_mut_ptr();
-    told(unsafe { symbols::cvl_cpy_wuz(out, out, a.len()) })
+    call!(cvl_int1 | cvl_int1_on: cvl_sys::CVL_CPY, out, a.len(), out, a.len())
 }
 
 /// Each boolean copied. a and out have n elements.
@@ -603,9 +534,7 @@ pub fn cpy_wub(a: &[bool]) -> Result<Vec<bool>, Fault> {
 
 /// [`cpy_wub`] into a room that is as long as the result; a fault leaves the room as it was.
 pub fn cpy_wub_into(a: &[bool], out: &mut [bool]) -> Result<(), Fault> {
-    limit(a.len())?;
-    as_long(out, a.len())?;
-    told(unsafe { symbols::cvl_cpy_wub(a.as_ptr().cast(), out.as_mut_ptr().cast(), a.len()) })
+    call!(cvl_bool1 | cvl_bool1_on: cvl_sys::CVL_CPY, a.as_ptr(), a.len(), out.as_mut_ptr(), out.len())
 }
 
 /// [`cpy_wub`] in the place of `a`; a fault leaves it as it was.
@@ -617,9 +546,8 @@ pub fn cpy_wub_into(a: &[bool], out: &mut [bool]) -> Result<(), Fault> {
 /// # Ok::<(), cvl::Fault>(())
 /// ```
 pub fn cpy_wub_in(a: &mut [bool]) -> Result<(), Fault> {
-    limit(a.len())?;
-    let out = a.as_mut_ptr().cast();
-    told(unsafe { symbols::cvl_cpy_wub(out, out, a.len()) })
+    let out = a.as_mut_ptr();
+    call!(cvl_bool1 | cvl_bool1_on: cvl_sys::CVL_CPY, out, a.len(), out, a.len())
 }
 
 /// True where a is greater. a, b and out have n elements.
@@ -640,10 +568,8 @@ pub fn grt_wuz(a: &[i32], b: &[i32]) -> Result<Vec<bool>, Fault> {
 
 /// [`grt_wuz`] into a room that is as long as the result; a fault leaves the room as it was.
 pub fn grt_wuz_into(a: &[i32], b: &[i32], out: &mut [bool]) -> Result<(), Fault> {
-    limit(a.len())?;
-    same(&[a.len(), b.len()])?;
-    as_long(out, a.len())?;
-    told(unsafe { symbols::cvl_grt_wuz(a.as_ptr(), b.as_ptr(), out.as_mut_ptr().cast(), a.len()) })
+    call!(cvl_compare | cvl_compare_on: cvl_sys::CVL_GRT, a.as_ptr(), a.len(), b.as_ptr(), b.len(), out.as_mut_ptr(),
+        out.len())
 }
 
 /// True where a is less. a, b and out have n elements.
@@ -664,10 +590,8 @@ pub fn les_wuz(a: &[i32], b: &[i32]) -> Result<Vec<bool>, Fault> {
 
 /// [`les_wuz`] into a room that is as long as the result; a fault leaves the room as it was.
 pub fn les_wuz_into(a: &[i32], b: &[i32], out: &mut [bool]) -> Result<(), Fault> {
-    limit(a.len())?;
-    same(&[a.len(), b.len()])?;
-    as_long(out, a.len())?;
-    told(unsafe { symbols::cvl_les_wuz(a.as_ptr(), b.as_ptr(), out.as_mut_ptr().cast(), a.len()) })
+    call!(cvl_compare | cvl_compare_on: cvl_sys::CVL_LES, a.as_ptr(), a.len(), b.as_ptr(), b.len(), out.as_mut_ptr(),
+        out.len())
 }
 
 /// True where a is greater, or they are equal. a, b and out have n elements.
@@ -688,10 +612,8 @@ pub fn geq_wuz(a: &[i32], b: &[i32]) -> Result<Vec<bool>, Fault> {
 
 /// [`geq_wuz`] into a room that is as long as the result; a fault leaves the room as it was.
 pub fn geq_wuz_into(a: &[i32], b: &[i32], out: &mut [bool]) -> Result<(), Fault> {
-    limit(a.len())?;
-    same(&[a.len(), b.len()])?;
-    as_long(out, a.len())?;
-    told(unsafe { symbols::cvl_geq_wuz(a.as_ptr(), b.as_ptr(), out.as_mut_ptr().cast(), a.len()) })
+    call!(cvl_compare | cvl_compare_on: cvl_sys::CVL_GEQ, a.as_ptr(), a.len(), b.as_ptr(), b.len(), out.as_mut_ptr(),
+        out.len())
 }
 
 /// True where a is less, or they are equal. a, b and out have n elements.
@@ -712,10 +634,8 @@ pub fn leq_wuz(a: &[i32], b: &[i32]) -> Result<Vec<bool>, Fault> {
 
 /// [`leq_wuz`] into a room that is as long as the result; a fault leaves the room as it was.
 pub fn leq_wuz_into(a: &[i32], b: &[i32], out: &mut [bool]) -> Result<(), Fault> {
-    limit(a.len())?;
-    same(&[a.len(), b.len()])?;
-    as_long(out, a.len())?;
-    told(unsafe { symbols::cvl_leq_wuz(a.as_ptr(), b.as_ptr(), out.as_mut_ptr().cast(), a.len()) })
+    call!(cvl_compare | cvl_compare_on: cvl_sys::CVL_LEQ, a.as_ptr(), a.len(), b.as_ptr(), b.len(), out.as_mut_ptr(),
+        out.len())
 }
 
 /// True where they are equal. a, b and out have n elements.
@@ -736,10 +656,8 @@ pub fn eql_wuz(a: &[i32], b: &[i32]) -> Result<Vec<bool>, Fault> {
 
 /// [`eql_wuz`] into a room that is as long as the result; a fault leaves the room as it was.
 pub fn eql_wuz_into(a: &[i32], b: &[i32], out: &mut [bool]) -> Result<(), Fault> {
-    limit(a.len())?;
-    same(&[a.len(), b.len()])?;
-    as_long(out, a.len())?;
-    told(unsafe { symbols::cvl_eql_wuz(a.as_ptr(), b.as_ptr(), out.as_mut_ptr().cast(), a.len()) })
+    call!(cvl_compare | cvl_compare_on: cvl_sys::CVL_EQL, a.as_ptr(), a.len(), b.as_ptr(), b.len(), out.as_mut_ptr(),
+        out.len())
 }
 
 /// True where they are not equal. a, b and out have n elements.
@@ -760,10 +678,8 @@ pub fn neq_wuz(a: &[i32], b: &[i32]) -> Result<Vec<bool>, Fault> {
 
 /// [`neq_wuz`] into a room that is as long as the result; a fault leaves the room as it was.
 pub fn neq_wuz_into(a: &[i32], b: &[i32], out: &mut [bool]) -> Result<(), Fault> {
-    limit(a.len())?;
-    same(&[a.len(), b.len()])?;
-    as_long(out, a.len())?;
-    told(unsafe { symbols::cvl_neq_wuz(a.as_ptr(), b.as_ptr(), out.as_mut_ptr().cast(), a.len()) })
+    call!(cvl_compare | cvl_compare_on: cvl_sys::CVL_NEQ, a.as_ptr(), a.len(), b.as_ptr(), b.len(), out.as_mut_ptr(),
+        out.len())
 }
 
 /// Whether both are true. a, b and out have n elements.
@@ -784,10 +700,8 @@ pub fn and_wub(a: &[bool], b: &[bool]) -> Result<Vec<bool>, Fault> {
 
 /// [`and_wub`] into a room that is as long as the result; a fault leaves the room as it was.
 pub fn and_wub_into(a: &[bool], b: &[bool], out: &mut [bool]) -> Result<(), Fault> {
-    limit(a.len())?;
-    same(&[a.len(), b.len()])?;
-    as_long(out, a.len())?;
-    told(unsafe { symbols::cvl_and_wub(a.as_ptr().cast(), b.as_ptr().cast(), out.as_mut_ptr().cast(), a.len()) })
+    call!(cvl_bool2 | cvl_bool2_on: cvl_sys::CVL_AND, a.as_ptr(), a.len(), b.as_ptr(), b.len(), out.as_mut_ptr(),
+        out.len())
 }
 
 /// [`and_wub`] in the place of `a`; a fault leaves it as it was.
@@ -799,10 +713,8 @@ pub fn and_wub_into(a: &[bool], b: &[bool], out: &mut [bool]) -> Result<(), Faul
 /// # Ok::<(), cvl::Fault>(())
 /// ```
 pub fn and_wub_in(a: &mut [bool], b: &[bool]) -> Result<(), Fault> {
-    limit(a.len())?;
-    same(&[a.len(), b.len()])?;
-    let out = a.as_mut_ptr().cast();
-    told(unsafe { symbols::cvl_and_wub(out, b.as_ptr().cast(), out, a.len()) })
+    let out = a.as_mut_ptr();
+    call!(cvl_bool2 | cvl_bool2_on: cvl_sys::CVL_AND, out, a.len(), b.as_ptr(), b.len(), out, a.len())
 }
 
 /// Whether at least one is true. a, b and out have n elements.
@@ -823,10 +735,8 @@ pub fn ior_wub(a: &[bool], b: &[bool]) -> Result<Vec<bool>, Fault> {
 
 /// [`ior_wub`] into a room that is as long as the result; a fault leaves the room as it was.
 pub fn ior_wub_into(a: &[bool], b: &[bool], out: &mut [bool]) -> Result<(), Fault> {
-    limit(a.len())?;
-    same(&[a.len(), b.len()])?;
-    as_long(out, a.len())?;
-    told(unsafe { symbols::cvl_ior_wub(a.as_ptr().cast(), b.as_ptr().cast(), out.as_mut_ptr().cast(), a.len()) })
+    call!(cvl_bool2 | cvl_bool2_on: cvl_sys::CVL_IOR, a.as_ptr(), a.len(), b.as_ptr(), b.len(), out.as_mut_ptr(),
+        out.len())
 }
 
 /// [`ior_wub`] in the place of `a`; a fault leaves it as it was.
@@ -838,10 +748,8 @@ pub fn ior_wub_into(a: &[bool], b: &[bool], out: &mut [bool]) -> Result<(), Faul
 /// # Ok::<(), cvl::Fault>(())
 /// ```
 pub fn ior_wub_in(a: &mut [bool], b: &[bool]) -> Result<(), Fault> {
-    limit(a.len())?;
-    same(&[a.len(), b.len()])?;
-    let out = a.as_mut_ptr().cast();
-    told(unsafe { symbols::cvl_ior_wub(out, b.as_ptr().cast(), out, a.len()) })
+    let out = a.as_mut_ptr();
+    call!(cvl_bool2 | cvl_bool2_on: cvl_sys::CVL_IOR, out, a.len(), b.as_ptr(), b.len(), out, a.len())
 }
 
 /// Whether exactly one is true. a, b and out have n elements.
@@ -862,10 +770,8 @@ pub fn xor_wub(a: &[bool], b: &[bool]) -> Result<Vec<bool>, Fault> {
 
 /// [`xor_wub`] into a room that is as long as the result; a fault leaves the room as it was.
 pub fn xor_wub_into(a: &[bool], b: &[bool], out: &mut [bool]) -> Result<(), Fault> {
-    limit(a.len())?;
-    same(&[a.len(), b.len()])?;
-    as_long(out, a.len())?;
-    told(unsafe { symbols::cvl_xor_wub(a.as_ptr().cast(), b.as_ptr().cast(), out.as_mut_ptr().cast(), a.len()) })
+    call!(cvl_bool2 | cvl_bool2_on: cvl_sys::CVL_XOR, a.as_ptr(), a.len(), b.as_ptr(), b.len(), out.as_mut_ptr(),
+        out.len())
 }
 
 /// [`xor_wub`] in the place of `a`; a fault leaves it as it was.
@@ -877,10 +783,8 @@ pub fn xor_wub_into(a: &[bool], b: &[bool], out: &mut [bool]) -> Result<(), Faul
 /// # Ok::<(), cvl::Fault>(())
 /// ```
 pub fn xor_wub_in(a: &mut [bool], b: &[bool]) -> Result<(), Fault> {
-    limit(a.len())?;
-    same(&[a.len(), b.len()])?;
-    let out = a.as_mut_ptr().cast();
-    told(unsafe { symbols::cvl_xor_wub(out, b.as_ptr().cast(), out, a.len()) })
+    let out = a.as_mut_ptr();
+    call!(cvl_bool2 | cvl_bool2_on: cvl_sys::CVL_XOR, out, a.len(), b.as_ptr(), b.len(), out, a.len())
 }
 
 /// The element of a where the flag is true, else that of b. flags, a, b and out have n elements.
@@ -901,10 +805,8 @@ pub fn sel_wuz(flags: &[bool], a: &[i32], b: &[i32]) -> Result<Vec<i32>, Fault> 
 
 /// [`sel_wuz`] into a room that is as long as the result; a fault leaves the room as it was.
 pub fn sel_wuz_into(flags: &[bool], a: &[i32], b: &[i32], out: &mut [i32]) -> Result<(), Fault> {
-    limit(flags.len())?;
-    same(&[flags.len(), a.len(), b.len()])?;
-    as_long(out, flags.len())?;
-    told(unsafe { symbols::cvl_sel_wuz(flags.as_ptr().cast(), a.as_ptr(), b.as_ptr(), out.as_mut_ptr(), flags.len()) })
+    call!(cvl_select_int | cvl_select_int_on: flags.as_ptr(), flags.len(), a.as_ptr(), a.len(), b.as_ptr(), b.len(),
+        out.as_mut_ptr(), out.len())
 }
 
 /// [`sel_wuz`] in the place of `a`; a fault leaves it as it was.
@@ -916,10 +818,9 @@ pub fn sel_wuz_into(flags: &[bool], a: &[i32], b: &[i32], out: &mut [i32]) -> Re
 /// # Ok::<(), cvl::Fault>(())
 /// ```
 pub fn sel_wuz_in(flags: &[bool], a: &mut [i32], b: &[i32]) -> Result<(), Fault> {
-    limit(flags.len())?;
-    same(&[flags.len(), a.len(), b.len()])?;
     let out = a.as_mut_ptr();
-    told(unsafe { symbols::cvl_sel_wuz(flags.as_ptr().cast(), out, b.as_ptr(), out, flags.len()) })
+    call!(cvl_select_int | cvl_select_int_on: flags.as_ptr(), flags.len(), out, a.len(), b.as_ptr(), b.len(), out,
+        a.len())
 }
 
 /// The element of a where the flag is true, else that of b. flags, a, b and out have n elements.
@@ -940,10 +841,8 @@ pub fn sel_wub(flags: &[bool], a: &[bool], b: &[bool]) -> Result<Vec<bool>, Faul
 
 /// [`sel_wub`] into a room that is as long as the result; a fault leaves the room as it was.
 pub fn sel_wub_into(flags: &[bool], a: &[bool], b: &[bool], out: &mut [bool]) -> Result<(), Fault> {
-    limit(flags.len())?;
-    same(&[flags.len(), a.len(), b.len()])?;
-    as_long(out, flags.len())?;
-    told(unsafe { symbols::cvl_sel_wub(flags.as_ptr().cast(), a.as_ptr().cast(), b.as_ptr().cast(), out.as_mut_ptr().cast(), flags.len()) })
+    call!(cvl_select_bool | cvl_select_bool_on: flags.as_ptr(), flags.len(), a.as_ptr(), a.len(), b.as_ptr(), b.len(),
+        out.as_mut_ptr(), out.len())
 }
 
 /// [`sel_wub`] in the place of `a`; a fault leaves it as it was.
@@ -955,10 +854,9 @@ pub fn sel_wub_into(flags: &[bool], a: &[bool], b: &[bool], out: &mut [bool]) ->
 /// # Ok::<(), cvl::Fault>(())
 /// ```
 pub fn sel_wub_in(flags: &[bool], a: &mut [bool], b: &[bool]) -> Result<(), Fault> {
-    limit(flags.len())?;
-    same(&[flags.len(), a.len(), b.len()])?;
-    let out = a.as_mut_ptr().cast();
-    told(unsafe { symbols::cvl_sel_wub(flags.as_ptr().cast(), out, b.as_ptr().cast(), out, flags.len()) })
+    let out = a.as_mut_ptr();
+    call!(cvl_select_bool | cvl_select_bool_on: flags.as_ptr(), flags.len(), out, a.len(), b.as_ptr(), b.len(), out,
+        a.len())
 }
 
 /// 1 for true and 0 for false. a and out have n elements.
@@ -978,9 +876,7 @@ pub fn int_wub(a: &[bool]) -> Result<Vec<i32>, Fault> {
 
 /// [`int_wub`] into a room that is as long as the result; a fault leaves the room as it was.
 pub fn int_wub_into(a: &[bool], out: &mut [i32]) -> Result<(), Fault> {
-    limit(a.len())?;
-    as_long(out, a.len())?;
-    told(unsafe { symbols::cvl_int_wub(a.as_ptr().cast(), out.as_mut_ptr(), a.len()) })
+    call!(cvl_int_from_bool | cvl_int_from_bool_on: a.as_ptr(), a.len(), out.as_mut_ptr(), out.len())
 }
 
 /// True where the integer is not 0. a and out have n elements.
@@ -1000,9 +896,7 @@ pub fn boo_wuz(a: &[i32]) -> Result<Vec<bool>, Fault> {
 
 /// [`boo_wuz`] into a room that is as long as the result; a fault leaves the room as it was.
 pub fn boo_wuz_into(a: &[i32], out: &mut [bool]) -> Result<(), Fault> {
-    limit(a.len())?;
-    as_long(out, a.len())?;
-    told(unsafe { symbols::cvl_boo_wuz(a.as_ptr(), out.as_mut_ptr().cast(), a.len()) })
+    call!(cvl_bool_from_int | cvl_bool_from_int_on: a.as_ptr(), a.len(), out.as_mut_ptr(), out.len())
 }
 
 /// For each integer those before it, summed, wrapped; 0 at place 0. a and out have n elements.
@@ -1022,9 +916,7 @@ pub fn add_suz(a: &[i32]) -> Result<Vec<i32>, Fault> {
 
 /// [`add_suz`] into a room that is as long as the result; a fault leaves the room as it was.
 pub fn add_suz_into(a: &[i32], out: &mut [i32]) -> Result<(), Fault> {
-    limit(a.len())?;
-    as_long(out, a.len())?;
-    told(unsafe { symbols::cvl_add_suz(a.as_ptr(), out.as_mut_ptr(), a.len()) })
+    call!(cvl_int_scan | cvl_int_scan_on: cvl_sys::CVL_ADD, a.as_ptr(), a.len(), out.as_mut_ptr(), out.len())
 }
 
 /// [`add_suz`] in the place of `a`; a fault leaves it as it was.
@@ -1036,9 +928,8 @@ pub fn add_suz_into(a: &[i32], out: &mut [i32]) -> Result<(), Fault> {
 /// # Ok::<(), cvl::Fault>(())
 /// ```
 pub fn add_suz_in(a: &mut [i32]) -> Result<(), Fault> {
-    limit(a.len())?;
     let out = a.as_mut_ptr();
-    told(unsafe { symbols::cvl_add_suz(out, out, a.len()) })
+    call!(cvl_int_scan | cvl_int_scan_on: cvl_sys::CVL_ADD, out, a.len(), out, a.len())
 }
 
 /// The n integers, summed, wrapped; 0 where there are none.
@@ -1051,12 +942,11 @@ pub fn add_suz_in(a: &mut [i32]) -> Result<(), Fault> {
 /// ```
 pub fn add_ruz(a: &[i32]) -> Result<i32, Fault> {
     let mut out = 0;
-    told(unsafe { symbols::cvl_add_ruz(a.as_ptr(), a.len(), &mut out) })?;
+    call!(cvl_int_reduce | cvl_int_reduce_on: cvl_sys::CVL_ADD, a.as_ptr(), a.len(), &mut out)?;
     Ok(out)
 }
 
-/// For each integer those before it, multiplied, wrapped; 1 at place 0. a and out have n
-/// elements.
+/// For each integer those before it, multiplied, wrapped; 1 at place 0. a and out have n elements.
 ///
 /// Faults: 13 TooLong.
 ///
@@ -1073,9 +963,7 @@ pub fn mul_suz(a: &[i32]) -> Result<Vec<i32>, Fault> {
 
 /// [`mul_suz`] into a room that is as long as the result; a fault leaves the room as it was.
 pub fn mul_suz_into(a: &[i32], out: &mut [i32]) -> Result<(), Fault> {
-    limit(a.len())?;
-    as_long(out, a.len())?;
-    told(unsafe { symbols::cvl_mul_suz(a.as_ptr(), out.as_mut_ptr(), a.len()) })
+    call!(cvl_int_scan | cvl_int_scan_on: cvl_sys::CVL_MUL, a.as_ptr(), a.len(), out.as_mut_ptr(), out.len())
 }
 
 /// [`mul_suz`] in the place of `a`; a fault leaves it as it was.
@@ -1087,9 +975,8 @@ pub fn mul_suz_into(a: &[i32], out: &mut [i32]) -> Result<(), Fault> {
 /// # Ok::<(), cvl::Fault>(())
 /// ```
 pub fn mul_suz_in(a: &mut [i32]) -> Result<(), Fault> {
-    limit(a.len())?;
     let out = a.as_mut_ptr();
-    told(unsafe { symbols::cvl_mul_suz(out, out, a.len()) })
+    call!(cvl_int_scan | cvl_int_scan_on: cvl_sys::CVL_MUL, out, a.len(), out, a.len())
 }
 
 /// The n integers, multiplied, wrapped; 1 where there are none.
@@ -1102,12 +989,11 @@ pub fn mul_suz_in(a: &mut [i32]) -> Result<(), Fault> {
 /// ```
 pub fn mul_ruz(a: &[i32]) -> Result<i32, Fault> {
     let mut out = 0;
-    told(unsafe { symbols::cvl_mul_ruz(a.as_ptr(), a.len(), &mut out) })?;
+    call!(cvl_int_reduce | cvl_int_reduce_on: cvl_sys::CVL_MUL, a.as_ptr(), a.len(), &mut out)?;
     Ok(out)
 }
 
-/// For each integer those before it, the least of them; 2147483647 at place 0. a and out have n
-/// elements.
+/// For each integer those before it, the least of them; 2147483647 at place 0. a and out have n elements.
 ///
 /// Faults: 13 TooLong.
 ///
@@ -1124,9 +1010,7 @@ pub fn min_suz(a: &[i32]) -> Result<Vec<i32>, Fault> {
 
 /// [`min_suz`] into a room that is as long as the result; a fault leaves the room as it was.
 pub fn min_suz_into(a: &[i32], out: &mut [i32]) -> Result<(), Fault> {
-    limit(a.len())?;
-    as_long(out, a.len())?;
-    told(unsafe { symbols::cvl_min_suz(a.as_ptr(), out.as_mut_ptr(), a.len()) })
+    call!(cvl_int_scan | cvl_int_scan_on: cvl_sys::CVL_MIN, a.as_ptr(), a.len(), out.as_mut_ptr(), out.len())
 }
 
 /// [`min_suz`] in the place of `a`; a fault leaves it as it was.
@@ -1138,9 +1022,8 @@ pub fn min_suz_into(a: &[i32], out: &mut [i32]) -> Result<(), Fault> {
 /// # Ok::<(), cvl::Fault>(())
 /// ```
 pub fn min_suz_in(a: &mut [i32]) -> Result<(), Fault> {
-    limit(a.len())?;
     let out = a.as_mut_ptr();
-    told(unsafe { symbols::cvl_min_suz(out, out, a.len()) })
+    call!(cvl_int_scan | cvl_int_scan_on: cvl_sys::CVL_MIN, out, a.len(), out, a.len())
 }
 
 /// The n integers, the least of them; 2147483647 where there are none.
@@ -1153,12 +1036,11 @@ pub fn min_suz_in(a: &mut [i32]) -> Result<(), Fault> {
 /// ```
 pub fn min_ruz(a: &[i32]) -> Result<i32, Fault> {
     let mut out = 0;
-    told(unsafe { symbols::cvl_min_ruz(a.as_ptr(), a.len(), &mut out) })?;
+    call!(cvl_int_reduce | cvl_int_reduce_on: cvl_sys::CVL_MIN, a.as_ptr(), a.len(), &mut out)?;
     Ok(out)
 }
 
-/// For each integer those before it, the greatest of them; -2147483648 at place 0. a and out have
-/// n elements.
+/// For each integer those before it, the greatest of them; -2147483648 at place 0. a and out have n elements.
 ///
 /// Faults: 13 TooLong.
 ///
@@ -1175,9 +1057,7 @@ pub fn max_suz(a: &[i32]) -> Result<Vec<i32>, Fault> {
 
 /// [`max_suz`] into a room that is as long as the result; a fault leaves the room as it was.
 pub fn max_suz_into(a: &[i32], out: &mut [i32]) -> Result<(), Fault> {
-    limit(a.len())?;
-    as_long(out, a.len())?;
-    told(unsafe { symbols::cvl_max_suz(a.as_ptr(), out.as_mut_ptr(), a.len()) })
+    call!(cvl_int_scan | cvl_int_scan_on: cvl_sys::CVL_MAX, a.as_ptr(), a.len(), out.as_mut_ptr(), out.len())
 }
 
 /// [`max_suz`] in the place of `a`; a fault leaves it as it was.
@@ -1189,9 +1069,8 @@ pub fn max_suz_into(a: &[i32], out: &mut [i32]) -> Result<(), Fault> {
 /// # Ok::<(), cvl::Fault>(())
 /// ```
 pub fn max_suz_in(a: &mut [i32]) -> Result<(), Fault> {
-    limit(a.len())?;
     let out = a.as_mut_ptr();
-    told(unsafe { symbols::cvl_max_suz(out, out, a.len()) })
+    call!(cvl_int_scan | cvl_int_scan_on: cvl_sys::CVL_MAX, out, a.len(), out, a.len())
 }
 
 /// The n integers, the greatest of them; -2147483648 where there are none.
@@ -1204,7 +1083,7 @@ pub fn max_suz_in(a: &mut [i32]) -> Result<(), Fault> {
 /// ```
 pub fn max_ruz(a: &[i32]) -> Result<i32, Fault> {
     let mut out = 0;
-    told(unsafe { symbols::cvl_max_ruz(a.as_ptr(), a.len(), &mut out) })?;
+    call!(cvl_int_reduce | cvl_int_reduce_on: cvl_sys::CVL_MAX, a.as_ptr(), a.len(), &mut out)?;
     Ok(out)
 }
 
@@ -1225,9 +1104,7 @@ pub fn and_suz(a: &[i32]) -> Result<Vec<i32>, Fault> {
 
 /// [`and_suz`] into a room that is as long as the result; a fault leaves the room as it was.
 pub fn and_suz_into(a: &[i32], out: &mut [i32]) -> Result<(), Fault> {
-    limit(a.len())?;
-    as_long(out, a.len())?;
-    told(unsafe { symbols::cvl_and_suz(a.as_ptr(), out.as_mut_ptr(), a.len()) })
+    call!(cvl_int_scan | cvl_int_scan_on: cvl_sys::CVL_AND, a.as_ptr(), a.len(), out.as_mut_ptr(), out.len())
 }
 
 /// [`and_suz`] in the place of `a`; a fault leaves it as it was.
@@ -1239,9 +1116,8 @@ pub fn and_suz_into(a: &[i32], out: &mut [i32]) -> Result<(), Fault> {
 /// # Ok::<(), cvl::Fault>(())
 /// ```
 pub fn and_suz_in(a: &mut [i32]) -> Result<(), Fault> {
-    limit(a.len())?;
     let out = a.as_mut_ptr();
-    told(unsafe { symbols::cvl_and_suz(out, out, a.len()) })
+    call!(cvl_int_scan | cvl_int_scan_on: cvl_sys::CVL_AND, out, a.len(), out, a.len())
 }
 
 /// The n integers, and, bit by bit; -1 where there are none.
@@ -1254,7 +1130,7 @@ pub fn and_suz_in(a: &mut [i32]) -> Result<(), Fault> {
 /// ```
 pub fn and_ruz(a: &[i32]) -> Result<i32, Fault> {
     let mut out = 0;
-    told(unsafe { symbols::cvl_and_ruz(a.as_ptr(), a.len(), &mut out) })?;
+    call!(cvl_int_reduce | cvl_int_reduce_on: cvl_sys::CVL_AND, a.as_ptr(), a.len(), &mut out)?;
     Ok(out)
 }
 
@@ -1275,9 +1151,7 @@ pub fn ior_suz(a: &[i32]) -> Result<Vec<i32>, Fault> {
 
 /// [`ior_suz`] into a room that is as long as the result; a fault leaves the room as it was.
 pub fn ior_suz_into(a: &[i32], out: &mut [i32]) -> Result<(), Fault> {
-    limit(a.len())?;
-    as_long(out, a.len())?;
-    told(unsafe { symbols::cvl_ior_suz(a.as_ptr(), out.as_mut_ptr(), a.len()) })
+    call!(cvl_int_scan | cvl_int_scan_on: cvl_sys::CVL_IOR, a.as_ptr(), a.len(), out.as_mut_ptr(), out.len())
 }
 
 /// [`ior_suz`] in the place of `a`; a fault leaves it as it was.
@@ -1289,9 +1163,8 @@ pub fn ior_suz_into(a: &[i32], out: &mut [i32]) -> Result<(), Fault> {
 /// # Ok::<(), cvl::Fault>(())
 /// ```
 pub fn ior_suz_in(a: &mut [i32]) -> Result<(), Fault> {
-    limit(a.len())?;
     let out = a.as_mut_ptr();
-    told(unsafe { symbols::cvl_ior_suz(out, out, a.len()) })
+    call!(cvl_int_scan | cvl_int_scan_on: cvl_sys::CVL_IOR, out, a.len(), out, a.len())
 }
 
 /// The n integers, or, bit by bit; 0 where there are none.
@@ -1304,12 +1177,11 @@ pub fn ior_suz_in(a: &mut [i32]) -> Result<(), Fault> {
 /// ```
 pub fn ior_ruz(a: &[i32]) -> Result<i32, Fault> {
     let mut out = 0;
-    told(unsafe { symbols::cvl_ior_ruz(a.as_ptr(), a.len(), &mut out) })?;
+    call!(cvl_int_reduce | cvl_int_reduce_on: cvl_sys::CVL_IOR, a.as_ptr(), a.len(), &mut out)?;
     Ok(out)
 }
 
-/// For each integer those before it, exclusive or, bit by bit; 0 at place 0. a and out have n
-/// elements.
+/// For each integer those before it, exclusive or, bit by bit; 0 at place 0. a and out have n elements.
 ///
 /// Faults: 13 TooLong.
 ///
@@ -1326,9 +1198,7 @@ pub fn xor_suz(a: &[i32]) -> Result<Vec<i32>, Fault> {
 
 /// [`xor_suz`] into a room that is as long as the result; a fault leaves the room as it was.
 pub fn xor_suz_into(a: &[i32], out: &mut [i32]) -> Result<(), Fault> {
-    limit(a.len())?;
-    as_long(out, a.len())?;
-    told(unsafe { symbols::cvl_xor_suz(a.as_ptr(), out.as_mut_ptr(), a.len()) })
+    call!(cvl_int_scan | cvl_int_scan_on: cvl_sys::CVL_XOR, a.as_ptr(), a.len(), out.as_mut_ptr(), out.len())
 }
 
 /// [`xor_suz`] in the place of `a`; a fault leaves it as it was.
@@ -1340,9 +1210,8 @@ pub fn xor_suz_into(a: &[i32], out: &mut [i32]) -> Result<(), Fault> {
 /// # Ok::<(), cvl::Fault>(())
 /// ```
 pub fn xor_suz_in(a: &mut [i32]) -> Result<(), Fault> {
-    limit(a.len())?;
     let out = a.as_mut_ptr();
-    told(unsafe { symbols::cvl_xor_suz(out, out, a.len()) })
+    call!(cvl_int_scan | cvl_int_scan_on: cvl_sys::CVL_XOR, out, a.len(), out, a.len())
 }
 
 /// The n integers, exclusive or, bit by bit; 0 where there are none.
@@ -1355,12 +1224,11 @@ pub fn xor_suz_in(a: &mut [i32]) -> Result<(), Fault> {
 /// ```
 pub fn xor_ruz(a: &[i32]) -> Result<i32, Fault> {
     let mut out = 0;
-    told(unsafe { symbols::cvl_xor_ruz(a.as_ptr(), a.len(), &mut out) })?;
+    call!(cvl_int_reduce | cvl_int_reduce_on: cvl_sys::CVL_XOR, a.as_ptr(), a.len(), &mut out)?;
     Ok(out)
 }
 
-/// For each boolean, of those before it, whether all are true; true at place 0. a and out have n
-/// elements.
+/// For each boolean, of those before it, whether all are true; true at place 0. a and out have n elements.
 ///
 /// Faults: 13 TooLong.
 ///
@@ -1377,9 +1245,7 @@ pub fn and_sub(a: &[bool]) -> Result<Vec<bool>, Fault> {
 
 /// [`and_sub`] into a room that is as long as the result; a fault leaves the room as it was.
 pub fn and_sub_into(a: &[bool], out: &mut [bool]) -> Result<(), Fault> {
-    limit(a.len())?;
-    as_long(out, a.len())?;
-    told(unsafe { symbols::cvl_and_sub(a.as_ptr().cast(), out.as_mut_ptr().cast(), a.len()) })
+    call!(cvl_bool_scan | cvl_bool_scan_on: cvl_sys::CVL_AND, a.as_ptr(), a.len(), out.as_mut_ptr(), out.len())
 }
 
 /// [`and_sub`] in the place of `a`; a fault leaves it as it was.
@@ -1391,9 +1257,8 @@ pub fn and_sub_into(a: &[bool], out: &mut [bool]) -> Result<(), Fault> {
 /// # Ok::<(), cvl::Fault>(())
 /// ```
 pub fn and_sub_in(a: &mut [bool]) -> Result<(), Fault> {
-    limit(a.len())?;
-    let out = a.as_mut_ptr().cast();
-    told(unsafe { symbols::cvl_and_sub(out, out, a.len()) })
+    let out = a.as_mut_ptr();
+    call!(cvl_bool_scan | cvl_bool_scan_on: cvl_sys::CVL_AND, out, a.len(), out, a.len())
 }
 
 /// Of the n booleans, whether all are true; true where there are none.
@@ -1405,13 +1270,12 @@ pub fn and_sub_in(a: &mut [bool]) -> Result<(), Fault> {
 /// # Ok::<(), cvl::Fault>(())
 /// ```
 pub fn and_rub(a: &[bool]) -> Result<bool, Fault> {
-    let mut out = 0u8;
-    told(unsafe { symbols::cvl_and_rub(a.as_ptr().cast(), a.len(), &mut out) })?;
-    Ok(out != 0)
+    let mut out = false;
+    call!(cvl_bool_reduce | cvl_bool_reduce_on: cvl_sys::CVL_AND, a.as_ptr(), a.len(), &mut out)?;
+    Ok(out)
 }
 
-/// For each boolean, of those before it, whether any is true; false at place 0. a and out have n
-/// elements.
+/// For each boolean, of those before it, whether any is true; false at place 0. a and out have n elements.
 ///
 /// Faults: 13 TooLong.
 ///
@@ -1428,9 +1292,7 @@ pub fn ior_sub(a: &[bool]) -> Result<Vec<bool>, Fault> {
 
 /// [`ior_sub`] into a room that is as long as the result; a fault leaves the room as it was.
 pub fn ior_sub_into(a: &[bool], out: &mut [bool]) -> Result<(), Fault> {
-    limit(a.len())?;
-    as_long(out, a.len())?;
-    told(unsafe { symbols::cvl_ior_sub(a.as_ptr().cast(), out.as_mut_ptr().cast(), a.len()) })
+    call!(cvl_bool_scan | cvl_bool_scan_on: cvl_sys::CVL_IOR, a.as_ptr(), a.len(), out.as_mut_ptr(), out.len())
 }
 
 /// [`ior_sub`] in the place of `a`; a fault leaves it as it was.
@@ -1442,9 +1304,8 @@ pub fn ior_sub_into(a: &[bool], out: &mut [bool]) -> Result<(), Fault> {
 /// # Ok::<(), cvl::Fault>(())
 /// ```
 pub fn ior_sub_in(a: &mut [bool]) -> Result<(), Fault> {
-    limit(a.len())?;
-    let out = a.as_mut_ptr().cast();
-    told(unsafe { symbols::cvl_ior_sub(out, out, a.len()) })
+    let out = a.as_mut_ptr();
+    call!(cvl_bool_scan | cvl_bool_scan_on: cvl_sys::CVL_IOR, out, a.len(), out, a.len())
 }
 
 /// Of the n booleans, whether any is true; false where there are none.
@@ -1456,13 +1317,12 @@ pub fn ior_sub_in(a: &mut [bool]) -> Result<(), Fault> {
 /// # Ok::<(), cvl::Fault>(())
 /// ```
 pub fn ior_rub(a: &[bool]) -> Result<bool, Fault> {
-    let mut out = 0u8;
-    told(unsafe { symbols::cvl_ior_rub(a.as_ptr().cast(), a.len(), &mut out) })?;
-    Ok(out != 0)
+    let mut out = false;
+    call!(cvl_bool_reduce | cvl_bool_reduce_on: cvl_sys::CVL_IOR, a.as_ptr(), a.len(), &mut out)?;
+    Ok(out)
 }
 
-/// For each boolean, of those before it, whether an odd number is true; false at place 0. a and
-/// out have n elements.
+/// For each boolean, of those before it, whether an odd number is true; false at place 0. a and out have n elements.
 ///
 /// Faults: 13 TooLong.
 ///
@@ -1479,9 +1339,7 @@ pub fn xor_sub(a: &[bool]) -> Result<Vec<bool>, Fault> {
 
 /// [`xor_sub`] into a room that is as long as the result; a fault leaves the room as it was.
 pub fn xor_sub_into(a: &[bool], out: &mut [bool]) -> Result<(), Fault> {
-    limit(a.len())?;
-    as_long(out, a.len())?;
-    told(unsafe { symbols::cvl_xor_sub(a.as_ptr().cast(), out.as_mut_ptr().cast(), a.len()) })
+    call!(cvl_bool_scan | cvl_bool_scan_on: cvl_sys::CVL_XOR, a.as_ptr(), a.len(), out.as_mut_ptr(), out.len())
 }
 
 /// [`xor_sub`] in the place of `a`; a fault leaves it as it was.
@@ -1493,9 +1351,8 @@ pub fn xor_sub_into(a: &[bool], out: &mut [bool]) -> Result<(), Fault> {
 /// # Ok::<(), cvl::Fault>(())
 /// ```
 pub fn xor_sub_in(a: &mut [bool]) -> Result<(), Fault> {
-    limit(a.len())?;
-    let out = a.as_mut_ptr().cast();
-    told(unsafe { symbols::cvl_xor_sub(out, out, a.len()) })
+    let out = a.as_mut_ptr();
+    call!(cvl_bool_scan | cvl_bool_scan_on: cvl_sys::CVL_XOR, out, a.len(), out, a.len())
 }
 
 /// Of the n booleans, whether an odd number is true; false where there are none.
@@ -1507,9 +1364,9 @@ pub fn xor_sub_in(a: &mut [bool]) -> Result<(), Fault> {
 /// # Ok::<(), cvl::Fault>(())
 /// ```
 pub fn xor_rub(a: &[bool]) -> Result<bool, Fault> {
-    let mut out = 0u8;
-    told(unsafe { symbols::cvl_xor_rub(a.as_ptr().cast(), a.len(), &mut out) })?;
-    Ok(out != 0)
+    let mut out = false;
+    call!(cvl_bool_reduce | cvl_bool_reduce_on: cvl_sys::CVL_XOR, a.as_ptr(), a.len(), &mut out)?;
+    Ok(out)
 }
 
 /// For each integer the sum of those before it. a and out have n elements.
@@ -1529,9 +1386,7 @@ pub fn tot_suz(a: &[i32]) -> Result<Vec<i32>, Fault> {
 
 /// [`tot_suz`] into a room that is as long as the result; a fault leaves the room as it was.
 pub fn tot_suz_into(a: &[i32], out: &mut [i32]) -> Result<(), Fault> {
-    limit(a.len())?;
-    as_long(out, a.len())?;
-    told(unsafe { symbols::cvl_tot_suz(a.as_ptr(), out.as_mut_ptr(), a.len()) })
+    call!(cvl_checked_scan | cvl_checked_scan_on: a.as_ptr(), a.len(), out.as_mut_ptr(), out.len())
 }
 
 /// [`tot_suz`] in the place of `a`; a fault leaves it as it was.
@@ -1543,9 +1398,8 @@ pub fn tot_suz_into(a: &[i32], out: &mut [i32]) -> Result<(), Fault> {
 /// # Ok::<(), cvl::Fault>(())
 /// ```
 pub fn tot_suz_in(a: &mut [i32]) -> Result<(), Fault> {
-    limit(a.len())?;
     let out = a.as_mut_ptr();
-    told(unsafe { symbols::cvl_tot_suz(out, out, a.len()) })
+    call!(cvl_checked_scan | cvl_checked_scan_on: out, a.len(), out, a.len())
 }
 
 /// The sum of the n integers.
@@ -1558,7 +1412,7 @@ pub fn tot_suz_in(a: &mut [i32]) -> Result<(), Fault> {
 /// ```
 pub fn tot_ruz(a: &[i32]) -> Result<i32, Fault> {
     let mut out = 0;
-    told(unsafe { symbols::cvl_tot_ruz(a.as_ptr(), a.len(), &mut out) })?;
+    call!(cvl_checked_reduce | cvl_checked_reduce_on: a.as_ptr(), a.len(), &mut out)?;
     Ok(out)
 }
 
@@ -1572,7 +1426,7 @@ pub fn tot_ruz(a: &[i32]) -> Result<i32, Fault> {
 /// ```
 pub fn cnt_lub(flags: &[bool]) -> Result<i32, Fault> {
     let mut out = 0;
-    told(unsafe { symbols::cvl_cnt_lub(flags.as_ptr().cast(), flags.len(), &mut out) })?;
+    call!(cvl_count | cvl_count_on: flags.as_ptr(), flags.len(), &mut out)?;
     Ok(out)
 }
 
@@ -1586,7 +1440,7 @@ pub fn cnt_lub(flags: &[bool]) -> Result<i32, Fault> {
 /// ```
 pub fn ext_vuz(vector: &[i32], index: i64) -> Result<i32, Fault> {
     let mut out = 0;
-    told(unsafe { symbols::cvl_ext_vuz(vector.as_ptr(), vector.len(), index, &mut out) })?;
+    call!(cvl_extract_int | cvl_extract_int_on: vector.as_ptr(), vector.len(), index, &mut out)?;
     Ok(out)
 }
 
@@ -1599,9 +1453,9 @@ pub fn ext_vuz(vector: &[i32], index: i64) -> Result<i32, Fault> {
 /// # Ok::<(), cvl::Fault>(())
 /// ```
 pub fn ext_vub(vector: &[bool], index: i64) -> Result<bool, Fault> {
-    let mut out = 0u8;
-    told(unsafe { symbols::cvl_ext_vub(vector.as_ptr().cast(), vector.len(), index, &mut out) })?;
-    Ok(out != 0)
+    let mut out = false;
+    call!(cvl_extract_bool | cvl_extract_bool_on: vector.as_ptr(), vector.len(), index, &mut out)?;
+    Ok(out)
 }
 
 /// The vector with the value at the index. vector and out have n elements.
@@ -1620,8 +1474,7 @@ pub fn rep_vuz(vector: &[i32], index: i64, value: i32) -> Result<Vec<i32>, Fault
 
 /// [`rep_vuz`] into a room that is as long as the result; a fault leaves the room as it was.
 pub fn rep_vuz_into(vector: &[i32], index: i64, value: i32, out: &mut [i32]) -> Result<(), Fault> {
-    as_long(out, vector.len())?;
-    told(unsafe { symbols::cvl_rep_vuz(vector.as_ptr(), index, value, out.as_mut_ptr(), vector.len()) })
+    call!(cvl_replace_int | cvl_replace_int_on: vector.as_ptr(), vector.len(), index, value, out.as_mut_ptr(), out.len())
 }
 
 /// The vector with the value at the index. vector and out have n elements.
@@ -1640,14 +1493,13 @@ pub fn rep_vub(vector: &[bool], index: i64, value: bool) -> Result<Vec<bool>, Fa
 
 /// [`rep_vub`] into a room that is as long as the result; a fault leaves the room as it was.
 pub fn rep_vub_into(vector: &[bool], index: i64, value: bool, out: &mut [bool]) -> Result<(), Fault> {
-    as_long(out, vector.len())?;
-    told(unsafe { symbols::cvl_rep_vub(vector.as_ptr().cast(), index, value.into(), out.as_mut_ptr().cast(), vector.len()) })
+    call!(cvl_replace_bool | cvl_replace_bool_on: vector.as_ptr(), vector.len(), index, value, out.as_mut_ptr(),
+        out.len())
 }
 
 /// count copies of the value; out has count elements.
 ///
-/// Faults: 12 NegativeLength, without a place, where count is below 0; 13 TooLong where it is
-/// above 2147483647.
+/// Faults: 12 NegativeLength, without a place, where count is below 0; 13 TooLong where it is above 2147483647.
 ///
 /// ```
 /// assert_eq!(cvl::dis_vuz(7, 3)?, [7, 7, 7]);
@@ -1661,14 +1513,12 @@ pub fn dis_vuz(value: i32, count: i64) -> Result<Vec<i32>, Fault> {
 
 /// [`dis_vuz`] into a room that is as long as the result; a fault leaves the room as it was.
 pub fn dis_vuz_into(value: i32, count: i64, out: &mut [i32]) -> Result<(), Fault> {
-    as_long(out, places(count)?)?;
-    told(unsafe { symbols::cvl_dis_vuz(value, count, out.as_mut_ptr()) })
+    call!(cvl_distribute_int | cvl_distribute_int_on: value, count, out.as_mut_ptr(), out.len())
 }
 
 /// count copies of the value; out has count elements.
 ///
-/// Faults: 12 NegativeLength, without a place, where count is below 0; 13 TooLong where it is
-/// above 2147483647.
+/// Faults: 12 NegativeLength, without a place, where count is below 0; 13 TooLong where it is above 2147483647.
 ///
 /// ```
 /// assert_eq!(cvl::dis_vub(true, 2)?, [true, true]);
@@ -1682,14 +1532,12 @@ pub fn dis_vub(value: bool, count: i64) -> Result<Vec<bool>, Fault> {
 
 /// [`dis_vub`] into a room that is as long as the result; a fault leaves the room as it was.
 pub fn dis_vub_into(value: bool, count: i64, out: &mut [bool]) -> Result<(), Fault> {
-    as_long(out, places(count)?)?;
-    told(unsafe { symbols::cvl_dis_vub(value.into(), count, out.as_mut_ptr().cast()) })
+    call!(cvl_distribute_bool | cvl_distribute_bool_on: value, count, out.as_mut_ptr(), out.len())
 }
 
 /// The numbers init + k * stride, wrapped, for k from 0 to count - 1; out has count elements.
 ///
-/// Faults: 12 NegativeLength, without a place, where count is below 0; 13 TooLong where it is
-/// above 2147483647.
+/// Faults: 12 NegativeLength, without a place, where count is below 0; 13 TooLong where it is above 2147483647.
 ///
 /// ```
 /// assert_eq!(cvl::ind_luz(10, -2, 3)?, [10, 8, 6]);
@@ -1703,8 +1551,7 @@ pub fn ind_luz(init: i32, stride: i32, count: i64) -> Result<Vec<i32>, Fault> {
 
 /// [`ind_luz`] into a room that is as long as the result; a fault leaves the room as it was.
 pub fn ind_luz_into(init: i32, stride: i32, count: i64, out: &mut [i32]) -> Result<(), Fault> {
-    as_long(out, places(count)?)?;
-    told(unsafe { symbols::cvl_ind_luz(init, stride, count, out.as_mut_ptr()) })
+    call!(cvl_index | cvl_index_on: init, stride, count, out.as_mut_ptr(), out.len())
 }
 
 /// Whether the numbers are the lengths of segments, and how many elements these have in all.
@@ -1719,8 +1566,8 @@ pub fn mke_fov(lengths: &[i32]) -> Result<Segments, Fault> {
 
 /// For each integer the sum of those before it in its segment. a and out have n elements.
 ///
-/// Faults: 7 LengthMismatch where the lengths do not add up to n; 18 Overflow at the first place
-/// whose sum does not fit 32 bits.
+/// Faults: 7 LengthMismatch where the lengths do not add up to n; 18 Overflow at the first place whose sum does not fit 32
+/// bits.
 ///
 /// ```
 /// let segments = cvl::Segments::new(&[2, 0, 3])?;
@@ -1736,9 +1583,8 @@ pub fn tot_sez(a: &[i32], segments: &Segments) -> Result<Vec<i32>, Fault> {
 
 /// [`tot_sez`] into a room that is as long as the result; a fault leaves the room as it was.
 pub fn tot_sez_into(a: &[i32], segments: &Segments, out: &mut [i32]) -> Result<(), Fault> {
-    same(&[a.len(), segments.total()])?;
-    as_long(out, a.len())?;
-    told(unsafe { symbols::cvl_tot_sez(a.as_ptr(), segments.given(), out.as_mut_ptr(), a.len()) })
+    call!(cvl_seg_checked_scan | cvl_seg_checked_scan_on: a.as_ptr(), a.len(), segments.given(), out.as_mut_ptr(),
+        out.len())
 }
 
 /// [`tot_sez`] in the place of `a`; a fault leaves it as it was.
@@ -1751,15 +1597,14 @@ pub fn tot_sez_into(a: &[i32], segments: &Segments, out: &mut [i32]) -> Result<(
 /// # Ok::<(), cvl::Fault>(())
 /// ```
 pub fn tot_sez_in(a: &mut [i32], segments: &Segments) -> Result<(), Fault> {
-    same(&[a.len(), segments.total()])?;
     let out = a.as_mut_ptr();
-    told(unsafe { symbols::cvl_tot_sez(out, segments.given(), out, a.len()) })
+    call!(cvl_seg_checked_scan | cvl_seg_checked_scan_on: out, a.len(), segments.given(), out, a.len())
 }
 
 /// The sum of each segment. a has n elements, out one for each segment.
 ///
-/// Faults: 7 LengthMismatch where the lengths do not add up to n; 18 Overflow at the first
-/// segment whose sum does not fit 32 bits.
+/// Faults: 7 LengthMismatch where the lengths do not add up to n; 18 Overflow at the first segment whose sum does not fit 32
+/// bits.
 ///
 /// ```
 /// let segments = cvl::Segments::new(&[2, 0, 3])?;
@@ -1775,16 +1620,14 @@ pub fn tot_rez(a: &[i32], segments: &Segments) -> Result<Vec<i32>, Fault> {
 
 /// [`tot_rez`] into a room that is as long as the result; a fault leaves the room as it was.
 pub fn tot_rez_into(a: &[i32], segments: &Segments, out: &mut [i32]) -> Result<(), Fault> {
-    same(&[a.len(), segments.total()])?;
-    as_long(out, segments.len())?;
-    told(unsafe { symbols::cvl_tot_rez(a.as_ptr(), a.len(), segments.given(), out.as_mut_ptr()) })
+    call!(cvl_seg_checked_reduce | cvl_seg_checked_reduce_on: a.as_ptr(), a.len(), segments.given(), out.as_mut_ptr(),
+        out.len())
 }
 
-/// The element of each segment at its index, which counts from the segment's start. The vector
-/// has n elements, index and out one for each segment.
+/// The element of each segment at its index, which counts from the segment's start. The vector has n elements, index and out
+/// one for each segment.
 ///
-/// Faults: 7 LengthMismatch where the lengths do not add up to n; 10 IndexOutOfRange at the
-/// segment.
+/// Faults: 7 LengthMismatch where the lengths do not add up to n; 10 IndexOutOfRange at the segment.
 ///
 /// ```
 /// let segments = cvl::Segments::new(&[2, 3])?;
@@ -1801,17 +1644,14 @@ pub fn ext_vez(vector: &[i32], index: &[i32], segments: &Segments) -> Result<Vec
 
 /// [`ext_vez`] into a room that is as long as the result; a fault leaves the room as it was.
 pub fn ext_vez_into(vector: &[i32], index: &[i32], segments: &Segments, out: &mut [i32]) -> Result<(), Fault> {
-    same(&[vector.len(), segments.total()])?;
-    same(&[index.len(), segments.len()])?;
-    as_long(out, index.len())?;
-    told(unsafe { symbols::cvl_ext_vez(vector.as_ptr(), vector.len(), index.as_ptr(), segments.given(), out.as_mut_ptr()) })
+    call!(cvl_seg_extract_int | cvl_seg_extract_int_on: vector.as_ptr(), vector.len(), index.as_ptr(), index.len(),
+        segments.given(), out.as_mut_ptr(), out.len())
 }
 
-/// The element of each segment at its index, which counts from the segment's start. The vector
-/// has n elements, index and out one for each segment.
+/// The element of each segment at its index, which counts from the segment's start. The vector has n elements, index and out
+/// one for each segment.
 ///
-/// Faults: 7 LengthMismatch where the lengths do not add up to n; 10 IndexOutOfRange at the
-/// segment.
+/// Faults: 7 LengthMismatch where the lengths do not add up to n; 10 IndexOutOfRange at the segment.
 ///
 /// ```
 /// let segments = cvl::Segments::new(&[1, 2])?;
@@ -1828,17 +1668,14 @@ pub fn ext_veb(vector: &[bool], index: &[i32], segments: &Segments) -> Result<Ve
 
 /// [`ext_veb`] into a room that is as long as the result; a fault leaves the room as it was.
 pub fn ext_veb_into(vector: &[bool], index: &[i32], segments: &Segments, out: &mut [bool]) -> Result<(), Fault> {
-    same(&[vector.len(), segments.total()])?;
-    same(&[index.len(), segments.len()])?;
-    as_long(out, index.len())?;
-    told(unsafe { symbols::cvl_ext_veb(vector.as_ptr().cast(), vector.len(), index.as_ptr(), segments.given(), out.as_mut_ptr().cast()) })
+    call!(cvl_seg_extract_bool | cvl_seg_extract_bool_on: vector.as_ptr(), vector.len(), index.as_ptr(), index.len(),
+        segments.given(), out.as_mut_ptr(), out.len())
 }
 
-/// The vector with the value of each segment at its index, which counts from the segment's start.
-/// vector and out have n elements, index and values one for each segment.
+/// The vector with the value of each segment at its index, which counts from the segment's start. vector and out have n
+/// elements, index and values one for each segment.
 ///
-/// Faults: 7 LengthMismatch where the lengths do not add up to n; 10 IndexOutOfRange at the
-/// segment.
+/// Faults: 7 LengthMismatch where the lengths do not add up to n; 10 IndexOutOfRange at the segment.
 ///
 /// ```
 /// let segments = cvl::Segments::new(&[2, 3])?;
@@ -1854,18 +1691,17 @@ pub fn rep_vez(vector: &[i32], index: &[i32], values: &[i32], segments: &Segment
 }
 
 /// [`rep_vez`] into a room that is as long as the result; a fault leaves the room as it was.
-pub fn rep_vez_into(vector: &[i32], index: &[i32], values: &[i32], segments: &Segments, out: &mut [i32]) -> Result<(), Fault> {
-    same(&[vector.len(), segments.total()])?;
-    same(&[index.len(), values.len(), segments.len()])?;
-    as_long(out, vector.len())?;
-    told(unsafe { symbols::cvl_rep_vez(vector.as_ptr(), index.as_ptr(), values.as_ptr(), segments.given(), out.as_mut_ptr(), vector.len()) })
+pub fn rep_vez_into(
+    vector: &[i32], index: &[i32], values: &[i32], segments: &Segments, out: &mut [i32],
+) -> Result<(), Fault> {
+    call!(cvl_seg_replace_int | cvl_seg_replace_int_on: vector.as_ptr(), vector.len(), index.as_ptr(), index.len(),
+        values.as_ptr(), values.len(), segments.given(), out.as_mut_ptr(), out.len())
 }
 
-/// The vector with the value of each segment at its index, which counts from the segment's start.
-/// vector and out have n elements, index and values one for each segment.
+/// The vector with the value of each segment at its index, which counts from the segment's start. vector and out have n
+/// elements, index and values one for each segment.
 ///
-/// Faults: 7 LengthMismatch where the lengths do not add up to n; 10 IndexOutOfRange at the
-/// segment.
+/// Faults: 7 LengthMismatch where the lengths do not add up to n; 10 IndexOutOfRange at the segment.
 ///
 /// ```
 /// let segments = cvl::Segments::new(&[1, 2])?;
@@ -1881,15 +1717,15 @@ pub fn rep_veb(vector: &[bool], index: &[i32], values: &[bool], segments: &Segme
 }
 
 /// [`rep_veb`] into a room that is as long as the result; a fault leaves the room as it was.
-pub fn rep_veb_into(vector: &[bool], index: &[i32], values: &[bool], segments: &Segments, out: &mut [bool]) -> Result<(), Fault> {
-    same(&[vector.len(), segments.total()])?;
-    same(&[index.len(), values.len(), segments.len()])?;
-    as_long(out, vector.len())?;
-    told(unsafe { symbols::cvl_rep_veb(vector.as_ptr().cast(), index.as_ptr(), values.as_ptr().cast(), segments.given(), out.as_mut_ptr().cast(), vector.len()) })
+pub fn rep_veb_into(
+    vector: &[bool], index: &[i32], values: &[bool], segments: &Segments, out: &mut [bool],
+) -> Result<(), Fault> {
+    call!(cvl_seg_replace_bool | cvl_seg_replace_bool_on: vector.as_ptr(), vector.len(), index.as_ptr(), index.len(),
+        values.as_ptr(), values.len(), segments.given(), out.as_mut_ptr(), out.len())
 }
 
-/// Copies of each value, as many as its segment has places. There is one value for each segment;
-/// out has n elements, the total of the lengths, else 7 LengthMismatch.
+/// Copies of each value, as many as its segment has places. There is one value for each segment; out has n elements, the
+/// total of the lengths, else 7 LengthMismatch.
 ///
 /// ```
 /// let segments = cvl::Segments::new(&[2, 0, 3])?;
@@ -1905,12 +1741,12 @@ pub fn dis_vez(values: &[i32], segments: &Segments) -> Result<Vec<i32>, Fault> {
 
 /// [`dis_vez`] into a room that is as long as the result; a fault leaves the room as it was.
 pub fn dis_vez_into(values: &[i32], segments: &Segments, out: &mut [i32]) -> Result<(), Fault> {
-    same(&[values.len(), segments.len()])?;
-    told(unsafe { symbols::cvl_dis_vez(values.as_ptr(), segments.given(), out.as_mut_ptr(), out.len()) })
+    call!(cvl_seg_distribute_int | cvl_seg_distribute_int_on: values.as_ptr(), values.len(), segments.given(),
+        out.as_mut_ptr(), out.len())
 }
 
-/// Copies of each value, as many as its segment has places. There is one value for each segment;
-/// out has n elements, the total of the lengths, else 7 LengthMismatch.
+/// Copies of each value, as many as its segment has places. There is one value for each segment; out has n elements, the
+/// total of the lengths, else 7 LengthMismatch.
 ///
 /// ```
 /// let segments = cvl::Segments::new(&[1, 2])?;
@@ -1926,13 +1762,12 @@ pub fn dis_veb(values: &[bool], segments: &Segments) -> Result<Vec<bool>, Fault>
 
 /// [`dis_veb`] into a room that is as long as the result; a fault leaves the room as it was.
 pub fn dis_veb_into(values: &[bool], segments: &Segments, out: &mut [bool]) -> Result<(), Fault> {
-    same(&[values.len(), segments.len()])?;
-    told(unsafe { symbols::cvl_dis_veb(values.as_ptr().cast(), segments.given(), out.as_mut_ptr().cast(), out.len()) })
+    call!(cvl_seg_distribute_bool | cvl_seg_distribute_bool_on: values.as_ptr(), values.len(), segments.given(),
+        out.as_mut_ptr(), out.len())
 }
 
-/// The numbers of each segment from its init on, in steps of its stride, wrapped. There are one
-/// init and one stride for each segment; out has n elements, the total of the lengths, else 7
-/// LengthMismatch.
+/// The numbers of each segment from its init on, in steps of its stride, wrapped. There are one init and one stride for each
+/// segment; out has n elements, the total of the lengths, else 7 LengthMismatch.
 ///
 /// ```
 /// let segments = cvl::Segments::new(&[2, 0, 3])?;
@@ -1948,12 +1783,11 @@ pub fn ind_lez(inits: &[i32], strides: &[i32], segments: &Segments) -> Result<Ve
 
 /// [`ind_lez`] into a room that is as long as the result; a fault leaves the room as it was.
 pub fn ind_lez_into(inits: &[i32], strides: &[i32], segments: &Segments, out: &mut [i32]) -> Result<(), Fault> {
-    same(&[inits.len(), strides.len(), segments.len()])?;
-    told(unsafe { symbols::cvl_ind_lez(inits.as_ptr(), strides.as_ptr(), segments.given(), out.as_mut_ptr(), out.len()) })
+    call!(cvl_seg_index | cvl_seg_index_on: inits.as_ptr(), inits.len(), strides.as_ptr(), strides.len(),
+        segments.given(), out.as_mut_ptr(), out.len())
 }
 
-/// For each integer those before it in its segment, summed, wrapped; 0 where a segment starts. a
-/// and out have n elements.
+/// For each integer those before it in its segment, summed, wrapped; 0 where a segment starts. a and out have n elements.
 ///
 /// Faults: 7 LengthMismatch where the lengths do not add up to n.
 ///
@@ -1971,9 +1805,8 @@ pub fn add_sez(a: &[i32], segments: &Segments) -> Result<Vec<i32>, Fault> {
 
 /// [`add_sez`] into a room that is as long as the result; a fault leaves the room as it was.
 pub fn add_sez_into(a: &[i32], segments: &Segments, out: &mut [i32]) -> Result<(), Fault> {
-    same(&[a.len(), segments.total()])?;
-    as_long(out, a.len())?;
-    told(unsafe { symbols::cvl_add_sez(a.as_ptr(), segments.given(), out.as_mut_ptr(), a.len()) })
+    call!(cvl_seg_int_scan | cvl_seg_int_scan_on: cvl_sys::CVL_ADD, a.as_ptr(), a.len(), segments.given(),
+        out.as_mut_ptr(), out.len())
 }
 
 /// [`add_sez`] in the place of `a`; a fault leaves it as it was.
@@ -1986,13 +1819,11 @@ pub fn add_sez_into(a: &[i32], segments: &Segments, out: &mut [i32]) -> Result<(
 /// # Ok::<(), cvl::Fault>(())
 /// ```
 pub fn add_sez_in(a: &mut [i32], segments: &Segments) -> Result<(), Fault> {
-    same(&[a.len(), segments.total()])?;
     let out = a.as_mut_ptr();
-    told(unsafe { symbols::cvl_add_sez(out, segments.given(), out, a.len()) })
+    call!(cvl_seg_int_scan | cvl_seg_int_scan_on: cvl_sys::CVL_ADD, out, a.len(), segments.given(), out, a.len())
 }
 
-/// The integers of each segment, summed, wrapped; 0 where it is empty. a has n elements, out one
-/// for each segment.
+/// The integers of each segment, summed, wrapped; 0 where it is empty. a has n elements, out one for each segment.
 ///
 /// Faults: 7 LengthMismatch where the lengths do not add up to n.
 ///
@@ -2010,13 +1841,11 @@ pub fn add_rez(a: &[i32], segments: &Segments) -> Result<Vec<i32>, Fault> {
 
 /// [`add_rez`] into a room that is as long as the result; a fault leaves the room as it was.
 pub fn add_rez_into(a: &[i32], segments: &Segments, out: &mut [i32]) -> Result<(), Fault> {
-    same(&[a.len(), segments.total()])?;
-    as_long(out, segments.len())?;
-    told(unsafe { symbols::cvl_add_rez(a.as_ptr(), a.len(), segments.given(), out.as_mut_ptr()) })
+    call!(cvl_seg_int_reduce | cvl_seg_int_reduce_on: cvl_sys::CVL_ADD, a.as_ptr(), a.len(), segments.given(),
+        out.as_mut_ptr(), out.len())
 }
 
-/// For each integer those before it in its segment, multiplied, wrapped; 1 where a segment
-/// starts. a and out have n elements.
+/// For each integer those before it in its segment, multiplied, wrapped; 1 where a segment starts. a and out have n elements.
 ///
 /// Faults: 7 LengthMismatch where the lengths do not add up to n.
 ///
@@ -2034,9 +1863,8 @@ pub fn mul_sez(a: &[i32], segments: &Segments) -> Result<Vec<i32>, Fault> {
 
 /// [`mul_sez`] into a room that is as long as the result; a fault leaves the room as it was.
 pub fn mul_sez_into(a: &[i32], segments: &Segments, out: &mut [i32]) -> Result<(), Fault> {
-    same(&[a.len(), segments.total()])?;
-    as_long(out, a.len())?;
-    told(unsafe { symbols::cvl_mul_sez(a.as_ptr(), segments.given(), out.as_mut_ptr(), a.len()) })
+    call!(cvl_seg_int_scan | cvl_seg_int_scan_on: cvl_sys::CVL_MUL, a.as_ptr(), a.len(), segments.given(),
+        out.as_mut_ptr(), out.len())
 }
 
 /// [`mul_sez`] in the place of `a`; a fault leaves it as it was.
@@ -2049,13 +1877,11 @@ pub fn mul_sez_into(a: &[i32], segments: &Segments, out: &mut [i32]) -> Result<(
 /// # Ok::<(), cvl::Fault>(())
 /// ```
 pub fn mul_sez_in(a: &mut [i32], segments: &Segments) -> Result<(), Fault> {
-    same(&[a.len(), segments.total()])?;
     let out = a.as_mut_ptr();
-    told(unsafe { symbols::cvl_mul_sez(out, segments.given(), out, a.len()) })
+    call!(cvl_seg_int_scan | cvl_seg_int_scan_on: cvl_sys::CVL_MUL, out, a.len(), segments.given(), out, a.len())
 }
 
-/// The integers of each segment, multiplied, wrapped; 1 where it is empty. a has n elements, out
-/// one for each segment.
+/// The integers of each segment, multiplied, wrapped; 1 where it is empty. a has n elements, out one for each segment.
 ///
 /// Faults: 7 LengthMismatch where the lengths do not add up to n.
 ///
@@ -2073,13 +1899,12 @@ pub fn mul_rez(a: &[i32], segments: &Segments) -> Result<Vec<i32>, Fault> {
 
 /// [`mul_rez`] into a room that is as long as the result; a fault leaves the room as it was.
 pub fn mul_rez_into(a: &[i32], segments: &Segments, out: &mut [i32]) -> Result<(), Fault> {
-    same(&[a.len(), segments.total()])?;
-    as_long(out, segments.len())?;
-    told(unsafe { symbols::cvl_mul_rez(a.as_ptr(), a.len(), segments.given(), out.as_mut_ptr()) })
+    call!(cvl_seg_int_reduce | cvl_seg_int_reduce_on: cvl_sys::CVL_MUL, a.as_ptr(), a.len(), segments.given(),
+        out.as_mut_ptr(), out.len())
 }
 
-/// For each integer those before it in its segment, the least of them; 2147483647 where a segment
-/// starts. a and out have n elements.
+/// For each integer those before it in its segment, the least of them; 2147483647 where a segment starts. a and out have n
+/// elements.
 ///
 /// Faults: 7 LengthMismatch where the lengths do not add up to n.
 ///
@@ -2097,9 +1922,8 @@ pub fn min_sez(a: &[i32], segments: &Segments) -> Result<Vec<i32>, Fault> {
 
 /// [`min_sez`] into a room that is as long as the result; a fault leaves the room as it was.
 pub fn min_sez_into(a: &[i32], segments: &Segments, out: &mut [i32]) -> Result<(), Fault> {
-    same(&[a.len(), segments.total()])?;
-    as_long(out, a.len())?;
-    told(unsafe { symbols::cvl_min_sez(a.as_ptr(), segments.given(), out.as_mut_ptr(), a.len()) })
+    call!(cvl_seg_int_scan | cvl_seg_int_scan_on: cvl_sys::CVL_MIN, a.as_ptr(), a.len(), segments.given(),
+        out.as_mut_ptr(), out.len())
 }
 
 /// [`min_sez`] in the place of `a`; a fault leaves it as it was.
@@ -2112,13 +1936,11 @@ pub fn min_sez_into(a: &[i32], segments: &Segments, out: &mut [i32]) -> Result<(
 /// # Ok::<(), cvl::Fault>(())
 /// ```
 pub fn min_sez_in(a: &mut [i32], segments: &Segments) -> Result<(), Fault> {
-    same(&[a.len(), segments.total()])?;
     let out = a.as_mut_ptr();
-    told(unsafe { symbols::cvl_min_sez(out, segments.given(), out, a.len()) })
+    call!(cvl_seg_int_scan | cvl_seg_int_scan_on: cvl_sys::CVL_MIN, out, a.len(), segments.given(), out, a.len())
 }
 
-/// The integers of each segment, the least of them; 2147483647 where it is empty. a has n
-/// elements, out one for each segment.
+/// The integers of each segment, the least of them; 2147483647 where it is empty. a has n elements, out one for each segment.
 ///
 /// Faults: 7 LengthMismatch where the lengths do not add up to n.
 ///
@@ -2136,13 +1958,12 @@ pub fn min_rez(a: &[i32], segments: &Segments) -> Result<Vec<i32>, Fault> {
 
 /// [`min_rez`] into a room that is as long as the result; a fault leaves the room as it was.
 pub fn min_rez_into(a: &[i32], segments: &Segments, out: &mut [i32]) -> Result<(), Fault> {
-    same(&[a.len(), segments.total()])?;
-    as_long(out, segments.len())?;
-    told(unsafe { symbols::cvl_min_rez(a.as_ptr(), a.len(), segments.given(), out.as_mut_ptr()) })
+    call!(cvl_seg_int_reduce | cvl_seg_int_reduce_on: cvl_sys::CVL_MIN, a.as_ptr(), a.len(), segments.given(),
+        out.as_mut_ptr(), out.len())
 }
 
-/// For each integer those before it in its segment, the greatest of them; -2147483648 where a
-/// segment starts. a and out have n elements.
+/// For each integer those before it in its segment, the greatest of them; -2147483648 where a segment starts. a and out have
+/// n elements.
 ///
 /// Faults: 7 LengthMismatch where the lengths do not add up to n.
 ///
@@ -2160,9 +1981,8 @@ pub fn max_sez(a: &[i32], segments: &Segments) -> Result<Vec<i32>, Fault> {
 
 /// [`max_sez`] into a room that is as long as the result; a fault leaves the room as it was.
 pub fn max_sez_into(a: &[i32], segments: &Segments, out: &mut [i32]) -> Result<(), Fault> {
-    same(&[a.len(), segments.total()])?;
-    as_long(out, a.len())?;
-    told(unsafe { symbols::cvl_max_sez(a.as_ptr(), segments.given(), out.as_mut_ptr(), a.len()) })
+    call!(cvl_seg_int_scan | cvl_seg_int_scan_on: cvl_sys::CVL_MAX, a.as_ptr(), a.len(), segments.given(),
+        out.as_mut_ptr(), out.len())
 }
 
 /// [`max_sez`] in the place of `a`; a fault leaves it as it was.
@@ -2175,13 +1995,12 @@ pub fn max_sez_into(a: &[i32], segments: &Segments, out: &mut [i32]) -> Result<(
 /// # Ok::<(), cvl::Fault>(())
 /// ```
 pub fn max_sez_in(a: &mut [i32], segments: &Segments) -> Result<(), Fault> {
-    same(&[a.len(), segments.total()])?;
     let out = a.as_mut_ptr();
-    told(unsafe { symbols::cvl_max_sez(out, segments.given(), out, a.len()) })
+    call!(cvl_seg_int_scan | cvl_seg_int_scan_on: cvl_sys::CVL_MAX, out, a.len(), segments.given(), out, a.len())
 }
 
-/// The integers of each segment, the greatest of them; -2147483648 where it is empty. a has n
-/// elements, out one for each segment.
+/// The integers of each segment, the greatest of them; -2147483648 where it is empty. a has n elements, out one for each
+/// segment.
 ///
 /// Faults: 7 LengthMismatch where the lengths do not add up to n.
 ///
@@ -2199,13 +2018,11 @@ pub fn max_rez(a: &[i32], segments: &Segments) -> Result<Vec<i32>, Fault> {
 
 /// [`max_rez`] into a room that is as long as the result; a fault leaves the room as it was.
 pub fn max_rez_into(a: &[i32], segments: &Segments, out: &mut [i32]) -> Result<(), Fault> {
-    same(&[a.len(), segments.total()])?;
-    as_long(out, segments.len())?;
-    told(unsafe { symbols::cvl_max_rez(a.as_ptr(), a.len(), segments.given(), out.as_mut_ptr()) })
+    call!(cvl_seg_int_reduce | cvl_seg_int_reduce_on: cvl_sys::CVL_MAX, a.as_ptr(), a.len(), segments.given(),
+        out.as_mut_ptr(), out.len())
 }
 
-/// For each integer those before it in its segment, and, bit by bit; -1 where a segment starts. a
-/// and out have n elements.
+/// For each integer those before it in its segment, and, bit by bit; -1 where a segment starts. a and out have n elements.
 ///
 /// Faults: 7 LengthMismatch where the lengths do not add up to n.
 ///
@@ -2223,9 +2040,8 @@ pub fn and_sez(a: &[i32], segments: &Segments) -> Result<Vec<i32>, Fault> {
 
 /// [`and_sez`] into a room that is as long as the result; a fault leaves the room as it was.
 pub fn and_sez_into(a: &[i32], segments: &Segments, out: &mut [i32]) -> Result<(), Fault> {
-    same(&[a.len(), segments.total()])?;
-    as_long(out, a.len())?;
-    told(unsafe { symbols::cvl_and_sez(a.as_ptr(), segments.given(), out.as_mut_ptr(), a.len()) })
+    call!(cvl_seg_int_scan | cvl_seg_int_scan_on: cvl_sys::CVL_AND, a.as_ptr(), a.len(), segments.given(),
+        out.as_mut_ptr(), out.len())
 }
 
 /// [`and_sez`] in the place of `a`; a fault leaves it as it was.
@@ -2238,13 +2054,11 @@ pub fn and_sez_into(a: &[i32], segments: &Segments, out: &mut [i32]) -> Result<(
 /// # Ok::<(), cvl::Fault>(())
 /// ```
 pub fn and_sez_in(a: &mut [i32], segments: &Segments) -> Result<(), Fault> {
-    same(&[a.len(), segments.total()])?;
     let out = a.as_mut_ptr();
-    told(unsafe { symbols::cvl_and_sez(out, segments.given(), out, a.len()) })
+    call!(cvl_seg_int_scan | cvl_seg_int_scan_on: cvl_sys::CVL_AND, out, a.len(), segments.given(), out, a.len())
 }
 
-/// The integers of each segment, and, bit by bit; -1 where it is empty. a has n elements, out one
-/// for each segment.
+/// The integers of each segment, and, bit by bit; -1 where it is empty. a has n elements, out one for each segment.
 ///
 /// Faults: 7 LengthMismatch where the lengths do not add up to n.
 ///
@@ -2262,13 +2076,11 @@ pub fn and_rez(a: &[i32], segments: &Segments) -> Result<Vec<i32>, Fault> {
 
 /// [`and_rez`] into a room that is as long as the result; a fault leaves the room as it was.
 pub fn and_rez_into(a: &[i32], segments: &Segments, out: &mut [i32]) -> Result<(), Fault> {
-    same(&[a.len(), segments.total()])?;
-    as_long(out, segments.len())?;
-    told(unsafe { symbols::cvl_and_rez(a.as_ptr(), a.len(), segments.given(), out.as_mut_ptr()) })
+    call!(cvl_seg_int_reduce | cvl_seg_int_reduce_on: cvl_sys::CVL_AND, a.as_ptr(), a.len(), segments.given(),
+        out.as_mut_ptr(), out.len())
 }
 
-/// For each integer those before it in its segment, or, bit by bit; 0 where a segment starts. a
-/// and out have n elements.
+/// For each integer those before it in its segment, or, bit by bit; 0 where a segment starts. a and out have n elements.
 ///
 /// Faults: 7 LengthMismatch where the lengths do not add up to n.
 ///
@@ -2286,9 +2098,8 @@ pub fn ior_sez(a: &[i32], segments: &Segments) -> Result<Vec<i32>, Fault> {
 
 /// [`ior_sez`] into a room that is as long as the result; a fault leaves the room as it was.
 pub fn ior_sez_into(a: &[i32], segments: &Segments, out: &mut [i32]) -> Result<(), Fault> {
-    same(&[a.len(), segments.total()])?;
-    as_long(out, a.len())?;
-    told(unsafe { symbols::cvl_ior_sez(a.as_ptr(), segments.given(), out.as_mut_ptr(), a.len()) })
+    call!(cvl_seg_int_scan | cvl_seg_int_scan_on: cvl_sys::CVL_IOR, a.as_ptr(), a.len(), segments.given(),
+        out.as_mut_ptr(), out.len())
 }
 
 /// [`ior_sez`] in the place of `a`; a fault leaves it as it was.
@@ -2301,13 +2112,11 @@ pub fn ior_sez_into(a: &[i32], segments: &Segments, out: &mut [i32]) -> Result<(
 /// # Ok::<(), cvl::Fault>(())
 /// ```
 pub fn ior_sez_in(a: &mut [i32], segments: &Segments) -> Result<(), Fault> {
-    same(&[a.len(), segments.total()])?;
     let out = a.as_mut_ptr();
-    told(unsafe { symbols::cvl_ior_sez(out, segments.given(), out, a.len()) })
+    call!(cvl_seg_int_scan | cvl_seg_int_scan_on: cvl_sys::CVL_IOR, out, a.len(), segments.given(), out, a.len())
 }
 
-/// The integers of each segment, or, bit by bit; 0 where it is empty. a has n elements, out one
-/// for each segment.
+/// The integers of each segment, or, bit by bit; 0 where it is empty. a has n elements, out one for each segment.
 ///
 /// Faults: 7 LengthMismatch where the lengths do not add up to n.
 ///
@@ -2325,13 +2134,12 @@ pub fn ior_rez(a: &[i32], segments: &Segments) -> Result<Vec<i32>, Fault> {
 
 /// [`ior_rez`] into a room that is as long as the result; a fault leaves the room as it was.
 pub fn ior_rez_into(a: &[i32], segments: &Segments, out: &mut [i32]) -> Result<(), Fault> {
-    same(&[a.len(), segments.total()])?;
-    as_long(out, segments.len())?;
-    told(unsafe { symbols::cvl_ior_rez(a.as_ptr(), a.len(), segments.given(), out.as_mut_ptr()) })
+    call!(cvl_seg_int_reduce | cvl_seg_int_reduce_on: cvl_sys::CVL_IOR, a.as_ptr(), a.len(), segments.given(),
+        out.as_mut_ptr(), out.len())
 }
 
-/// For each integer those before it in its segment, exclusive or, bit by bit; 0 where a segment
-/// starts. a and out have n elements.
+/// For each integer those before it in its segment, exclusive or, bit by bit; 0 where a segment starts. a and out have n
+/// elements.
 ///
 /// Faults: 7 LengthMismatch where the lengths do not add up to n.
 ///
@@ -2349,9 +2157,8 @@ pub fn xor_sez(a: &[i32], segments: &Segments) -> Result<Vec<i32>, Fault> {
 
 /// [`xor_sez`] into a room that is as long as the result; a fault leaves the room as it was.
 pub fn xor_sez_into(a: &[i32], segments: &Segments, out: &mut [i32]) -> Result<(), Fault> {
-    same(&[a.len(), segments.total()])?;
-    as_long(out, a.len())?;
-    told(unsafe { symbols::cvl_xor_sez(a.as_ptr(), segments.given(), out.as_mut_ptr(), a.len()) })
+    call!(cvl_seg_int_scan | cvl_seg_int_scan_on: cvl_sys::CVL_XOR, a.as_ptr(), a.len(), segments.given(),
+        out.as_mut_ptr(), out.len())
 }
 
 /// [`xor_sez`] in the place of `a`; a fault leaves it as it was.
@@ -2364,13 +2171,11 @@ pub fn xor_sez_into(a: &[i32], segments: &Segments, out: &mut [i32]) -> Result<(
 /// # Ok::<(), cvl::Fault>(())
 /// ```
 pub fn xor_sez_in(a: &mut [i32], segments: &Segments) -> Result<(), Fault> {
-    same(&[a.len(), segments.total()])?;
     let out = a.as_mut_ptr();
-    told(unsafe { symbols::cvl_xor_sez(out, segments.given(), out, a.len()) })
+    call!(cvl_seg_int_scan | cvl_seg_int_scan_on: cvl_sys::CVL_XOR, out, a.len(), segments.given(), out, a.len())
 }
 
-/// The integers of each segment, exclusive or, bit by bit; 0 where it is empty. a has n elements,
-/// out one for each segment.
+/// The integers of each segment, exclusive or, bit by bit; 0 where it is empty. a has n elements, out one for each segment.
 ///
 /// Faults: 7 LengthMismatch where the lengths do not add up to n.
 ///
@@ -2388,13 +2193,12 @@ pub fn xor_rez(a: &[i32], segments: &Segments) -> Result<Vec<i32>, Fault> {
 
 /// [`xor_rez`] into a room that is as long as the result; a fault leaves the room as it was.
 pub fn xor_rez_into(a: &[i32], segments: &Segments, out: &mut [i32]) -> Result<(), Fault> {
-    same(&[a.len(), segments.total()])?;
-    as_long(out, segments.len())?;
-    told(unsafe { symbols::cvl_xor_rez(a.as_ptr(), a.len(), segments.given(), out.as_mut_ptr()) })
+    call!(cvl_seg_int_reduce | cvl_seg_int_reduce_on: cvl_sys::CVL_XOR, a.as_ptr(), a.len(), segments.given(),
+        out.as_mut_ptr(), out.len())
 }
 
-/// For each boolean, of those before it in its segment, whether all are true; true where a
-/// segment starts. a and out have n elements.
+/// For each boolean, of those before it in its segment, whether all are true; true where a segment starts. a and out have n
+/// elements.
 ///
 /// Faults: 7 LengthMismatch where the lengths do not add up to n.
 ///
@@ -2412,9 +2216,8 @@ pub fn and_seb(a: &[bool], segments: &Segments) -> Result<Vec<bool>, Fault> {
 
 /// [`and_seb`] into a room that is as long as the result; a fault leaves the room as it was.
 pub fn and_seb_into(a: &[bool], segments: &Segments, out: &mut [bool]) -> Result<(), Fault> {
-    same(&[a.len(), segments.total()])?;
-    as_long(out, a.len())?;
-    told(unsafe { symbols::cvl_and_seb(a.as_ptr().cast(), segments.given(), out.as_mut_ptr().cast(), a.len()) })
+    call!(cvl_seg_bool_scan | cvl_seg_bool_scan_on: cvl_sys::CVL_AND, a.as_ptr(), a.len(), segments.given(),
+        out.as_mut_ptr(), out.len())
 }
 
 /// [`and_seb`] in the place of `a`; a fault leaves it as it was.
@@ -2427,13 +2230,11 @@ pub fn and_seb_into(a: &[bool], segments: &Segments, out: &mut [bool]) -> Result
 /// # Ok::<(), cvl::Fault>(())
 /// ```
 pub fn and_seb_in(a: &mut [bool], segments: &Segments) -> Result<(), Fault> {
-    same(&[a.len(), segments.total()])?;
-    let out = a.as_mut_ptr().cast();
-    told(unsafe { symbols::cvl_and_seb(out, segments.given(), out, a.len()) })
+    let out = a.as_mut_ptr();
+    call!(cvl_seg_bool_scan | cvl_seg_bool_scan_on: cvl_sys::CVL_AND, out, a.len(), segments.given(), out, a.len())
 }
 
-/// Of the booleans of each segment, whether all are true; true where it is empty. a has n
-/// elements, out one for each segment.
+/// Of the booleans of each segment, whether all are true; true where it is empty. a has n elements, out one for each segment.
 ///
 /// Faults: 7 LengthMismatch where the lengths do not add up to n.
 ///
@@ -2451,13 +2252,12 @@ pub fn and_reb(a: &[bool], segments: &Segments) -> Result<Vec<bool>, Fault> {
 
 /// [`and_reb`] into a room that is as long as the result; a fault leaves the room as it was.
 pub fn and_reb_into(a: &[bool], segments: &Segments, out: &mut [bool]) -> Result<(), Fault> {
-    same(&[a.len(), segments.total()])?;
-    as_long(out, segments.len())?;
-    told(unsafe { symbols::cvl_and_reb(a.as_ptr().cast(), a.len(), segments.given(), out.as_mut_ptr().cast()) })
+    call!(cvl_seg_bool_reduce | cvl_seg_bool_reduce_on: cvl_sys::CVL_AND, a.as_ptr(), a.len(), segments.given(),
+        out.as_mut_ptr(), out.len())
 }
 
-/// For each boolean, of those before it in its segment, whether any is true; false where a
-/// segment starts. a and out have n elements.
+/// For each boolean, of those before it in its segment, whether any is true; false where a segment starts. a and out have n
+/// elements.
 ///
 /// Faults: 7 LengthMismatch where the lengths do not add up to n.
 ///
@@ -2475,9 +2275,8 @@ pub fn ior_seb(a: &[bool], segments: &Segments) -> Result<Vec<bool>, Fault> {
 
 /// [`ior_seb`] into a room that is as long as the result; a fault leaves the room as it was.
 pub fn ior_seb_into(a: &[bool], segments: &Segments, out: &mut [bool]) -> Result<(), Fault> {
-    same(&[a.len(), segments.total()])?;
-    as_long(out, a.len())?;
-    told(unsafe { symbols::cvl_ior_seb(a.as_ptr().cast(), segments.given(), out.as_mut_ptr().cast(), a.len()) })
+    call!(cvl_seg_bool_scan | cvl_seg_bool_scan_on: cvl_sys::CVL_IOR, a.as_ptr(), a.len(), segments.given(),
+        out.as_mut_ptr(), out.len())
 }
 
 /// [`ior_seb`] in the place of `a`; a fault leaves it as it was.
@@ -2490,13 +2289,11 @@ pub fn ior_seb_into(a: &[bool], segments: &Segments, out: &mut [bool]) -> Result
 /// # Ok::<(), cvl::Fault>(())
 /// ```
 pub fn ior_seb_in(a: &mut [bool], segments: &Segments) -> Result<(), Fault> {
-    same(&[a.len(), segments.total()])?;
-    let out = a.as_mut_ptr().cast();
-    told(unsafe { symbols::cvl_ior_seb(out, segments.given(), out, a.len()) })
+    let out = a.as_mut_ptr();
+    call!(cvl_seg_bool_scan | cvl_seg_bool_scan_on: cvl_sys::CVL_IOR, out, a.len(), segments.given(), out, a.len())
 }
 
-/// Of the booleans of each segment, whether any is true; false where it is empty. a has n
-/// elements, out one for each segment.
+/// Of the booleans of each segment, whether any is true; false where it is empty. a has n elements, out one for each segment.
 ///
 /// Faults: 7 LengthMismatch where the lengths do not add up to n.
 ///
@@ -2514,13 +2311,12 @@ pub fn ior_reb(a: &[bool], segments: &Segments) -> Result<Vec<bool>, Fault> {
 
 /// [`ior_reb`] into a room that is as long as the result; a fault leaves the room as it was.
 pub fn ior_reb_into(a: &[bool], segments: &Segments, out: &mut [bool]) -> Result<(), Fault> {
-    same(&[a.len(), segments.total()])?;
-    as_long(out, segments.len())?;
-    told(unsafe { symbols::cvl_ior_reb(a.as_ptr().cast(), a.len(), segments.given(), out.as_mut_ptr().cast()) })
+    call!(cvl_seg_bool_reduce | cvl_seg_bool_reduce_on: cvl_sys::CVL_IOR, a.as_ptr(), a.len(), segments.given(),
+        out.as_mut_ptr(), out.len())
 }
 
-/// For each boolean, of those before it in its segment, whether an odd number is true; false
-/// where a segment starts. a and out have n elements.
+/// For each boolean, of those before it in its segment, whether an odd number is true; false where a segment starts. a and
+/// out have n elements.
 ///
 /// Faults: 7 LengthMismatch where the lengths do not add up to n.
 ///
@@ -2538,9 +2334,8 @@ pub fn xor_seb(a: &[bool], segments: &Segments) -> Result<Vec<bool>, Fault> {
 
 /// [`xor_seb`] into a room that is as long as the result; a fault leaves the room as it was.
 pub fn xor_seb_into(a: &[bool], segments: &Segments, out: &mut [bool]) -> Result<(), Fault> {
-    same(&[a.len(), segments.total()])?;
-    as_long(out, a.len())?;
-    told(unsafe { symbols::cvl_xor_seb(a.as_ptr().cast(), segments.given(), out.as_mut_ptr().cast(), a.len()) })
+    call!(cvl_seg_bool_scan | cvl_seg_bool_scan_on: cvl_sys::CVL_XOR, a.as_ptr(), a.len(), segments.given(),
+        out.as_mut_ptr(), out.len())
 }
 
 /// [`xor_seb`] in the place of `a`; a fault leaves it as it was.
@@ -2553,13 +2348,12 @@ pub fn xor_seb_into(a: &[bool], segments: &Segments, out: &mut [bool]) -> Result
 /// # Ok::<(), cvl::Fault>(())
 /// ```
 pub fn xor_seb_in(a: &mut [bool], segments: &Segments) -> Result<(), Fault> {
-    same(&[a.len(), segments.total()])?;
-    let out = a.as_mut_ptr().cast();
-    told(unsafe { symbols::cvl_xor_seb(out, segments.given(), out, a.len()) })
+    let out = a.as_mut_ptr();
+    call!(cvl_seg_bool_scan | cvl_seg_bool_scan_on: cvl_sys::CVL_XOR, out, a.len(), segments.given(), out, a.len())
 }
 
-/// Of the booleans of each segment, whether an odd number is true; false where it is empty. a has
-/// n elements, out one for each segment.
+/// Of the booleans of each segment, whether an odd number is true; false where it is empty. a has n elements, out one for
+/// each segment.
 ///
 /// Faults: 7 LengthMismatch where the lengths do not add up to n.
 ///
@@ -2577,9 +2371,8 @@ pub fn xor_reb(a: &[bool], segments: &Segments) -> Result<Vec<bool>, Fault> {
 
 /// [`xor_reb`] into a room that is as long as the result; a fault leaves the room as it was.
 pub fn xor_reb_into(a: &[bool], segments: &Segments, out: &mut [bool]) -> Result<(), Fault> {
-    same(&[a.len(), segments.total()])?;
-    as_long(out, segments.len())?;
-    told(unsafe { symbols::cvl_xor_reb(a.as_ptr().cast(), a.len(), segments.given(), out.as_mut_ptr().cast()) })
+    call!(cvl_seg_bool_reduce | cvl_seg_bool_reduce_on: cvl_sys::CVL_XOR, a.as_ptr(), a.len(), segments.given(),
+        out.as_mut_ptr(), out.len())
 }
 
 /// The values whose flag is true, in their order. values and flags have n elements.
@@ -2593,18 +2386,14 @@ pub fn xor_reb_into(a: &[bool], segments: &Segments, out: &mut [bool]) -> Result
 pub fn pck_luz(values: &[i32], flags: &[bool]) -> Result<Vec<i32>, Fault> {
     limit(flags.len())?;
     same(&[values.len(), flags.len()])?;
-    let mut out = zeros(true_flags(flags))?;
-    let count = pck_luz_into(values, flags, &mut out)?;
-    out.truncate(count);
-    Ok(out)
+    counted(true_flags(flags), |out| pck_luz_into(values, flags, out))
 }
 
-/// [`pck_luz`] into a room that is as long as the result or longer, and how many elements that has; a fault leaves the room as it was.
+/// [`pck_luz`] into a room that is as long as the result or longer, and how long that is; a fault leaves the room as it was.
 pub fn pck_luz_into(values: &[i32], flags: &[bool], out: &mut [i32]) -> Result<usize, Fault> {
-    limit(flags.len())?;
-    same(&[values.len(), flags.len()])?;
     let mut count = 0;
-    told(unsafe { symbols::cvl_pck_luz(values.as_ptr(), flags.as_ptr().cast(), values.len(), out.as_mut_ptr(), out.len(), &mut count) })?;
+    call!(cvl_pack_int | cvl_pack_int_on: values.as_ptr(), values.len(), flags.as_ptr(), flags.len(), out.as_mut_ptr(),
+        out.len(), &mut count)?;
     Ok(count)
 }
 
@@ -2619,26 +2408,21 @@ pub fn pck_luz_into(values: &[i32], flags: &[bool], out: &mut [i32]) -> Result<u
 pub fn pck_lub(values: &[bool], flags: &[bool]) -> Result<Vec<bool>, Fault> {
     limit(flags.len())?;
     same(&[values.len(), flags.len()])?;
-    let mut out = zeros(true_flags(flags))?;
-    let count = pck_lub_into(values, flags, &mut out)?;
-    out.truncate(count);
-    Ok(out)
+    counted(true_flags(flags), |out| pck_lub_into(values, flags, out))
 }
 
-/// [`pck_lub`] into a room that is as long as the result or longer, and how many elements that has; a fault leaves the room as it was.
+/// [`pck_lub`] into a room that is as long as the result or longer, and how long that is; a fault leaves the room as it was.
 pub fn pck_lub_into(values: &[bool], flags: &[bool], out: &mut [bool]) -> Result<usize, Fault> {
-    limit(flags.len())?;
-    same(&[values.len(), flags.len()])?;
     let mut count = 0;
-    told(unsafe { symbols::cvl_pck_lub(values.as_ptr().cast(), flags.as_ptr().cast(), values.len(), out.as_mut_ptr().cast(), out.len(), &mut count) })?;
+    call!(cvl_pack_bool | cvl_pack_bool_on: values.as_ptr(), values.len(), flags.as_ptr(), flags.len(), out.as_mut_ptr(),
+        out.len(), &mut count)?;
     Ok(count)
 }
 
-/// The values of each segment whose flag is true, in their order, one segment after another;
-/// pck_fov tells the lengths of these segments. values and flags have n elements.
+/// The values of each segment whose flag is true, in their order, one segment after another; pck_fov tells the lengths of
+/// these segments. values and flags have n elements.
 ///
-/// Faults: 7 LengthMismatch where the lengths do not add up to n, with *count as it was, and
-/// where there is not room.
+/// Faults: 7 LengthMismatch where the lengths do not add up to n, with *count as it was, and where there is not room.
 ///
 /// ```
 /// let segments = cvl::Segments::new(&[2, 0, 3])?;
@@ -2647,25 +2431,21 @@ pub fn pck_lub_into(values: &[bool], flags: &[bool], out: &mut [bool]) -> Result
 /// ```
 pub fn pck_lez(values: &[i32], flags: &[bool], segments: &Segments) -> Result<Vec<i32>, Fault> {
     same(&[values.len(), flags.len(), segments.total()])?;
-    let mut out = zeros(true_flags(flags))?;
-    let count = pck_lez_into(values, flags, segments, &mut out)?;
-    out.truncate(count);
-    Ok(out)
+    counted(true_flags(flags), |out| pck_lez_into(values, flags, segments, out))
 }
 
-/// [`pck_lez`] into a room that is as long as the result or longer, and how many elements that has; a fault leaves the room as it was.
+/// [`pck_lez`] into a room that is as long as the result or longer, and how long that is; a fault leaves the room as it was.
 pub fn pck_lez_into(values: &[i32], flags: &[bool], segments: &Segments, out: &mut [i32]) -> Result<usize, Fault> {
-    same(&[values.len(), flags.len(), segments.total()])?;
     let mut count = 0;
-    told(unsafe { symbols::cvl_pck_lez(values.as_ptr(), flags.as_ptr().cast(), values.len(), segments.given(), out.as_mut_ptr(), out.len(), &mut count) })?;
+    call!(cvl_seg_pack_int | cvl_seg_pack_int_on: values.as_ptr(), values.len(), flags.as_ptr(), flags.len(),
+        segments.given(), out.as_mut_ptr(), out.len(), &mut count)?;
     Ok(count)
 }
 
-/// The values of each segment whose flag is true, in their order, one segment after another;
-/// pck_fov tells the lengths of these segments. values and flags have n elements.
+/// The values of each segment whose flag is true, in their order, one segment after another; pck_fov tells the lengths of
+/// these segments. values and flags have n elements.
 ///
-/// Faults: 7 LengthMismatch where the lengths do not add up to n, with *count as it was, and
-/// where there is not room.
+/// Faults: 7 LengthMismatch where the lengths do not add up to n, with *count as it was, and where there is not room.
 ///
 /// ```
 /// let segments = cvl::Segments::new(&[1, 2])?;
@@ -2674,22 +2454,19 @@ pub fn pck_lez_into(values: &[i32], flags: &[bool], segments: &Segments, out: &m
 /// ```
 pub fn pck_leb(values: &[bool], flags: &[bool], segments: &Segments) -> Result<Vec<bool>, Fault> {
     same(&[values.len(), flags.len(), segments.total()])?;
-    let mut out = zeros(true_flags(flags))?;
-    let count = pck_leb_into(values, flags, segments, &mut out)?;
-    out.truncate(count);
-    Ok(out)
+    counted(true_flags(flags), |out| pck_leb_into(values, flags, segments, out))
 }
 
-/// [`pck_leb`] into a room that is as long as the result or longer, and how many elements that has; a fault leaves the room as it was.
+/// [`pck_leb`] into a room that is as long as the result or longer, and how long that is; a fault leaves the room as it was.
 pub fn pck_leb_into(values: &[bool], flags: &[bool], segments: &Segments, out: &mut [bool]) -> Result<usize, Fault> {
-    same(&[values.len(), flags.len(), segments.total()])?;
     let mut count = 0;
-    told(unsafe { symbols::cvl_pck_leb(values.as_ptr().cast(), flags.as_ptr().cast(), values.len(), segments.given(), out.as_mut_ptr().cast(), out.len(), &mut count) })?;
+    call!(cvl_seg_pack_bool | cvl_seg_pack_bool_on: values.as_ptr(), values.len(), flags.as_ptr(), flags.len(),
+        segments.given(), out.as_mut_ptr(), out.len(), &mut count)?;
     Ok(count)
 }
 
-/// The lengths of the segments of what a pack keeps, or a select permute, 0 for a segment of
-/// which nothing is kept. flags has n elements, out one for each segment.
+/// The lengths of the segments of what a pack keeps, or a select permute, 0 for a segment of which nothing is kept. flags has
+/// n elements, out one for each segment.
 ///
 /// Faults: 7 LengthMismatch where the lengths do not add up to n.
 ///
@@ -2707,9 +2484,8 @@ pub fn pck_fov(flags: &[bool], segments: &Segments) -> Result<Segments, Fault> {
 
 /// [`pck_fov`] into a room that is as long as the result; a fault leaves the room as it was.
 pub fn pck_fov_into(flags: &[bool], segments: &Segments, out: &mut [i32]) -> Result<(), Fault> {
-    same(&[flags.len(), segments.total()])?;
-    as_long(out, segments.len())?;
-    told(unsafe { symbols::cvl_pck_fov(flags.as_ptr().cast(), flags.len(), segments.given(), out.as_mut_ptr()) })
+    call!(cvl_seg_packed_lengths | cvl_seg_packed_lengths_on: flags.as_ptr(), flags.len(), segments.given(),
+        out.as_mut_ptr(), out.len())
 }
 
 /// The number of true flags of each segment. flags has n elements, out one for each segment.
@@ -2730,15 +2506,13 @@ pub fn cnt_leb(flags: &[bool], segments: &Segments) -> Result<Vec<i32>, Fault> {
 
 /// [`cnt_leb`] into a room that is as long as the result; a fault leaves the room as it was.
 pub fn cnt_leb_into(flags: &[bool], segments: &Segments, out: &mut [i32]) -> Result<(), Fault> {
-    same(&[flags.len(), segments.total()])?;
-    as_long(out, segments.len())?;
-    told(unsafe { symbols::cvl_cnt_leb(flags.as_ptr().cast(), flags.len(), segments.given(), out.as_mut_ptr()) })
+    call!(cvl_seg_count | cvl_seg_count_on: flags.as_ptr(), flags.len(), segments.given(), out.as_mut_ptr(), out.len())
 }
 
 /// Each element of the source at its index. source, index and out have n elements.
 ///
-/// Faults: 13 TooLong; at the first bad index 10 IndexOutOfRange where it is below 0, or n or
-/// more, else 11 IndexRepeated where an earlier one is the same.
+/// Faults: 13 TooLong; at the first bad index 10 IndexOutOfRange where it is below 0, or n or more, else 11 IndexRepeated
+/// where an earlier one is the same.
 ///
 /// ```
 /// assert_eq!(cvl::smp_puz(&[10, 20, 30], &[2, 0, 1])?, [20, 30, 10]);
@@ -2754,16 +2528,14 @@ pub fn smp_puz(source: &[i32], index: &[i32]) -> Result<Vec<i32>, Fault> {
 
 /// [`smp_puz`] into a room that is as long as the result; a fault leaves the room as it was.
 pub fn smp_puz_into(source: &[i32], index: &[i32], out: &mut [i32]) -> Result<(), Fault> {
-    limit(index.len())?;
-    same(&[source.len(), index.len()])?;
-    as_long(out, source.len())?;
-    told(unsafe { symbols::cvl_smp_puz(source.as_ptr(), index.as_ptr(), out.as_mut_ptr(), source.len()) })
+    call!(cvl_permute_int | cvl_permute_int_on: source.as_ptr(), source.len(), index.as_ptr(), index.len(),
+        out.as_mut_ptr(), out.len())
 }
 
 /// Each element of the source at its index. source, index and out have n elements.
 ///
-/// Faults: 13 TooLong; at the first bad index 10 IndexOutOfRange where it is below 0, or n or
-/// more, else 11 IndexRepeated where an earlier one is the same.
+/// Faults: 13 TooLong; at the first bad index 10 IndexOutOfRange where it is below 0, or n or more, else 11 IndexRepeated
+/// where an earlier one is the same.
 ///
 /// ```
 /// assert_eq!(cvl::smp_pub(&[true, false, false], &[2, 0, 1])?, [false, false, true]);
@@ -2779,18 +2551,15 @@ pub fn smp_pub(source: &[bool], index: &[i32]) -> Result<Vec<bool>, Fault> {
 
 /// [`smp_pub`] into a room that is as long as the result; a fault leaves the room as it was.
 pub fn smp_pub_into(source: &[bool], index: &[i32], out: &mut [bool]) -> Result<(), Fault> {
-    limit(index.len())?;
-    same(&[source.len(), index.len()])?;
-    as_long(out, source.len())?;
-    told(unsafe { symbols::cvl_smp_pub(source.as_ptr().cast(), index.as_ptr(), out.as_mut_ptr().cast(), source.len()) })
+    call!(cvl_permute_bool | cvl_permute_bool_on: source.as_ptr(), source.len(), index.as_ptr(), index.len(),
+        out.as_mut_ptr(), out.len())
 }
 
-/// Each element of the source whose flag is true at its index. source, index and flags have n
-/// elements; out has m, the number of true flags, else 7 LengthMismatch. An index whose flag is
-/// false is not looked at.
+/// Each element of the source whose flag is true at its index. source, index and flags have n elements; out has m, the number
+/// of true flags, else 7 LengthMismatch. An index whose flag is false is not looked at.
 ///
-/// Faults: 13 TooLong; at the first bad index 10 IndexOutOfRange where it is below 0, or the
-/// number of true flags or more, else 11 IndexRepeated where an earlier one is the same.
+/// Faults: 13 TooLong; at the first bad index 10 IndexOutOfRange where it is below 0, or the number of true flags or more,
+/// else 11 IndexRepeated where an earlier one is the same.
 ///
 /// ```
 /// assert_eq!(cvl::sel_puz(&[1, 2, 3, 4], &[1, 9, 0, 9], &[true, false, true, false])?, [3, 1]);
@@ -2806,17 +2575,15 @@ pub fn sel_puz(source: &[i32], index: &[i32], flags: &[bool]) -> Result<Vec<i32>
 
 /// [`sel_puz`] into a room that is as long as the result; a fault leaves the room as it was.
 pub fn sel_puz_into(source: &[i32], index: &[i32], flags: &[bool], out: &mut [i32]) -> Result<(), Fault> {
-    limit(index.len())?;
-    same(&[source.len(), index.len(), flags.len()])?;
-    told(unsafe { symbols::cvl_sel_puz(source.as_ptr(), index.as_ptr(), flags.as_ptr().cast(), source.len(), out.as_mut_ptr(), out.len()) })
+    call!(cvl_select_permute_int | cvl_select_permute_int_on: source.as_ptr(), source.len(), index.as_ptr(), index.len(),
+        flags.as_ptr(), flags.len(), out.as_mut_ptr(), out.len())
 }
 
-/// Each element of the source whose flag is true at its index. source, index and flags have n
-/// elements; out has m, the number of true flags, else 7 LengthMismatch. An index whose flag is
-/// false is not looked at.
+/// Each element of the source whose flag is true at its index. source, index and flags have n elements; out has m, the number
+/// of true flags, else 7 LengthMismatch. An index whose flag is false is not looked at.
 ///
-/// Faults: 13 TooLong; at the first bad index 10 IndexOutOfRange where it is below 0, or the
-/// number of true flags or more, else 11 IndexRepeated where an earlier one is the same.
+/// Faults: 13 TooLong; at the first bad index 10 IndexOutOfRange where it is below 0, or the number of true flags or more,
+/// else 11 IndexRepeated where an earlier one is the same.
 ///
 /// ```
 /// assert_eq!(cvl::sel_pub(&[true, true, false, true], &[1, 9, 0, 9], &[true, false, true, false])?, [false, true]);
@@ -2832,16 +2599,15 @@ pub fn sel_pub(source: &[bool], index: &[i32], flags: &[bool]) -> Result<Vec<boo
 
 /// [`sel_pub`] into a room that is as long as the result; a fault leaves the room as it was.
 pub fn sel_pub_into(source: &[bool], index: &[i32], flags: &[bool], out: &mut [bool]) -> Result<(), Fault> {
-    limit(index.len())?;
-    same(&[source.len(), index.len(), flags.len()])?;
-    told(unsafe { symbols::cvl_sel_pub(source.as_ptr().cast(), index.as_ptr(), flags.as_ptr().cast(), source.len(), out.as_mut_ptr().cast(), out.len()) })
+    call!(cvl_select_permute_bool | cvl_select_permute_bool_on: source.as_ptr(), source.len(), index.as_ptr(),
+        index.len(), flags.as_ptr(), flags.len(), out.as_mut_ptr(), out.len())
 }
 
-/// Each element of the source at its index, and at a place to which none goes its default. source
-/// and index have n elements, defaults and out m, which may be any number.
+/// Each element of the source at its index, and at a place to which none goes its default. source and index have n elements,
+/// defaults and out m, which may be any number.
 ///
-/// Faults: 13 TooLong; at the first bad index 10 IndexOutOfRange where it is below 0, or m or
-/// more, else 11 IndexRepeated where an earlier one is the same.
+/// Faults: 13 TooLong; at the first bad index 10 IndexOutOfRange where it is below 0, or m or more, else 11 IndexRepeated
+/// where an earlier one is the same.
 ///
 /// ```
 /// assert_eq!(cvl::def_puz(&[7, 8], &[3, 1], &[0, 0, 0, 0, 0])?, [0, 8, 0, 7, 0]);
@@ -2857,17 +2623,15 @@ pub fn def_puz(source: &[i32], index: &[i32], defaults: &[i32]) -> Result<Vec<i3
 
 /// [`def_puz`] into a room that is as long as the result; a fault leaves the room as it was.
 pub fn def_puz_into(source: &[i32], index: &[i32], defaults: &[i32], out: &mut [i32]) -> Result<(), Fault> {
-    limit(index.len())?;
-    same(&[source.len(), index.len()])?;
-    as_long(out, defaults.len())?;
-    told(unsafe { symbols::cvl_def_puz(source.as_ptr(), index.as_ptr(), source.len(), defaults.as_ptr(), out.as_mut_ptr(), defaults.len()) })
+    call!(cvl_default_permute_int | cvl_default_permute_int_on: source.as_ptr(), source.len(), index.as_ptr(),
+        index.len(), defaults.as_ptr(), defaults.len(), out.as_mut_ptr(), out.len())
 }
 
-/// Each element of the source at its index, and at a place to which none goes its default. source
-/// and index have n elements, defaults and out m, which may be any number.
+/// Each element of the source at its index, and at a place to which none goes its default. source and index have n elements,
+/// defaults and out m, which may be any number.
 ///
-/// Faults: 13 TooLong; at the first bad index 10 IndexOutOfRange where it is below 0, or m or
-/// more, else 11 IndexRepeated where an earlier one is the same.
+/// Faults: 13 TooLong; at the first bad index 10 IndexOutOfRange where it is below 0, or m or more, else 11 IndexRepeated
+/// where an earlier one is the same.
 ///
 /// ```
 /// assert_eq!(cvl::def_pub(&[true, false], &[3, 1], &[false, true, true, false])?, [false, false, true, true]);
@@ -2883,14 +2647,12 @@ pub fn def_pub(source: &[bool], index: &[i32], defaults: &[bool]) -> Result<Vec<
 
 /// [`def_pub`] into a room that is as long as the result; a fault leaves the room as it was.
 pub fn def_pub_into(source: &[bool], index: &[i32], defaults: &[bool], out: &mut [bool]) -> Result<(), Fault> {
-    limit(index.len())?;
-    same(&[source.len(), index.len()])?;
-    as_long(out, defaults.len())?;
-    told(unsafe { symbols::cvl_def_pub(source.as_ptr().cast(), index.as_ptr(), source.len(), defaults.as_ptr().cast(), out.as_mut_ptr().cast(), defaults.len()) })
+    call!(cvl_default_permute_bool | cvl_default_permute_bool_on: source.as_ptr(), source.len(), index.as_ptr(),
+        index.len(), defaults.as_ptr(), defaults.len(), out.as_mut_ptr(), out.len())
 }
 
-/// At each place the element of the source at the place's index, which may repeat. The source has
-/// n elements, which may be any number; index and out have m.
+/// At each place the element of the source at the place's index, which may repeat. The source has n elements, which may be
+/// any number; index and out have m.
 ///
 /// Faults: 13 TooLong; 10 IndexOutOfRange at the first index below 0, or n or more.
 ///
@@ -2907,13 +2669,12 @@ pub fn bck_puz(source: &[i32], index: &[i32]) -> Result<Vec<i32>, Fault> {
 
 /// [`bck_puz`] into a room that is as long as the result; a fault leaves the room as it was.
 pub fn bck_puz_into(source: &[i32], index: &[i32], out: &mut [i32]) -> Result<(), Fault> {
-    limit(index.len())?;
-    as_long(out, index.len())?;
-    told(unsafe { symbols::cvl_bck_puz(source.as_ptr(), source.len(), index.as_ptr(), out.as_mut_ptr(), index.len()) })
+    call!(cvl_back_permute_int | cvl_back_permute_int_on: source.as_ptr(), source.len(), index.as_ptr(), index.len(),
+        out.as_mut_ptr(), out.len())
 }
 
-/// At each place the element of the source at the place's index, which may repeat. The source has
-/// n elements, which may be any number; index and out have m.
+/// At each place the element of the source at the place's index, which may repeat. The source has n elements, which may be
+/// any number; index and out have m.
 ///
 /// Faults: 13 TooLong; 10 IndexOutOfRange at the first index below 0, or n or more.
 ///
@@ -2930,17 +2691,15 @@ pub fn bck_pub(source: &[bool], index: &[i32]) -> Result<Vec<bool>, Fault> {
 
 /// [`bck_pub`] into a room that is as long as the result; a fault leaves the room as it was.
 pub fn bck_pub_into(source: &[bool], index: &[i32], out: &mut [bool]) -> Result<(), Fault> {
-    limit(index.len())?;
-    as_long(out, index.len())?;
-    told(unsafe { symbols::cvl_bck_pub(source.as_ptr().cast(), source.len(), index.as_ptr(), out.as_mut_ptr().cast(), index.len()) })
+    call!(cvl_back_permute_bool | cvl_back_permute_bool_on: source.as_ptr(), source.len(), index.as_ptr(), index.len(),
+        out.as_mut_ptr(), out.len())
 }
 
-/// Each element of the source at its index, which counts from the start of its segment. source,
-/// index and out have n elements.
+/// Each element of the source at its index, which counts from the start of its segment. source, index and out have n
+/// elements.
 ///
-/// Faults: 13 TooLong; 7 LengthMismatch where the lengths do not add up to n; at the first bad
-/// index 10 IndexOutOfRange where it is no place of its segment, else 11 IndexRepeated where an
-/// earlier one of its segment is the same.
+/// Faults: 13 TooLong; 7 LengthMismatch where the lengths do not add up to n; at the first bad index 10 IndexOutOfRange where
+/// it is no place of its segment, else 11 IndexRepeated where an earlier one of its segment is the same.
 ///
 /// ```
 /// let segments = cvl::Segments::new(&[2, 0, 3])?;
@@ -2957,22 +2716,22 @@ pub fn smp_pez(source: &[i32], index: &[i32], segments: &Segments) -> Result<Vec
 
 /// [`smp_pez`] into a room that is as long as the result; a fault leaves the room as it was.
 pub fn smp_pez_into(source: &[i32], index: &[i32], segments: &Segments, out: &mut [i32]) -> Result<(), Fault> {
-    limit(index.len())?;
-    same(&[source.len(), index.len(), segments.total()])?;
-    as_long(out, source.len())?;
-    told(unsafe { symbols::cvl_smp_pez(source.as_ptr(), index.as_ptr(), segments.given(), out.as_mut_ptr(), source.len()) })
+    call!(cvl_seg_permute_int | cvl_seg_permute_int_on: source.as_ptr(), source.len(), index.as_ptr(), index.len(),
+        segments.given(), out.as_mut_ptr(), out.len())
 }
 
-/// Each element of the source at its index, which counts from the start of its segment. source,
-/// index and out have n elements.
+/// Each element of the source at its index, which counts from the start of its segment. source, index and out have n
+/// elements.
 ///
-/// Faults: 13 TooLong; 7 LengthMismatch where the lengths do not add up to n; at the first bad
-/// index 10 IndexOutOfRange where it is no place of its segment, else 11 IndexRepeated where an
-/// earlier one of its segment is the same.
+/// Faults: 13 TooLong; 7 LengthMismatch where the lengths do not add up to n; at the first bad index 10 IndexOutOfRange where
+/// it is no place of its segment, else 11 IndexRepeated where an earlier one of its segment is the same.
 ///
 /// ```
 /// let segments = cvl::Segments::new(&[2, 0, 3])?;
-/// assert_eq!(cvl::smp_peb(&[true, false, false, false, true], &[1, 0, 2, 0, 1], &segments)?, [false, true, false, true, false]);
+/// assert_eq!(
+///     cvl::smp_peb(&[true, false, false, false, true], &[1, 0, 2, 0, 1], &segments)?,
+///     [false, true, false, true, false]
+/// );
 /// # Ok::<(), cvl::Fault>(())
 /// ```
 pub fn smp_peb(source: &[bool], index: &[i32], segments: &Segments) -> Result<Vec<bool>, Fault> {
@@ -2985,24 +2744,23 @@ pub fn smp_peb(source: &[bool], index: &[i32], segments: &Segments) -> Result<Ve
 
 /// [`smp_peb`] into a room that is as long as the result; a fault leaves the room as it was.
 pub fn smp_peb_into(source: &[bool], index: &[i32], segments: &Segments, out: &mut [bool]) -> Result<(), Fault> {
-    limit(index.len())?;
-    same(&[source.len(), index.len(), segments.total()])?;
-    as_long(out, source.len())?;
-    told(unsafe { symbols::cvl_smp_peb(source.as_ptr().cast(), index.as_ptr(), segments.given(), out.as_mut_ptr().cast(), source.len()) })
+    call!(cvl_seg_permute_bool | cvl_seg_permute_bool_on: source.as_ptr(), source.len(), index.as_ptr(), index.len(),
+        segments.given(), out.as_mut_ptr(), out.len())
 }
 
-/// Each element of the source whose flag is true at its index in its segment of the result, which
-/// is as long as the segment has true flags. source, index and flags have n elements; out has m,
-/// the number of true flags, else 7 LengthMismatch. An index whose flag is false is not looked
-/// at.
+/// Each element of the source whose flag is true at its index in its segment of the result, which is as long as the segment
+/// has true flags. source, index and flags have n elements; out has m, the number of true flags, else 7 LengthMismatch. An
+/// index whose flag is false is not looked at.
 ///
-/// Faults: 13 TooLong; 7 LengthMismatch where the lengths do not add up to n; at the first bad
-/// index 10 IndexOutOfRange where it is no place of its segment of the result, else 11
-/// IndexRepeated where an earlier one of its segment is the same.
+/// Faults: 13 TooLong; 7 LengthMismatch where the lengths do not add up to n; at the first bad index 10 IndexOutOfRange where
+/// it is no place of its segment of the result, else 11 IndexRepeated where an earlier one of its segment is the same.
 ///
 /// ```
 /// let segments = cvl::Segments::new(&[2, 0, 3])?;
-/// assert_eq!(cvl::sel_pez(&[1, 2, 3, 4, 5], &[9, 0, 1, 9, 0], &[false, true, true, false, true], &segments)?, [2, 5, 3]);
+/// assert_eq!(
+///     cvl::sel_pez(&[1, 2, 3, 4, 5], &[9, 0, 1, 9, 0], &[false, true, true, false, true], &segments)?,
+///     [2, 5, 3]
+/// );
 /// # Ok::<(), cvl::Fault>(())
 /// ```
 pub fn sel_pez(source: &[i32], index: &[i32], flags: &[bool], segments: &Segments) -> Result<Vec<i32>, Fault> {
@@ -3014,24 +2772,26 @@ pub fn sel_pez(source: &[i32], index: &[i32], flags: &[bool], segments: &Segment
 }
 
 /// [`sel_pez`] into a room that is as long as the result; a fault leaves the room as it was.
-pub fn sel_pez_into(source: &[i32], index: &[i32], flags: &[bool], segments: &Segments, out: &mut [i32]) -> Result<(), Fault> {
-    limit(index.len())?;
-    same(&[source.len(), index.len(), flags.len(), segments.total()])?;
-    told(unsafe { symbols::cvl_sel_pez(source.as_ptr(), index.as_ptr(), flags.as_ptr().cast(), source.len(), segments.given(), out.as_mut_ptr(), out.len()) })
+pub fn sel_pez_into(
+    source: &[i32], index: &[i32], flags: &[bool], segments: &Segments, out: &mut [i32],
+) -> Result<(), Fault> {
+    call!(cvl_seg_select_permute_int | cvl_seg_select_permute_int_on: source.as_ptr(), source.len(), index.as_ptr(),
+        index.len(), flags.as_ptr(), flags.len(), segments.given(), out.as_mut_ptr(), out.len())
 }
 
-/// Each element of the source whose flag is true at its index in its segment of the result, which
-/// is as long as the segment has true flags. source, index and flags have n elements; out has m,
-/// the number of true flags, else 7 LengthMismatch. An index whose flag is false is not looked
-/// at.
+/// Each element of the source whose flag is true at its index in its segment of the result, which is as long as the segment
+/// has true flags. source, index and flags have n elements; out has m, the number of true flags, else 7 LengthMismatch. An
+/// index whose flag is false is not looked at.
 ///
-/// Faults: 13 TooLong; 7 LengthMismatch where the lengths do not add up to n; at the first bad
-/// index 10 IndexOutOfRange where it is no place of its segment of the result, else 11
-/// IndexRepeated where an earlier one of its segment is the same.
+/// Faults: 13 TooLong; 7 LengthMismatch where the lengths do not add up to n; at the first bad index 10 IndexOutOfRange where
+/// it is no place of its segment of the result, else 11 IndexRepeated where an earlier one of its segment is the same.
 ///
 /// ```
 /// let segments = cvl::Segments::new(&[2, 0, 3])?;
-/// assert_eq!(cvl::sel_peb(&[true, false, true, true, false], &[9, 0, 1, 9, 0], &[false, true, true, false, true], &segments)?, [false, false, true]);
+/// assert_eq!(
+///     cvl::sel_peb(&[true, false, true, true, false], &[9, 0, 1, 9, 0], &[false, true, true, false, true], &segments)?,
+///     [false, false, true]
+/// );
 /// # Ok::<(), cvl::Fault>(())
 /// ```
 pub fn sel_peb(source: &[bool], index: &[i32], flags: &[bool], segments: &Segments) -> Result<Vec<bool>, Fault> {
@@ -3043,27 +2803,33 @@ pub fn sel_peb(source: &[bool], index: &[i32], flags: &[bool], segments: &Segmen
 }
 
 /// [`sel_peb`] into a room that is as long as the result; a fault leaves the room as it was.
-pub fn sel_peb_into(source: &[bool], index: &[i32], flags: &[bool], segments: &Segments, out: &mut [bool]) -> Result<(), Fault> {
-    limit(index.len())?;
-    same(&[source.len(), index.len(), flags.len(), segments.total()])?;
-    told(unsafe { symbols::cvl_sel_peb(source.as_ptr().cast(), index.as_ptr(), flags.as_ptr().cast(), source.len(), segments.given(), out.as_mut_ptr().cast(), out.len()) })
+pub fn sel_peb_into(
+    source: &[bool], index: &[i32], flags: &[bool], segments: &Segments, out: &mut [bool],
+) -> Result<(), Fault> {
+    call!(cvl_seg_select_permute_bool | cvl_seg_select_permute_bool_on: source.as_ptr(), source.len(), index.as_ptr(),
+        index.len(), flags.as_ptr(), flags.len(), segments.given(), out.as_mut_ptr(), out.len())
 }
 
-/// Each element of the source at its index in the same segment of the defaults, and at a place to
-/// which none goes its default. source and index have n elements in segments with the lengths;
-/// defaults and out have m, in as many segments with the default lengths.
+/// Each element of the source at its index in the same segment of the defaults, and at a place to which none goes its
+/// default. source and index have n elements in segments with the lengths; defaults and out have m, in as many segments with
+/// the default lengths.
 ///
-/// Faults: 13 TooLong; 7 LengthMismatch where the lengths do not add up to n or the default
-/// lengths to m; at the first bad index 10 IndexOutOfRange where it is no place of its segment of
-/// the defaults, else 11 IndexRepeated where an earlier one of its segment is the same.
+/// Faults: 13 TooLong; 7 LengthMismatch where the lengths do not add up to n or the default lengths to m; at the first bad
+/// index 10 IndexOutOfRange where it is no place of its segment of the defaults, else 11 IndexRepeated where an earlier one
+/// of its segment is the same.
 ///
 /// ```
 /// let segments = cvl::Segments::new(&[2, 0, 3])?;
 /// let default_segments = cvl::Segments::new(&[3, 1, 3])?;
-/// assert_eq!(cvl::def_pez(&[1, 2, 3, 4, 5], &[2, 0, 0, 1, 2], &[0, 0, 0, 9, 0, 0, 0], &segments, &default_segments)?, [2, 0, 1, 9, 3, 4, 5]);
+/// assert_eq!(
+///     cvl::def_pez(&[1, 2, 3, 4, 5], &[2, 0, 0, 1, 2], &[0, 0, 0, 9, 0, 0, 0], &segments, &default_segments)?,
+///     [2, 0, 1, 9, 3, 4, 5]
+/// );
 /// # Ok::<(), cvl::Fault>(())
 /// ```
-pub fn def_pez(source: &[i32], index: &[i32], defaults: &[i32], segments: &Segments, default_segments: &Segments) -> Result<Vec<i32>, Fault> {
+pub fn def_pez(
+    source: &[i32], index: &[i32], defaults: &[i32], segments: &Segments, default_segments: &Segments,
+) -> Result<Vec<i32>, Fault> {
     limit(index.len())?;
     same(&[source.len(), index.len(), segments.total()])?;
     same(&[defaults.len(), default_segments.total()])?;
@@ -3074,30 +2840,34 @@ pub fn def_pez(source: &[i32], index: &[i32], defaults: &[i32], segments: &Segme
 }
 
 /// [`def_pez`] into a room that is as long as the result; a fault leaves the room as it was.
-pub fn def_pez_into(source: &[i32], index: &[i32], defaults: &[i32], segments: &Segments, default_segments: &Segments, out: &mut [i32]) -> Result<(), Fault> {
-    limit(index.len())?;
-    same(&[source.len(), index.len(), segments.total()])?;
-    same(&[defaults.len(), default_segments.total()])?;
-    same(&[segments.len(), default_segments.len()])?;
-    as_long(out, defaults.len())?;
-    told(unsafe { symbols::cvl_def_pez(source.as_ptr(), index.as_ptr(), source.len(), defaults.as_ptr(), segments.given(), default_segments.given(), out.as_mut_ptr(), defaults.len()) })
+pub fn def_pez_into(
+    source: &[i32], index: &[i32], defaults: &[i32], segments: &Segments, default_segments: &Segments, out: &mut [i32],
+) -> Result<(), Fault> {
+    call!(cvl_seg_default_permute_int | cvl_seg_default_permute_int_on: source.as_ptr(), source.len(), index.as_ptr(),
+        index.len(), defaults.as_ptr(), defaults.len(), segments.given(), default_segments.given(), out.as_mut_ptr(),
+        out.len())
 }
 
-/// Each element of the source at its index in the same segment of the defaults, and at a place to
-/// which none goes its default. source and index have n elements in segments with the lengths;
-/// defaults and out have m, in as many segments with the default lengths.
+/// Each element of the source at its index in the same segment of the defaults, and at a place to which none goes its
+/// default. source and index have n elements in segments with the lengths; defaults and out have m, in as many segments with
+/// the default lengths.
 ///
-/// Faults: 13 TooLong; 7 LengthMismatch where the lengths do not add up to n or the default
-/// lengths to m; at the first bad index 10 IndexOutOfRange where it is no place of its segment of
-/// the defaults, else 11 IndexRepeated where an earlier one of its segment is the same.
+/// Faults: 13 TooLong; 7 LengthMismatch where the lengths do not add up to n or the default lengths to m; at the first bad
+/// index 10 IndexOutOfRange where it is no place of its segment of the defaults, else 11 IndexRepeated where an earlier one
+/// of its segment is the same.
 ///
 /// ```
 /// let segments = cvl::Segments::new(&[1, 1])?;
 /// let default_segments = cvl::Segments::new(&[2, 2])?;
-/// assert_eq!(cvl::def_peb(&[true, false], &[1, 0], &[false, false, true, true], &segments, &default_segments)?, [false, true, false, true]);
+/// assert_eq!(
+///     cvl::def_peb(&[true, false], &[1, 0], &[false, false, true, true], &segments, &default_segments)?,
+///     [false, true, false, true]
+/// );
 /// # Ok::<(), cvl::Fault>(())
 /// ```
-pub fn def_peb(source: &[bool], index: &[i32], defaults: &[bool], segments: &Segments, default_segments: &Segments) -> Result<Vec<bool>, Fault> {
+pub fn def_peb(
+    source: &[bool], index: &[i32], defaults: &[bool], segments: &Segments, default_segments: &Segments,
+) -> Result<Vec<bool>, Fault> {
     limit(index.len())?;
     same(&[source.len(), index.len(), segments.total()])?;
     same(&[defaults.len(), default_segments.total()])?;
@@ -3108,21 +2878,19 @@ pub fn def_peb(source: &[bool], index: &[i32], defaults: &[bool], segments: &Seg
 }
 
 /// [`def_peb`] into a room that is as long as the result; a fault leaves the room as it was.
-pub fn def_peb_into(source: &[bool], index: &[i32], defaults: &[bool], segments: &Segments, default_segments: &Segments, out: &mut [bool]) -> Result<(), Fault> {
-    limit(index.len())?;
-    same(&[source.len(), index.len(), segments.total()])?;
-    same(&[defaults.len(), default_segments.total()])?;
-    same(&[segments.len(), default_segments.len()])?;
-    as_long(out, defaults.len())?;
-    told(unsafe { symbols::cvl_def_peb(source.as_ptr().cast(), index.as_ptr(), source.len(), defaults.as_ptr().cast(), segments.given(), default_segments.given(), out.as_mut_ptr().cast(), defaults.len()) })
+pub fn def_peb_into(
+    source: &[bool], index: &[i32], defaults: &[bool], segments: &Segments, default_segments: &Segments, out: &mut [bool],
+) -> Result<(), Fault> {
+    call!(cvl_seg_default_permute_bool | cvl_seg_default_permute_bool_on: source.as_ptr(), source.len(), index.as_ptr(),
+        index.len(), defaults.as_ptr(), defaults.len(), segments.given(), default_segments.given(), out.as_mut_ptr(),
+        out.len())
 }
 
-/// At each place the element at the place's index in the same segment of the source; an index may
-/// repeat. The source has n elements in segments with the lengths; index and out have m, in as
-/// many segments with the index lengths.
+/// At each place the element at the place's index in the same segment of the source; an index may repeat. The source has n
+/// elements in segments with the lengths; index and out have m, in as many segments with the index lengths.
 ///
-/// Faults: 13 TooLong; 7 LengthMismatch where the lengths do not add up to n or the index lengths
-/// to m; 10 IndexOutOfRange at the first index that is no place of its segment of the source.
+/// Faults: 13 TooLong; 7 LengthMismatch where the lengths do not add up to n or the index lengths to m; 10 IndexOutOfRange at
+/// the first index that is no place of its segment of the source.
 ///
 /// ```
 /// let segments = cvl::Segments::new(&[2, 0, 3])?;
@@ -3141,26 +2909,26 @@ pub fn bck_pez(source: &[i32], index: &[i32], segments: &Segments, index_segment
 }
 
 /// [`bck_pez`] into a room that is as long as the result; a fault leaves the room as it was.
-pub fn bck_pez_into(source: &[i32], index: &[i32], segments: &Segments, index_segments: &Segments, out: &mut [i32]) -> Result<(), Fault> {
-    limit(index.len())?;
-    same(&[source.len(), segments.total()])?;
-    same(&[index.len(), index_segments.total()])?;
-    same(&[segments.len(), index_segments.len()])?;
-    as_long(out, index.len())?;
-    told(unsafe { symbols::cvl_bck_pez(source.as_ptr(), source.len(), index.as_ptr(), segments.given(), index_segments.given(), out.as_mut_ptr(), index.len()) })
+pub fn bck_pez_into(
+    source: &[i32], index: &[i32], segments: &Segments, index_segments: &Segments, out: &mut [i32],
+) -> Result<(), Fault> {
+    call!(cvl_seg_back_permute_int | cvl_seg_back_permute_int_on: source.as_ptr(), source.len(), index.as_ptr(),
+        index.len(), segments.given(), index_segments.given(), out.as_mut_ptr(), out.len())
 }
 
-/// At each place the element at the place's index in the same segment of the source; an index may
-/// repeat. The source has n elements in segments with the lengths; index and out have m, in as
-/// many segments with the index lengths.
+/// At each place the element at the place's index in the same segment of the source; an index may repeat. The source has n
+/// elements in segments with the lengths; index and out have m, in as many segments with the index lengths.
 ///
-/// Faults: 13 TooLong; 7 LengthMismatch where the lengths do not add up to n or the index lengths
-/// to m; 10 IndexOutOfRange at the first index that is no place of its segment of the source.
+/// Faults: 13 TooLong; 7 LengthMismatch where the lengths do not add up to n or the index lengths to m; 10 IndexOutOfRange at
+/// the first index that is no place of its segment of the source.
 ///
 /// ```
 /// let segments = cvl::Segments::new(&[2, 0, 3])?;
 /// let index_segments = cvl::Segments::new(&[3, 0, 1])?;
-/// assert_eq!(cvl::bck_peb(&[true, false, false, false, true], &[1, 1, 1, 2], &segments, &index_segments)?, [false, false, false, true]);
+/// assert_eq!(
+///     cvl::bck_peb(&[true, false, false, false, true], &[1, 1, 1, 2], &segments, &index_segments)?,
+///     [false, false, false, true]
+/// );
 /// # Ok::<(), cvl::Fault>(())
 /// ```
 pub fn bck_peb(source: &[bool], index: &[i32], segments: &Segments, index_segments: &Segments) -> Result<Vec<bool>, Fault> {
@@ -3174,11 +2942,9 @@ pub fn bck_peb(source: &[bool], index: &[i32], segments: &Segments, index_segmen
 }
 
 /// [`bck_peb`] into a room that is as long as the result; a fault leaves the room as it was.
-pub fn bck_peb_into(source: &[bool], index: &[i32], segments: &Segments, index_segments: &Segments, out: &mut [bool]) -> Result<(), Fault> {
-    limit(index.len())?;
-    same(&[source.len(), segments.total()])?;
-    same(&[index.len(), index_segments.total()])?;
-    same(&[segments.len(), index_segments.len()])?;
-    as_long(out, index.len())?;
-    told(unsafe { symbols::cvl_bck_peb(source.as_ptr().cast(), source.len(), index.as_ptr(), segments.given(), index_segments.given(), out.as_mut_ptr().cast(), index.len()) })
+pub fn bck_peb_into(
+    source: &[bool], index: &[i32], segments: &Segments, index_segments: &Segments, out: &mut [bool],
+) -> Result<(), Fault> {
+    call!(cvl_seg_back_permute_bool | cvl_seg_back_permute_bool_on: source.as_ptr(), source.len(), index.as_ptr(),
+        index.len(), segments.given(), index_segments.given(), out.as_mut_ptr(), out.len())
 }

@@ -1,22 +1,16 @@
 //! Faults: why a call has no value.
 
-use std::ffi::CStr;
-use std::fmt;
+use core::fmt;
 
-use crate::symbols;
+use cvl_sys::CvlStatus;
 
-/// What a call answers: 0, a fault's number or 100, and a place or -1.
-#[repr(C)]
-pub struct Status {
-    number: u32,
-    place: i64,
-}
+use crate::numbers::faults;
 
 /// Why a call has no value: the number of the fault, and its place, where it has one.
 ///
 /// ```
 /// let fault = cvl::div_wuz(&[7, 7], &[2, 0]).unwrap_err();
-/// assert_eq!((fault.number(), fault.name(), fault.place()), (8, "DivideByZero", Some(1)));
+/// assert_eq!((fault.number(), fault.name(), fault.place()), (cvl::faults::DIVIDE_BY_ZERO, "DivideByZero", Some(1)));
 /// assert_eq!(fault.to_string(), "fault 8 DivideByZero at 1");
 /// ```
 #[derive(Clone, Copy, Debug, PartialEq, Eq, Hash)]
@@ -26,7 +20,7 @@ pub struct Fault {
 }
 
 impl Fault {
-    /// The number that a fault is printed with; 100 where memory ran out.
+    /// The number that a fault is printed with, one of [`faults`]; 100 where memory ran out.
     pub fn number(&self) -> u32 {
         self.number
     }
@@ -34,8 +28,7 @@ impl Fault {
     /// The name that the fault is printed with.
     pub fn name(&self) -> &'static str {
         // The library answers a text that ends with a zero and is never written.
-        let text = unsafe { CStr::from_ptr(symbols::cvl_fault_name(self.number)) };
-        text.to_str().unwrap_or_default()
+        unsafe { told_text(cvl_sys::cvl_fault_name(self.number)) }
     }
 
     /// Where the fault is, counted from 0, if it has a place.
@@ -45,22 +38,22 @@ impl Fault {
 
     /// Lengths that must agree differ.
     pub(crate) fn length_mismatch() -> Fault {
-        Fault::of(symbols::LENGTH_MISMATCH)
+        Fault::of(faults::LENGTH_MISMATCH)
     }
 
     /// A count is below 0.
     pub(crate) fn negative_length() -> Fault {
-        Fault::of(symbols::NEGATIVE_LENGTH)
+        Fault::of(faults::NEGATIVE_LENGTH)
     }
 
     /// More elements than a vector may have.
     pub(crate) fn too_long() -> Fault {
-        Fault::of(symbols::TOO_LONG)
+        Fault::of(faults::TOO_LONG)
     }
 
     /// There is no memory.
     pub(crate) fn no_resources() -> Fault {
-        Fault::of(symbols::NO_RESOURCES)
+        Fault::of(faults::NO_RESOURCES)
     }
 
     fn of(number: u32) -> Fault {
@@ -81,15 +74,26 @@ impl fmt::Display for Fault {
     }
 }
 
+#[cfg(feature = "std")]
 impl std::error::Error for Fault {}
 
 /// The fault that a status tells, if it does not tell that all is done.
-pub(crate) fn told(status: Status) -> Result<(), Fault> {
+pub(crate) fn told(status: CvlStatus) -> Result<(), Fault> {
     match status {
-        Status { number: 0, .. } => Ok(()),
-        Status { number, place } => Err(Fault {
+        CvlStatus { number: 0, .. } => Ok(()),
+        CvlStatus { number, place } => Err(Fault {
             number,
             place: u64::try_from(place).ok(),
         }),
     }
+}
+
+/// A text of the library.
+///
+/// # Safety
+///
+/// It ends with a zero, and is never written.
+pub(crate) unsafe fn told_text(text: *const u8) -> &'static str {
+    let length = (0..).take_while(|&k| *text.add(k) != 0).count();
+    core::str::from_utf8(core::slice::from_raw_parts(text, length)).unwrap_or_default()
 }

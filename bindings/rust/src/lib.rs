@@ -1,31 +1,54 @@
 //! The vector calls of CVL over slices: flat and segmented vectors of 32-bit integers and booleans, through a proved library.
 //!
-//! Each call has its name from the table of calls. It takes slices, and segments as [`Segments`], and gives a new vector, or
-//! a [`Fault`]. The function whose name ends in `_into` writes into a room of the caller's, and the one whose name ends in `_in`,
-//! where a call has one, in the place of an argument.
+//! Each call has its name from the table of calls. It takes slices, and segments as [`Segments`], and gives a new
+//! vector, or a [`Fault`]. The function whose name ends in `_into` writes into a room of the caller's, and the one
+//! whose name ends in `_in`, where a call has one, in the place of an argument. Beside the calls there are texts, as
+//! [`read_ints`], and what a part of a call needs, as [`int_scan_after`].
 //!
 //! ```
 //! let rows = cvl::Segments::new(&[2, 0, 3])?;
 //! assert_eq!(cvl::add_rez(&[3, 1, 4, 1, 5], &rows)?, [4, 0, 10]);
 //! # Ok::<(), cvl::Fault>(())
 //! ```
+//!
+#![cfg_attr(
+    feature = "std",
+    doc = "Long calls run on several threads after [`set_threads`], or on a [`Pool`] of the program's own by [`with_pool`]."
+)]
+#![cfg_attr(not(feature = "std"), no_std)]
+
+extern crate alloc;
 
 #[rustfmt::skip]
 mod calls;
+#[rustfmt::skip]
+mod families;
 mod fault;
 mod lengths;
-mod segments;
+mod nested;
 #[rustfmt::skip]
-mod symbols;
+mod numbers;
+mod pool;
+mod segments;
+#[cfg(feature = "std")]
+mod threads;
 
 pub use calls::*;
+pub use families::*;
 pub use fault::Fault;
+pub use nested::{seg_read_ints, seg_read_ints_into};
+pub use numbers::{faults, Operator};
+#[cfg(feature = "std")]
+pub use pool::{with_pool, Pool};
 pub use segments::{len_fos, len_lub, len_luz, Segments};
-pub use symbols::MOST_ELEMENTS;
+#[cfg(feature = "std")]
+pub use threads::{set_threads, threads};
+
+/// The most elements of a vector, and the greatest total of segments.
+pub const MOST_ELEMENTS: usize = cvl_sys::CVL_MOST_ELEMENTS;
 
 /// The version of the library.
 pub fn version() -> &'static str {
     // The library answers a text that ends with a zero and is never written.
-    let text = unsafe { std::ffi::CStr::from_ptr(symbols::cvl_version()) };
-    text.to_str().unwrap_or_default()
+    unsafe { fault::told_text(cvl_sys::cvl_version()) }
 }

@@ -1,8 +1,12 @@
 //! Segments: how a vector is cut.
 
-use crate::fault::{told, Fault};
+use alloc::vec::Vec;
+
+use cvl_sys::CvlLengths;
+
+use crate::fault::Fault;
 use crate::lengths::{copied, limit};
-use crate::symbols::{self, Lengths};
+use crate::pool::call;
 
 /// Segments of a vector, one after another, made once from their lengths and then used by any calls and threads.
 ///
@@ -21,11 +25,12 @@ pub struct Segments {
 impl Segments {
     /// Segments of these lengths.
     ///
-    /// Faults: 13 TooLong where there are more than 4194304; 12 NegativeLength at the first that is below 0; 13 TooLong where
-    /// they add up to more than 4194304. 100 where there is no memory for a copy of them.
+    /// Faults: 13 TooLong where there are more than [`MOST_ELEMENTS`](crate::MOST_ELEMENTS); 12 NegativeLength at the first
+    /// that is below 0; 13 TooLong where they add up to more than `MOST_ELEMENTS`; 100 NoResources where there is no memory
+    /// for a copy.
     pub fn new(lengths: &[i32]) -> Result<Segments, Fault> {
         let mut total = 0;
-        told(unsafe { symbols::cvl_mke_fov(given(lengths), &mut total) })?;
+        call!(cvl_make_descriptor | cvl_make_descriptor_on: given(lengths), &mut total)?;
         Ok(Segments {
             lengths: copied(lengths.iter().copied())?,
             total,
@@ -68,14 +73,14 @@ impl Segments {
     }
 
     /// The lengths as the library takes them, which are there as long as the segments are.
-    pub(crate) fn given(&self) -> Lengths {
+    pub(crate) fn given(&self) -> CvlLengths {
         given(&self.lengths)
     }
 }
 
 /// Lengths as the library takes them, which are there as long as the slice is.
-fn given(lengths: &[i32]) -> Lengths {
-    Lengths {
+fn given(lengths: &[i32]) -> CvlLengths {
+    CvlLengths {
         lengths: lengths.as_ptr(),
         segments: lengths.len(),
     }

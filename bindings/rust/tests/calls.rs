@@ -1,14 +1,34 @@
-//! The examples of the calls, and what stands in none: faults and rooms, empty vectors, threads that share segments.
+//! The examples of the calls, and what stands in none: faults and rooms, empty vectors, texts, parts, and what threads share.
 
 #[rustfmt::skip]
 mod examples;
 
-use cvl::{Fault, Segments};
+use std::fmt::Debug;
 
-const MOST: i64 = 4_194_304;
+use cvl::{Fault, Operator, Segments};
+
+const MOST: i64 = cvl::MOST_ELEMENTS as i64;
 
 fn told(fault: Fault) -> (u32, Option<u64>) {
     (fault.number(), fault.place())
+}
+
+/// A call into a room of each of these lengths is refused, and the room stays.
+fn refuses<T: Copy + PartialEq + Debug>(
+    lengths: &[usize],
+    fill: impl Fn(&mut [T]) -> Result<(), Fault>,
+    before: T,
+) {
+    for &length in lengths {
+        let mut room = vec![before; length];
+        assert_eq!(fill(&mut room).map_err(told), Err((7, None)));
+        assert_eq!(room, vec![before; length]);
+    }
+}
+
+/// A call on vectors that are not equally long, or not as long as lengths or the room say.
+fn differ<T>(found: Result<T, Fault>) {
+    assert_eq!(found.map(|_| ()).map_err(told), Err((7, None)));
 }
 
 #[test]
@@ -122,26 +142,23 @@ fn a_pack_takes_a_longer_room_and_tells_how_many() {
 
 #[test]
 fn a_result_may_be_as_long_as_a_vector_and_no_longer() {
-    let most = vec![1; cvl::MOST_ELEMENTS];
-    let kept = vec![true; cvl::MOST_ELEMENTS];
+    let most = cvl::dis_vub(true, MOST).unwrap();
+    assert_eq!(most.len(), cvl::MOST_ELEMENTS);
+    assert_eq!(cvl::cnt_lub(&most), Ok(MOST as i32));
+    drop(most);
     let one = Segments::new(&[MOST as i32]).unwrap();
-    for found in [
-        cvl::cpy_wuz(&most).unwrap(),
-        cvl::dis_vuz(1, MOST).unwrap(),
-        cvl::dis_vez(&[1], &one).unwrap(),
-        cvl::pck_luz(&most, &kept).unwrap(),
-        cvl::rep_vuz(&most, 0, 1).unwrap(),
-    ] {
-        assert!(found == most);
-    }
-    let more = vec![1; cvl::MOST_ELEMENTS + 1];
-    let kept = vec![true; cvl::MOST_ELEMENTS + 1];
+    assert_eq!(one.total(), cvl::MOST_ELEMENTS);
+    let more = vec![false; cvl::MOST_ELEMENTS + 1];
     for fault in [
-        cvl::cpy_wuz(&more).unwrap_err(),
-        cvl::add_wuz(&more, &[1]).unwrap_err(),
-        cvl::add_wuz_into(&more, &[1], &mut [7]).unwrap_err(),
-        cvl::pck_luz(&more, &kept).unwrap_err(),
-        cvl::add_ruz(&more).unwrap_err(),
+        cvl::dis_vub(true, MOST + 1).unwrap_err(),
+        cvl::cpy_wub(&more).unwrap_err(),
+        cvl::and_wub(&more, &[true]).unwrap_err(),
+        cvl::and_wub_into(&more, &[true], &mut [true]).unwrap_err(),
+        cvl::pck_lub(&more, &more).unwrap_err(),
+        cvl::pck_luz(&[1], &more).unwrap_err(),
+        cvl::cnt_lub(&more).unwrap_err(),
+        cvl::write_bools(&more).unwrap_err(),
+        Segments::new(&[MOST as i32, 1]).unwrap_err(),
     ] {
         assert_eq!(told(fault), (13, None));
     }
@@ -184,18 +201,16 @@ fn segments_of_lengths_and_of_offsets() {
         told(Segments::from_offsets(&[0, 3, 2]).unwrap_err()),
         (12, Some(1))
     );
-    assert_eq!(
-        told(Segments::new(&[4_194_304, 1]).unwrap_err()),
-        (13, None)
-    );
     assert_eq!(cvl::len_fos(&rows), [2, 0, 3]);
 }
 
 #[test]
 fn threads_share_segments() {
-    fn is_shared<T: Send + Sync>(_: &T) {}
+    fn is_shared<T: Send + Sync + 'static>() {}
+    is_shared::<Segments>();
+    is_shared::<Fault>();
+    is_shared::<cvl::Operator>();
     let rows = Segments::new(&[3; 1000]).unwrap();
-    is_shared(&rows);
     let numbers: Vec<i32> = (0..3000).collect();
     let wanted: Vec<i32> = (0..1000).map(|k| 9 * k + 3).collect();
     std::thread::scope(|scope| {
@@ -207,6 +222,204 @@ fn threads_share_segments() {
             });
         }
     });
+}
+
+#[test]
+fn each_fault_has_its_number_and_its_name() {
+    use cvl::faults;
+    let rows = Segments::new(&[1, 1]).unwrap();
+    let found = [
+        (
+            cvl::add_wuz(&[1], &[]).unwrap_err(),
+            faults::LENGTH_MISMATCH,
+            7,
+        ),
+        (
+            cvl::div_wuz(&[1], &[0]).unwrap_err(),
+            faults::DIVIDE_BY_ZERO,
+            8,
+        ),
+        (
+            cvl::lsh_wuz(&[1], &[32]).unwrap_err(),
+            faults::SHIFT_OUT_OF_RANGE,
+            9,
+        ),
+        (
+            cvl::bck_puz(&[1], &[1]).unwrap_err(),
+            faults::INDEX_OUT_OF_RANGE,
+            10,
+        ),
+        (
+            cvl::smp_pez(&[1, 2], &[0, 1], &rows).unwrap_err(),
+            faults::INDEX_OUT_OF_RANGE,
+            10,
+        ),
+        (
+            cvl::smp_puz(&[1, 2], &[0, 0]).unwrap_err(),
+            faults::INDEX_REPEATED,
+            11,
+        ),
+        (
+            Segments::new(&[-1]).unwrap_err(),
+            faults::NEGATIVE_LENGTH,
+            12,
+        ),
+        (cvl::dis_vuz(0, MOST + 1).unwrap_err(), faults::TOO_LONG, 13),
+        (cvl::read_ints("x").unwrap_err(), faults::BAD_INPUT, 15),
+        (
+            cvl::tot_ruz(&[i32::MAX, 1]).unwrap_err(),
+            faults::OVERFLOW,
+            18,
+        ),
+        (
+            cvl::bool_scan_after(Operator::Add, true, &[true]).unwrap_err(),
+            faults::UNKNOWN_CALL,
+            2,
+        ),
+    ];
+    for (fault, named, number) in found {
+        assert_eq!((fault.number(), named), (number, number));
+        assert_eq!(fault.to_string().split(' ').nth(2), Some(fault.name()));
+    }
+}
+
+#[test]
+fn texts() {
+    let numbers = [i32::MIN, 0, 7, i32::MAX];
+    let text = cvl::write_ints(&numbers).unwrap();
+    assert_eq!(text, "[-2147483648 0 7 2147483647]");
+    assert_eq!(cvl::read_ints(&text[1..text.len() - 1]).unwrap(), numbers);
+    assert_eq!(cvl::read_ints("").unwrap(), []);
+    assert_eq!(cvl::read_ints(" \t\r\n").unwrap(), []);
+    assert_eq!(cvl::read_ints(b"12".as_slice()).unwrap(), [12]);
+    assert_eq!(cvl::read_ints(String::from("1 2\n")).unwrap(), [1, 2]);
+    assert_eq!(told(cvl::read_ints("1 2 -").unwrap_err()), (15, Some(2)));
+    assert_eq!(
+        told(cvl::read_ints_after(5, "1 2147483648").unwrap_err()),
+        (15, Some(6))
+    );
+    assert_eq!(
+        told(cvl::read_ints([0xff, b' ', 0]).unwrap_err()),
+        (15, Some(0))
+    );
+    assert_eq!(cvl::write_ints(&[]).unwrap(), "[]");
+    assert_eq!(cvl::write_bools(&[true, false]).unwrap(), "[T F]");
+    let least = [i32::MIN; 1000];
+    assert_eq!(cvl::write_ints(&least).unwrap().len(), 12 * 1000 + 1);
+    let rows = Segments::new(&[1; 1000]).unwrap();
+    assert_eq!(
+        cvl::seg_write_ints(&least, &rows).unwrap().len(),
+        14 * 1000 + 1
+    );
+    assert_eq!(
+        cvl::seg_write_bools(&[true; 1000], &rows).unwrap().len(),
+        4 * 1000 + 1
+    );
+    let short = Segments::new(&[1; 999]).unwrap();
+    assert_eq!(
+        told(cvl::seg_write_ints(&least, &short).unwrap_err()),
+        (7, None)
+    );
+}
+
+#[test]
+fn a_text_has_a_room_that_is_long_enough() {
+    for places in 0..12 {
+        let mut room = vec![b'?'; places];
+        let found = cvl::write_ints_into(&[0, -3, 4], &mut room);
+        if places < 8 {
+            assert_eq!(told(found.unwrap_err()), (7, None));
+            assert_eq!(room, vec![b'?'; places]);
+        } else {
+            assert_eq!(found, Ok(8));
+            assert_eq!(&room[..8], b"[0 -3 4]");
+            assert_eq!(room[8..], vec![b'?'; places - 8]);
+        }
+        let mut numbers = vec![7; places];
+        let found = cvl::read_ints_into("1 2 3", &mut numbers);
+        assert_eq!(found.is_ok(), places >= 3);
+        assert_eq!(
+            numbers[..places.min(3)],
+            [[7; 3], [1, 2, 3]][usize::from(places >= 3)][..places.min(3)]
+        );
+    }
+}
+
+#[test]
+fn nested_texts() {
+    let (numbers, rows) = cvl::seg_read_ints("[[1 2] [] [-3]]").unwrap();
+    assert_eq!((numbers, rows.lengths()), (vec![1, 2, -3], &[2, 0, 1][..]));
+    let (numbers, rows) = cvl::seg_read_ints("[]").unwrap();
+    assert!(numbers.is_empty() && rows.is_empty());
+    let many = format!("[{}]", "[]".repeat(1000));
+    let (numbers, rows) = cvl::seg_read_ints(&many).unwrap();
+    assert_eq!((numbers.len(), rows.lengths()), (0, &[0; 1000][..]));
+    assert_eq!(
+        told(cvl::seg_read_ints("[[1] 2]").unwrap_err()),
+        (15, Some(4))
+    );
+    assert_eq!(told(cvl::seg_read_ints("[[1]").unwrap_err()), (15, Some(4)));
+    let (mut out, mut lengths) = ([7; 4], [7; 4]);
+    assert_eq!(
+        cvl::seg_read_ints_into("[[1 2] [3]]", &mut out, &mut lengths),
+        Ok((3, 2))
+    );
+    assert_eq!((out, lengths), ([1, 2, 3, 7], [2, 1, 7, 7]));
+    let (mut out, mut lengths) = ([7; 3], [7; 1]);
+    let short = cvl::seg_read_ints_into("[[1 2] [3]]", &mut out, &mut lengths).unwrap_err();
+    assert_eq!((told(short), out, lengths), ((7, None), [7; 3], [7; 1]));
+}
+
+/// A scan, a checked scan and a permute of a vector, each made of its parts.
+#[test]
+fn parts_give_what_the_whole_gives() {
+    let a: Vec<i32> = (0..1000).map(|k| k * k % 97 - 40).collect();
+    let flags: Vec<bool> = a.iter().map(|a| a % 2 == 0).collect();
+    let (left, right) = a.split_at(377);
+    for (operator, before, whole) in [
+        (Operator::Add, cvl::add_ruz(left), cvl::add_suz(&a)),
+        (Operator::Mul, cvl::mul_ruz(left), cvl::mul_suz(&a)),
+        (Operator::Min, cvl::min_ruz(left), cvl::min_suz(&a)),
+        (Operator::Max, cvl::max_ruz(left), cvl::max_suz(&a)),
+        (Operator::And, cvl::and_ruz(left), cvl::and_suz(&a)),
+        (Operator::Ior, cvl::ior_ruz(left), cvl::ior_suz(&a)),
+        (Operator::Xor, cvl::xor_ruz(left), cvl::xor_suz(&a)),
+    ] {
+        assert_eq!(
+            cvl::int_scan_after(operator, before.unwrap(), right).unwrap(),
+            whole.unwrap()[377..]
+        );
+    }
+    let before = cvl::xor_rub(&flags[..377]).unwrap();
+    let mut within = flags[377..].to_vec();
+    cvl::bool_scan_after_in(Operator::Xor, before, &mut within).unwrap();
+    assert_eq!(within, cvl::xor_sub(&flags).unwrap()[377..]);
+    let sum = cvl::exact_sum(left).unwrap();
+    assert_eq!(sum, left.iter().map(|&a| i64::from(a)).sum::<i64>());
+    assert_eq!(
+        cvl::checked_scan_after(sum, right).unwrap(),
+        cvl::tot_suz(&a).unwrap()[377..]
+    );
+    assert_eq!(cvl::exact_sum(&[i32::MAX; 3]), Ok(3 * i64::from(i32::MAX)));
+    assert_eq!(
+        told(cvl::checked_scan_after(i64::from(i32::MAX), &[1, 0]).unwrap_err()),
+        (18, Some(1))
+    );
+}
+
+#[test]
+fn a_permute_is_its_ranges() {
+    let (source, index) = ([5, 6, 7, 8], [2, 0, 3, 1]);
+    let (mut out, mut written) = ([0; 4], 0);
+    for (lowest, range) in out.chunks_mut(3).enumerate() {
+        written += cvl::permute_int_range(&source, &index, 3 * lowest, range, &mut [9]).unwrap();
+    }
+    assert_eq!((out, written), ([6, 8, 5, 7], 4));
+    let (mut out, mut marks) = ([7; 4], [9; 2]);
+    let wrong = cvl::permute_int_range(&source, &index, 0, &mut out, &mut marks).unwrap_err();
+    assert_eq!((told(wrong), out, marks), ((7, None), [7; 4], [9; 2]));
+    let far = cvl::permute_int_range(&source, &index, usize::MAX, &mut out, &mut [0]).unwrap_err();
+    assert_eq!((told(far), out), ((13, None), [7; 4]));
 }
 
 #[test]

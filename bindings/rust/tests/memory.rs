@@ -31,9 +31,12 @@ fn number<T>(found: Result<T, Fault>) -> u32 {
 #[test]
 fn no_memory_is_told_after_what_needs_none() {
     let (ones, zeros, kept) = (vec![1; 1_000], vec![0; 1_000], vec![true; 3_000]);
-    let more = vec![1; cvl::MOST_ELEMENTS + 1];
+    let more = vec![false; cvl::MOST_ELEMENTS + 1];
+    let (text, wrong) = ("1 ".repeat(1_000), "1 ".repeat(1_000) + "x");
+    let words = "x ".repeat(4_194_305);
     let lengths = vec![1; 1_000];
     let rows = Segments::new(&lengths).unwrap();
+    let nested = format!("[[{text}]]");
     MEMORY.0.store(true, Ordering::Relaxed);
     let told = [
         (number(cvl::add_wuz(&ones, &ones)), 100),
@@ -44,10 +47,19 @@ fn no_memory_is_told_after_what_needs_none() {
         (number(Segments::from_offsets(&[0; 1_000])), 100),
         (number(cvl::add_wuz(&ones, &zeros[1..])), 7),
         (number(cvl::add_sez(&ones[1..], &rows)), 7),
-        (number(cvl::add_wuz(&more, &ones)), 13),
+        (number(cvl::and_wub(&more, &kept)), 13),
+        (number(cvl::pck_lub(&more, &more)), 13),
         (number(cvl::dis_vuz(1, 1 << 40)), 13),
         (number(cvl::dis_vuz(1, -1_000)), 12),
-        (number(Segments::from_offsets(&more)), 7),
+        (number(Segments::from_offsets(&ones)), 7),
+        (number(cvl::read_ints(&text)), 100),
+        (number(cvl::read_ints(&wrong)), 15),
+        (number(cvl::read_ints(&words)), 13),
+        (number(cvl::seg_read_ints(&text)), 15),
+        (number(cvl::seg_read_ints(&nested)), 100),
+        (number(cvl::write_ints(&ones)), 100),
+        (number(cvl::write_bools(&more)), 13),
+        (number(cvl::seg_write_bools(&kept, &rows)), 7),
         (number(cvl::add_ruz(&ones)), 0),
     ];
     MEMORY.0.store(false, Ordering::Relaxed);

@@ -1,0 +1,311 @@
+//! What is no call: texts, and what a part of a call needs that the whole does not.
+//!
+//! Written by the generator of the repository from its table of calls; edit the table and not this file.
+
+use alloc::string::String;
+use alloc::vec::Vec;
+
+use crate::fault::Fault;
+use crate::lengths::{counted, limit, most_words, same, text_of, zeros};
+use crate::numbers::Operator;
+use crate::pool::call;
+use crate::segments::Segments;
+
+/// The integers of a text. They stand between white space (space, tab, line feed, carriage return), and each is an optional
+/// minus sign and at least one digit, inside 32 bits. A text of white space alone has none.
+///
+/// Faults: 13 TooLong, without a place, where there are more than 4194304 words between white space, whatever they are; else
+/// 15 BadInput at the first word that is no such integer.
+///
+/// ```
+/// assert_eq!(cvl::read_ints("5 -1\n007 -0")?, [5, -1, 7, 0]);
+/// # Ok::<(), cvl::Fault>(())
+/// ```
+pub fn read_ints(text: impl AsRef<[u8]>) -> Result<Vec<i32>, Fault> {
+    let text = text.as_ref();
+    counted(most_words(text), |out| read_ints_into(text, out))
+}
+
+/// [`read_ints`] into a room that is as long as the result or longer, and how long that is; a fault leaves the room as it
+/// was.
+pub fn read_ints_into(text: impl AsRef<[u8]>, out: &mut [i32]) -> Result<usize, Fault> {
+    let text = text.as_ref();
+    let mut count = 0;
+    call!(cvl_read_ints | cvl_read_ints_on: text.as_ptr(), text.len(), out.as_mut_ptr(), out.len(), &mut count)?;
+    Ok(count)
+}
+
+/// The text of a vector of integers: in decimal, a space between each two, in brackets.
+///
+/// Faults: 13 TooLong.
+///
+/// ```
+/// assert_eq!(cvl::write_ints(&[0, -3, 4])?, "[0 -3 4]");
+/// # Ok::<(), cvl::Fault>(())
+/// ```
+pub fn write_ints(a: &[i32]) -> Result<String, Fault> {
+    limit(a.len())?;
+    counted(12 * a.len() + 2, |out| write_ints_into(a, out)).map(text_of)
+}
+
+/// [`write_ints`] into a room that is as long as the result or longer, and how long that is; a fault leaves the room as it
+/// was.
+pub fn write_ints_into(a: &[i32], out: &mut [u8]) -> Result<usize, Fault> {
+    let mut count = 0;
+    call!(cvl_write_ints | cvl_write_ints_on: a.as_ptr(), a.len(), out.as_mut_ptr(), out.len(), &mut count)?;
+    Ok(count)
+}
+
+/// The text of a vector of booleans: each T or F, a space between each two, in brackets.
+///
+/// Faults: 13 TooLong.
+///
+/// ```
+/// assert_eq!(cvl::write_bools(&[true, false])?, "[T F]");
+/// # Ok::<(), cvl::Fault>(())
+/// ```
+pub fn write_bools(a: &[bool]) -> Result<String, Fault> {
+    limit(a.len())?;
+    counted(2 * a.len() + 2, |out| write_bools_into(a, out)).map(text_of)
+}
+
+/// [`write_bools`] into a room that is as long as the result or longer, and how long that is; a fault leaves the room as it
+/// was.
+pub fn write_bools_into(a: &[bool], out: &mut [u8]) -> Result<usize, Fault> {
+    let mut count = 0;
+    call!(cvl_write_bools | cvl_write_bools_on: a.as_ptr(), a.len(), out.as_mut_ptr(), out.len(), &mut count)?;
+    Ok(count)
+}
+
+/// The text of a vector of integers that is cut into segments: the texts of the segments, a space between each two, in
+/// brackets.
+///
+/// Faults: by the lengths those of each call on segments, 13 TooLong, 12 NegativeLength, 13 TooLong; 7 LengthMismatch where
+/// the lengths do not add up to the vector's.
+///
+/// ```
+/// let segments = cvl::Segments::new(&[0, 2, 1])?;
+/// assert_eq!(cvl::seg_write_ints(&[5, 1, 7], &segments)?, "[[] [5 1] [7]]");
+/// # Ok::<(), cvl::Fault>(())
+/// ```
+pub fn seg_write_ints(a: &[i32], segments: &Segments) -> Result<String, Fault> {
+    same(&[a.len(), segments.total()])?;
+    counted(12 * a.len() + 3 * segments.len() + 2, |out| seg_write_ints_into(a, segments, out)).map(text_of)
+}
+
+/// [`seg_write_ints`] into a room that is as long as the result or longer, and how long that is; a fault leaves the room as
+/// it was.
+pub fn seg_write_ints_into(a: &[i32], segments: &Segments, out: &mut [u8]) -> Result<usize, Fault> {
+    let mut count = 0;
+    call!(cvl_seg_write_ints | cvl_seg_write_ints_on: a.as_ptr(), a.len(), segments.given(), out.as_mut_ptr(), out.len(),
+        &mut count)?;
+    Ok(count)
+}
+
+/// The same of booleans, each T or F.
+///
+/// ```
+/// let segments = cvl::Segments::new(&[1, 1])?;
+/// assert_eq!(cvl::seg_write_bools(&[true, false], &segments)?, "[[T] [F]]");
+/// # Ok::<(), cvl::Fault>(())
+/// ```
+pub fn seg_write_bools(a: &[bool], segments: &Segments) -> Result<String, Fault> {
+    same(&[a.len(), segments.total()])?;
+    counted(2 * a.len() + 3 * segments.len() + 2, |out| seg_write_bools_into(a, segments, out)).map(text_of)
+}
+
+/// [`seg_write_bools`] into a room that is as long as the result or longer, and how long that is; a fault leaves the room as
+/// it was.
+pub fn seg_write_bools_into(a: &[bool], segments: &Segments, out: &mut [u8]) -> Result<usize, Fault> {
+    let mut count = 0;
+    call!(cvl_seg_write_bools | cvl_seg_write_bools_on: a.as_ptr(), a.len(), segments.given(), out.as_mut_ptr(),
+        out.len(), &mut count)?;
+    Ok(count)
+}
+
+/// For each integer `before`, joined by the operator, of `Add` to `Xor`, with those in front of it. a and out have n
+/// elements.
+///
+/// Faults: 13 TooLong.
+pub fn int_scan_after(operator: Operator, before: i32, a: &[i32]) -> Result<Vec<i32>, Fault> {
+    limit(a.len())?;
+    let mut out = zeros(a.len())?;
+    int_scan_after_into(operator, before, a, &mut out)?;
+    Ok(out)
+}
+
+/// [`int_scan_after`] into a room that is as long as the result; a fault leaves the room as it was.
+pub fn int_scan_after_into(operator: Operator, before: i32, a: &[i32], out: &mut [i32]) -> Result<(), Fault> {
+    call!(cvl_int_scan_after: operator as u32, before, a.as_ptr(), a.len(), out.as_mut_ptr(), out.len())
+}
+
+/// [`int_scan_after`] in the place of `a`; a fault leaves it as it was.
+pub fn int_scan_after_in(operator: Operator, before: i32, a: &mut [i32]) -> Result<(), Fault> {
+    let out = a.as_mut_ptr();
+    call!(cvl_int_scan_after: operator as u32, before, out, a.len(), out, a.len())
+}
+
+/// For each boolean `before`, joined by the operator, of `And` to `Xor`, with those in front of it. a and out have n
+/// elements.
+///
+/// Faults: 13 TooLong.
+pub fn bool_scan_after(operator: Operator, before: bool, a: &[bool]) -> Result<Vec<bool>, Fault> {
+    limit(a.len())?;
+    let mut out = zeros(a.len())?;
+    bool_scan_after_into(operator, before, a, &mut out)?;
+    Ok(out)
+}
+
+/// [`bool_scan_after`] into a room that is as long as the result; a fault leaves the room as it was.
+pub fn bool_scan_after_into(operator: Operator, before: bool, a: &[bool], out: &mut [bool]) -> Result<(), Fault> {
+    call!(cvl_bool_scan_after: operator as u32, before, a.as_ptr(), a.len(), out.as_mut_ptr(), out.len())
+}
+
+/// [`bool_scan_after`] in the place of `a`; a fault leaves it as it was.
+pub fn bool_scan_after_in(operator: Operator, before: bool, a: &mut [bool]) -> Result<(), Fault> {
+    let out = a.as_mut_ptr();
+    call!(cvl_bool_scan_after: operator as u32, before, out, a.len(), out, a.len())
+}
+
+/// The sum of the integers in 64 bits, where it always fits: what a part of a checked sum tells to the next.
+///
+/// Faults: 13 TooLong.
+///
+/// ```
+/// assert_eq!(cvl::exact_sum(&[2147483647, 1])?, 2147483648);
+/// # Ok::<(), cvl::Fault>(())
+/// ```
+pub fn exact_sum(a: &[i32]) -> Result<i64, Fault> {
+    let mut out = 0;
+    call!(cvl_exact_sum: a.as_ptr(), a.len(), &mut out)?;
+    Ok(out)
+}
+
+/// For each integer `before` and those in front of it, added up: a part of checked_scan after the exact sum of the parts in
+/// front of it. Where the part does not begin at place 0, neither does the place of a fault.
+///
+/// Faults: 13 TooLong; 18 Overflow at the first place whose sum does not fit 32 bits.
+///
+/// ```
+/// assert_eq!(cvl::checked_scan_after(10, &[3, 1, 4])?, [10, 13, 14]);
+/// # Ok::<(), cvl::Fault>(())
+/// ```
+pub fn checked_scan_after(before: i64, a: &[i32]) -> Result<Vec<i32>, Fault> {
+    limit(a.len())?;
+    let mut out = zeros(a.len())?;
+    checked_scan_after_into(before, a, &mut out)?;
+    Ok(out)
+}
+
+/// [`checked_scan_after`] into a room that is as long as the result; a fault leaves the room as it was.
+pub fn checked_scan_after_into(before: i64, a: &[i32], out: &mut [i32]) -> Result<(), Fault> {
+    call!(cvl_checked_scan_after: before, a.as_ptr(), a.len(), out.as_mut_ptr(), out.len())
+}
+
+/// One range of the result of smp_puz, its out_len places from place `lowest` on: each element whose index is one of them is
+/// written there, the last where there are several, and the place is marked by a bit. marks are (out_len + 31) / 32 words:
+/// bit b of word w, of the value 1 << b, is set where place 32 * w + b of the range is written, and the bits behind the last
+/// place are not. It does not matter what they hold before; written is how many bits are set. Each part has another range,
+/// its own marks, and all of source and index. Where all parts together wrote index_len places, the ranges, one after
+/// another, are the permute. Else an index is out of range or repeated: permute_int tells which. A place that nothing is sent
+/// to stays as it was, so that over ranges that hold the defaults before the parts are def_puz.
+///
+/// Faults: 13 TooLong, by the index, and where the range ends behind place 2147483647; 7 LengthMismatch, where source and
+/// index are not equally long, or marks_len is not (out_len + 31) / 32. At a fault all rooms are as they were.
+///
+/// ```
+/// let (mut out, mut marks) = ([0; 2], [0; 1]);
+/// assert_eq!(cvl::permute_int_range(&[5, 6, 7], &[2, 0, 1], 1, &mut out, &mut marks)?, 2);
+/// assert_eq!((out, marks), ([7, 5], [3]));
+/// # Ok::<(), cvl::Fault>(())
+/// ```
+pub fn permute_int_range(
+    source: &[i32], index: &[i32], lowest: usize, out: &mut [i32], marks: &mut [u32],
+) -> Result<usize, Fault> {
+    let mut written = 0;
+    call!(cvl_permute_int_range: source.as_ptr(), source.len(), index.as_ptr(), index.len(), lowest, out.as_mut_ptr(),
+        out.len(), marks.as_mut_ptr(), marks.len(), &mut written)?;
+    Ok(written)
+}
+
+/// The same of booleans: smp_pub, and def_pub over ranges that hold the defaults before, each 0 or 1.
+///
+/// ```
+/// let (mut out, mut marks) = ([false; 2], [0; 1]);
+/// assert_eq!(cvl::permute_bool_range(&[true, false, true], &[2, 0, 1], 1, &mut out, &mut marks)?, 2);
+/// assert_eq!((out, marks), ([true, true], [3]));
+/// # Ok::<(), cvl::Fault>(())
+/// ```
+pub fn permute_bool_range(
+    source: &[bool], index: &[i32], lowest: usize, out: &mut [bool], marks: &mut [u32],
+) -> Result<usize, Fault> {
+    let mut written = 0;
+    call!(cvl_permute_bool_range: source.as_ptr(), source.len(), index.as_ptr(), index.len(), lowest, out.as_mut_ptr(),
+        out.len(), marks.as_mut_ptr(), marks.len(), &mut written)?;
+    Ok(written)
+}
+
+/// One range of the result of sel_puz, the same way: the elements alone go anywhere whose flag is true. Where the result has
+/// as many places as there are true flags, and all parts together wrote as many, the ranges are the permute.
+///
+/// Faults: those of permute_int_range; 7 LengthMismatch also where index and flags are not equally long.
+///
+/// ```
+/// let (mut out, mut marks) = ([0; 1], [0; 1]);
+/// assert_eq!(cvl::select_permute_int_range(&[5, 6, 7], &[1, 9, 0], &[true, false, true], 0, &mut out, &mut marks)?, 1);
+/// assert_eq!((out, marks), ([7], [1]));
+/// # Ok::<(), cvl::Fault>(())
+/// ```
+pub fn select_permute_int_range(
+    source: &[i32], index: &[i32], flags: &[bool], lowest: usize, out: &mut [i32], marks: &mut [u32],
+) -> Result<usize, Fault> {
+    let mut written = 0;
+    call!(cvl_select_permute_int_range: source.as_ptr(), source.len(), index.as_ptr(), index.len(), flags.as_ptr(),
+        flags.len(), lowest, out.as_mut_ptr(), out.len(), marks.as_mut_ptr(), marks.len(), &mut written)?;
+    Ok(written)
+}
+
+/// The same of booleans: sel_pub.
+///
+/// ```
+/// let (mut out, mut marks) = ([false; 1], [0; 1]);
+/// assert_eq!(
+///     cvl::select_permute_bool_range(&[true, false, false], &[1, 9, 0], &[true, false, true], 0, &mut out, &mut marks)?,
+///     1
+/// );
+/// assert_eq!((out, marks), ([false], [1]));
+/// # Ok::<(), cvl::Fault>(())
+/// ```
+pub fn select_permute_bool_range(
+    source: &[bool], index: &[i32], flags: &[bool], lowest: usize, out: &mut [bool], marks: &mut [u32],
+) -> Result<usize, Fault> {
+    let mut written = 0;
+    call!(cvl_select_permute_bool_range: source.as_ptr(), source.len(), index.as_ptr(), index.len(), flags.as_ptr(),
+        flags.len(), lowest, out.as_mut_ptr(), out.len(), marks.as_mut_ptr(), marks.len(), &mut written)?;
+    Ok(written)
+}
+
+/// The integers of one piece of a text that is cut at white space, as read_ints reads them. `before` is how many words the
+/// pieces before it have, so that a fault's place is that in the whole text.
+///
+/// Faults: 13 TooLong, without a place, where `before` is more than 2147483647, or the piece itself has more than 4194304
+/// words; else 15 BadInput at the first word of the piece that is no integer. That all pieces together have at most
+/// 2147483647 words is the caller's to see.
+///
+/// ```
+/// assert_eq!(cvl::read_ints_after(3, "9 10")?, [9, 10]);
+/// # Ok::<(), cvl::Fault>(())
+/// ```
+pub fn read_ints_after(before: usize, text: impl AsRef<[u8]>) -> Result<Vec<i32>, Fault> {
+    let text = text.as_ref();
+    counted(most_words(text), |out| read_ints_after_into(before, text, out))
+}
+
+/// [`read_ints_after`] into a room that is as long as the result or longer, and how long that is; a fault leaves the room as
+/// it was.
+pub fn read_ints_after_into(before: usize, text: impl AsRef<[u8]>, out: &mut [i32]) -> Result<usize, Fault> {
+    let text = text.as_ref();
+    let mut count = 0;
+    call!(cvl_read_ints_after: before, text.as_ptr(), text.len(), out.as_mut_ptr(), out.len(), &mut count)?;
+    Ok(count)
+}
