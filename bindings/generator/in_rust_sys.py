@@ -92,6 +92,8 @@ def constants():
         lines += _constant(f"VERSION_{name}", "u32", number, f"The {name.lower()} number of the version.")
     said = "The most elements of a vector, and the greatest total of segments."
     lines += _constant("MOST_ELEMENTS", "usize", f"{table.MOST_ELEMENTS:_}", said)
+    said = "The most elements whose text is read or written at once."
+    lines += _constant("MOST_OF_TEXT", "usize", f"{table.MOST_OF_TEXT:_}", said)
     for number, name in table.STATUSES:
         said = "All is done." if number == 0 else f"The number of the fault {name}."
         lines += _constant(in_c.constant(name), "u32", number, said)

@@ -6,7 +6,7 @@ use alloc::string::String;
 use alloc::vec::Vec;
 
 use crate::fault::Fault;
-use crate::lengths::{counted, limit, most_words, same, text_of, zeros};
+use crate::lengths::{counted, limit, most_words, same, text_limit, text_of, zeros};
 use crate::numbers::Operator;
 use crate::pool::call;
 use crate::segments::Segments;
@@ -44,7 +44,7 @@ pub fn read_ints_into(text: impl AsRef<[u8]>, out: &mut [i32]) -> Result<usize, 
 /// # Ok::<(), cvl::Fault>(())
 /// ```
 pub fn write_ints(a: &[i32]) -> Result<String, Fault> {
-    limit(a.len())?;
+    text_limit(a.len())?;
     counted(12 * a.len() + 2, |out| write_ints_into(a, out)).map(text_of)
 }
 
@@ -65,7 +65,7 @@ pub fn write_ints_into(a: &[i32], out: &mut [u8]) -> Result<usize, Fault> {
 /// # Ok::<(), cvl::Fault>(())
 /// ```
 pub fn write_bools(a: &[bool]) -> Result<String, Fault> {
-    limit(a.len())?;
+    text_limit(a.len())?;
     counted(2 * a.len() + 2, |out| write_bools_into(a, out)).map(text_of)
 }
 
@@ -89,6 +89,8 @@ pub fn write_bools_into(a: &[bool], out: &mut [u8]) -> Result<usize, Fault> {
 /// # Ok::<(), cvl::Fault>(())
 /// ```
 pub fn seg_write_ints(a: &[i32], segments: &Segments) -> Result<String, Fault> {
+    text_limit(segments.len())?;
+    text_limit(segments.total())?;
     same(&[a.len(), segments.total()])?;
     counted(12 * a.len() + 3 * segments.len() + 2, |out| seg_write_ints_into(a, segments, out)).map(text_of)
 }
@@ -110,6 +112,8 @@ pub fn seg_write_ints_into(a: &[i32], segments: &Segments, out: &mut [u8]) -> Re
 /// # Ok::<(), cvl::Fault>(())
 /// ```
 pub fn seg_write_bools(a: &[bool], segments: &Segments) -> Result<String, Fault> {
+    text_limit(segments.len())?;
+    text_limit(segments.total())?;
     same(&[a.len(), segments.total()])?;
     counted(2 * a.len() + 3 * segments.len() + 2, |out| seg_write_bools_into(a, segments, out)).map(text_of)
 }

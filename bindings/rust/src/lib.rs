@@ -47,6 +47,9 @@ pub use threads::{set_threads, threads};
 /// The most elements of a vector, and the greatest total of segments.
 pub const MOST_ELEMENTS: usize = cvl_sys::CVL_MOST_ELEMENTS;
 
+/// The most elements whose text is read or written at once.
+pub const MOST_OF_TEXT: usize = cvl_sys::CVL_MOST_OF_TEXT;
+
 /// The version of the library.
 pub fn version() -> &'static str {
     // The library answers a text that ends with a zero and is never written.

@@ -157,10 +157,47 @@ fn a_result_may_be_as_long_as_a_vector_and_no_longer() {
         cvl::pck_lub(&more, &more).unwrap_err(),
         cvl::pck_luz(&[1], &more).unwrap_err(),
         cvl::cnt_lub(&more).unwrap_err(),
-        cvl::write_bools(&more).unwrap_err(),
         Segments::new(&[MOST as i32, 1]).unwrap_err(),
     ] {
         assert_eq!(told(fault), (13, None));
+    }
+}
+
+#[test]
+fn a_text_may_have_so_many_elements_and_no_more() {
+    let (numbers, flags) = (
+        vec![1; cvl::MOST_OF_TEXT + 1],
+        vec![true; cvl::MOST_OF_TEXT + 1],
+    );
+    let most = &numbers[1..];
+    let text = cvl::write_ints(most).unwrap();
+    assert_eq!(text.len(), 2 * most.len() + 1);
+    let words = &text[1..text.len() - 1];
+    assert!(cvl::read_ints(words).unwrap() == most);
+    let (read, rows) = cvl::seg_read_ints(format!("[{text}]")).unwrap();
+    assert!(read == most && rows.lengths() == [most.len() as i32]);
+    assert_eq!(
+        cvl::seg_write_ints(most, &rows).unwrap().len(),
+        text.len() + 2
+    );
+    for fault in [
+        cvl::write_ints(&numbers).unwrap_err(),
+        cvl::write_bools(&flags).unwrap_err(),
+        cvl::read_ints(format!("{words} x")).unwrap_err(),
+        cvl::seg_read_ints(format!("[[{words} 1]]")).unwrap_err(),
+    ] {
+        assert_eq!(told(fault), (13, None));
+    }
+    // segments may be longer where vectors may be
+    if let Ok(rows) = Segments::new(&[most.len() as i32, 1]) {
+        assert_eq!(
+            told(cvl::seg_write_ints(&numbers, &rows).unwrap_err()),
+            (13, None)
+        );
+        assert_eq!(
+            told(cvl::seg_write_bools(&flags, &rows).unwrap_err()),
+            (13, None)
+        );
     }
 }
 

@@ -33,7 +33,7 @@ fn no_memory_is_told_after_what_needs_none() {
     let (ones, zeros, kept) = (vec![1; 1_000], vec![0; 1_000], vec![true; 3_000]);
     let more = vec![false; cvl::MOST_ELEMENTS + 1];
     let (text, wrong) = ("1 ".repeat(1_000), "1 ".repeat(1_000) + "x");
-    let words = "x ".repeat(4_194_305);
+    let words = "x ".repeat(cvl::MOST_OF_TEXT + 1);
     let lengths = vec![1; 1_000];
     let rows = Segments::new(&lengths).unwrap();
     let nested = format!("[[{text}]]");

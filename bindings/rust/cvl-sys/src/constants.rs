@@ -17,6 +17,9 @@ pub const CVL_VERSION_PATCH: u32 = 0;
 /// The most elements of a vector, and the greatest total of segments.
 pub const CVL_MOST_ELEMENTS: usize = 2_147_483_647;
 
+/// The most elements whose text is read or written at once.
+pub const CVL_MOST_OF_TEXT: usize = 4_194_304;
+
 /// All is done.
 pub const CVL_DONE: u32 = 0;
 
