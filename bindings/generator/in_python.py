@@ -1,5 +1,7 @@
-"""What is written in Python: a function for each call with its stub, and what each symbol takes."""
+"""What is written in Python and for it: the compiled table of calls with their descriptions, the stubs, and the names of faults
+and operators."""
 
+import re
 import textwrap
 
 import packages
@@ -8,56 +10,91 @@ import table
 from packages import name_of
 
 WIDTH = 118
+NUMPY = {"ints": "numpy.int32", "flags": "bool", "marks": "numpy.uint32"}
 
-HEAD = f'''"""Each call of the table, by its name. A vector is a numpy array of int32 or of bool in one dimension, which is not copied;
-segments are a `Segments`, or their lengths as an array of int32. A result is a new array, or stands in `out`.
+# The functions beside the calls of the table, by the sections of their families.
+SECTIONS = ("texts", "scans in parts, by threads of the caller's", "calls in parts")
 
-{rows.NOTE}
-"""
-
-from ctypes import byref, c_int32, c_size_t, c_uint8
-
-from cvl._arrays import FLAG, INT, at, flag_array, flag_value, int_array, int_value, wide_value
-from cvl._library import library, tell
-from cvl._rooms import front, own_room, room_for, total, true_flags
-from cvl._symbols import MOST_ELEMENTS
-from cvl.segments import Segments, lengths_of
-'''
-
-STUB_HEAD = f'''# The kinds of what each call takes and gives. {rows.NOTE}
-
-from typing import SupportsIndex, TypeVar, Union, overload
-
-import numpy
-
-from cvl._kinds import FlagArray, Flags, IntArray, Ints
-from cvl.segments import Segments
-
-_Ints = TypeVar("_Ints", bound=Ints)
-_Flags = TypeVar("_Flags", bound=Flags)
-'''
-
-# The function that looks at an operand, by its role and its kind.
-MAKERS = {
-    ("reads", "ints"): "int_array", ("reads", "flags"): "flag_array", ("value", "int"): "int_value", ("value", "flag"): "flag_value",
-    ("lengths", "ints"): "lengths_of",
+# Examples of families that have none in the table.
+EXAMPLES = {
+    "int_scan_after": {"op": "ADD", "before": "10", "a": "3 1 4", "out": "10 13 14"},
+    "bool_scan_after": {"op": "IOR", "before": "false", "a": "false true false", "out": "false false true"},
 }
-WIDE = ("place", "count")
-NUMPY = {"ints": "numpy.int32", "flags": "bool"}
 
-# The kinds in a stub.
-TAKEN = {"ints": "Ints", "flags": "Flags", "int": "SupportsIndex", "flag": "Union[bool, numpy.bool_]"}
-GIVEN = {"ints": "IntArray", "flags": "FlagArray", "int": "int", "flag": "bool"}
-ROOMS = {"ints": "_Ints", "flags": "_Flags"}
+
+class Direct(packages.Call):
+    """A family that Python has under its own name."""
+
+    def __init__(self, row):
+        super().__init__(row)
+        self.example = EXAMPLES.get(self.name) or row.example
+        self.told = [operand for operand in row.operands if operand.role == "told"]
+        self.is_range = any(operand.kind == "marks" for operand in row.operands)
+        rooms = [operand for operand in row.operands if operand.role == "room"]
+        if self.is_range:
+            self.operands = [*self.operands, *rooms]
+        if row.family.operators:
+            self.operands = [table.Operand("op", "operator", "size", None, False), *self.operands]
+
+    @property
+    def fills(self):
+        return super().fills and self.gives not in ("TEXT", "READ_NESTED", "WRITTEN")
+
+    @property
+    def gives(self):
+        """What it gives that no call of the table gives, or nothing."""
+        if self.is_range:
+            return "WRITTEN"
+        if self.operands[-1].kind == "text":
+            return "READ_NESTED" if len(self.told) > 1 else "READ"
+        return "TEXT" if self.result.kind == "text" else None
+
+
+CALLS = packages.CALLS
+DIRECT = [Direct(row) for name, row in rows.FAMILIES.items() if row.section in SECTIONS]
+FUNCTIONS = [*CALLS, *DIRECT]
+
+# The functions that tell how long a vector is: what they take, their names, and what they give.
+LENGTHS = (
+    (
+        "len_luz", "a", "INTS", "LENGTH", "The number of integers.",
+        ["a = numpy.array([3, 1, 4], dtype=numpy.int32)"], "cvl.len_luz(a)", "3",
+    ),
+    (
+        "len_lub", "a", "FLAGS", "LENGTH", "The number of booleans.",
+        ["a = numpy.array([True, False], dtype=bool)"], "cvl.len_lub(a)", "2",
+    ),
+    (
+        "len_fos", "segments", "LENGTHS", "LENGTHS",
+        "The lengths of segments, in an array of their own. What are no lengths is a fault.",
+        ["segments = cvl.Segments([2, 0, 3])"], "cvl.len_fos(segments).tolist()", "[2, 0, 3]",
+    ),
+)  # fmt: skip
+NAMES = [*(call.name for call in CALLS), *(length[0] for length in LENGTHS), *(direct.name for direct in DIRECT)]
+
+
+# ---- descriptions ----
 
 
 def _literal(words):
     return [word == "true" if word in ("true", "false") else int(word) for word in words]
 
 
+def _example_of(call):
+    return call.example if isinstance(call, Direct) else call.row.example
+
+
 def _shown(call, operand):
     """The line of the example that makes an operand."""
-    values, name = _literal(call.words(operand)), name_of(operand)
+    said, name = _example_of(call).get(operand.name, ""), name_of(operand)
+    if operand.role == "operator":
+        return f"{name} = cvl.operators.{said}"
+    if operand.kind == "text":
+        return f"{name} = {said}"
+    if operand.role == "room":
+        many = _example_of(call)["out_len"]
+        return f"{name} = numpy.zeros({many if operand.name == 'out' else (int(many) + 31) // 32}, dtype={NUMPY[operand.kind]})"
+    values = _literal(said.split())
     if operand.role == "lengths":
         return f"{name} = cvl.Segments({values})"
     if operand.role == "reads":
@@ -65,133 +102,340 @@ def _shown(call, operand):
     return f"{name} = {values[0]}"
 
 
+def _direct_result(call, shown):
+    """The last line of the example of a function beside the calls, and what it shows; nothing for one that is as a call."""
+    said = call.example
+    if call.gives == "WRITTEN":
+        found = int(said["written"]), _literal(said["out"].split()), [int(said["marks"])]
+        return f"{shown}, out.tolist(), marks.tolist()", found
+    if call.gives == "TEXT":
+        return shown, said["out"].strip('"')
+    if call.gives == "READ_NESTED":
+        return "values.tolist(), segments.lengths.tolist()", tuple(_literal(said[name].split()) for name in ("out", "lengths"))
+    return None
+
+
 def _example(call):
     """The lines of the example, and what the last one shows."""
     lines = [_shown(call, operand) for operand in call.operands]
     shown = f"cvl.{call.name}({', '.join(map(name_of, call.operands))})"
-    values = _literal(call.given)
+    direct = _direct_result(call, shown) if isinstance(call, Direct) else None
+    if direct:
+        lines += [f"values, segments = {shown}"] if call.gives == "READ_NESTED" else []
+        return [*lines, direct[0]], repr(direct[1])
+    values = _literal(_example_of(call)["lengths" if call.makes_segments else "out"].split())
     if call.gives_segments:
-        return [*lines, f"{shown}.lengths.tolist()"], values
-    return ([*lines, f"{shown}.tolist()"], values) if call.fills else ([*lines, shown], values[0])
+        return [*lines, f"{shown}.lengths.tolist()"], str(values)
+    return ([*lines, f"{shown}.tolist()"], str(values)) if call.fills else ([*lines, shown], str(values[0]))
+
+
+def _in_python(said):
+    """What the table says of functions and numbers in C, with the names that Python has."""
+    named = {call.family.name: [other.name for other in CALLS if other.family is call.family] for call in CALLS}
+
+    def name(found):
+        calls = named.get(found.group(1), [])
+        return calls[0] if len(calls) == 1 else found.group(1)
+
+    said = re.sub(r"cvl_(\w+)", name, said)
+    said = re.sub(r"CVL_(\w+)", r"\1", said)
+    return re.sub(r"(\w+)_len\b", r"len(\1)", said).replace("*count", "count")
+
+
+def _purpose(call):
+    said = _in_python(call.purpose)
+    if isinstance(call, Direct) and call.gives == "READ_NESTED":
+        # of rooms a caller in C alone has two
+        said = f'{said.partition(" Each of the two results has a room")[0]} It gives both, the lengths as `Segments`.'
+    if isinstance(call, Direct):
+        said = said.replace(" out may be longer than the result, which stands at its front.", "")
+        said += " out may be longer than the result, which stands at its front." if call.fills and call.told else ""
+        said += " It gives how many places it wrote." if call.is_range else ""
+        said += " op is one of cvl.operators." if call.family.operators else ""
+    return said + (" A number may stand for an array of it." if _spreads(call) else "")
 
 
 def _docstring(call):
-    lines = textwrap.wrap(call.purpose, WIDTH - 4)
-    for said, text in (("Faults", call.faults), ("In place", call.in_place_words)):
+    """The lines of a description, the first one without what stands before it."""
+    lines = textwrap.wrap(_purpose(call), WIDTH - 4)
+    for said, text in (("Faults", _in_python(call.faults)), ("In place", call.in_place_words)):
         lines += ["", *textwrap.wrap(f"{said}: {text}", WIDTH - 4)] if text else []
     code, wanted = _example(call)
-    lines += ["", ">>> import cvl, numpy", *(f">>> {line}" for line in code), str(wanted)]
-    lines[0] = f'"""{lines[0]}'
-    return [f"    {line}".rstrip() for line in [*lines, '"""']]
-
-
-def _size(extent):
-    """The variable that has so many."""
-    return {"segments": "k", "count": "count"}.get(extent, extent)
-
-
-def _taken(call):
-    """The lines that look at the operands, and that tell how many elements there are."""
-    for operand in call.operands:
-        if operand.role in WIDE:
-            yield f"{operand.name} = wide_value({operand.name})"
-        else:
-            yield f'{operand.name} = {MAKERS[operand.role, operand.kind]}({name_of(operand)}, "{name_of(operand)}")'
-    numbers = {argument.size for argument in call.row.arguments if argument.size and argument.operand.role == "reads"}
-    for extent in call.extents:
-        if extent != "segments" and (extent in numbers or call.result.role == "room"):
-            yield f"{extent} = len({call.alike(extent)[0].name})"
-    if call.result.role == "room" and (call.alike("segments") or call.result.extent == "segments"):
-        yield f"k = {call.cuts[0].name}.segments"
-
-
-def _fit(call):
-    """Whether the operands are as long as they have to be."""
-    parts = []
-    for extent in dict.fromkeys([*call.extents, call.result.extent]):
-        several = call.alike(extent) if extent == "segments" else call.alike(extent)[1:]
-        known = several or call.alike(extent) or extent == "segments"
-        bound = [" <= MOST_ELEMENTS"] if known and call.is_bounded(extent) else []
-        if several or bound:
-            parts.append(" == ".join([*(f"len({operand.name})" for operand in several), _size(extent)]) + "".join(bound))
-        if extent == "count":
-            parts.append("0 <= count <= MOST_ELEMENTS")
-    return " and ".join(parts) or "True"
-
-
-def _room(call):
-    """The lines that find the room."""
-    by, function, places = call.measure(), "room_for", _size(call.result.extent)
-    if by:
-        function, places = "own_room", f"{'total' if by.role == 'lengths' else 'true_flags'}, {by.name}"
-    known = f"{'out' if call.fills else 'None'}, {'INT' if call.result.kind == 'ints' else 'FLAG'}, {places}"
-    more = ", ".join([f'"{call.name}"', *(operand.name for operand in call.measured)])
-    line = f"room = {function}({known}, {_fit(call)}, {more})"
-    return [line] if len(line) <= WIDTH else [f"fit = {_fit(call)}", f"room = {function}({known}, fit, {more})"]
-
-
-def _argument(argument):
-    operand = argument.operand
-    if argument.size:
-        return "len(room)" if argument.size in ("trues", "total", "room") else argument.size
-    return {
-        "reads": f"at({operand.name})", "room": "at(room)", "single": "byref(out)", "told": f"byref({operand.name})",
-    }.get(operand.role, operand.name)
-
-
-def _answer(call):
-    """The line that gives the result."""
-    if call.gives_segments:
-        return "return Segments(room)"
-    if call.counts:
-        return "return front(room, count.value)"
-    if call.fills:
-        return "return room if out is None else out"
-    return "return out.value != 0" if call.result.kind == "flag" else "return out.value"
-
-
-def _body(call):
-    if call.makes_segments:
-        name = name_of(call.operands[0])
-        return [f'return Segments(int_array({name}, "{name}"))']
-    lines = list(_taken(call))
-    if call.result.role == "room":
-        lines += _room(call)
-    else:
-        lines.append(f"out = {'c_int32' if call.result.kind == 'int' else 'c_uint8'}()")
-    if call.counts:
-        lines.append("count = c_size_t()")
-    lines.append(f"tell(library.cvl_{call.name}({', '.join(map(_argument, call.row.arguments))}))")
-    return [*lines, _answer(call)]
+    return [*lines, "", ">>> import cvl, numpy", *(f">>> {line}" for line in code), wanted]
 
 
 def _names(call):
     return [*map(name_of, call.operands), *(["*", "out=None"] if call.fills else [])]
 
 
-def _call(call):
-    lines = [*_docstring(call), *(f"    {line}" for line in _body(call))]
-    return "\n".join(["", "", "", f"def {call.name}({', '.join(_names(call))}):", *lines])
+# ---- the compiled table ----
+
+KINDS = {
+    ("reads", "ints"): "INTS", ("reads", "flags"): "FLAGS", ("reads", "text"): "TEXT", ("lengths", "ints"): "LENGTHS",
+    ("operator", "size"): "OPERATOR", ("value", "int"): "INT", ("value", "flag"): "FLAG", ("value", "sum"): "SUM",
+    ("value", "size"): "SIZE", ("place", "int"): "WIDE", ("count", "int"): "WIDE", ("room", "ints"): "ROOM_INTS",
+    ("room", "flags"): "ROOM_FLAGS", ("room", "marks"): "ROOM_MARKS",
+}  # fmt: skip
+EXTENTS = ("n", "m", "segments", "count", "trues", "total")
+TYPES = {"ints": "int32_t", "flags": "bool", "text": "char", "marks": "uint32_t"}
+SINGLES = {"int": "&frame->single.number", "flag": "(bool *)&frame->single.flag", "sum": "&frame->single.sum"}
+
+ROWS_HEAD = f"""/*
+ * The table of calls for Python: what each family takes and gives, and how it is called; each call by its family and operator;
+ * and their descriptions.
+ * {rows.NOTE}
+ */
+#include "calls.h"
+
+#define READ(type, k) (const type *)frame->given[k].at, frame->given[k].count
+#define CUT(k) (CvlLengths){{frame->given[k].at, frame->given[k].count}}
+#define NUMBER(k) frame->given[k].number
+#define WRITE(type, given) (type *)(given).at, (given).count
+"""
+
+
+def _quoted(text):
+    return '"' + text.replace("\\", "\\\\").replace('"', '\\"').replace("\n", "\\n") + '"'
+
+
+def _extent(extent):
+    return f"EXTENT_{extent.upper()}" if extent in EXTENTS else "EXTENT_NONE"
+
+
+def _gives(call):
+    if call.makes_segments:
+        return "CUT"
+    if call.gives_segments:
+        return "SEGMENTS"
+    own = call.gives if isinstance(call, Direct) else None
+    if own:
+        return own
+    if call.result.role == "single":
+        return {"int": "INT", "flag": "FLAG", "sum": "SUM"}[call.result.kind]
+    return f"{'FRONT_' if call.counts else ''}{call.result.kind.upper()}"
+
+
+def _room_extent(call):
+    """How long the room of the result is: of a pack as many as flags are true."""
+    if call.result is None or call.result.role != "room":
+        return None
+    return "trues" if call.result.extent == "room" and call.counts else call.result.extent
+
+
+def _measures(operand, extent):
+    """Whether an operand says how long a room of this extent is."""
+    if extent == "trues":
+        return operand.name == "flags"
+    if extent in ("segments", "total"):
+        return operand.role == "lengths"
+    return operand.role == "count" if extent == "count" else operand.role == "reads" and operand.extent == extent
+
+
+def _measured_by(call):
+    """The operand that says how long the room is, by its place."""
+    return next((k for k, operand in enumerate(call.operands) if _measures(operand, _room_extent(call))), 0)
+
+
+def _spreads(call):
+    """Whether a number may stand for one of several arrays: place by place alone."""
+    return call.family.section == "place by place" and len([o for o in call.operands if o.role == "reads"]) > 1
+
+
+def _most(call):
+    extent = _room_extent(call)
+    return "CVL_MOST_ELEMENTS" if extent and (extent in ("count", "trues", "total") or call.is_bounded(extent)) else "SIZE_MAX"
+
+
+def _argument(call, operand):
+    """The argument of the family in C."""
+    k = next((k for k, found in enumerate(call.operands) if found.name == operand.name), None)
+    if operand.role in ("reads", "lengths"):
+        return f"CUT({k})" if operand.extent is not None and operand.role == "lengths" else f"READ({TYPES[operand.kind]}, {k})"
+    if operand.role == "room":
+        second = "frame->second" if operand.name != "out" else "frame->room"
+        return f"WRITE({TYPES[operand.kind]}, {second if k is None else f'frame->given[{k}]'})"
+    if operand.role == "single":
+        return SINGLES[operand.kind]
+    if operand.role == "told":
+        first = next(found for found in call.row.operands if found.role == "told")
+        return "&frame->told" if operand == first else "&frame->told_second"
+    return {"int": f"(int32_t)NUMBER({k})", "flag": f"NUMBER({k}) != 0", "size": f"(size_t)NUMBER({k})"}.get(
+        operand.kind if operand.role == "value" else "", f"NUMBER({k})"
+    )
+
+
+def _filled(text, indent="    "):
+    whole = {"break_long_words": False, "break_on_hyphens": False}
+    return textwrap.fill(text, WIDTH, initial_indent=indent, subsequent_indent=indent + "    ", **whole)
+
+
+def _make(call):
+    """The function that calls the family of a frame."""
+    if call.makes_segments:
+        return ""
+    op = [f"{'(uint32_t)NUMBER(0)' if isinstance(call, Direct) else 'frame->row->op'}"] if call.family.operators else []
+    given, name = ", ".join([*op, *(_argument(call, operand) for operand in call.row.operands)]), call.family.name
+    return f"static CvlStatus make_{name}(Frame *frame) {{\n{_filled(f'return cvl_{name}({given});')}\n}}\n"
+
+
+def _families():
+    """A function of each family, of which a call has the operands of all."""
+    return list({call.family.name: call for call in FUNCTIONS}.values())
+
+
+def _operand_row(operand):
+    return f'{{"{name_of(operand)}", KIND_{KINDS[operand.role, operand.kind]}, {_extent(operand.extent)}, NULL}}'
+
+
+def _family_row(call):
+    operands = ", ".join(map(_operand_row, call.operands))
+    make = "NULL" if call.makes_segments else f"make_{call.family.name}"
+    room = f"{_extent(_room_extent(call) or '')}, {_measured_by(call)}"
+    rest = f"GIVES_{_gives(call)}, {room}, {int(_spreads(call))}, {_most(call)}, {make}"
+    return _filled(f"[FAMILY_{call.family.name.upper()}] = {{{len(call.operands)}, {{{operands}}}, {rest}}},")
+
+
+def _length_row(length):
+    function, name, kind, gives, *_ = length
+    extent, make = ("EXTENT_TOTAL", "make_lengths") if kind == "LENGTHS" else ("EXTENT_N", "make_length")
+    row = f'{{1, {{{{"{name}", KIND_{kind}, {extent}, NULL}}}}, GIVES_{gives}, EXTENT_NONE, 0, 0, SIZE_MAX, {make}}}'
+    return _filled(f"[FAMILY_{function.upper()}] = {row},")
+
+
+LENGTH_MAKERS = """static CvlStatus make_length(Frame *frame) {
+    (void)frame;
+    return (CvlStatus){CVL_DONE, -1};
+}
+
+static CvlStatus make_lengths(Frame *frame) { return cvl_make_descriptor(CUT(0), &frame->told); }
+"""
+
+
+def _text(name, names, doc):
+    """A description in C, with the line from which Python reads the parameters."""
+    *lines, last = [f"{name}($module, /, {', '.join(names)})", "--", "", *doc]
+    quoted = [*(_quoted(f"{line}\n") for line in lines), f"{_quoted(last)});"]
+    return "\n    ".join([f"PyDoc_STRVAR(doc_{name},", *quoted]) + "\n"
+
+
+def _length_doc(length):
+    *_, purpose, code, shown, wanted = length
+    return [purpose, "", ">>> import cvl, numpy", *(f">>> {line}" for line in [*code, shown]), wanted]
+
+
+def compiled():
+    """`bindings/python/extension/rows.c`."""
+    families = _families()
+    functions = [(call.name, call.family.name, f"CVL_{call.row.operator}" if call.row.operator else "0") for call in FUNCTIONS]
+    functions += [(length[0], length[0], "0") for length in LENGTHS]
+    numbered = ", ".join(f"FAMILY_{name.upper()}" for name in dict.fromkeys(family for _, family, _ in functions))
+    docs = [_text(call.name, _names(call), _docstring(call)) for call in FUNCTIONS]
+    docs += [_text(length[0], [length[1]], _length_doc(length)) for length in LENGTHS]
+    return "\n".join([
+        ROWS_HEAD,
+        *filter(None, map(_make, families)),
+        LENGTH_MAKERS,
+        "enum {",
+        textwrap.fill(numbered, WIDTH, initial_indent="    ", subsequent_indent="    "),
+        "};",
+        "",
+        "Family cvl_families[] = {",
+        *map(_family_row, families),
+        *map(_length_row, LENGTHS),
+        "};",
+        "",
+        "const int cvl_families_count = (int)(sizeof cvl_families / sizeof *cvl_families);",
+        "",
+        "/* A function of Python for a row. */",
+        "#define FUNCTION(name, family, op) \\",
+        "    static PyObject *call_##name(PyObject *self, PyObject *const *given, Py_ssize_t count, PyObject *keywords) { \\",
+        "        static const Row row = {#name, &cvl_families[family], op}; \\",
+        "        (void)self; \\",
+        "        return cvl_call(&row, given, count, keywords); \\",
+        "    }",
+        *(f"FUNCTION({name}, FAMILY_{family.upper()}, {op})" for name, family, op in functions),
+        "",
+        *docs,
+        "#define METHOD(name) {#name, (PyCFunction)(void (*)(void))call_##name, METH_FASTCALL | METH_KEYWORDS, doc_##name}",
+        "",
+        "PyMethodDef cvl_methods[] = {",
+        *(f"    METHOD({name})," for name, *_ in functions),
+        "    {NULL, NULL, 0, NULL},",
+        "};",
+        "",
+    ])  # fmt: skip
+
+
+# ---- the modules in Python ----
 
 
 def _listed():
-    listed = ", ".join(f'"{call.name}"' for call in packages.CALLS)
+    listed = ", ".join(f'"{name}"' for name in NAMES)
     names = textwrap.fill(listed, WIDTH, initial_indent="    ", subsequent_indent="    ")
     return f"__all__ = [\n{names},\n]"
 
 
 def calls():
     """`bindings/python/cvl/calls.py`."""
-    return f"{HEAD}\n{_listed()}" + "".join(map(_call, packages.CALLS)) + "\n"
+    imported = textwrap.fill(", ".join(NAMES) + ",", WIDTH, initial_indent="    ", subsequent_indent="    ")
+    return f'"""Each call by its name. {rows.NOTE}"""\n\nfrom cvl._calls import (\n{imported}\n)\n\n{_listed()}\n'
+
+
+def _constant(name):
+    return re.sub(r"(?<=[a-z])(?=[A-Z])", "_", name).upper()
+
+
+# what no fault from Python has: that all is done, no memory, and no descriptor
+NO_FAULTS = (0, 100, 101)
+
+
+def faults():
+    """`bindings/python/cvl/faults.py`."""
+    lines = [f"{_constant(name)} = {number}" for number, name in table.STATUSES if number not in NO_FAULTS]
+    return "\n".join(['"""The numbers of faults, as `fault.number` has them.', "", f'{rows.NOTE}\n"""', "", *lines, ""])
+
+
+def operators():
+    """`bindings/python/cvl/operators.py`."""
+    lines = [f"{operator.name} = {operator.number}  # {operator.sentence}" for operator in table.OPERATORS]
+    return "\n".join([f'"""The numbers of operators. {rows.NOTE}"""', "", *lines, ""])
+
+
+# ---- the stubs ----
+
+STUB_HEAD = f'''# The kinds of what each call takes and gives. {rows.NOTE}
+
+from typing import SupportsIndex, Tuple, TypeVar, Union, overload
+
+import numpy
+
+from cvl._kinds import FlagArray, Flags, IntArray, Ints, Marks, Text
+from cvl.segments import Segments
+
+_Ints = TypeVar("_Ints", bound=Ints)
+_Flags = TypeVar("_Flags", bound=Flags)
+'''
+TAKEN = {
+    "ints": "Ints", "flags": "Flags", "text": "Text", "marks": "Marks", "int": "SupportsIndex", "sum": "SupportsIndex",
+    "size": "SupportsIndex", "flag": "Union[bool, numpy.bool_]",
+}  # fmt: skip
+SPREAD = {"ints": "Union[Ints, SupportsIndex]", "flags": "Union[Flags, bool, numpy.bool_]"}
+GIVEN = {"ints": "IntArray", "flags": "FlagArray", "int": "int", "flag": "bool", "sum": "int"}
+ROOMS = {"ints": "_Ints", "flags": "_Flags"}
+DIRECT_GIVEN = {"WRITTEN": "int", "TEXT": "str", "READ_NESTED": "Tuple[IntArray, Segments]"}
+
+
+def _kind(call, operand):
+    if operand.role == "lengths":
+        return "Union[Segments, Ints]"
+    return SPREAD[operand.kind] if _spreads(call) and operand.role == "reads" else TAKEN[operand.kind]
 
 
 def _stub(call):
-    taken = ", ".join(
-        f"{name_of(operand)}: {'Union[Segments, Ints]' if operand.role == 'lengths' else TAKEN[operand.kind]}"
-        for operand in call.operands
-    )
+    taken = ", ".join(f"{name_of(operand)}: {_kind(call, operand)}" for operand in call.operands)
     if not call.fills:
-        yield f"def {call.name}({taken}) -> {'Segments' if call.gives_segments else GIVEN[call.result.kind]}: ..."
+        direct = DIRECT_GIVEN.get(call.gives) if isinstance(call, Direct) else None
+        yield f"def {call.name}({taken}) -> {direct or ('Segments' if call.gives_segments else GIVEN[call.result.kind])}: ..."
         return
     given, room = GIVEN[call.result.kind], ROOMS[call.result.kind]
     yield "@overload"
@@ -200,47 +444,13 @@ def _stub(call):
     yield f"def {call.name}({taken}, *, out: {room}) -> {given if call.counts else room}: ..."
 
 
+def _length_stub(length):
+    name, operand, kind, gives, *_ = length
+    taken = {"INTS": "Ints", "FLAGS": "Flags", "LENGTHS": "Union[Segments, Ints]"}[kind]
+    return f"def {name}({operand}: {taken}) -> {'int' if gives == 'LENGTH' else 'IntArray'}: ..."
+
+
 def stubs():
     """`bindings/python/cvl/calls.pyi`."""
-    return "\n".join([STUB_HEAD, _listed(), "", *(line for call in packages.CALLS for line in _stub(call)), ""])
-
-
-def _code(argument):
-    if argument.type == "CvlLengths ":
-        return "l"
-    return "p" if "*" in argument.type else {"int32_t ": "i", "bool ": "b", "size_t ": "s", "int64_t ": "w"}[argument.type]
-
-
-def _shape(call):
-    """What is told of a call that writes several elements."""
-    extents = tuple(operand.extent or "count" for operand in call.measured)
-    limited = call.measured.index(call.limited) if call.limited else None
-    places = {operand.name: k for k, operand in enumerate(call.measured)}
-    in_place = tuple(tuple(places[name] for name in names) for names in call.family.in_place)
-    return f'    "{call.name}": {limited, extents, in_place},'.replace("'", '"')
-
-
-def symbols():
-    """`bindings/python/cvl/_symbols.py`."""
-    numbers = ("LengthMismatch", "NegativeLength", "TooLong", "NoResources", "Overlap")
-    names = ("LENGTH_MISMATCH", "NEGATIVE_LENGTH", "TOO_LONG", "NO_RESOURCES", "OVERLAP")
-    filling = [call for call in packages.CALLS if call.result is not None and call.result.role == "room"]
-    lines = [
-        f'"""What the library is told and tells. {rows.NOTE}"""',
-        "",
-        f"MOST_ELEMENTS = {table.MOST_ELEMENTS}",
-        *(f"{name} = {packages.number_of(said)}" for name, said in zip(names, numbers)),
-        "",
-        "# What each symbol takes: p a pointer, l lengths, s a size, i an integer, w one of 64 bits, b a boolean.",
-        "SYMBOLS = {",
-        *(f'    "cvl_{call.name}": "{"".join(map(_code, call.row.arguments))}",' for call in packages.CALLS),
-        "}",
-        "",
-        "# Of each call that writes several elements, whose operands are its arrays, lengths and count: which may have at most",
-        "# MOST_ELEMENTS, what each is as long as or adds up to, and which may be the room, alone or together.",
-        "SHAPES = {",
-        *map(_shape, filling),
-        "}",
-        "",
-    ]
-    return "\n".join(lines)
+    functions = [line for call in FUNCTIONS for line in _stub(call)]
+    return "\n".join([STUB_HEAD, _listed(), "", *functions, *map(_length_stub, LENGTHS), ""])

@@ -1,10 +1,11 @@
 #!/usr/bin/env python3
 """Whether a call from Python tells and writes what its family in C does, which is told each length by itself: on arrays and lengths of
-any lengths, at overlaps, beyond the limit, in rooms of any length. Needs the package cvl on Python's path, and the library.
+any lengths, at overlaps, beyond the limit, in rooms of any length. Needs the package cvl on Python's path.
 
-    test_order.py [COUNT [SEED]]
+    test_order.py LIBRARY [COUNT [SEED]]
 
-COUNT is how many calls are made, 5000 where it is not given. The first that differ are told, and the status is then 1.
+LIBRARY is the shared object, and COUNT how many calls are made, 5000 where it is not given. The first that differ are told, and
+the status is then 1.
 """
 
 import ctypes
@@ -21,7 +22,15 @@ import numpy
 import cvl
 import packages
 import table
-from cvl._library import Lengths, Status, library
+
+
+class Status(ctypes.Structure):
+    _fields_ = [("number", ctypes.c_uint32), ("place", ctypes.c_int64)]
+
+
+class Lengths(ctypes.Structure):
+    _fields_ = [("lengths", ctypes.c_void_p), ("segments", ctypes.c_size_t)]
+
 
 MOST = table.MOST_ELEMENTS
 NUMBERS = {found.name: found.number for found in table.OPERATORS}
@@ -39,8 +48,8 @@ def address(array):
 class Call:
     """A call on random arguments, which lie in two blocks of memory, one of integers and one of booleans, and may so overlap."""
 
-    def __init__(self, rng, found):
-        self.rng, self.found = rng, found
+    def __init__(self, library, rng, found):
+        self.library, self.rng, self.found = library, rng, found
         self.blocks = {
             "ints": numpy.array([rng.randint(-2, 4) for _ in range(PLACES)], numpy.int32),
             "flags": numpy.array([rng.random() < 0.5 for _ in range(PLACES)], bool),
@@ -73,7 +82,7 @@ class Call:
         for _ in range(self.lengths.get(operand.extent, 3) if len(found) else 0):
             found[rng.randrange(len(found))] += 1
         if len(found) and rng.random() < 0.1:
-            found[rng.randrange(len(found))] = rng.choice([-1, MOST + 1, 9])
+            found[rng.randrange(len(found))] = rng.choice([-1, MOST, 9])
         if rng.random() < 0.5:
             return found
         place = self.within("ints", len(found))
@@ -83,7 +92,8 @@ class Call:
     def room(self):
         """A room that is an argument, or lies anywhere in the block, or is alone and mostly as long as the result."""
         rng, kind = self.rng, self.found.result.kind
-        alike = [given for given in self.arguments.values() if isinstance(given, numpy.ndarray) and given.dtype == TYPES[kind]]
+        arrays = [given for given in self.arguments.values() if isinstance(given, numpy.ndarray) and len(given) <= PLACES]
+        alike = [given for given in arrays if given.dtype == TYPES[kind]]
         which = rng.random()
         if which < 0.3 and alike:
             given = rng.choice(alike)
@@ -95,7 +105,7 @@ class Call:
     def needed(self):
         extent = self.found.result.extent
         if extent in ("trues", "room"):
-            return int(self.arguments["flags"].sum())
+            return int(self.arguments["flags"][:PLACES].sum())
         if extent == "total":
             return max(0, min(20, int(self.arguments["lengths"].sum())))
         return max(0, min(4, self.arguments["count"])) if extent == "count" else self.lengths[extent]
@@ -129,7 +139,7 @@ class Call:
 
     def in_c(self):
         family = self.found.family
-        function = getattr(library, f"cvl_{family.name}")
+        function = getattr(self.library, f"cvl_{family.name}")
         function.restype = Status
         words = [ctypes.c_uint32(NUMBERS[self.found.row.operator])] if family.operators else []
         status = function(*words, *(word for operand in family.operands for word in self.words(operand)))
@@ -151,10 +161,12 @@ class Call:
 
 
 def main(words):
-    count = int(words[0]) if words else 5000
-    rng = random.Random(words[1] if len(words) > 1 else "calls from Python")
+    if not words:
+        sys.exit(__doc__)
+    library, count = ctypes.CDLL(words[0]), int(words[1]) if len(words) > 1 else 5000
+    rng = random.Random(words[2] if len(words) > 2 else "calls from Python")
     found = [call for call in packages.CALLS if call.fills]
-    told = [line for line in (Call(rng, rng.choice(found)).differs() for _ in range(count)) if line]
+    told = [line for line in (Call(library, rng, rng.choice(found)).differs() for _ in range(count)) if line]
     print("\n".join([*told[:10], f"{count} calls from Python and of their families in C: {len(told)} differ"]))
     sys.exit(1 if told else 0)
 

@@ -1,6 +1,7 @@
 # The kinds of what calls take and give, which annotations alone name.
 
 from array import array
+from mmap import mmap
 from typing import Union
 
 import numpy
@@ -10,3 +11,5 @@ IntArray = NDArray[numpy.int32]
 FlagArray = NDArray[numpy.bool_]
 Ints = Union[IntArray, array[int], memoryview]
 Flags = Union[FlagArray, memoryview]
+Marks = Union[NDArray[numpy.uint32], array[int], memoryview]
+Text = Union[str, bytes, bytearray, memoryview, mmap]

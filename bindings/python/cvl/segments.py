@@ -1,24 +1,28 @@
-"""Segments: how a vector is cut, and how long results of calls are."""
+"""Segments: how a vector is cut."""
 
 from __future__ import annotations
 
-from ctypes import byref, c_size_t
-from typing import TYPE_CHECKING, Any, NoReturn, Union
+from typing import TYPE_CHECKING, Any
 
 import numpy
+import numpy.ma
 
-from cvl._arrays import INT, at, flag_array, int_array, refuse_mask
-from cvl._library import Lengths, library, tell
+from cvl._calls import Lengths
 
 if TYPE_CHECKING:
     from numpy.typing import ArrayLike
 
-    from cvl._kinds import Flags, IntArray, Ints
+    from cvl._kinds import IntArray
+
+INT = numpy.dtype(numpy.int32)
+# so many segments are shown whole
+SHOWN = 12
 
 
-def _whole_numbers(numbers, name):
+def _whole_numbers(numbers: Any, name: str) -> Any:
     """The numbers as an array of integers in one dimension."""
-    refuse_mask(numbers, name)
+    if isinstance(numbers, numpy.ma.MaskedArray):
+        raise TypeError(f"{name} has a mask, which no call looks at; write {name}.filled(0) or {name}.compressed()")
     given = numpy.asarray(numbers)
     if given.size == 0 and given.ndim == 1:
         return given.astype(INT)
@@ -27,19 +31,20 @@ def _whole_numbers(numbers, name):
     return given
 
 
-def _frozen(numbers, name):
-    """A copy of the numbers as int32, if each fits, which nobody can write: its memory is a `bytes`."""
+def _as_ints(numbers: Any, name: str) -> Any:
+    """The numbers as int32, side by side, if each fits."""
     given = _whole_numbers(numbers, name)
     if given.dtype != INT and given.size and not (-(2**31) <= given.min() and given.max() < 2**31):
         raise OverflowError(f"one of {name} does not fit 32 bits")
-    return numpy.ndarray(given.shape, INT, given.astype(INT).tobytes())
+    return numpy.ascontiguousarray(given, INT)
 
 
-class Segments:
+class Segments(Lengths):
     """Segments of a vector, one after another, made once from their lengths and then used by any calls and threads.
 
-    `lengths` is an array of int32, `total` how many elements the segments have in all, and `len` of it how many segments there are.
-    None of it can be changed, so that a copy is the same object. A negative length and a total above 4194304 are faults.
+    `lengths` is an array of int32, `total` how many elements the segments have in all, and `len` of it how many segments there
+    are. None of it can be changed, so that a copy is the same object. A negative length and a total above `cvl.MOST_ELEMENTS` are
+    faults.
 
     >>> import cvl, numpy
     >>> rows = cvl.Segments([2, 0, 3])
@@ -51,27 +56,10 @@ class Segments:
     True
     """
 
-    __slots__ = ("lengths", "total", "_cut")
-
-    lengths: IntArray
-    total: int
-    _cut: Lengths
+    __slots__ = ()
 
     def __new__(cls, lengths: ArrayLike) -> Segments:
-        array = _frozen(lengths, "lengths")
-        cut, total = Lengths(at(array), len(array)), c_size_t()
-        tell(library.cvl_mke_fov(cut, byref(total)))
-        cut.array, cut.total = array, total.value
-        found = super().__new__(cls)
-        for name, value in (("lengths", array), ("total", cut.total), ("_cut", cut)):
-            object.__setattr__(found, name, value)
-        return found
-
-    def __setattr__(self, name: str, value: Any) -> NoReturn:
-        raise AttributeError("segments cannot be changed")
-
-    def __delattr__(self, name: str) -> NoReturn:
-        raise AttributeError("segments cannot be changed")
+        return super().__new__(cls, _as_ints(lengths, "lengths"))
 
     def __copy__(self) -> Segments:
         return self
@@ -102,9 +90,6 @@ class Segments:
         numpy.cumsum(self.lengths, out=found[1:])
         return found
 
-    def __len__(self) -> int:
-        return len(self.lengths)
-
     def __eq__(self, other: object) -> bool:
         if not isinstance(other, Segments):
             return NotImplemented
@@ -114,49 +99,7 @@ class Segments:
         return hash(self.lengths.tobytes())
 
     def __repr__(self) -> str:
-        if len(self) <= 12:
+        if len(self) <= SHOWN:
             return f"Segments({self.lengths.tolist()})"
         first, last = (", ".join(map(str, part)) for part in (self.lengths[:3], self.lengths[-3:]))
         return f"<{len(self)} Segments of {self.total} elements: {first}, .., {last}>"
-
-
-def lengths_of(segments: Union[Segments, Ints], name: str) -> Lengths:
-    """Lengths as a call takes them, of a `Segments` or of an array of int32."""
-    if type(segments) is Segments:
-        return segments._cut
-    array = int_array(segments, name)
-    found = Lengths(at(array), len(array))
-    found.array = array
-    return found
-
-
-def len_luz(a: Ints) -> int:
-    """The number of integers.
-
-    >>> import cvl, numpy
-    >>> cvl.len_luz(numpy.array([3, 1, 4], dtype=numpy.int32))
-    3
-    """
-    return len(int_array(a, "a"))
-
-
-def len_lub(a: Flags) -> int:
-    """The number of booleans.
-
-    >>> import cvl, numpy
-    >>> cvl.len_lub(numpy.array([True, False]))
-    2
-    """
-    return len(flag_array(a, "a"))
-
-
-def len_fos(segments: Union[Segments, Ints]) -> IntArray:
-    """The lengths of segments, in an array of their own. What are no lengths is a fault.
-
-    >>> import cvl
-    >>> cvl.len_fos(cvl.Segments([2, 0, 3])).tolist()
-    [2, 0, 3]
-    """
-    lengths = lengths_of(segments, "segments")
-    tell(library.cvl_mke_fov(lengths, byref(c_size_t())))
-    return lengths.array.copy()

@@ -1,28 +1,28 @@
-"""What the package says to arguments that are not as a call takes them, and that nothing is copied. `bindings/tests/installed` runs it."""
+"""What the package says to arguments that are not as a call takes them, that nothing is copied, and what each name gives. It runs
+where the package is installed, by itself: python3 -m unittest test_cvl."""
 
-import _ctypes
 import array
 import ast
 import copy
 import doctest
+import importlib
 import inspect
 import os
 import pathlib
 import pickle
-import re
+import pydoc
 import subprocess
 import sys
 import tempfile
 import threading
 import unittest
 import warnings
-from unittest import mock
 
 import numpy
 
 import cvl
 
-MOST = 4194304
+MOST = cvl.MOST_ELEMENTS
 
 
 def ints(*numbers):
@@ -83,6 +83,7 @@ class Arguments(unittest.TestCase):
             self.assertEqual(cvl.dis_vuz(value, 1).tolist(), [value])
         with self.assertRaises(TypeError):
             cvl.ext_vuz(ints(1), 0.5)
+        self.refused(r"index is no whole number but a float; write int\(index\)", cvl.ext_vuz, ints(1), 0.0)
         self.refused("value is no boolean but a int", cvl.dis_vub, 1, 2)
         self.assertEqual(cvl.ext_vuz(ints(4, 5), numpy.int64(1)), 5)
         self.assertIs(cvl.ext_vub(flags(True), 0), True)
@@ -108,16 +109,90 @@ class Arguments(unittest.TestCase):
             self.assertEqual(cvl.len_fos(lengths).tolist(), [2, 1])
         self.assertEqual(cvl.len_fos(array.array("i")).tolist(), [])
 
-    def test_lengths_that_must_agree(self):
-        for call in (
-            lambda: cvl.add_wuz(ints(1, 2), ints(1)),
-            lambda: cvl.add_sez(ints(1, 2), ints(1)),
-            lambda: cvl.ext_vez(ints(1, 2), ints(0), ints(1, 1)),
-            lambda: cvl.def_pez(ints(1), ints(0), ints(1), ints(1), ints(1, 0)),
+    def test_lengths_that_must_agree_are_told_with_their_names(self):
+        marks = numpy.zeros(1, numpy.uint32)
+
+        def permuted(*lengths):
+            return cvl.def_pez(ints(1), ints(0), ints(1), *lengths)
+
+        for call, said in (
+            (lambda: cvl.add_wuz(ints(1, 2), ints(1)), "len(b) is 1, and len(a) is 2"),
+            (lambda: cvl.add_sez(ints(1, 2), ints(1)), "segments add up to 1, and len(a) is 2"),
+            (lambda: cvl.add_sez(ints(1, 2), cvl.Segments([1, 2])), "segments add up to 3, and len(a) is 2"),
+            (lambda: cvl.ext_vez(ints(1, 2), ints(0), ints(1, 1)), "len(segments) is 2, and len(index) is 1"),
+            (lambda: permuted(ints(1), ints(1, 0)), "len(default_segments) is 2, and len(segments) is 1"),
+            (lambda: permuted(ints(1), ints(2)), "default_segments add up to 2, and len(defaults) is 1"),
+            (lambda: cvl.sel_wuz(flags(True), ints(1), ints(1, 2)), "len(b) is 2, and len(flags) is 1"),
+            (lambda: cvl.pck_luz(ints(1, 2), flags(True)), "len(flags) is 1, and len(values) is 2"),
+            (lambda: cvl.add_suz(ints(1, 2), out=ints(1)), "len(out) is 1, and has to be 2"),
+            (lambda: cvl.add_rez(ints(1, 2), ints(1, 1), out=ints(1)), "len(out) is 1, and has to be 2"),
+            (lambda: cvl.dis_vuz(1, 3, out=ints(1)), "len(out) is 1, and has to be 3"),
+            (lambda: cvl.dis_vez(ints(1), ints(3), out=ints(1)), "len(out) is 1, and has to be 3"),
+            (lambda: cvl.sel_puz(ints(1, 2), ints(0, 1), flags(True, True), out=ints(1)), "len(out) is 1, and has to be 2"),
+            (lambda: cvl.pck_luz(ints(1, 2), flags(True, True), out=ints(1)), "len(out) is 1, and has to be 2 or more"),
+            (lambda: cvl.read_ints("1 2 3", out=ints(1)), "len(out) is 1, and has to be 3 or more"),
+            (lambda: cvl.permute_int_range(ints(1), ints(1, 2), 0, ints(1), marks), "len(index) is 2, and len(source) is 1"),
         ):
             with self.assertRaises(cvl.Fault) as caught:
                 call()
-            self.assertEqual((caught.exception.number, caught.exception.name, caught.exception.place), (7, "LengthMismatch", None))
+            fault = caught.exception
+            self.assertEqual((fault.number, fault.name, fault.place, fault.said), (7, "LengthMismatch", None, said))
+            self.assertEqual(str(fault), f"fault 7 LengthMismatch: {said}")
+
+    def test_a_number_stands_for_an_array_place_by_place(self):
+        a, b = ints(5, -7, 2147483647), flags(True, False, True)
+        self.assertEqual(cvl.add_wuz(a, 3).tolist(), [8, -4, -2147483646])
+        self.assertEqual(cvl.sub_wuz(3, a).tolist(), [-2, 10, -2147483644])
+        self.assertEqual(cvl.les_wuz(a, numpy.int64(5)).tolist(), [False, True, False])
+        self.assertEqual(cvl.and_wub(b, True).tolist(), [True, False, True])
+        self.assertEqual(cvl.xor_wub(numpy.True_, b).tolist(), [False, True, False])
+        self.assertEqual(cvl.sel_wuz(b, a, 0).tolist(), [5, 0, 2147483647])
+        self.assertEqual(cvl.sel_wuz(b, 1, 0).tolist(), [1, 0, 1])
+        self.assertEqual(cvl.sel_wub(b, False, b).tolist(), [False, False, False])
+        self.assertEqual(cvl.add_wuz(ints(), 3).tolist(), [])
+        self.assertIs(cvl.mul_wuz(a, 2, out=a), a)
+        self.assertEqual(a.tolist(), [10, -14, -2])
+        self.told(8, 0, lambda: cvl.div_wuz(a, 0))
+        self.told(7, None, lambda: cvl.add_wuz(a, 3, out=ints(1)))
+        self.told(7, None, lambda: cvl.sel_wuz(b, ints(1), 2))
+        self.told(102, None, lambda: cvl.les_wuz(a, 3, out=a.view(bool)[:3]))
+        for more in (numpy.zeros(MOST + 1, numpy.int32), numpy.zeros(MOST + 2, numpy.int32)):
+            self.told(13, None, lambda: cvl.add_wuz(1, more))
+            self.told(13, None, lambda: cvl.add_wuz(more, 1))
+
+    def told(self, number, place, call):
+        with self.assertRaises(cvl.Fault) as caught:
+            call()
+        self.assertEqual((caught.exception.number, caught.exception.place), (number, place))
+
+    def test_a_number_that_stands_for_no_array(self):
+        a, b = ints(1, 2), flags(True, False)
+        for number in (2**31, -(2**31) - 1):
+            with self.assertRaisesRegex(OverflowError, f"b is {number}, which does not fit 32 bits"):
+                cvl.add_wuz(a, number)
+        self.refused(r"b is no whole number but a float; write int\(b\)", cvl.add_wuz, a, 0.5)
+        self.refused(r"b is no whole number but a numpy.float64; write int\(b\)", cvl.add_wuz, a, numpy.float64(2))
+        self.refused(r"b is no boolean but a int; write bool\(b\)", cvl.and_wub, b, 1)
+        self.refused(r"beside an array, and there is none; write numpy.array\(\[a\], dtype=numpy.int32\)", cvl.add_wuz, 1, 2)
+        self.refused(r"beside an array, and there is none; write numpy.array\(\[flags\], dtype=bool\)", cvl.sel_wuz, True, 1, 2)
+        # what is advised is taken
+        self.assertEqual(cvl.add_wuz(a, int(0.5)).tolist(), [1, 2])
+        self.assertEqual(cvl.and_wub(b, bool(1)).tolist(), [True, False])
+        self.assertEqual(cvl.add_wuz(numpy.array([1], dtype=numpy.int32), 2).tolist(), [3])
+        self.refused(r"a is no array but a int; write numpy.array\(\[a\], dtype=numpy.int32\)", cvl.add_suz, 3)
+        self.assertEqual(cvl.add_suz(numpy.array([3], dtype=numpy.int32)).tolist(), [0])
+        self.refused(r"index is no array but a int", cvl.bck_puz, a, 1)
+
+    def test_how_arguments_are_given(self):
+        a = ints(1, 2)
+        self.assertEqual(cvl.add_wuz(b=a, a=a).tolist(), [2, 4])
+        named = {"".join(letters): given for letters, given in (("a", a), ("b", a), ("out", None))}
+        self.assertEqual(cvl.add_wuz(**named).tolist(), [2, 4])
+        self.refused(r"add_wuz\(\) missing 1 required argument: 'b'", cvl.add_wuz, a)
+        self.refused(r"add_wuz\(\) takes 2 positional arguments but 3 were given", cvl.add_wuz, a, a, a)
+        self.refused(r"add_wuz\(\) got multiple values for argument 'a'", cvl.add_wuz, a, a, a=a)
+        self.refused(r"add_wuz\(\) got an unexpected keyword argument 'c'", cvl.add_wuz, a, a, c=a)
+        self.refused(r"add_ruz\(\) got an unexpected keyword argument 'out'", cvl.add_ruz, a, out=a)
 
     def test_empty_arrays(self):
         self.assertEqual(cvl.add_wuz(ints(), ints()).tolist(), [])
@@ -180,11 +255,6 @@ class Rooms(unittest.TestCase):
         marks = flags(True, True, True)
         self.assertEqual((cvl.pck_lub(kept, kept, out=marks).tolist(), marks.tolist()), ([True, True], [True, True, True]))
 
-    def test_a_pack_gives_what_the_call_counted(self):
-        with mock.patch("cvl.calls.true_flags", len):
-            self.assertEqual(cvl.pck_luz(ints(1, 2, 3), flags(True, False, True)).tolist(), [1, 3])
-            self.assertEqual(cvl.pck_leb(flags(True, False, True), flags(True, False, True), ints(3)).tolist(), [True, True])
-
     def told(self, number, call, place=None):
         with self.assertRaises(cvl.Fault) as caught:
             call()
@@ -239,7 +309,8 @@ class Rooms(unittest.TestCase):
         self.assertEqual((caught.exception.place, a.tolist()), (2, [0, 3, 4]))
 
     def test_counts_and_places_that_may_not_be(self):
-        for count, number in ((-1, 12), (MOST + 1, 13), (2**31 - 1, 13), (2**32 + 3, 13), (-(2**32) + 3, 12), (2**70, 13), (-(2**70), 12)):
+        few, many = (-1, -(2**32) + 3, -(2**70)), (MOST + 1, 2**32 + 3, 2**70)
+        for count, number in (*((count, 12) for count in few), *((count, 13) for count in many)):
             for call in (cvl.dis_vuz, lambda value, count, **more: cvl.ind_luz(value, 1, count, **more)):
                 self.told(number, lambda: call(1, count))
                 self.told(number, lambda: call(1, count, out=ints(5)))
@@ -259,17 +330,29 @@ class Rooms(unittest.TestCase):
                 call()
             self.assertEqual((caught.exception.place, str(caught.exception)), (0, said))
 
-    def test_a_result_may_be_as_long_as_a_vector_and_no_longer(self):
-        most = numpy.ones(MOST, numpy.int32)
-        for found in (cvl.add_suz(most), cvl.dis_vuz(1, MOST), cvl.dis_vez(ints(1), ints(MOST)), cvl.pck_luz(most, most != 0), most):
-            self.assertEqual((len(found), int(found[-1])), (MOST, MOST - 1 if found[0] == 0 else 1))
-        self.assertIs(cvl.add_suz(most, out=most), most)
-        more = numpy.zeros(MOST + 1, numpy.int32)
+    def test_a_vector_has_as_many_elements_as_the_limit_and_no_more(self):
+        """Long arrays here are zeros that nobody wrote, which have no memory, and no call reads them whole. That the limit itself is taken
+        `test_memory` shows, where there is no memory for so long a result."""
+        more, marks = numpy.zeros(MOST + 1, numpy.int32), numpy.zeros(MOST + 1, bool)
         for call in (
-            lambda: cvl.add_suz(more), lambda: cvl.dis_vuz(1, MOST + 1), lambda: cvl.dis_vez(ints(1), ints(MOST + 1)),
-            lambda: cvl.pck_luz(more, more != 0), lambda: cvl.add_ruz(more),
+            lambda: cvl.bck_pub(flags(True), more), lambda: cvl.add_suz(more), lambda: cvl.dis_vuz(1, MOST + 1),
+            lambda: cvl.pck_luz(more, marks), lambda: cvl.add_ruz(more), lambda: cvl.cnt_lub(marks),
         ):  # fmt: skip
             self.told(13, call)
+        for lengths in (ints(MOST, 1), ints(1, MOST)):
+            for call in (cvl.Segments, cvl.mke_fov, cvl.len_fos, lambda lengths: cvl.dis_vez(ints(1, 1), lengths)):
+                self.told(13, lambda: call(lengths))
+        self.assertEqual(cvl.Segments([MOST - 1, 1]).total, MOST)
+
+    def test_what_may_be_longer_than_a_vector(self):
+        """The source of a back permute, and the vector of which one element is taken or replaced."""
+        last = min(MOST + 2, 2**31 - 1)
+        more, marks = numpy.zeros(MOST + 3, numpy.int32), numpy.zeros(MOST + 3, bool)
+        more[last], marks[last] = 5, True
+        self.assertEqual(cvl.bck_puz(more, ints(last, 0, last)).tolist(), [5, 0, 5])
+        self.told(10, lambda: cvl.bck_puz(more, ints(0, -1)), place=1)
+        self.assertEqual((cvl.ext_vuz(more, last), cvl.ext_vub(marks, last)), (5, True))
+        self.told(10, lambda: cvl.rep_vuz(more, -1, 4), place=0)
 
     def test_what_is_told_first(self):
         """An overlap, then lengths, then the limit, then what must agree, then the room, then memory, then elements."""
@@ -295,15 +378,6 @@ class Rooms(unittest.TestCase):
         self.told(7, lambda: cvl.ext_vez(ints(1), ints(9), ints(1), out=ints(7, 7)))
         self.told(7, lambda: cvl.smp_puz(ints(1, 1), ints(9, 9), out=room))
         self.assertEqual(room.tolist(), [7])
-        with mock.patch("cvl._arrays.numpy.empty", side_effect=MemoryError):
-            self.told(13, lambda: cvl.add_suz(more))
-            self.told(13, lambda: cvl.dis_vuz(1, MOST + 1))
-            self.told(12, lambda: cvl.add_sez(ints(1), ints(-1)), place=0)
-            self.told(12, lambda: cvl.dis_vez(ints(1), ints(-1)), place=0)
-            self.told(7, lambda: cvl.add_wuz(ints(1, 2), ints(1)))
-            self.told(7, lambda: cvl.add_sez(ints(1, 2), ints(1)))
-            for call in (lambda: cvl.div_wuz(ints(1), ints(0)), lambda: cvl.pck_luz(ints(1), flags(True))):
-                self.assertRaises(MemoryError, call)
 
 
 class Cut(unittest.TestCase):
@@ -312,7 +386,8 @@ class Cut(unittest.TestCase):
         self.assertEqual((len(rows), rows.total, rows.offsets.tolist()), (3, 5, [0, 2, 2, 5]))
         self.assertEqual(cvl.Segments.from_offsets(numpy.array([0, 2, 2, 5])), rows)
         self.assertEqual(repr(rows), "Segments([2, 0, 3])")
-        self.assertEqual(repr(cvl.Segments(numpy.arange(200000) % 10)), "<200000 Segments of 900000 elements: 0, 1, 2, .., 7, 8, 9>")
+        many = cvl.Segments(numpy.arange(200000) % 10)
+        self.assertEqual(repr(many), "<200000 Segments of 900000 elements: 0, 1, 2, .., 7, 8, 9>")
         for offsets in ([1, 2], []):
             with self.assertRaises(ValueError):
                 cvl.Segments.from_offsets(offsets)
@@ -324,13 +399,14 @@ class Cut(unittest.TestCase):
 
     def test_segments_are_frozen(self):
         rows = cvl.Segments([2, 0, 3])
-        for found in (rows, copy.copy(rows), copy.deepcopy(rows), pickle.loads(pickle.dumps(rows)), pickle.loads(pickle.dumps(rows, 0))):
+        unpickled = [pickle.loads(pickle.dumps(rows, protocol)) for protocol in range(pickle.HIGHEST_PROTOCOL + 1)]
+        for found in (rows, copy.copy(rows), copy.deepcopy(rows), *unpickled):
             self.assertEqual((found, hash(found), found.total), (rows, hash(rows), 5))
             with self.assertRaises(ValueError):
                 found.lengths[0] = 1
             with self.assertRaises(ValueError):
                 found.lengths.flags.writeable = True
-            for name in ("lengths", "total", "_cut", "more"):
+            for name in ("lengths", "total", "more"):
                 with self.assertRaises(AttributeError):
                     setattr(found, name, ints(1, 4))
                 with self.assertRaises(AttributeError):
@@ -351,10 +427,6 @@ class Cut(unittest.TestCase):
             with self.assertRaises(cvl.Fault) as caught:
                 make(ints(1, -1))
             self.assertEqual((caught.exception.number, caught.exception.place), (12, 1))
-        for make in (cvl.len_fos, lambda lengths: cvl.dis_vez(ints(1, 1), lengths)):
-            with self.assertRaises(cvl.Fault) as caught:
-                make(ints(MOST, 1))
-            self.assertEqual(caught.exception.number, 13)
 
     def test_threads_share_segments(self):
         rows = cvl.Segments([3] * 1000)
@@ -373,6 +445,102 @@ class Cut(unittest.TestCase):
         self.assertEqual(found, [True] * 4)
 
 
+class Threads(unittest.TestCase):
+    def setUp(self):
+        self.addCleanup(cvl.set_threads, cvl.get_threads())
+
+    def test_a_number_is_set_and_the_one_before_is_given(self):
+        cvl.set_threads(1)
+        told = [cvl.set_threads(3), cvl.get_threads(), cvl.set_threads(numpy.int64(64)), cvl.set_threads(1)]
+        self.assertEqual(told, [1, 3, 3, 64])
+        with cvl.threads(2):
+            self.assertEqual(cvl.get_threads(), 2)
+            with cvl.threads(4):
+                self.assertEqual(cvl.get_threads(), 4)
+            self.assertEqual(cvl.get_threads(), 2)
+        with self.assertRaises(KeyError), cvl.threads(4):
+            raise KeyError
+        self.assertEqual(cvl.get_threads(), 1)
+
+    def test_what_is_no_number_of_threads(self):
+        cvl.set_threads(2)
+        for count in (0, 65, 2**40):
+            with self.assertRaisesRegex(ValueError, f"^count is {count}, and has to be from 1 to 64$"):
+                cvl.set_threads(count)
+        with self.assertRaises(OverflowError):
+            cvl.set_threads(-1)
+        with self.assertRaisesRegex(TypeError, "count is no whole number but a float"):
+            cvl.set_threads(2.0)
+        with self.assertRaises(ValueError), cvl.threads(0):
+            self.fail("there are no threads")
+        self.assertEqual(cvl.get_threads(), 2)
+
+    def test_calls_by_several_threads_give_the_same(self):
+        rng = numpy.random.default_rng(5)
+        many = rng.integers(-9, 9, 1_000_003, numpy.int32)
+        marks, index = many > 0, rng.permutation(len(many)).astype(numpy.int32)
+        sums = numpy.cumsum(many, dtype=numpy.int32)
+        with cvl.threads(4):
+            self.assertTrue((cvl.add_suz(many) == sums - many).all())
+            self.assertTrue((cvl.pck_luz(many, marks) == many[marks]).all())
+            self.assertTrue((cvl.bck_puz(many, index) == many[index]).all())
+            self.assertTrue((cvl.smp_puz(cvl.bck_puz(many, index), index) == many).all())
+            self.assertEqual((cvl.add_ruz(many), cvl.exact_sum(many)), (int(many.sum()), int(many.sum())))
+            many[-1] = 0
+            with self.assertRaises(cvl.Fault) as caught:
+                cvl.div_wuz(1, many[marks.argmax() :])
+            self.assertEqual(caught.exception.place, int((many[marks.argmax() :] == 0).argmax()))
+
+    def test_threads_of_a_program_call_side_by_side(self):
+        many = numpy.arange(600_000, dtype=numpy.int32)
+        wanted = int(numpy.sum(many, dtype=numpy.int32))
+        with cvl.threads(3):
+            found = []
+            threads = [threading.Thread(target=lambda: found.extend(cvl.add_ruz(many) for _ in range(30))) for _ in range(4)]
+            for thread in threads:
+                thread.start()
+            for thread in threads:
+                thread.join()
+        self.assertEqual(found, [wanted] * 120)
+
+    def test_the_child_of_a_fork(self):
+        many = numpy.ones(600_000, numpy.int32)
+        cvl.set_threads(4)
+        self.assertEqual(cvl.add_ruz(many), len(many))
+        child = os.fork()
+        if child == 0:
+            told = [cvl.get_threads(), cvl.add_ruz(many), cvl.set_threads(2), cvl.add_ruz(many)]
+            os._exit(0 if told == [1, len(many), 1, len(many)] else 1)
+        self.assertEqual(os.waitpid(child, 0)[1], 0)
+        self.assertEqual(cvl.get_threads(), 4)
+
+    def test_the_variable(self):
+        said = "import cvl; print(cvl.get_threads())"
+        for word, count in (("3", 3), ("0", 1), ("many", 1)):
+            place = {**os.environ, "CVL_NUM_THREADS": word, "PYTHONPATH": os.pathsep.join(filter(None, sys.path))}
+            told = subprocess.run([sys.executable, "-c", said], env=place, capture_output=True, text=True)
+            self.assertEqual((told.stdout, told.stderr), (f"{count}\n", ""))
+
+
+class Locks(unittest.TestCase):
+    def test_a_long_call_lets_go_of_the_lock_of_the_interpreter(self):
+        """Another thread waits for the lock, which this one alone can let go of: it is not told to before an hour is over."""
+        many, found, awake = numpy.ones(2_000_000, numpy.int32), [], threading.Lock()
+        awake.acquire()
+        thread = threading.Thread(target=lambda: awake.acquire() and found.append(1))
+        interval = sys.getswitchinterval()
+        thread.start()
+        try:
+            sys.setswitchinterval(3600)
+            awake.release()
+            for _ in range(100):
+                cvl.add_suz(many, out=many)
+            self.assertEqual(found, [1])
+        finally:
+            sys.setswitchinterval(interval)
+            thread.join()
+
+
 class Example:
     """The example of a call in its description: its arguments by their names, and what it gives."""
 
@@ -382,10 +550,11 @@ class Example:
         made = {"cvl": cvl, "numpy": numpy}
         for line in lines:
             exec(line.source, made)
-        self.arguments = {word: made[word] for word in re.search(r"\((.*?)\)", last.source).group(1).split(", ")}
+        words = list(inspect.signature(self.call).parameters)
+        self.has_room = words[-1] == "out"
+        self.arguments = {word: made[word] for word in words if word != "out" or word in made}
         self.found = self.call(**self.arguments)
         self.wanted = ast.literal_eval(last.want)
-        self.has_room = "out" in inspect.signature(self.call).parameters
 
     def other_arguments(self, make):
         """The arguments, with one after another that is an array in another form."""
@@ -397,15 +566,17 @@ class Example:
 class EachCall(unittest.TestCase):
     examples = {name: Example(name) for name in cvl.calls.__all__}
 
-    def test_the_example(self):
-        for name, example in self.examples.items():
-            found = example.found.lengths if isinstance(example.found, cvl.Segments) else example.found
-            found = found.tolist() if isinstance(found, numpy.ndarray) else found
-            self.assertEqual((found, type(found)), (example.wanted, type(example.wanted)), name)
+    def test_the_description(self):
+        finder, runner = doctest.DocTestFinder(), doctest.DocTestRunner(verbose=False)
+        for name in self.examples:
+            for test in finder.find(getattr(cvl, name), name, module=False):
+                self.assertGreater(len(test.examples), 1, name)
+                self.assertEqual(runner.run(test).failed, 0, name)
 
     def test_arrays_of_other_elements_are_refused(self):
         for name, example in self.examples.items():
-            for make in (lambda a: a.astype(numpy.int64), lambda a: a.astype(numpy.uint8), lambda a: a.astype(float), numpy.ndarray.tolist):
+            others = (numpy.int64, numpy.uint8, float, ">i4")
+            for make in (*(lambda a, dtype=dtype: a.astype(dtype) for dtype in others), numpy.ndarray.tolist):
                 for changed, arguments in example.other_arguments(make):
                     with self.assertRaisesRegex(TypeError, f"^{changed} ", msg=name):
                         example.call(**arguments)
@@ -423,7 +594,7 @@ class EachCall(unittest.TestCase):
                 self.look_at_room(name, example, numpy.ones(places, example.found.dtype))
 
     def look_at_room(self, name, example, room):
-        needed, is_pack = len(example.found), name.startswith("pck_")
+        needed, is_pack = len(example.found), name.startswith(("pck_", "read_"))
         if len(room) == needed or is_pack and len(room) > needed:
             found = example.call(**example.arguments, out=room)
             self.assertTrue(found is room or is_pack, name)
@@ -437,9 +608,10 @@ class EachCall(unittest.TestCase):
 
     def test_lengths_are_taken_for_segments(self):
         for name, example in self.examples.items():
-            arguments = {word: given.lengths if isinstance(given, cvl.Segments) else given for word, given in example.arguments.items()}
+            given = example.arguments.items()
+            arguments = {word: value.lengths if isinstance(value, cvl.Segments) else value for word, value in given}
             found = example.call(**arguments)
-            same = found == example.found
+            same = found == example.found if name != "seg_read_ints" else found[0] == example.found[0]
             self.assertTrue(same.all() if isinstance(same, numpy.ndarray) else same, name)
 
     def test_the_stub_has_the_same_parameters(self):
@@ -451,21 +623,122 @@ class EachCall(unittest.TestCase):
             self.assertEqual(names, list(inspect.signature(self.examples[node.name].call).parameters), node.name)
 
 
+class Texts(unittest.TestCase):
+    def test_texts_are_str_or_bytes(self):
+        text = b"5 -1\n007 -0"
+        for text in (text.decode(), text, bytearray(text), memoryview(text), numpy.frombuffer(text, numpy.uint8)):
+            self.assertEqual(cvl.read_ints(text).tolist(), [5, -1, 7, 0])
+        for text in (ints(1, 2), [1, 2], 5, numpy.frombuffer(b"5 -1 7 0", numpy.uint8)[::2]):
+            with self.assertRaisesRegex(TypeError, "^text is no text, a str or bytes side by side, but a "):
+                cvl.read_ints(text)
+        self.assertEqual((cvl.read_ints("").tolist(), cvl.read_ints(" \n").tolist()), ([], []))
+
+    def test_a_text_that_is_written_is_read(self):
+        rng = numpy.random.default_rng(3)
+        for count in (0, 1, 2, 1000, 20000):
+            numbers = rng.integers(-(2**31), 2**31, count, numpy.int32)
+            text = cvl.write_ints(numbers)
+            self.assertEqual(text, "[" + " ".join(map(str, numbers.tolist())) + "]")
+            self.assertEqual(cvl.read_ints(text[1:-1]).tolist(), numbers.tolist())
+            lengths = numpy.bincount(rng.integers(0, 7, count), minlength=7).astype(numpy.int32)
+            found, segments = cvl.seg_read_ints(cvl.seg_write_ints(numbers, lengths))
+            self.assertEqual((found.tolist(), segments), (numbers.tolist(), cvl.Segments(lengths)))
+        self.assertEqual(cvl.write_bools(flags(True, False)), "[T F]")
+        self.assertEqual(cvl.write_bools(numpy.array([2, 0], numpy.uint8).view(bool)), "[T F]")
+
+    def test_faults_of_texts(self):
+        for call, number, place in (
+            (lambda: cvl.read_ints("1 2 x"), 15, 2),
+            (lambda: cvl.read_ints("1 2147483648"), 15, 1),
+            (lambda: cvl.read_ints("1 \u00e9"), 15, 1),
+            (lambda: cvl.read_ints("x", out=ints()), 15, 0),
+            (lambda: cvl.read_ints_after(3, "1 x"), 15, 4),
+            (lambda: cvl.read_ints_after(2**40, "1"), 13, None),
+            (lambda: cvl.seg_read_ints("[[1]"), 15, 4),
+            (lambda: cvl.seg_write_ints(ints(1), ints(-1)), 12, 0),
+            (lambda: cvl.seg_write_ints(ints(1), ints(2)), 7, None),
+        ):  # fmt: skip
+            with self.assertRaises(cvl.Fault) as caught:
+                call()
+            self.assertEqual((caught.exception.number, caught.exception.place), (number, place))
+
+    def test_a_longer_room_of_a_text_that_is_read(self):
+        room = ints(7, 7, 7, 7)
+        self.assertEqual((cvl.read_ints("1 2", out=room).tolist(), room.tolist()), ([1, 2], [1, 2, 7, 7]))
+
+
+class Parts(unittest.TestCase):
+    def test_operators(self):
+        a, b = ints(3, 1, 4), flags(True, False, True)
+        self.assertEqual(cvl.int_scan_after(cvl.operators.MAX, 2, a).tolist(), [2, 3, 3])
+        self.assertEqual(cvl.bool_scan_after(cvl.operators.XOR, True, b).tolist(), [True, False, False])
+        for op in (-1, 7, 19, 99, 2**32, 2**70):
+            with self.assertRaises(cvl.Fault) as caught:
+                cvl.int_scan_after(op, 2, a)
+            self.assertEqual((caught.exception.number, caught.exception.name), (cvl.faults.UNKNOWN_CALL, "UnknownCall"))
+
+    def test_exact_sums(self):
+        a = numpy.full(5, 2**31 - 1, numpy.int32)
+        self.assertEqual(cvl.exact_sum(a), 5 * (2**31 - 1))
+        with self.assertRaises(cvl.Fault) as caught:
+            cvl.checked_scan_after(5, a)
+        self.assertEqual((caught.exception.name, caught.exception.place), ("Overflow", 1))
+        self.assertEqual(cvl.checked_scan_after(-(2**31) + 1, a[:2]).tolist(), [-(2**31) + 1, 0])
+        for before in (2**63, -(2**63) - 1):
+            with self.assertRaisesRegex(OverflowError, "before is -?9223372036854775809?.*, which does not fit 64 bits"):
+                cvl.checked_scan_after(before, a)
+
+    def test_a_permute_in_ranges(self):
+        rng = numpy.random.default_rng(4)
+        source, index = rng.integers(-9, 9, 100, numpy.int32), rng.permutation(100).astype(numpy.int32)
+        whole, written = numpy.zeros(100, numpy.int32), 0
+        for lowest in range(0, 100, 40):
+            part = whole[lowest : lowest + 40]
+            marks = numpy.ones((len(part) + 31) // 32, numpy.uint32)
+            written += cvl.permute_int_range(source, index, lowest, part, marks)
+            self.assertEqual(sum(bin(word).count("1") for word in marks.tolist()), len(part))
+        self.assertEqual((written, whole.tolist()), (100, cvl.smp_puz(source, index).tolist()))
+        for marks, said in ((ints(0), "marks has elements of int32, and has to have uint32"), ([0], "marks is no array but a")):
+            with self.assertRaisesRegex(TypeError, said):
+                cvl.permute_int_range(source, index, 0, part, marks)
+        with self.assertRaisesRegex(OverflowError, "lowest is -1, which does not fit a number of elements"):
+            cvl.permute_int_range(source, index, -1, part, numpy.zeros(1, numpy.uint32))
+
+
 class Names(unittest.TestCase):
     def test_each_call_says_what_it_does(self):
-        for name in (*cvl.calls.__all__, "len_luz", "len_lub", "len_fos"):
+        for name in cvl.calls.__all__:
             self.assertIn(">>>", getattr(cvl, name).__doc__, name)
+
+    def test_what_the_package_has(self):
+        self.assertEqual(set(cvl.calls.__all__) - set(cvl.__all__), set())
+        self.assertTrue(all(hasattr(cvl, name) for name in cvl.__all__))
+        self.assertTrue(pathlib.Path(cvl.__file__).with_name("py.typed").exists())
+        self.assertEqual(pickle.loads(pickle.dumps(cvl.add_wuz)), cvl.add_wuz)
+        self.assertEqual(str(inspect.signature(cvl.add_wuz)), "(a, b, *, out=None)")
+
+    def test_help_leads_in(self):
+        said = pydoc.plain(pydoc.render_doc(cvl))
+        for wanted in ("Segments cut a vector", "help(cvl.add_suz)", "add_wuz(a, b, *, out=None)"):
+            self.assertIn(wanted, said)
+        self.assertIn("The wrapped sums.", pydoc.plain(pydoc.render_doc(cvl.add_wuz)))
+        self.assertNotIn("method of", pydoc.plain(pydoc.render_doc(cvl.add_wuz)))
+
+    def test_faults_are_value_errors_with_constants(self):
+        with self.assertRaises(ValueError) as caught:
+            cvl.div_wuz(ints(1), ints(0))
+        fault = caught.exception
+        self.assertEqual((type(fault), fault.number), (cvl.Fault, cvl.faults.DIVIDE_BY_ZERO))
+        copied = pickle.loads(pickle.dumps(fault))
+        self.assertEqual((copied.number, copied.name, copied.place, str(copied)), (8, "DivideByZero", 0, str(fault)))
+        numbers = {name: value for name, value in vars(cvl.faults).items() if name.isupper()}
+        wanted = {"UNKNOWN_CALL": 2, "LENGTH_MISMATCH": 7, "DIVIDE_BY_ZERO": 8, "SHIFT_OUT_OF_RANGE": 9, "INDEX_OUT_OF_RANGE": 10}
+        wanted.update(INDEX_REPEATED=11, NEGATIVE_LENGTH=12, TOO_LONG=13, BAD_INPUT=15, OVERFLOW=18, OVERLAP=102)
+        self.assertEqual(numbers, wanted)
 
     def test_the_version(self):
         self.assertEqual(cvl.__version__, "1.0.0")
-
-    def test_another_library_is_an_import_error_with_its_path(self):
-        said = "try:\n    import cvl\nexcept ImportError as error:\n    print(error.path, error)"
-        for path, why in (("/nowhere/libcvl.so.1", "CVL_LIBRARY"), (_ctypes.__file__, "cvl_")):
-            place = {"CVL_LIBRARY": path, "PYTHONPATH": os.pathsep.join(filter(None, sys.path))}
-            told = subprocess.run([sys.executable, "-c", said], env={**os.environ, **place}, capture_output=True, text=True)
-            self.assertEqual(told.stderr, "")
-            self.assertRegex(told.stdout, f"^{path} .*{path}.*{why}")
+        self.assertEqual(importlib.import_module("importlib.metadata").version("cvl"), cvl.__version__)
 
 
 if __name__ == "__main__":

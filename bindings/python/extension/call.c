@@ -1,0 +1,261 @@
+/* A call from Python: arguments are bound and taken, a room is found, the family is called, and its result is given. */
+#include "calls.h"
+
+/* ---- arguments by place and by name ---- */
+
+static PyObject *out_keyword;
+
+int cvl_keywords_ready(void) {
+    out_keyword = PyUnicode_InternFromString("out");
+    if (out_keyword == NULL) return -1;
+    for (int k = 0; k < cvl_families_count; k++) {
+        for (int j = 0; j < cvl_families[k].count; j++) {
+            Operand *operand = &cvl_families[k].operands[j];
+            operand->keyword = PyUnicode_InternFromString(operand->name);
+            if (operand->keyword == NULL) return -1;
+        }
+    }
+    return 0;
+}
+
+static int takes_out(const Family *family) { return family->gives <= GIVES_FRONT_FLAGS || family->gives == GIVES_READ; }
+
+/* The operand of a name, the number of operands for `out`, or -1. */
+static int place_of(const Family *family, PyObject *name) {
+    for (int k = 0; k < family->count; k++) {
+        if (name == family->operands[k].keyword) return k;
+    }
+    if (name == out_keyword) return takes_out(family) ? family->count : -1;
+    for (int k = 0; k < family->count; k++) {
+        if (PyUnicode_Compare(name, family->operands[k].keyword) == 0) return k;
+    }
+    return takes_out(family) && PyUnicode_Compare(name, out_keyword) == 0 ? family->count : -1;
+}
+
+static int bind(const Row *row, PyObject *const *arguments, Py_ssize_t count, PyObject *keywords, PyObject **bound) {
+    const Family *family = row->family;
+    const Py_ssize_t named = keywords == NULL ? 0 : PyTuple_GET_SIZE(keywords);
+    if (count > family->count) {
+        PyErr_Format(PyExc_TypeError, "%s() takes %d positional arguments but %zd were given", row->name, family->count, count);
+        return -1;
+    }
+    for (int k = 0; k <= family->count; k++) bound[k] = k < count ? arguments[k] : NULL;
+    for (Py_ssize_t k = 0; k < named; k++) {
+        PyObject *name = PyTuple_GET_ITEM(keywords, k);
+        const int place = place_of(family, name);
+        if (place < 0 || bound[place] != NULL) {
+            const char *said = place < 0 ? "an unexpected keyword argument" : "multiple values for argument";
+            PyErr_Format(PyExc_TypeError, "%s() got %s '%U'", row->name, said, name);
+            return -1;
+        }
+        bound[place] = arguments[count + k];
+    }
+    for (int k = 0; k < family->count; k++) {
+        if (bound[k] != NULL) continue;
+        PyErr_Format(PyExc_TypeError, "%s() missing 1 required argument: '%s'", row->name, family->operands[k].name);
+        return -1;
+    }
+    return 0;
+}
+
+/* Numbers that stand for arrays become as long as the first argument that is one. */
+static int spread(Frame *frame) {
+    const Family *family = frame->row->family;
+    int first = 0, numbers = 0;
+    for (int k = 0; k < family->count; k++) numbers += frame->given[k].spread;
+    if (numbers == 0) return 0;
+    while (first < family->count && frame->given[first].spread) first++;
+    if (first == family->count) {
+        PyErr_Format(PyExc_TypeError, "%s takes a number in the place of an array beside an array, and there is none; write "
+            "numpy.array([%s], dtype=%s)", frame->row->name, family->operands[0].name,
+            family->operands[0].kind == KIND_INTS ? cvl_ints.written : cvl_flags.written);
+        return -1;
+    }
+    for (int k = 0; k < family->count; k++) {
+        if (frame->given[k].spread && cvl_spread(frame, k, frame->given[first].count) < 0) return -1;
+    }
+    return 0;
+}
+
+static int take(Frame *frame, PyObject **bound) {
+    const Family *family = frame->row->family;
+    for (int k = 0; k < family->count; k++) frame->given[k] = (Given){NULL, 0, 0, 0, NULL};
+    for (int k = 0; k < family->count; k++) {
+        if (cvl_take(bound[k], &family->operands[k], family->spreads, &frame->given[k]) < 0) return -1;
+    }
+    return family->spreads ? spread(frame) : 0;
+}
+
+static void let_go(Frame *frame) {
+    for (int k = 0; k < frame->row->family->count; k++) Py_XDECREF(frame->given[k].held);
+    Py_XDECREF(frame->room.held);
+    Py_XDECREF(frame->second.held);
+}
+
+/* ---- the call itself ---- */
+
+/* Calls the family. Other threads of the interpreter run meanwhile where there is much to do. */
+static CvlStatus make(Frame *frame) {
+    const Family *family = frame->row->family;
+    size_t much = frame->room.count;
+    for (int k = 0; k < family->count; k++) much += frame->given[k].count;
+    if (much < MUCH) return family->make(frame);
+    PyThreadState *state = PyEval_SaveThread();
+    const CvlStatus status = family->make(frame);
+    PyEval_RestoreThread(state);
+    return status;
+}
+
+/* Raises why a call isn't made for which there is no memory: what comes before that in the order of the library. The family is
+   called so that it has a fault at the latest where lengths are compared, and touches no element. */
+static void refuse(Frame *frame, int has_room) {
+    const Family *family = frame->row->family;
+    size_t counts[MOST_OPERANDS], needed;
+    for (int k = 0; k < family->count; k++) {
+        Given *given = &frame->given[k];
+        counts[k] = given->count;
+        if (!given->spread || given->held != NULL) continue;
+        given->count += given->count == 0 || given->count > family->most ? 1 : (size_t)-1;
+    }
+    const CvlStatus status = family->make(frame);
+    for (int k = 0; k < family->count; k++) frame->given[k].count = counts[k];
+    const int fits = !has_room || (cvl_measure(frame, &needed) && frame->room.count == needed);
+    if (status.number == CVL_DONE || (status.number == CVL_LENGTH_MISMATCH && cvl_agree(frame) && fits)) {
+        if (!PyErr_Occurred()) PyErr_SetString(PyExc_MemoryError, "there is no memory for the result");
+    } else if (!PyErr_Occurred()) {
+        cvl_tell(frame, status, has_room);
+    }
+}
+
+static int is_done(Frame *frame, CvlStatus status, int has_room) {
+    if (status.number == CVL_DONE) return 1;
+    cvl_tell(frame, status, has_room);
+    return 0;
+}
+
+/* The room of the result: the caller's, or a new one. */
+static int find_room(Frame *frame, PyObject *out, const Element *element) {
+    size_t needed;
+    if (out != NULL) return cvl_take_room(out, "out", element, &frame->room);
+    if (!cvl_measure(frame, &needed) || needed > frame->row->family->most) {
+        frame->no_memory = 1;
+        return 0;
+    }
+    return cvl_new_room(frame, &frame->room, needed, element);
+}
+
+static int fill(Frame *frame, PyObject *out, const Element *element) {
+    if (find_room(frame, out, element) < 0) return 0;
+    if (frame->no_memory) {
+        refuse(frame, out != NULL);
+        return 0;
+    }
+    return is_done(frame, make(frame), out != NULL);
+}
+
+/* ---- texts ---- */
+
+/* Makes a call whose result is as long as it tells itself: first without a room, and then with one. Whether there is one to be
+   filled, or -1. A count that was not told was no count. */
+static int ask(Frame *frame) {
+    frame->told = frame->told_second = SIZE_MAX;
+    const CvlStatus status = make(frame);
+    if (status.number == CVL_DONE) return 0;
+    if (status.number == CVL_LENGTH_MISMATCH && frame->told != SIZE_MAX) return 1;
+    cvl_tell(frame, status, 0);
+    return -1;
+}
+
+/* A call whose rooms were made as long as it asked for. */
+static int fill_asked(Frame *frame) {
+    if (frame->no_memory) PyErr_NoMemory();
+    return !frame->no_memory && is_done(frame, make(frame), 0);
+}
+
+static PyObject *read_text(Frame *frame, PyObject *out) {
+    if (out != NULL) {
+        if (cvl_take_room(out, "out", &cvl_ints, &frame->room) < 0 || !is_done(frame, make(frame), 1)) return NULL;
+        return cvl_front(&frame->room, out, frame->told);
+    }
+    const int more = ask(frame);
+    if (more < 0 || cvl_new_room(frame, &frame->room, more ? frame->told : 0, &cvl_ints) < 0) return NULL;
+    return fill_asked(frame) ? cvl_front(&frame->room, NULL, frame->told) : NULL;
+}
+
+static PyObject *read_nested(Frame *frame) {
+    const int more = ask(frame);
+    if (more < 0 || cvl_new_room(frame, &frame->room, more ? frame->told : 0, &cvl_ints) < 0) return NULL;
+    if (cvl_new_room(frame, &frame->second, more ? frame->told_second : 0, &cvl_ints) < 0 || !fill_asked(frame)) return NULL;
+    PyObject *segments = cvl_segments_of(frame->second.held);
+    return segments == NULL ? NULL : Py_BuildValue("ON", frame->room.held, segments);
+}
+
+/* The text stands in the memory of a new `str`. */
+static PyObject *write_text(Frame *frame) {
+    const int more = ask(frame);
+    if (more < 0) return NULL;
+    frame->room.held = PyUnicode_New(more ? (Py_ssize_t)frame->told : 0, 127);
+    if (frame->room.held == NULL) return NULL;
+    frame->room.at = PyUnicode_DATA(frame->room.held);
+    frame->room.count = more ? frame->told : 0;
+    return !more || is_done(frame, make(frame), 0) ? Py_NewRef(frame->room.held) : NULL;
+}
+
+/* ---- what is given ---- */
+
+static PyObject *array_result(Frame *frame, PyObject *out, const Element *element) {
+    if (!fill(frame, out, element)) return NULL;
+    return Py_NewRef(out == NULL ? frame->room.held : out);
+}
+
+static PyObject *front_result(Frame *frame, PyObject *out, const Element *element) {
+    return fill(frame, out, element) ? cvl_front(&frame->room, out, frame->told) : NULL;
+}
+
+static PyObject *single_result(Frame *frame) {
+    if (!is_done(frame, make(frame), 0)) return NULL;
+    switch (frame->row->family->gives) {
+    case GIVES_INT: return PyLong_FromLong(frame->single.number);
+    case GIVES_FLAG: return PyBool_FromLong(frame->single.flag != 0);
+    case GIVES_SUM: return PyLong_FromLongLong(frame->single.sum);
+    case GIVES_LENGTH: return PyLong_FromSize_t(frame->given[0].count);
+    default: return PyLong_FromSize_t(frame->told);
+    }
+}
+
+/* The lengths that a call was given, in a new array, if they are some. */
+static PyObject *lengths_result(Frame *frame) {
+    if (!is_done(frame, make(frame), 0) || cvl_new_room(frame, &frame->room, frame->given[0].count, &cvl_ints) < 0) return NULL;
+    if (frame->no_memory) return PyErr_NoMemory();
+    if (frame->room.count != 0) memcpy(frame->room.at, frame->given[0].at, frame->room.count * sizeof(int32_t));
+    return Py_NewRef(frame->room.held);
+}
+
+static PyObject *result(Frame *frame, PyObject **bound, PyObject *out) {
+    switch (frame->row->family->gives) {
+    case GIVES_INTS: return array_result(frame, out, &cvl_ints);
+    case GIVES_FLAGS: return array_result(frame, out, &cvl_flags);
+    case GIVES_FRONT_INTS: return front_result(frame, out, &cvl_ints);
+    case GIVES_FRONT_FLAGS: return front_result(frame, out, &cvl_flags);
+    case GIVES_SEGMENTS: return fill(frame, NULL, &cvl_ints) ? cvl_segments_of(frame->room.held) : NULL;
+    case GIVES_CUT: return cvl_segments_of(bound[0]);
+    case GIVES_LENGTHS: return lengths_result(frame);
+    case GIVES_READ: return read_text(frame, out);
+    case GIVES_READ_NESTED: return read_nested(frame);
+    case GIVES_TEXT: return write_text(frame);
+    default: return single_result(frame);
+    }
+}
+
+PyObject *cvl_call(const Row *row, PyObject *const *arguments, Py_ssize_t count, PyObject *keywords) {
+    PyObject *bound[MOST_OPERANDS + 1], *found = NULL;
+    Frame frame;
+    if (bind(row, arguments, count, keywords, bound) < 0) return NULL;
+    frame.row = row;
+    frame.room = frame.second = (Given){NULL, 0, 0, 0, NULL};
+    frame.no_memory = 0;
+    PyObject *out = bound[row->family->count];
+    if (take(&frame, bound) == 0) found = result(&frame, bound, out == Py_None ? NULL : out);
+    let_go(&frame);
+    return found;
+}

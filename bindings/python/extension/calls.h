@@ -1,0 +1,188 @@
+/*
+ * calls.h: what the files of the extension share.
+ *
+ * A call from Python binds its arguments, takes each of them as its family in C takes it, finds a room for the result, and calls
+ * the family, which tells the first fault in the order of cvl.h. So nothing is told here but what Python alone knows: what is no
+ * array of the kind, and what does not fit.
+ */
+#ifndef CVL_CALLS_H
+#define CVL_CALLS_H
+
+#define PY_SSIZE_T_CLEAN
+#include <Python.h>
+
+/* One file asks numpy for its functions, and the others use them. */
+#define NPY_NO_DEPRECATED_API NPY_1_20_API_VERSION
+#define PY_ARRAY_UNIQUE_SYMBOL cvl_numpy_functions
+#ifndef CVL_ASKS_NUMPY
+#define NO_IMPORT_ARRAY
+#endif
+#include <numpy/arrayobject.h>
+#include <numpy/arrayscalars.h>
+
+#include <cvl.h>
+
+#if PY_VERSION_HEX < 0x030A0000
+static inline PyObject *Py_NewRef(PyObject *object) {
+    Py_INCREF(object);
+    return object;
+}
+#endif
+
+/* From so many elements on other threads of the interpreter run while the library works. */
+enum { MUCH = 5000 };
+
+enum { MOST_OPERANDS = 6 };
+
+/* How an argument is taken. */
+typedef enum Kind {
+    KIND_INTS, /* arrays that are read */
+    KIND_FLAGS,
+    KIND_TEXT,
+    KIND_LENGTHS,
+    KIND_INT, /* one value: of 32 bits, a boolean, an operator, a place or a count, of 64 bits, and one that is not below 0 */
+    KIND_FLAG,
+    KIND_OPERATOR,
+    KIND_WIDE,
+    KIND_SUM,
+    KIND_SIZE,
+    KIND_ROOM_INTS, /* arrays that are written, beside the result */
+    KIND_ROOM_FLAGS,
+    KIND_ROOM_MARKS
+} Kind;
+
+/* How many elements an array has, and what lengths add up to. Arrays of one extent are equally long. */
+typedef enum Extent { EXTENT_NONE, EXTENT_N, EXTENT_M, EXTENT_SEGMENTS, EXTENT_COUNT, EXTENT_TRUES, EXTENT_TOTAL } Extent;
+
+/* What a call gives. */
+typedef enum Gives {
+    GIVES_INTS, /* an array, which may stand in the caller's room */
+    GIVES_FLAGS,
+    GIVES_FRONT_INTS, /* one that may be shorter than the room, and whose elements are counted */
+    GIVES_FRONT_FLAGS,
+    GIVES_INT, /* one value */
+    GIVES_FLAG,
+    GIVES_SUM,
+    GIVES_SEGMENTS,    /* segments, of lengths that it writes */
+    GIVES_CUT,         /* segments, of the lengths that it is given */
+    GIVES_LENGTHS,     /* the lengths that it is given, in an array of their own */
+    GIVES_LENGTH,      /* how long its argument is */
+    GIVES_READ,        /* integers of a text */
+    GIVES_READ_NESTED, /* integers of a text and their segments */
+    GIVES_TEXT,
+    GIVES_WRITTEN /* how many places of a caller's room it wrote */
+} Gives;
+
+typedef struct Operand {
+    const char *name;
+    Kind kind;
+    Extent extent;
+    PyObject *keyword; /* the name, as Python has it */
+} Operand;
+
+typedef struct Frame Frame;
+
+/* What calls have in common that differ in their operator alone. */
+typedef struct Family {
+    int count;
+    Operand operands[MOST_OPERANDS];
+    Gives gives;
+    Extent extent; /* of the room */
+    int by;        /* the operand that says how long the room is */
+    int spreads;   /* whether a number may stand for an array of it */
+    size_t most;   /* how long the room may be at most */
+    CvlStatus (*make)(Frame *frame);
+} Family;
+
+typedef struct Row {
+    const char *name;
+    Family *family;
+    uint32_t op;
+} Row;
+
+/* An argument as it is taken, and a room. */
+typedef struct Given {
+    void *at;       /* of an array */
+    size_t count;   /* how many elements it has, or how many lengths */
+    int64_t number; /* of one value */
+    int spread;     /* whether that number stands for an array */
+    PyObject *held; /* what was made to reach the memory, or nothing */
+} Given;
+
+/* A call that is being made. */
+struct Frame {
+    const Row *row;
+    Given given[MOST_OPERANDS];
+    Given room, second; /* the second is that of lengths beside the result */
+    size_t told, told_second;
+    union {
+        int32_t number;
+        uint8_t flag;
+        int64_t sum;
+    } single;
+    int no_memory; /* whether there was none for the room, or for an argument; or the room is known to be too long */
+};
+
+/* Kinds of elements. */
+typedef struct Element {
+    int number;          /* that of numpy */
+    const char *name;    /* as numpy shows it */
+    const char *written; /* as it is written in a program */
+    PyArray_Descr *descr;
+} Element;
+
+extern Element cvl_ints, cvl_flags, cvl_marks;
+
+/* ---- arguments.c ---- */
+
+/* The only way from here is an exception, where one of these is -1. */
+int cvl_take(PyObject *object, const Operand *operand, int spreads, Given *given);
+int cvl_take_room(PyObject *object, const char *name, const Element *element, Given *room);
+int cvl_learn_kinds(void);
+
+/* ---- results.c ---- */
+
+/* A new room for so many elements. Where there is no memory the frame says so. */
+int cvl_new_room(Frame *frame, Given *room, size_t count, const Element *element);
+
+/* An array of a number in each of so many places, for an argument. Where there is no memory the frame says so. */
+int cvl_spread(Frame *frame, int k, size_t count);
+
+/* The elements at the front of a room. */
+PyObject *cvl_front(const Given *room, PyObject *out, size_t count);
+
+/* ---- told.c ---- */
+
+/* Raises what a status tells of a call. */
+void cvl_tell(const Frame *frame, CvlStatus status, int has_room);
+
+/* How long the room of a call has to be. Whether that is known. */
+int cvl_measure(const Frame *frame, size_t *needed);
+
+/* Whether arguments are as long as they have to be. */
+int cvl_agree(const Frame *frame);
+
+/* ---- lengths.c ---- */
+
+extern PyTypeObject cvl_lengths_type;
+
+/* Segments of an array of lengths, and the lengths of segments where they lie. */
+PyObject *cvl_segments_of(PyObject *lengths);
+CvlLengths cvl_cut_of(PyObject *segments);
+
+/* ---- call.c ---- */
+
+PyObject *cvl_call(const Row *row, PyObject *const *arguments, Py_ssize_t count, PyObject *keywords);
+int cvl_keywords_ready(void);
+
+/* ---- threads.c ---- */
+
+extern PyMethodDef cvl_thread_methods[];
+
+/* ---- rows.c, which is generated ---- */
+
+extern Family cvl_families[];
+extern const int cvl_families_count;
+extern PyMethodDef cvl_methods[];
+
+#endif

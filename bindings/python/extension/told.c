@@ -1,0 +1,128 @@
+/* What is told where a call has no value. */
+#include "calls.h"
+
+static int is_array(const Operand *operand) { return operand->kind == KIND_INTS || operand->kind == KIND_FLAGS; }
+
+/* ---- how long arguments are ---- */
+
+/* What lengths add up to. Whether they are lengths of segments. */
+static int total(const Given *given, size_t *found) {
+    const CvlLengths lengths = {given->at, given->count};
+    return cvl_make_descriptor(lengths, found).number == CVL_DONE;
+}
+
+static int measure_by(const Given *given, Extent extent, size_t most, size_t *needed) {
+    int32_t trues;
+    switch (extent) {
+    case EXTENT_TOTAL: return total(given, needed);
+    case EXTENT_TRUES:
+        if (cvl_count(given->at, given->count, &trues).number != CVL_DONE) return 0;
+        *needed = (size_t)trues;
+        return 1;
+    case EXTENT_COUNT:
+        if (given->number < 0 || (uint64_t)given->number > most) return 0;
+        *needed = (size_t)given->number;
+        return 1;
+    default: *needed = given->count; return 1;
+    }
+}
+
+int cvl_measure(const Frame *frame, size_t *needed) {
+    const Family *family = frame->row->family;
+    return measure_by(&frame->given[family->by], family->extent, family->most, needed);
+}
+
+/* A text that says how long two arguments are that have to be equally long, or nothing. `number` is that of the one. */
+static PyObject *differ(const char *form, const char *name, size_t number, const char *other, size_t wanted) {
+    return number == wanted ? NULL : PyUnicode_FromFormat(form, name, (Py_ssize_t)number, other, (Py_ssize_t)wanted);
+}
+
+/* The operand before this one that has to be as long, or -1. Of lengths, those that have as many segments. */
+static int alike(const Family *family, int k, Extent extent) {
+    for (int j = 0; j < k; j++) {
+        const Operand *operand = &family->operands[j];
+        if (is_array(operand) ? operand->extent == extent : extent == EXTENT_SEGMENTS && operand->kind == KIND_LENGTHS) return j;
+    }
+    return -1;
+}
+
+/* The same of what lengths add up to. */
+static PyObject *total_differs(const Frame *frame, int k) {
+    const Family *family = frame->row->family;
+    const Operand *operand = &family->operands[k];
+    size_t found;
+    for (int j = 0; j < family->count; j++) {
+        const Operand *other = &family->operands[j];
+        if (!is_array(other) || other->extent != operand->extent || !total(&frame->given[k], &found)) continue;
+        return differ("%s add up to %zd, and len(%s) is %zd", operand->name, found, other->name, frame->given[j].count);
+    }
+    return NULL;
+}
+
+/* The first two arguments that are not as long as they have to be, or nothing; then an exception may be set. */
+static PyObject *arguments_differ(const Frame *frame) {
+    const Family *family = frame->row->family;
+    const char *form = "len(%s) is %zd, and len(%s) is %zd";
+    PyObject *said = NULL;
+    for (int k = 0; said == NULL && !PyErr_Occurred() && k < family->count; k++) {
+        const Operand *operand = &family->operands[k];
+        const int cuts = operand->kind == KIND_LENGTHS;
+        if (!cuts && !is_array(operand)) continue;
+        const int j = alike(family, k, cuts ? EXTENT_SEGMENTS : operand->extent);
+        if (j >= 0) said = differ(form, operand->name, frame->given[k].count, family->operands[j].name, frame->given[j].count);
+        if (said == NULL && cuts && !PyErr_Occurred()) said = total_differs(frame, k);
+    }
+    return said;
+}
+
+int cvl_agree(const Frame *frame) {
+    PyObject *said = arguments_differ(frame);
+    Py_XDECREF(said);
+    return said == NULL;
+}
+
+/* How long a room is and has to be, or nothing. */
+static PyObject *room_differs(const Frame *frame) {
+    const Family *family = frame->row->family;
+    const int counts = family->gives == GIVES_FRONT_INTS || family->gives == GIVES_FRONT_FLAGS || family->gives == GIVES_READ;
+    size_t needed = frame->told;
+    if (!counts && !cvl_measure(frame, &needed)) return NULL;
+    return PyUnicode_FromFormat(counts ? "len(out) is %zd, and has to be %zd or more" : "len(out) is %zd, and has to be %zd",
+        (Py_ssize_t)frame->room.count, (Py_ssize_t)needed);
+}
+
+/* What more is said of a fault, or None. */
+static PyObject *said_of(const Frame *frame, CvlStatus status, int has_room) {
+    PyObject *said = status.number == CVL_LENGTH_MISMATCH ? arguments_differ(frame) : NULL;
+    if (said == NULL && !PyErr_Occurred() && status.number == CVL_LENGTH_MISMATCH && has_room) said = room_differs(frame);
+    return said == NULL && !PyErr_Occurred() ? Py_NewRef(Py_None) : said;
+}
+
+/* ---- exceptions ---- */
+
+static PyObject *fault_type(void) {
+    static PyObject *found;
+    if (found == NULL) {
+        PyObject *module = PyImport_ImportModule("cvl.fault");
+        if (module != NULL) found = PyObject_GetAttrString(module, "Fault");
+        Py_XDECREF(module);
+    }
+    return found;
+}
+
+void cvl_tell(const Frame *frame, CvlStatus status, int has_room) {
+    if (status.number == CVL_NO_RESOURCES) {
+        PyErr_SetString(PyExc_MemoryError, "the call is out of memory");
+        return;
+    }
+    PyObject *type = fault_type(), *said = type == NULL ? NULL : said_of(frame, status, has_room);
+    if (said == NULL) return;
+    PyObject *place = status.place < 0 ? Py_NewRef(Py_None) : PyLong_FromLongLong(status.place);
+    if (place != NULL) {
+        PyObject *fault = PyObject_CallFunction(type, "IsOO", status.number, cvl_fault_name(status.number), place, said);
+        if (fault != NULL) PyErr_SetObject(type, fault);
+        Py_XDECREF(fault);
+        Py_DECREF(place);
+    }
+    Py_DECREF(said);
+}

@@ -1,0 +1,241 @@
+#!/usr/bin/env python3
+"""Builds the package `cvl` for the Python that runs this, with the library inside its compiled module.
+
+    package.py FOLDER          puts the package and its .dist-info into FOLDER
+    package.py --wheel FOLDER  makes a wheel there
+    package.py --check         tells what is missing for that, with the status 1
+
+    --library=FILE  takes the archive libcvl.a that is there; else `bindings/archive.py` makes one
+
+It needs a C compiler, which CC names, the headers of Python and of numpy, and nothing else. pip builds with the functions at the
+end, for which nothing has to be fetched where numpy is installed. The compiler and the linker are given the words of CFLAGS and
+LDFLAGS.
+"""
+
+import base64
+import hashlib
+import os
+import pathlib
+import re
+import shlex
+import shutil
+import subprocess
+import sys
+import sysconfig
+import tempfile
+import zipfile
+
+HERE = pathlib.Path(__file__).resolve().parent
+TOP = HERE.parent.parent
+NAME = "cvl"
+FLAGS = ["-std=c11", "-O2", "-fPIC", "-fvisibility=hidden", "-Wall", "-Wextra", "-Wshadow"]
+LINKED = ["-shared", "-pthread", "-Wl,--exclude-libs,ALL", "-Wl,-z,relro", "-Wl,-z,now", "-Wl,-s"]
+# what a module may need of the system, where the wheel is for all systems with the same or a newer glibc
+OF_GLIBC = re.compile(r"lib(c|m|pthread|dl|rt)\.so\.\d+|ld-linux.*\.so\.\d+|libgcc_s\.so\.1")
+
+
+class Missing(Exception):
+    """What is not there that building needs."""
+
+
+def words_of(name, usual=""):
+    return shlex.split(os.environ.get(name, "")) or shlex.split(usual)
+
+
+def run(*words):
+    told = subprocess.run([str(word) for word in words], capture_output=True, text=True)
+    if told.returncode != 0:
+        raise Missing(f"{' '.join(map(str, words))}\n{told.stdout}{told.stderr}")
+    return told.stdout
+
+
+# ---- what is needed ----
+
+
+def numpy_found():
+    """The version of numpy and the folder of its headers. pip hides what is installed from this process, and not from another."""
+    said = "import numpy; print(numpy.__version__); print(numpy.get_include())"
+    words = [sys.executable, "-I", "-c", said]
+    told = subprocess.run(words, capture_output=True, text=True)
+    if told.returncode != 0:  # in an environment that pip has made, numpy is there alone
+        told = subprocess.run([sys.executable, "-c", said], capture_output=True, text=True)
+    if told.returncode != 0:
+        raise Missing(f"{sys.executable} has no numpy (Debian: python3-numpy)")
+    version, folder = told.stdout.split("\n")[:2]
+    if not (pathlib.Path(folder) / "numpy/arrayobject.h").exists():
+        raise Missing(f"numpy's headers are not in {folder}")
+    return version, folder
+
+
+def python_headers():
+    folder = sysconfig.get_path("include")
+    if not (pathlib.Path(folder) / "Python.h").exists():
+        raise Missing(f"Python's headers are not in {folder} (Debian: python3-dev)")
+    return folder
+
+
+def compiler():
+    words = words_of("CC", "cc")
+    if not shutil.which(words[0]):
+        raise Missing(f"there is no C compiler {words[0]}")
+    return words
+
+
+def check():
+    numpy_found()
+    python_headers()
+    compiler()
+
+
+# ---- the compiled module ----
+
+
+def library(work):
+    """The archive of the library."""
+    return run(sys.executable, TOP / "bindings/archive.py", work).strip().split("\n")[-1]
+
+
+def compiled(work, archive):
+    """The compiled module, in the folder `work`."""
+    folders = [TOP / "include", python_headers(), numpy_found()[1]]
+    flags = [*FLAGS, *(word for folder in folders for word in ("-isystem", folder)), *words_of("CFLAGS")]
+    objects = []
+    for path in sorted((HERE / "extension").glob("*.c")):
+        objects.append(work / f"{path.stem}.o")
+        run(*compiler(), *flags, "-c", path, "-o", objects[-1])
+    made = work / f"_calls{sysconfig.get_config_var('EXT_SUFFIX')}"
+    run(*compiler(), *words_of("CFLAGS"), *LINKED, "-o", made, *objects, archive, *words_of("LDFLAGS"))
+    return made
+
+
+# ---- the package and its description ----
+
+
+def version():
+    return re.search(r'^version = "(.*)"$', (HERE / "pyproject.toml").read_text(), re.M).group(1)
+
+
+def project(name):
+    """A line of the project's description."""
+    return re.search(rf'^{name} = "(.*)"$', (HERE / "pyproject.toml").read_text(), re.M).group(1)
+
+
+def needed_numpy():
+    """Which numpy the module runs with: one that is compiled over the first numbers runs from that on, up to the second."""
+    found = numpy_found()[0].split(".")
+    return f"numpy>={found[0]}.{found[1]},<2" if found[0] == "1" else "numpy>=1.23"
+
+
+def metadata():
+    lines = ["Metadata-Version: 2.1", f"Name: {NAME}", f"Version: {version()}", f"Summary: {project('description')}"]
+    lines += ["License: MIT", "License-File: LICENSE", f"Requires-Python: {project('requires-python')}"]
+    lines += [f"Requires-Dist: {needed_numpy()}"]
+    return "".join(f"{line}\n" for line in lines)
+
+
+def platform(module):
+    """The platform of a module: all systems with a glibc that has what it needs, where it needs nothing else."""
+    name = re.sub(r"[-.]", "_", sysconfig.get_platform())
+    needed = re.findall(r"\(NEEDED\).*\[(.*)\]", run("readelf", "-d", module))
+    versions = [(int(major), int(minor)) for major, minor in re.findall(r"GLIBC_(\d+)\.(\d+)", run("readelf", "-V", module))]
+    if not name.startswith("linux_") or not versions or not all(map(OF_GLIBC.fullmatch, needed)):
+        return name
+    return "manylinux_{}_{}".format(*max(versions)) + name[len("linux") :]
+
+
+def tag(module):
+    python = f"cp{sys.version_info[0]}{sys.version_info[1]}"
+    return f"{python}-{python}{getattr(sys, 'abiflags', '')}-{platform(module)}"
+
+
+def contents(work, archive):
+    """Each file of a wheel by its name there, and the tag of the wheel."""
+    module = compiled(work, archive or library(work))
+    package = sorted(path for path in (HERE / NAME).iterdir() if path.suffix in (".py", ".pyi", ".typed"))
+    found = {f"{NAME}/{path.name}": path.read_bytes() for path in [*package, module]}
+    described, tagged = f"{NAME}-{version()}.dist-info", tag(module)
+    found[f"{described}/METADATA"] = metadata().encode()
+    found[f"{described}/LICENSE"] = (TOP / "LICENSE").read_bytes()
+    found[f"{described}/WHEEL"] = f"Wheel-Version: 1.0\nGenerator: {NAME}\nRoot-Is-Purelib: false\nTag: {tagged}\n".encode()
+    return found, tagged
+
+
+def recorded(found):
+    """The record of a wheel's files, with their sums."""
+
+    def line(name, text):
+        digest = base64.urlsafe_b64encode(hashlib.sha256(text).digest()).rstrip(b"=").decode()
+        return f"{name},sha256={digest},{len(text)}\n"
+
+    record = next(name for name in found if name.endswith("/METADATA")).replace("METADATA", "RECORD")
+    return record, ("".join(line(*item) for item in found.items()) + f"{record},,\n").encode()
+
+
+def put(folder, archive=None):
+    """Puts the package and its description into a folder, as an installer does."""
+    with tempfile.TemporaryDirectory() as work:
+        found, _ = contents(pathlib.Path(work), archive)
+    described = next(name for name in found if name.endswith("/METADATA")).rpartition("/")[0]
+    found[f"{described}/INSTALLER"] = b"install\n"
+    found = dict([*found.items(), recorded(found)])
+    for name, text in found.items():
+        path = pathlib.Path(folder) / name
+        path.parent.mkdir(parents=True, exist_ok=True)
+        path.unlink(missing_ok=True)
+        path.write_bytes(text)
+        path.chmod(0o755 if ".so" in path.suffixes else 0o644)
+    return sorted(found)
+
+
+def wheel(folder, archive=None):
+    """Makes a wheel in a folder, and answers its name. The same files give the same wheel."""
+    with tempfile.TemporaryDirectory() as work:
+        found, tagged = contents(pathlib.Path(work), archive)
+    name = f"{NAME}-{version()}-{tagged}.whl"
+    with zipfile.ZipFile(pathlib.Path(folder) / name, "w", zipfile.ZIP_DEFLATED) as file:
+        for path, text in [*found.items(), recorded(found)]:
+            entry = zipfile.ZipInfo(path)
+            entry.external_attr = (0o100755 if ".so" in path else 0o100644) << 16
+            entry.compress_type = zipfile.ZIP_DEFLATED
+            file.writestr(entry, text)
+    return name
+
+
+# ---- what pip calls ----
+
+
+def build_wheel(wheel_directory, config_settings=None, metadata_directory=None):
+    return wheel(wheel_directory)
+
+
+def get_requires_for_build_wheel(config_settings=None):
+    """Nothing, where numpy is installed."""
+    try:
+        numpy_found()
+    except Missing:
+        return ["numpy"]
+    return []
+
+
+def build_sdist(sdist_directory, config_settings=None):
+    raise NotImplementedError("the library is built in a checkout; make a wheel there, by `pip wheel ./bindings/python`")
+
+
+def main(words):
+    archives = [word.partition("=")[2] for word in words if word.startswith("--library=")]
+    rest = [word for word in words if not word.startswith("--library=")]
+    try:
+        if rest == ["--check"]:
+            check()
+        elif len(rest) == 2 and rest[0] == "--wheel":
+            print(wheel(rest[1], *archives))
+        elif len(rest) == 1 and not rest[0].startswith("-"):
+            print(*put(rest[0], *archives), sep="\n")
+        else:
+            sys.exit(__doc__)
+    except Missing as missing:
+        sys.exit(f"package.py: {missing}")
+
+
+if __name__ == "__main__":
+    main(sys.argv[1:])

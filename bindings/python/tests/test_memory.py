@@ -1,0 +1,190 @@
+"""What calls do with memory: each request of each call is refused in turn, and none is kept. It runs where the package is
+installed, and needs a C compiler, for what refuses.
+
+    python3 -m unittest test_memory
+"""
+
+import ctypes
+import gc
+import os
+import pathlib
+import shutil
+import subprocess
+import sys
+import tempfile
+import tracemalloc
+import unittest
+
+import numpy
+
+import cvl
+from test_cvl import Example, flags, ints
+
+MOST = cvl.MOST_ELEMENTS
+HERE = pathlib.Path(__file__).resolve().parent
+MANY = 100_000
+ROUNDS = 20
+
+
+def plain(found):
+    """What a call gives, as lists and numbers."""
+    if isinstance(found, tuple):
+        return tuple(map(plain, found))
+    found = found.lengths if isinstance(found, cvl.Segments) else found
+    return found.tolist() if isinstance(found, numpy.ndarray) else found
+
+
+def outcome(call, **arguments):
+    """What a call gives or raises."""
+    try:
+        return plain(call(**arguments))
+    except cvl.Fault as fault:
+        return fault.number, fault.place
+    except MemoryError:
+        return MemoryError
+
+
+def forms(example):
+    """An example's arguments, into a room and not, in one that is too short, with arrays that lend their memory, and at fault."""
+    yield "", example.arguments
+    if example.has_room:
+        for count, said in ((len(example.found), " in a room"), (len(example.found) - 1, " in a short room")):
+            yield said, {**example.arguments, "out": numpy.zeros(max(0, count), example.found.dtype)}
+    for changed, arguments in example.other_arguments(memoryview):
+        yield f" with {changed} lent", arguments
+    for changed, arguments in example.other_arguments(lambda a: a[:-1]):
+        yield f" with {changed} short", arguments
+
+
+def each_call():
+    """Calls of each name, with their arguments."""
+    for name in cvl.calls.__all__:
+        example = Example(name)
+        for said, arguments in forms(example):
+            yield name + said, example.call, arguments
+    yield "a number", cvl.add_wuz, {"a": ints(1, 2), "b": 3}
+    yield "a divisor", cvl.div_wuz, {"a": ints(1, 2), "b": 0}
+    yield "bytes that are flags", cvl.pck_lub, {"values": numpy.array([2, 0], numpy.uint8).view(bool), "flags": flags(True, True)}
+
+
+class Refused(unittest.TestCase):
+    """In a process of its own, which `main` below is."""
+
+    @unittest.skipUnless(shutil.which("cc") and sys.platform == "linux", "what refuses is compiled, and stands before glibc")
+    def test_each_request_for_memory(self):
+        with tempfile.TemporaryDirectory() as folder:
+            made = pathlib.Path(folder) / "refused.so"
+            subprocess.run(["cc", "-O2", "-shared", "-fPIC", "-o", str(made), str(HERE / "refused.c")], check=True)
+            paths = os.pathsep.join([str(HERE), *filter(None, sys.path)])
+            place = {**os.environ, "LD_PRELOAD": str(made), "PYTHONMALLOC": "malloc", "PYTHONPATH": paths}
+            words = [sys.executable, str(HERE / "test_memory.py"), "refused"]
+            told = subprocess.run(words, env=place, capture_output=True, text=True)
+        self.assertEqual((told.returncode, told.stderr), (0, ""), told.stdout)
+        self.assertRegex(told.stdout, r"^\d{4,} requests were refused\n$")
+
+
+class Kept(unittest.TestCase):
+    def test_no_memory_is_kept(self):
+        calls = list(each_call())
+        counted = (numpy.dtype(numpy.int32), numpy.dtype(bool), None, cvl.Fault, cvl.Segments)
+        for _ in range(3):
+            self.run_all(calls)
+        gc.collect()
+        tracemalloc.start()
+        self.run_all(calls)
+        before = tracemalloc.get_traced_memory()[0], list(map(sys.getrefcount, counted))
+        for _ in range(ROUNDS):
+            self.run_all(calls)
+        gc.collect()
+        after = tracemalloc.get_traced_memory()[0], list(map(sys.getrefcount, counted))
+        tracemalloc.stop()
+        # a leak of one object in one of the calls is 50 bytes a round
+        self.assertLess(after[0] - before[0], 50 * ROUNDS)
+        for old, new in zip(before[1], after[1]):
+            self.assertLess(abs(new - old), ROUNDS)
+
+    def run_all(self, calls):
+        for _, call, arguments in calls:
+            outcome(call, **arguments)
+
+    def test_refused_arguments_keep_nothing(self):
+        a, counts = ints(1, 2), []
+        masked = numpy.ma.array([1], mask=[True], dtype=numpy.int32)
+        wrong = [1], numpy.zeros((1, 1), numpy.int32), 2**40, masked, memoryview(b"1234")[::2]
+        calls = (
+            lambda given: cvl.add_wuz(a, given), lambda given: cvl.add_suz(a, out=given), cvl.read_ints, cvl.len_fos,
+        )  # fmt: skip
+        for _ in range(3):
+            for given in wrong:
+                for call in calls:
+                    self.assertRaises((TypeError, OverflowError, cvl.Fault), call, given)
+            gc.collect()
+            counts.append((sys.getrefcount(a), [sys.getrefcount(given) for given in wrong]))
+        self.assertEqual(counts[0], counts[2])
+
+
+# ---- the process in which memory is refused ----
+
+
+def refused_in_turn(name, call, arguments, refused):
+    """Refuses the first request of a call, then the second and so on, alone and with those behind it, until no call needs it. How many."""
+    wanted = outcome(call, **arguments)
+    for after in range(1000):
+        told = [outcome(lambda: refused(call, (), arguments, after, alone, 0)) for alone in (True, False)]
+        if any(found not in (MemoryError, wanted) for found in told):
+            sys.exit(f"{name} gives {told} and not {wanted}, where request {after} is refused")
+        if MemoryError not in told:
+            return after
+    sys.exit(f"{name} asks for memory 1000 times")
+
+
+def what_comes_before_memory(refused):
+    """Rooms of many elements are refused, and what comes before memory is told; the room is as it was."""
+    many, room = numpy.ones(MANY, numpy.int32), numpy.full(MANY, 7, numpy.int32)
+    more, marks = numpy.zeros(MOST + 1, numpy.int32), numpy.ones(MANY, bool)
+    for call, wanted in (
+        (lambda: cvl.add_suz(more), (13, None)),
+        (lambda: cvl.add_wuz(more, 1), (13, None)),
+        (lambda: cvl.dis_vuz(1, MOST + 1), (13, None)),
+        (lambda: cvl.dis_vuz(1, -MANY), (12, None)),
+        (lambda: cvl.add_sez(many, ints(-1)), (12, 0)),
+        (lambda: cvl.dis_vez(ints(1), ints(-1)), (12, 0)),
+        (lambda: cvl.sel_pez(many, many, marks, ints(1, -1)), (12, 1)),
+        (lambda: cvl.add_wuz(many, many[1:]), (7, None)),
+        (lambda: cvl.add_sez(many, ints(1)), (7, None)),
+        (lambda: cvl.sel_puz(many, many, marks[1:]), (7, None)),
+        (lambda: cvl.add_wuz(many, 1, out=room[1:]), (7, None)),
+        (lambda: cvl.add_wuz(many, 1, out=many[1:]), (102, None)),
+        (lambda: cvl.add_suz(more[:-1]), MemoryError),
+        (lambda: cvl.dis_vuz(1, MOST), MemoryError),
+        (lambda: cvl.dis_vez(ints(1), ints(MOST)), MemoryError),
+        (lambda: cvl.rep_vuz(more, 1, 1), MemoryError),
+        (lambda: cvl.def_puz(ints(1), ints(0), more), MemoryError),
+        (lambda: cvl.div_wuz(many, 0, out=room), MemoryError),
+        (lambda: cvl.div_wuz(many, many * 0), MemoryError),
+        (lambda: cvl.smp_puz(many, many), MemoryError),
+        (lambda: cvl.pck_luz(many, marks), MemoryError),
+        (lambda: cvl.dis_vuz(1, MANY), MemoryError),
+        (lambda: cvl.dis_vez(ints(1), ints(MANY)), MemoryError),
+        (lambda: cvl.write_ints(many), MemoryError),
+        (lambda: cvl.read_ints("1 " * MANY), MemoryError),
+        (lambda: cvl.len_fos(many), MemoryError),
+        (lambda: cvl.pck_fov(marks, many), MemoryError),
+    ):  # fmt: skip
+        found = outcome(lambda: refused(call, (), {}, 0, False, MANY // 2))
+        if found != wanted:
+            sys.exit(f"{found} is told, and not {wanted}, without memory for many elements: {call.__code__.co_firstlineno}")
+    if not (room == 7).all() or not (many == 1).all():
+        sys.exit("a room was written for which there was no memory")
+
+
+def main():
+    refused = ctypes.PyDLL(None).call_refused
+    refused.restype, refused.argtypes = ctypes.py_object, [*[ctypes.py_object] * 3, ctypes.c_long, ctypes.c_int, ctypes.c_size_t]
+    count = sum(refused_in_turn(name, call, arguments, refused) for name, call, arguments in list(each_call()))
+    what_comes_before_memory(refused)
+    print(f"{count} requests were refused")
+
+
+if __name__ == "__main__":
+    main() if sys.argv[1:] == ["refused"] else unittest.main()
