@@ -3,7 +3,6 @@ to."""
 
 import json
 import os
-import pathlib
 import shutil
 import subprocess
 
@@ -42,17 +41,16 @@ def compiler(work, flags):
 
 
 PYTHON_TELLS = """
-import json, site, sys, sysconfig
-schemes = sysconfig.get_scheme_names()
+import json, site, sys
 print(json.dumps({
-    "version": list(sys.version_info[:2]), "tag": sys.implementation.cache_tag, "headers": sysconfig.get_path("include"),
-    "folders": site.getsitepackages() if hasattr(site, "getsitepackages") else [], "bits": sys.maxsize.bit_length() + 1,
+    "version": list(sys.version_info[:2]), "tag": sys.implementation.cache_tag, "bits": sys.maxsize.bit_length() + 1,
+    "folders": site.getsitepackages() if hasattr(site, "getsitepackages") else [],
 }))
 """
 
 
 def python(name):
-    """What a Python tells of itself: its version, its tag, where its headers are, and where it looks for packages."""
+    """What a Python tells of itself: its version, its tag, and where it looks for packages."""
     try:
         told = subprocess.run([name, "-c", PYTHON_TELLS], capture_output=True, text=True, stdin=subprocess.DEVNULL)
     except OSError as error:
@@ -65,9 +63,6 @@ def python(name):
         proved.stop(f"{name} is Python {version}, and {'.'.join(map(str, LEAST_PYTHON))} is needed")
     if found["bits"] != 64:
         proved.stop(f"{name} is a Python of {found['bits']} bits, and the library has 64")
-    if not pathlib.Path(found["headers"], "Python.h").is_file():
-        why = f"{name} has no headers in {found['headers']}, by which its module is compiled (Debian: python3-dev)"
-        proved.stop(f"{why}; name another by --python, or leave the package for Python out by --no-python")
     return found
 
 

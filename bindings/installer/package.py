@@ -1,15 +1,13 @@
-"""The package for Python: which folder a Python looks into below a prefix, and the package's files with what tells of them."""
+"""The package for Python: which folder a Python looks into below a prefix, and the package's files, as `bindings/python/package.py`
+builds them for that Python."""
 
-import base64
-import hashlib
 import pathlib
 import re
+import subprocess
 
 import proved
-import table
 
-PACKAGE = proved.TOP / "bindings/python/cvl"
-KEPT = (".py", ".pyi", ".typed")
+BUILDS = proved.TOP / "bindings/python/package.py"
 
 
 def folder(tells, prefix):
@@ -22,28 +20,23 @@ def folder(tells, prefix):
     return "lib/python{}.{}/site-packages".format(*tells["version"])
 
 
-def _metadata():
-    said = ["Metadata-Version: 2.1", "Name: cvl", f"Version: {table.VERSION}", "License: MIT", "Requires-Python: >=3.8"]
-    said += ["Summary: The vector calls of CVL over numpy, through a proved library", "Requires-Dist: numpy (>=1.20)"]
-    return "".join(f"{line}\n" for line in said)
+def _run(python, *words):
+    """What the package's builder prints, run by the Python that the package is for."""
+    words = [str(word) for word in (python, "-B", BUILDS, *words)]
+    told = subprocess.run(words, capture_output=True, text=True, stdin=subprocess.DEVNULL)
+    if told.returncode != 0:
+        why = told.stderr.strip()
+        proved.stop(f"{why}\nname another Python by --python, or leave the package for Python out by --no-python")
+    return told.stdout
 
 
-def _recorded(name, path):
-    """A line of the list RECORD: a file, its checksum and its size."""
-    text = path.read_bytes()
-    checksum = base64.urlsafe_b64encode(hashlib.sha256(text).digest()).rstrip(b"=").decode()
-    return f"{name},sha256={checksum},{len(text)}\n"
+def check(python):
+    """Whether the Python has all that the package is built with."""
+    _run(python, "--check")
 
 
-def files(tells, prefix, work):
-    """Each file of the package, with where it goes."""
-    site = folder(tells, prefix)
-    found = {f"cvl/{path.name}": path for path in sorted(PACKAGE.iterdir()) if path.suffix in KEPT}
-    info, told = f"cvl-{table.VERSION}.dist-info", work / "dist-info"
-    told.mkdir(exist_ok=True)
-    for name, text in (("METADATA", _metadata()), ("INSTALLER", "install\n"), ("LICENSE", (proved.TOP / "LICENSE").read_text())):
-        (told / name).write_text(text)
-        found[f"{info}/{name}"] = told / name
-    (told / "RECORD").write_text("".join(_recorded(*pair) for pair in found.items()) + f"{info}/RECORD,,\n")
-    found[f"{info}/RECORD"] = told / "RECORD"
-    return {f"{site}/{name}": path for name, path in found.items()}
+def files(python, tells, prefix, work):
+    """Each file of the package, built over the library in the folder `work`, with where it goes."""
+    site, made = folder(tells, prefix), work / "package"
+    names = _run(python, f"--library={work / 'libcvl.a'}", made).splitlines()
+    return {f"{site}/{name}": made / name for name in names}

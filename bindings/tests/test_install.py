@@ -151,13 +151,27 @@ class Whole(Tree):
 
         with mock.patch.object(building.Build, "run", run), mock.patch.object(checks, "command", lambda *given: None), \
                 mock.patch.object(checks, "compiler", lambda *given: None), \
-                mock.patch.object(checks, "python", lambda name: self.python), \
+                mock.patch.object(checks, "python", lambda name: self.python), mock.patch.object(package, "_run", self.built), \
                 mock.patch.dict(os.environ, {"DESTDIR": str(destination)}), mock.patch("builtins.print"):  # fmt: skip
             install.main([str(word) for word in given])
 
+    def built(self, python, *words):
+        """The package as its builder puts it into a folder, with a text in the place of the compiled module."""
+        if words == ("--check",):
+            return ""
+        made = pathlib.Path(words[-1])
+        sources = [path for path in (TOP / "bindings/python/cvl").iterdir() if path.suffix in (".py", ".pyi", ".typed")]
+        texts = {f"cvl/{path.name}": path.read_text() for path in sources}
+        texts.update({f"cvl/{self.module}": "module", "cvl-1.0.0.dist-info/METADATA": "Name: cvl"})
+        for name, text in texts.items():
+            (made / name).parent.mkdir(parents=True, exist_ok=True)
+            (made / name).write_text(text)
+        return "\n".join(texts)
+
     def setUp(self):
         super().setUp()
-        self.python = {"version": [3, 11], "tag": "cpython-311", "folders": [], "headers": ""}
+        self.python = {"version": [3, 11], "tag": "cpython-311", "folders": []}
+        self.module = "_calls.cpython-311-x86_64-linux-gnu.so"
 
     def test_nothing_names_the_prefix_or_where_it_was_put(self):
         self.install("/opt/vectors", destination=self.top)
@@ -191,7 +205,8 @@ class Whole(Tree):
         site = self.root / "lib/python3.11/site-packages/cvl"
         for given, there in ((TOP / "bindings/python/cvl", site), (TOP / "bindings/rust/src", self.root / "share/cvl/rust/src")):
             wanted = {path.name for path in given.iterdir() if path.suffix in (".py", ".pyi", ".rs", ".typed")}
-            self.assertEqual({path.name for path in there.iterdir()}, wanted)
+            self.assertEqual({path.name for path in there.iterdir()} - {self.module}, wanted)
+        self.assertTrue((site / self.module).is_file() and (site.parent / "cvl-1.0.0.dist-info/METADATA").is_file())
         for name in ("bin/cvl", "include/cvl.h", "include/cvl.f90", "share/man/man3/cvl.3", "share/doc/cvl/LICENSE"):
             self.assertIn(name, self.found())
         install.main([str(self.root), "--uninstall"])
@@ -285,10 +300,11 @@ class Checked(Tree):
     def test_a_python_that_cannot_build(self):
         self.assertIn("cannot be run", self.told(self.root, "--python", self.top / "nowhere"))
         self.assertIn("does not run", self.told(self.root, "--python", self.program("broken", "echo broken >&2; exit 1")))
-        tells = '{"version": [3, %d], "tag": "cpython-3", "headers": "/nowhere", "folders": [], "bits": %d}'
+        tells = '{"version": [3, %d], "tag": "cpython-3", "folders": [], "bits": %d}'
         self.assertIn("3.8 is needed", self.told(self.root, "--python", self.python(tells % (7, 64))))
         self.assertIn("of 32 bits", self.told(self.root, "--python", self.python(tells % (9, 32))))
-        self.assertIn("has no headers", self.told(self.root, "--python", self.python(tells % (9, 64))))
+        lacks = f'for word in "$@"; do [ "$word" != --check ] || {{ echo no headers >&2; exit 1; }}; done; echo \'{tells % (9, 64)}\''
+        self.assertIn("no headers", self.told(self.root, "--python", self.program("lacking", lacks)))
 
 
 class Pages(Tree):
