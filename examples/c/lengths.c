@@ -3,7 +3,7 @@
  * and with one in the last places, and holds what it answers and writes against plain loops. Texts end at 4,194,304 elements, and more
  * are told. Then some calls on 2,147,483,647 booleans, the most of a vector, and on one more, of which nothing may be read. It
  * takes up to 6 GB of memory. It prints what differs, and its status is then 1. `examples/c/run lengths` builds and runs it; the functions
- * are those of calls.h, and the loops those of plain.h. A length alone may be named.
+ * are those of calls.h, and the loops those of plain.h. One of the lengths may be named alone.
  */
 #define _DEFAULT_SOURCE
 #include "plain.h"
@@ -100,7 +100,7 @@ static void leaves(const Row *row) {
 static void with_faults(const Row *row, const char *call) {
     void *p[MOST_ARRAYS];
     for (int way = 0; way < WAYS; way++) {
-        prepare(row, call, false, p);
+        put_all(row, false, p);
         const CvlStatus right = spoil(row, call, way);
         for (size_t threads = 1; right.number != CVL_DONE && threads <= THREADS; threads += THREADS - 1) {
             if (cvl_set_threads(threads) != 0) abort();
@@ -115,7 +115,7 @@ static void without_fault(const Row *row, const char *call) {
     void *p[MOST_ARRAYS];
     for (size_t threads = 1; threads <= THREADS; threads += THREADS - 1) {
         if (cvl_set_threads(threads) != 0) abort();
-        prepare(row, call, false, p);
+        put_all(row, false, p);
         if (!tells(row, row->call(p), right)) continue;
         if (right.number == CVL_DONE) compare(row, call);
         else leaves(row);
@@ -139,6 +139,7 @@ static void each_call(size_t elements) {
         char call[8];
         if (!is_call(&rows[k])) continue;
         name_call(&rows[k], call);
+        hold_all(&rows[k], call);
         without_fault(&rows[k], call);
         if (strpbrk(rows[k].arrays, "tuX") == NULL) with_faults(&rows[k], call);
     }
@@ -210,15 +211,13 @@ static void most_of_all(void) {
 }
 
 int main(int words, char **word) {
-    static const size_t lengths_to_try[] = {4194304, 4194305, 8388613, 67108864};
-    const size_t alone = words > 1 ? (size_t)atol(word[1]) : 0;
-    size_t most = alone;
+    static const size_t all[] = {4194304, 4194305, 8388613, 67108864};
+    const size_t named = words > 1 ? (size_t)atol(word[1]) : 0, longest_one = named > 0 && named < CVL_MOST_ELEMENTS ? named : all[3];
     pool = cvl_pool_alone(1);
     setvbuf(stdout, NULL, _IONBF, 0);
-    for (size_t k = 0; alone == 0 && k < sizeof lengths_to_try / sizeof *lengths_to_try; k++) most = lengths_to_try[k];
-    make_arrays(most, most / SEGMENT + 10);
-    if (alone != 0) each_call(alone);
-    for (size_t k = 0; alone == 0 && k < sizeof lengths_to_try / sizeof *lengths_to_try; k++) each_call(lengths_to_try[k]);
-    if (alone == 0) most_of_all();
+    make_arrays(longest_one, longest_one / SEGMENT + 10);
+    for (size_t k = 0; k < sizeof all / sizeof *all && named == 0; k++) each_call(all[k]);
+    if (named > 0 && named < CVL_MOST_ELEMENTS) each_call(named);
+    else most_of_all();
     return failed ? EXIT_FAILURE : EXIT_SUCCESS;
 }

@@ -55,7 +55,8 @@ static void check(const Row *row, bool odd) {
     char call[8];
     void *p[MOST_ARRAYS];
     name_call(row, call);
-    prepare(row, call, odd, p);
+    hold_all(row, call);
+    put_all(row, odd, p);
     asked = 0;
     const CvlStatus status = row->call(p);
     const size_t needed = odd || in_parts(row) || strpbrk(row->arrays, "tuX") != NULL ? asked : memory_of(row, call);

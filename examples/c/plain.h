@@ -378,11 +378,14 @@ static size_t count_of(const Row *row, size_t j, size_t made, size_t written) {
     }
 }
 
-/* The number that an element of a room has to have: of a text its byte, of a word of marks all bits. */
+/* The bits of a word of marks, which are all places that there are. */
+static int32_t marks_at(size_t places, size_t k) { return places - 32 * k >= 32 ? -1 : (int32_t)(((uint32_t)1 << (places - 32 * k)) - 1); }
+
+/* The number that an element of a room has to have: of a text its byte. */
 static int32_t right_at(char letter, bool are_lengths, size_t k) {
     switch (letter) {
-    case 'K':
-    case 'L': return -1;
+    case 'K': return marks_at(n, k);
+    case 'L': return marks_at(trues, k);
     case 'X': return text[k];
     case 'S': return are_lengths ? lengths[k] : wanted[k];
     default: return wanted[k];
@@ -414,11 +417,15 @@ static void check_room(const Row *row, size_t j, size_t made, size_t written) {
     }
 }
 
-/* Gives a call what it reads, where true flags are 1, or any byte but 0, and rooms. */
-static void prepare(const Row *row, const char *call, bool odd, void **p) {
+/* Holds all that a call reads. */
+static void hold_all(const Row *row, const char *call) {
     cut(strchr(row->arrays, 'e') != NULL);
     for (size_t j = 0; j < arrays_of(row); j++) hold(row, j);
     if (strpbrk(row->arrays, "tu") != NULL) text_length = write_text(held[0], false, by_segments(call)) - (by_segments(call) ? 0 : 2);
+}
+
+/* Gives a call what is held, where true flags are 1, or any byte but 0, and rooms. */
+static void put_all(const Row *row, bool odd, void **p) {
     for (size_t j = 0; j < arrays_of(row); j++) {
         put(row, j, odd);
         p[j] = memory[j];
