@@ -9,7 +9,7 @@ use std::panic::{catch_unwind, AssertUnwindSafe};
 use std::thread::{self, ThreadId};
 
 use cvl::{with_pool, Pool};
-use long::{calls_are_right, faults_are_told, ints, sum, told, LONG};
+use long::{ints, sum, told, Long, LONG};
 use scoped_threads::ScopedThreads;
 
 /// A pool of so many parts that runs them in some way.
@@ -60,9 +60,10 @@ fn pools_that_run_each_part() {
         &none,
         &ScopedThreads(4),
     ];
+    let long = Long::new();
     for pool in pools {
-        with_pool(pool, calls_are_right).unwrap();
-        with_pool(pool, faults_are_told);
+        with_pool(pool, || long.calls_are_right()).unwrap();
+        with_pool(pool, || long.faults_are_told());
     }
 }
 
@@ -141,7 +142,24 @@ fn a_panic_of_a_pool_goes_on_after_the_call() {
     }
 }
 
-/// A panic while another pool's panic is being told, as a careless payload may make one.
+/// A text is written in two steps that write, after one without work.
+#[test]
+fn a_pool_that_panicked_runs_nothing_more_of_the_call() {
+    let a = ints(LONG);
+    let runs = Cell::new(0);
+    let pool = by(4, |parts, part| {
+        (0..parts).for_each(part);
+        runs.set(runs.get() + 1);
+        assert!(runs.get() != 2, "the second step");
+    });
+    let caught = catch_unwind(AssertUnwindSafe(|| {
+        with_pool(&pool, || cvl::write_ints(&a))
+    }));
+    assert_eq!(caught.unwrap_err().downcast_ref(), Some(&"the second step"));
+    assert_eq!(runs.get(), 2);
+}
+
+/// A payload is given on and not dropped on the way, which may panic too.
 #[test]
 fn a_payload_that_panics_when_it_is_dropped() {
     struct Bomb;

@@ -6,7 +6,7 @@ use std::io::ErrorKind;
 use std::process::Command;
 use std::{env, fs, thread};
 
-use long::{calls_are_right, faults_are_told, ints, sum, LONG};
+use long::{ints, sum, Long, LONG};
 
 /// How many threads the process has.
 fn of_the_process() -> usize {
@@ -30,10 +30,11 @@ fn numbers_that_are_none_are_refused() {
 fn long_calls_run_on_them() {
     set(1);
     let before = of_the_process();
+    let long = Long::new();
     for threads in [4, 2, 1] {
         set(threads);
-        calls_are_right().unwrap();
-        faults_are_told();
+        long.calls_are_right().unwrap();
+        long.faults_are_told();
         assert_eq!(of_the_process(), before + threads - 1);
     }
 }

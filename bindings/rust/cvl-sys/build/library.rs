@@ -115,9 +115,10 @@ impl Lookup<'_> {
         }
     }
 
-    /// A folder that pkg-config tells; it writes a blank with a backslash before it.
+    /// A folder that pkg-config tells; it writes a blank with a backslash before it, and the way from its own file.
     fn folder_of_package(&self, name: &str) -> Option<PathBuf> {
-        (self.package)(name).map(|said| PathBuf::from(said.replace("\\ ", " ")))
+        let folder = PathBuf::from((self.package)(name)?.replace("\\ ", " "));
+        Some(folder.canonicalize().unwrap_or(folder))
     }
 }
 

@@ -87,7 +87,10 @@ fn the_folder_that_a_variable_names() {
 fn the_folder_of_the_package() {
     let root = prefix("package");
     let escaped = root.to_str().unwrap().replace(' ', "\\ ");
-    let (lib, include) = (format!("{escaped}/lib"), format!("{escaped}/include"));
+    let (lib, include) = (
+        format!("{escaped}/lib/../lib"),
+        format!("{escaped}/lib/../include"),
+    );
     let told = library(found(&[], &[("libdir", &lib), ("includedir", &include)]));
     assert_eq!(
         (told.folder, told.include),
