@@ -33,9 +33,8 @@ EXAMPLES = (
 )
 
 # a name of a file or folder: one with a slash that begins as those of the repository, a page, or a command at its top
-NAMED = re.compile(
-    r"(?<![\w/.~-])(?:(?:\.\./)?(?:crates|bindings|docs|examples|include|\.ci)/[\w./*-]*\w|[\w-]+\.md|\./install|\./cvl)(?![\w/])"
-)
+FOLDERS = "crates|bindings|docs|examples|include|\\.ci"
+NAMED = re.compile(rf"(?<![\w/.~-])(?:\.{{0,2}}/?(?:{FOLDERS})/[\w./*-]*\w|[\w-]+\.md|\./install|\./cvl)(?![\w/])")
 LINK = re.compile(r"(!?)\[([^\]]*)\]\(([^)]*)\)")
 
 

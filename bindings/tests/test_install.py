@@ -315,16 +315,18 @@ class Pages(Tree):
         self.files = pages.write(self.top)
         headers = {f"include/{path.name}": path for path in (TOP / "include").glob("*.h")}
         self.headers = {**headers, "include/cvl.f90": TOP / "bindings/fortran/cvl.f90"}
+        self.crates = {str(path): path for path in (TOP / "bindings/rust").glob("**/README.md")}
         self.manual = {"share/man/man1/cvl.1": TOP / "docs/cvl.1", "share/man/man3/cvl.3": TOP / "docs/cvl.3"}
         self.installed = pages.Installed({*self.files, *self.headers})
 
     def test_each_name_is_there(self):
-        for name, path in {**self.files, **self.headers, **self.manual}.items():
+        for name, path in {**self.files, **self.headers, **self.manual, **self.crates}.items():
             if name.endswith((".md", ".h", ".f90", ".1", ".3")):
                 self.assertEqual(self.installed.without(path.read_text()), [], name)
 
     def test_a_name_that_is_not_there_is_told(self):
-        for text in ("see `crates/cvl_c`", "[page](no_page.md)", "run ./install", "(docs/no_page.md)", "* examples/c/run does"):
+        told = ("see `crates/cvl_c`", "[page](no_page.md)", "run ./install", "(docs/no_page.md)", "* examples/c/run does")
+        for text in (*told, "    pip install ./bindings/python"):
             self.assertTrue(self.installed.without(text), text)
         for text in ("`docs/calls.md`", "[calls](calls.md#index)", "examples/c/quicksort.c", "[above](#above)", "include/cvl.h"):
             self.assertEqual(self.installed.without(text), [], text)
