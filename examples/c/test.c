@@ -1036,7 +1036,7 @@ static void nested_texts(void) {
  */
 enum { MOST = CVL_MOST_OF_TEXT, LONG_SEGMENT = 5000, SHORTER_SEGMENT = 40, LONG_TEXT = 16 * MOST };
 
-static int32_t long_ints[MOST], other_ints[MOST], int_room[MOST];
+static int32_t long_ints[MOST + 1], other_ints[MOST + 1], int_room[MOST + 1];
 static bool long_bools[MOST], other_bools[MOST], bool_room[MOST], taking_part[MOST];
 static int32_t long_index[MOST], long_lengths[MOST], half_lengths[MOST], length_room[MOST];
 static char long_text[LONG_TEXT], text_room[LONG_TEXT];
@@ -1352,6 +1352,21 @@ static void copied_booleans(void) {
     COPIES(cvl_seg_write_bools(O(2, 0), 2, S(I(1, 1), 2), bytes, TEXT_ROOM, &total), 1);
 }
 
+/* Calls on more elements than a text may have, without a fault and with one at the last place. */
+static void longer_than_a_text(void) {
+    const size_t many = MOST + 1;
+    for (size_t k = 0; k < many; k++) long_ints[k] = 1, int_room[k] = UNTOUCHED;
+    tells("tot_suz", tot_suz(long_ints, int_room, many), CVL_DONE, -1);
+    for (size_t k = 0; k < many; k++) {
+        if (int_room[k] != (int32_t)k) fail("tot_suz", "another element in a long row");
+        int_room[k] = (int32_t)(many - 1 - k);
+    }
+    int_room[0] = 0;
+    FAULT(cvl_permute_int(other_ints, many, int_room, many, long_ints, many), CVL_INDEX_REPEATED, MOST);
+    FAULT(cvl_write_ints(long_ints, many, bytes, TEXT_ROOM, &total), CVL_TOO_LONG, -1);
+    calls += 2;
+}
+
 int main(void) {
     const size_t far_bytes = ((size_t)CVL_MOST_ELEMENTS + 1) * sizeof *too_many_ints;
     too_many_ints = (int32_t *)mmap(NULL, far_bytes, PROT_READ, MAP_PRIVATE | MAP_ANONYMOUS | MAP_NORESERVE, -1, 0);
@@ -1381,6 +1396,7 @@ int main(void) {
     made_descriptors();
     nested_texts();
     long_rows();
+    longer_than_a_text();
     odd_booleans();
     odd_booleans_by_value();
     copied_booleans();
