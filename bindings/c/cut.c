@@ -140,10 +140,10 @@ bool cvl_cut_text(const CvlPool *pool, CvlWork *w, const char *text, size_t n) {
 
 /* ---- segments: the elements are cut, and each part finds the segments that start in it ---- */
 
-/* Elements that are cut, with the lengths of segments that have them all; and where the first segment that starts in each part is known. */
+/* Elements that are cut, with the lengths of their segments; and where the first segment that starts in each part is known. */
 /*@ predicate has_segments{L}(CvlWork *w) =
-      0 < w->parts <= CVL_MOST_PARTS && w->from[w->parts] <= CVL_MOST_ELEMENTS && is_cut(&w->from[0], w->parts, w->from[w->parts]) &&
-      w->segments <= CVL_MOST_ELEMENTS && is_segments(w->lengths, w->segments, w->from[w->parts]) &&
+      0 < w->parts <= CVL_MOST_PARTS && w->from[w->parts] <= CVL_MOST_ELEMENTS && w->segments <= CVL_MOST_ELEMENTS &&
+      is_cut(&w->from[0], w->parts, w->from[w->parts]) && is_segments(w->lengths, w->segments, w->from[w->parts]) &&
       \valid_read(w->lengths + (0 .. w->segments - 1)) && \separated(w->lengths + (0 .. w->segments - 1), w);
 
     predicate knows_first{L}(CvlWork *w, integer k) =

@@ -1,6 +1,6 @@
 /*
- * exports.h: contracts of the proved exports that the C by hand calls, written by hand: what they read and write, and what of their
- * answer the C stands on. Read beside words.h before each file that is analysed.
+ * exports.h: contracts of proved exports, written by hand: what they read and write, and what of their answer the C stands on. It is
+ * read beside words.h before each file that is analysed.
  */
 #ifndef CVL_ANALYSIS_EXPORTS_H
 #define CVL_ANALYSIS_EXPORTS_H

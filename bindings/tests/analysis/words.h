@@ -1,6 +1,6 @@
 /*
- * words.h: what the contracts in bindings/c speak of, and laws of arithmetic that the provers are helped by. Read before each file
- * that is analysed, and by no compiler of the library.
+ * words.h: what the contracts in bindings/c speak of, and laws of arithmetic that the provers are helped by. It is read before each
+ * file that is analysed, and by no compiler of the library.
  */
 #ifndef CVL_ANALYSIS_WORDS_H
 #define CVL_ANALYSIS_WORDS_H
@@ -32,7 +32,7 @@ static inline unsigned char atomic_exchange(unsigned char *at, unsigned char val
 
 /* ---- parts ---- */
 
-/* Parts of n elements: they begin at 0 and end at n, and each begins where the one before it ends, which is not before its beginning. */
+/* Parts of n elements: they begin at 0 and end at n, and each begins where the one before it ends. */
 /*@ predicate is_cut{L}(size_t *from, integer parts, integer n) =
       from[0] == 0 && from[parts] == n && \forall integer j, k; 0 <= j <= k <= parts ==> from[j] <= from[k]; */
 
@@ -49,14 +49,16 @@ static inline unsigned char atomic_exchange(unsigned char *at, unsigned char val
 /* The same where the first parts have one element more. */
 /*@ logic integer share_place(integer n, integer parts, integer k) = n / parts * k + (k < n % parts ? k : n % parts);
 
-    lemma share_ascends: \forall integer n, p, j, k; n >= 0 && p > 0 && 0 <= j <= k <= p ==> share_place(n, p, j) <= share_place(n, p, k);
+    lemma share_ascends: \forall integer n, p, j, k; n >= 0 && p > 0 && 0 <= j <= k <= p ==>
+      share_place(n, p, j) <= share_place(n, p, k);
     lemma share_begins: \forall integer n, p; n >= 0 && p > 0 ==> share_place(n, p, 0) == 0;
     lemma share_ends: \forall integer n, p; n >= 0 && p > 0 ==> share_place(n, p, p) == n; */
 
 /* ---- segments ---- */
 
 /* What the first so many lengths add up to: where the segment after them starts. */
-/*@ logic integer start_of{L}(int32_t *lengths, integer count) = count <= 0 ? 0 : start_of(lengths, count - 1) + lengths[count - 1]; */
+/*@ logic integer start_of{L}(int32_t *lengths, integer count) =
+      count <= 0 ? 0 : start_of(lengths, count - 1) + lengths[count - 1]; */
 
 /* Segments of n elements: no length is negative, so that their starts ascend, and they add up to n. */
 /*@ predicate is_segments{L}(int32_t *lengths, integer segments, integer n) =
@@ -65,7 +67,8 @@ static inline unsigned char atomic_exchange(unsigned char *at, unsigned char val
 
 /* The first segment that starts at a place or after it: their number where there is none. */
 /*@ predicate is_first{L}(int32_t *lengths, integer segments, integer place, integer first) =
-      0 <= first <= segments && start_of(lengths, first) >= place && \forall integer s; 0 <= s < first ==> start_of(lengths, s) < place; */
+      0 <= first <= segments && start_of(lengths, first) >= place &&
+      \forall integer s; 0 <= s < first ==> start_of(lengths, s) < place; */
 
 /* ---- texts ---- */
 
