@@ -9,7 +9,7 @@ void *__libc_realloc(void *block, size_t size);
 void *__libc_memalign(size_t alignment, size_t size);
 
 /* How many requests of at least so many bytes are granted yet, -1 are all, and whether one alone is refused behind them, or all. */
-static long granted = -1;
+static long granted = -1, refused = 0;
 static int one = 0;
 static size_t least = 0;
 
@@ -20,6 +20,7 @@ static int is_refused(size_t size) {
         return 0;
     }
     if (one) granted = -1;
+    refused++;
     errno = ENOMEM;
     return 1;
 }
@@ -39,8 +40,12 @@ Object *PyObject_Call(Object *call, Object *arguments, Object *named);
 Object *call_refused(Object *call, Object *arguments, Object *named, long after, int alone, size_t from) {
     one = alone;
     least = from;
+    refused = 0;
     granted = after;
     Object *found = PyObject_Call(call, arguments, named);
     granted = -1;
     return found;
 }
+
+/* How many requests of the last call were refused. */
+long how_many_refused(void) { return refused; }

@@ -138,7 +138,7 @@ def refused_in_turn(name, call, arguments, refused):
     sys.exit(f"{name} asks for memory 1000 times")
 
 
-def what_comes_before_memory(refused):
+def what_comes_before_memory(refused, how_many):
     """Rooms of many elements are refused, and what comes before memory is told; the room is as it was."""
     many, room = numpy.ones(MANY, numpy.int32), numpy.full(MANY, 7, numpy.int32)
     more, marks = numpy.zeros(MOST + 1, numpy.int32), numpy.ones(MANY, bool)
@@ -173,16 +173,20 @@ def what_comes_before_memory(refused):
     ):  # fmt: skip
         found = outcome(lambda: refused(call, (), {}, 0, False, MANY // 2))
         if found != wanted:
-            sys.exit(f"{found} is told, and not {wanted}, without memory for many elements: {call.__code__.co_firstlineno}")
+            sys.exit(f"{found} is told, and not {wanted}, without memory for many elements: line {call.__code__.co_firstlineno}")
+        # a call beyond the limit asks for none, and one within it does
+        if wanted in (MemoryError, (13, None)) and (how_many() == 0) != (wanted == (13, None)):
+            sys.exit(f"{how_many()} requests for many elements were made: line {call.__code__.co_firstlineno}")
     if not (room == 7).all() or not (many == 1).all():
         sys.exit("a room was written for which there was no memory")
 
 
 def main():
-    refused = ctypes.PyDLL(None).call_refused
+    refused, how_many = ctypes.PyDLL(None).call_refused, ctypes.PyDLL(None).how_many_refused
+    how_many.restype = ctypes.c_long
     refused.restype, refused.argtypes = ctypes.py_object, [*[ctypes.py_object] * 3, ctypes.c_long, ctypes.c_int, ctypes.c_size_t]
     count = sum(refused_in_turn(name, call, arguments, refused) for name, call, arguments in list(each_call()))
-    what_comes_before_memory(refused)
+    what_comes_before_memory(refused, how_many)
     print(f"{count} requests were refused")
 
 
