@@ -119,7 +119,10 @@ enum {
     CVL_OVERLAP = 102
 };
 
-/* The most elements of a vector, and the greatest total of a descriptor; and of a vector whose text is read or written at once. */
+/*
+ * The most elements of a vector, and the greatest total of a descriptor: as many as an index of 32 bits names. And the most of a vector whose
+ * text is read or written at once, since longer texts come in pieces.
+ */
 enum { CVL_MOST_ELEMENTS = 2147483647, CVL_MOST_OF_TEXT = 4194304 };
 
 /* The lengths of segments, one for each, empty ones too: CvlLengths rows = {lengths, segments}. */

@@ -1,6 +1,6 @@
 /*
- * One vector over the ranks of MPI, of more elements than one vector of the library may have: each rank has a range of it, in pieces of
- * at most 4,194,304 elements, and what stands before a rank comes by MPI_Exscan, or by a gather where a segment may cross several ranks.
+ * One vector over the ranks of MPI, as one that is spread over machines: each rank has a range of it, of at most as many elements as a
+ * vector of the library has, and what stands before a rank comes by MPI_Exscan, or by a gather where a segment may cross several ranks.
  * The results are those of check.c, however many ranks there are. `examples/mpi/run` builds both and compares them.
  */
 #include "cvl.h"
@@ -26,8 +26,6 @@ static void *room_for(size_t count, size_t size) {
 /* Where the range of a rank begins, of so many things. */
 static size_t begin(int of, size_t things) { return things * (size_t)of / (size_t)ranks; }
 
-static size_t piece(size_t left) { return left < CVL_MOST_ELEMENTS ? left : CVL_MOST_ELEMENTS; }
-
 static uint64_t sum_of_all(uint64_t mine) {
     uint64_t sum;
     MPI_Allreduce(&mine, &sum, 1, MPI_UINT64_T, MPI_SUM, MPI_COMM_WORLD);
@@ -47,17 +45,10 @@ static void tell_once(const char *what, int64_t number, uint64_t sum) {
 
 /* The elements that stand before each, summed and wrapped: each rank sums its range, and scans it after the sums before. */
 static void scan(const int32_t *a, size_t from, size_t n) {
-    int32_t *out = (int32_t *)room_for(n, sizeof *out), sum = 0, part;
-    for (size_t k = 0; k < n; k += piece(n - k)) {
-        must(cvl_int_reduce(CVL_ADD, a + k, piece(n - k), &part));
-        sum = (int32_t)((uint32_t)sum + (uint32_t)part);
-    }
-    int32_t before = (int32_t)sum_before((uint32_t)sum);
-    for (size_t k = 0; k < n; k += piece(n - k)) {
-        must(cvl_int_scan_after(CVL_ADD, before, a + k, piece(n - k), out + k, piece(n - k)));
-        must(cvl_int_reduce(CVL_ADD, a + k, piece(n - k), &part));
-        before = (int32_t)((uint32_t)before + (uint32_t)part);
-    }
+    int32_t *out = (int32_t *)room_for(n, sizeof *out), sum = 0;
+    must(cvl_int_reduce(CVL_ADD, a, n, &sum));
+    const int32_t before = (int32_t)sum_before((uint32_t)sum);
+    must(cvl_int_scan_after(CVL_ADD, before, a, n, out, n));
     uint64_t scanned = 0;
     for (size_t k = 0; k < n; k++) scanned += seen(from + k, out[k]);
     scanned = sum_of_all(scanned);
@@ -67,11 +58,8 @@ static void scan(const int32_t *a, size_t from, size_t n) {
 
 /* The sum of all, which never wraps: each rank has its own in 64 bits. */
 static void total(const char *what, const int32_t *a, size_t n) {
-    int64_t sum = 0, part;
-    for (size_t k = 0; k < n; k += piece(n - k)) {
-        must(cvl_exact_sum(a + k, piece(n - k), &part));
-        sum += part;
-    }
+    int64_t sum = 0;
+    must(cvl_exact_sum(a, n, &sum));
     sum = (int64_t)sum_of_all((uint64_t)sum);
     const bool fits = sum == (int32_t)sum;
     tell_once(what, fits ? 0 : CVL_OVERFLOW, fits ? (uint64_t)sum : 0);
@@ -81,12 +69,9 @@ static void total(const char *what, const int32_t *a, size_t n) {
 static void pack(const int32_t *a, size_t from, size_t n) {
     bool *flags = (bool *)room_for(n, sizeof *flags);
     int32_t *out = (int32_t *)room_for(n, sizeof *out);
-    size_t kept = 0, count;
+    size_t kept = 0;
     for (size_t k = 0; k < n; k++) flags[k] = flag(from + k);
-    for (size_t k = 0; k < n; k += piece(n - k)) {
-        must(cvl_pack_int(a + k, piece(n - k), flags + k, piece(n - k), out + kept, n - kept, &count));
-        kept += count;
-    }
+    must(cvl_pack_int(a, n, flags, n, out, n, &kept));
     const uint64_t before = sum_before(kept);
     uint64_t packed = 0;
     for (size_t k = 0; k < kept; k++) packed += seen(before + k, out[k]);
@@ -118,26 +103,6 @@ static Segments segments_in(size_t from, size_t to) {
     return found;
 }
 
-/* The sums of a range's segments, where a segment may be longer than a piece: a sum goes on in the next piece. */
-static void sums_of(const Segments *s, const int32_t *a, int32_t *sums) {
-    size_t k = 0;
-    while (k < s->count) {
-        size_t whole = 0, n = 0;
-        while (k + whole < s->count && n + (size_t)s->lengths[k + whole] <= CVL_MOST_ELEMENTS) n += (size_t)s->lengths[k + whole++];
-        if (whole > 0) must(cvl_seg_int_reduce(CVL_ADD, a, n, (CvlLengths){s->lengths + k, whole}, sums + k, whole));
-        a += n, k += whole;
-        if (k < s->count && (size_t)s->lengths[k] > CVL_MOST_ELEMENTS) {
-            uint32_t sum = 0;
-            int32_t part;
-            for (size_t left = (size_t)s->lengths[k]; left > 0; left -= piece(left)) {
-                must(cvl_int_reduce(CVL_ADD, a, piece(left), &part));
-                sum += (uint32_t)part, a += piece(left);
-            }
-            sums[k++] = (int32_t)sum;
-        }
-    }
-}
-
 /* What a rank tells the others of its first and its last segment. */
 typedef struct Edge {
     int32_t first, last;
@@ -152,7 +117,7 @@ static void segmented_sum(const int32_t *a, size_t from, size_t to) {
     Segments s = segments_in(from, to);
     int32_t *sums = (int32_t *)room_for(s.count, sizeof *sums);
     Edge mine = {0, 0, s.goes_on, (int32_t)s.count}, *edges = (Edge *)room_for((size_t)ranks, sizeof *edges);
-    sums_of(&s, a, sums);
+    must(cvl_seg_int_reduce(CVL_ADD, a, to - from, (CvlLengths){s.lengths, s.count}, sums, s.count));
     if (s.count > 0) mine.first = sums[0], mine.last = sums[s.count - 1];
     MPI_Allgather(&mine, 4, MPI_INT32_T, edges, 4, MPI_INT32_T, MPI_COMM_WORLD);
     for (int r = rank + 1; r < ranks && s.count > 0 && edges[r].goes_on; r++) {
@@ -186,14 +151,9 @@ static void product(void) {
             columns[entries] = entry_column(from + row, k), values[entries] = entry_value(from + row, k);
         }
     }
-    for (size_t row = 0, entry = 0; row < rows;) {
-        size_t whole = 0, n = 0;
-        while (row + whole < rows && n + (size_t)lengths[row + whole] <= CVL_MOST_ELEMENTS) n += (size_t)lengths[row + whole++];
-        must(cvl_back_permute_int(x, COLUMNS, columns + entry, n, gathered, n));
-        must(cvl_int2(CVL_MUL, values + entry, n, gathered, n, gathered, n));
-        must(cvl_seg_int_reduce(CVL_ADD, gathered, n, (CvlLengths){lengths + row, whole}, y + row, whole));
-        row += whole, entry += n;
-    }
+    must(cvl_back_permute_int(x, COLUMNS, columns, entries, gathered, entries));
+    must(cvl_int2(CVL_MUL, values, entries, gathered, entries, gathered, entries));
+    must(cvl_seg_int_reduce(CVL_ADD, gathered, entries, (CvlLengths){lengths, rows}, y, rows));
     uint64_t summed = 0;
     for (size_t row = 0; row < rows; row++) summed += seen(from + row, y[row]);
     summed = sum_of_all(summed);
