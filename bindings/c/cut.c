@@ -79,7 +79,8 @@ static size_t even(size_t n, size_t parts, size_t k) { return n * k / parts; }
 /*@ requires \valid(w) && (pool == \null || \valid_read(pool)) && \separated(pool, w) && each > 0;
     assigns *w;
     ensures \result ==> 2 <= w->parts <= CVL_MOST_PARTS && is_cut(&w->from[0], w->parts, n);
-    ensures \result ==> \forall integer k; 0 <= k < w->parts ==> w->from[k + 1] - w->from[k] >= each; */
+    ensures \result ==> w->parts * each <= n;
+    ensures \result ==> \forall integer k; 0 <= k <= w->parts ==> w->from[k] == even_place(n, w->parts, k); */
 static bool cut_evenly(const CvlPool *pool, CvlWork *w, size_t n, size_t least, size_t each) {
     const size_t parts = pool == NULL || n > CVL_MOST_ELEMENTS || n < least ? 0 : parts_of(pool, n, each);
     if (parts < 2) return 0;
