@@ -193,7 +193,10 @@ static void fill(const Row *row, Given *g, size_t k, size_t n, size_t m) {
     if (kind_of(row, k) == 't') fill_text(row, (char *)g->at[k], g->len[k]);
     if (row->model == PAIRS && k == 1 && g->op >= CVL_DIV && kind_of(row, k) == 'i') {
         for (size_t j = 0; j < g->len[k]; j++) ints[j] = g->op >= CVL_LSH ? (int32_t)below(32) : ints[j] == 0 ? 7 : ints[j];
-        if (g->len[k] > 0 && chance(3)) ints[below(g->len[k])] = g->op >= CVL_LSH ? (chance(2) ? 32 : -1) : 0;
+        /* several, so that the first is told from the others */
+        for (size_t bad = chance(3) ? 1 + below(3) : 0; bad > 0 && g->len[k] > 0; bad--) {
+            ints[below(g->len[k])] = g->op >= CVL_LSH ? (chance(2) ? 32 : -1) : 0;
+        }
     }
 }
 
