@@ -8,12 +8,26 @@ use cvl::{Fault, Segments};
 /// Refuses a long room while it is told to.
 struct Refusing(AtomicBool);
 
+impl Refusing {
+    fn refuses(&self, layout: Layout) -> bool {
+        layout.size() > 2_000 && self.0.load(Ordering::Relaxed)
+    }
+}
+
 unsafe impl GlobalAlloc for Refusing {
     unsafe fn alloc(&self, layout: Layout) -> *mut u8 {
-        if layout.size() > 2_000 && self.0.load(Ordering::Relaxed) {
+        if self.refuses(layout) {
             return std::ptr::null_mut();
         }
         System.alloc(layout)
+    }
+
+    // zeros that the system has at hand are not written
+    unsafe fn alloc_zeroed(&self, layout: Layout) -> *mut u8 {
+        if self.refuses(layout) {
+            return std::ptr::null_mut();
+        }
+        System.alloc_zeroed(layout)
     }
 
     unsafe fn dealloc(&self, block: *mut u8, layout: Layout) {
