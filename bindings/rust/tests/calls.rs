@@ -352,6 +352,9 @@ fn texts() {
         cvl::seg_write_bools(&[true; 1000], &rows).unwrap().len(),
         4 * 1000 + 1
     );
+    let empty = Segments::new(&[0; 1000]).unwrap();
+    assert_eq!(cvl::seg_write_ints(&[], &empty).unwrap().len(), 3001);
+    assert_eq!(cvl::seg_write_bools(&[], &empty).unwrap().len(), 3001);
     let short = Segments::new(&[1; 999]).unwrap();
     assert_eq!(
         told(cvl::seg_write_ints(&least, &short).unwrap_err()),
