@@ -398,7 +398,7 @@ def faults():
 def operators():
     """`bindings/python/cvl/operators.py`."""
     lines = [f"{operator.name} = {operator.number}  # {operator.sentence}" for operator in table.OPERATORS]
-    return "\n".join([f'"""The numbers of operators. {rows.NOTE}"""', "", *lines, ""])
+    return "\n".join(['"""The numbers of operators.', "", f'{rows.NOTE}\n"""', "", *lines, ""])
 
 
 # ---- the stubs ----

@@ -99,7 +99,8 @@ def compiled(work, archive):
     """The compiled module, in the folder `work`."""
     folders = [TOP / "include", python_headers(), numpy_found()[1]]
     # the module is the same wherever it is built
-    flags = [*FLAGS, f"-ffile-prefix-map={TOP}/=", *(word for folder in folders for word in ("-isystem", folder)), *words_of("CFLAGS")]
+    included = [word for folder in folders for word in ("-isystem", folder)]
+    flags = [*FLAGS, f"-ffile-prefix-map={TOP}/=", *included, *words_of("CFLAGS")]
     objects = []
     for path in sorted((HERE / "extension").glob("*.c")):
         objects.append(work / f"{path.stem}.o")

@@ -41,6 +41,7 @@ from cvl.calls import *
 from cvl.fault import Fault
 from cvl.segments import Segments
 
-__all__: List[str] = ["MOST_ELEMENTS", "MOST_OF_TEXT", "Fault", "Segments", "faults", "get_threads", "operators", "set_threads", "threads"]
+__all__: List[str] = ["MOST_ELEMENTS", "MOST_OF_TEXT", "Fault", "Segments", "faults", "operators"]
+__all__ += ["get_threads", "set_threads", "threads"]
 __all__ += calls.__all__
 __version__: str = version

@@ -1,4 +1,7 @@
-"""The numbers of operators. Written by the generator of the repository from its table of calls; edit the table and not this file."""
+"""The numbers of operators.
+
+Written by the generator of the repository from its table of calls; edit the table and not this file.
+"""
 
 ADD = 0  # the sum, wrapped to 32 bits
 MUL = 1  # the product, wrapped to 32 bits

@@ -52,7 +52,8 @@ static int is_of_numpy(const char *format) {
     return *format != 0 && strchr("?bBhHiIlLqQfd", *format) != NULL && format[1] == 0;
 }
 
-/* An array over the memory of what is no array. What numpy would copy is none; it also copies where it has no memory for the array. */
+/* An array over the memory of what is no array. What numpy would copy is none; it also copies where it has no memory for the
+   array. */
 static PyObject *over_memory(PyObject *object, const char *name, PyObject *advice) {
     PyObject *view = PyMemoryView_FromObject(object);
     if (view == NULL) {

@@ -1,5 +1,5 @@
-/* Memory that is refused: loaded before the C library, it counts the requests of one call of Python, and refuses some of them. Glibc's own
-   names for malloc and its like are taken, so that nothing has to be looked up. */
+/* Memory that is refused: loaded before the C library, it counts the requests of one call of Python, and refuses some of them.
+   Glibc's own names for malloc and its like are taken, so that nothing has to be looked up. */
 #include <errno.h>
 #include <stddef.h>
 

@@ -339,8 +339,8 @@ class Rooms(unittest.TestCase):
             self.assertEqual((caught.exception.place, str(caught.exception)), (0, said))
 
     def test_a_vector_has_as_many_elements_as_the_limit_and_no_more(self):
-        """Long arrays here are zeros that nobody wrote, which have no memory, and no call reads them whole. That the limit itself is taken
-        `test_memory` shows, where there is no memory for so long a result."""
+        """Long arrays here are zeros that nobody wrote, which have no memory, and no call reads them whole. That the limit itself is
+        taken `test_memory` shows, where there is no memory for so long a result."""
         more, marks = zeros(MOST + 1, numpy.int32), zeros(MOST + 1, bool)
         self.told(8, lambda: cvl.div_wuz(more[:-1], more[:-1]), place=0)
         for call in (

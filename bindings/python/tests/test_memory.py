@@ -127,7 +127,7 @@ class Kept(unittest.TestCase):
 
 
 def refused_in_turn(name, call, arguments, refused):
-    """Refuses the first request of a call, then the second and so on, alone and with those behind it, until no call needs it. How many."""
+    """Refuses the first request of a call, then the second and so on, alone and with those behind it. How many there were."""
     wanted = outcome(call, **arguments)
     for after in range(1000):
         told = [outcome(lambda: refused(call, (), arguments, after, alone, 0)) for alone in (True, False)]
