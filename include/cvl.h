@@ -120,7 +120,7 @@ enum {
 };
 
 /*
- * The most elements of a vector, and the greatest total of a descriptor: as many as an index of 32 bits names. And the most of a vector whose
+ * The most elements of a vector, and the greatest total of a descriptor: the greatest integer of 32 bits. And the most of a vector whose
  * text is read or written at once, since longer texts come in pieces.
  */
 enum { CVL_MOST_ELEMENTS = 2147483647, CVL_MOST_OF_TEXT = 4194304 };

@@ -6,8 +6,8 @@ use Rattle.std.specs.Prelude.{ℕ}
 abbrev pub most_elements : ℕ
 most_elements = 4194304
 
--- the most places that an index of 32 bits names: 2^31 - 1. A vector of a caller in another language has as many elements at most,
--- and segments add up to as many at most.
+-- the greatest integer of 32 bits, 2^31 - 1. A vector of a caller in another language has as many elements at most, and segments add
+-- up to as many at most, so that a length, and each place, is such an integer.
 abbrev pub most_places : ℕ
 most_places = 2147483647
 

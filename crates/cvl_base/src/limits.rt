@@ -3,8 +3,8 @@
 /// The most elements that a vector of a script or a session has, and the greatest total of its descriptor.
 pub const MOST_ELEMENTS: usize = 4_194_304;
 
-/// The most elements that a vector of a caller in another language has, and the greatest total of its segments: the places that
-/// an index of 32 bits names.
+/// The most elements that a vector of a caller in another language has, and the greatest total of its segments: the greatest
+/// integer of 32 bits, so that its length and each place in it are such integers.
 pub const MOST_PLACES: usize = 2_147_483_647;
 
 /// The most names that are bound at one time.
