@@ -43,6 +43,9 @@ const NO_TILE: &str = "error: invalid value '0' for '--tile <N>': 0 is not in 1.
 For more information, try '--help'.
 ";
 
+/// The text of the version.
+const VERSION: &str = "cvl 1.0.0\n";
+
 /// The text of the help.
 const HELP: &str = "Runs a script of vector calls over files of integers
 
@@ -56,6 +59,7 @@ Options:
       --tile <N>     The length of a tile, in elements, from 1 to 65536 [default: 4096]
       --workers <N>  The number of workers, from 1 to 64 [default: 4]
   -h, --help         Print help
+  -V, --version      Print version
 
 Exit status:
   0  the script ran to its end
@@ -104,10 +108,13 @@ const ROWS: &[Row] = &[
     (PRODUCT, "y = [5 0 18]\n", "", 0),
     (SIGHT, "v = [T T F T F]\n", "", 0),
     ("cvl line_of_sight empty", "", NO_HILL, 1),
-    // help, and command lines that are refused
+    // help, the version, and command lines that are refused
     ("cvl -h", HELP, "", 0),
     ("cvl --help", HELP, "", 0),
     ("cvl scan numbers --help", HELP, "", 0),
+    ("cvl -V", VERSION, "", 0),
+    ("cvl --version", VERSION, "", 0),
+    ("cvl scan nofile --version", VERSION, "", 0),
     ("cvl --tile 0 scan", "", NO_TILE, 2),
     ("", "", REFUSED, 2),
     ("cvl", "", REFUSED, 2),
@@ -121,7 +128,7 @@ const ROWS: &[Row] = &[
     ("cvl --workers 65 scan", "", REFUSED, 2),
     ("cvl --workers= scan", "", REFUSED, 2),
     ("cvl scan -x", "", REFUSED, 2),
-    ("cvl --version", "", REFUSED, 2),
+    ("cvl --Version", "", REFUSED, 2),
 ];
 
 /// Hosts that fail where the status tells something else already, or whose standard output takes little a write and does not

@@ -6,7 +6,7 @@ use Rattle.std.specs.Str.{bytes_eq}
 use Rattle.std.specs.Str.Parse.{digits_value, without_leading_plus}
 use Rattle.std.proofs.lemmas.Bool.{and_parts, not-true, or_parts}
 use Rattle.clap.specs.Walk.{Row, Rule, Text, at_row, has_row, one_of, reading_by, row_text, with_default}
-use Rattle.clap.specs.Simple.{argument_words, built, filled, help_rule, with_index}
+use Rattle.clap.specs.Simple.{argument_words, built, filled, help_rule, version_rule, with_index}
 use Rattle.clap.specs.Values.{read_as}
 use Rattle.clap.specs.declared.parser.matches.ValueSource.TheVariants.{DefaultValue}
 use Rattle.command_line.specs.Command.{cvl, inputs_rule, script_rule, tile_rule, workers_rule}
@@ -81,7 +81,8 @@ abbrev built_workers : Rule
 built_workers = with_index 1 (filled workers_rule)
 
 abbrev built_others : List Rule
-built_others = with_index 1 (filled script_rule) ∷ with_index 2 (filled inputs_rule) ∷ with_index 3 (filled help_rule) ∷ []
+built_others = with_index 1 (filled script_rule) ∷ with_index 2 (filled inputs_rule) ∷ with_index 3 (filled help_rule)
+    ∷ with_index 3 (filled version_rule) ∷ []
 
 rules_built : (built cvl).top.rules ≡ built_tile ∷ built_workers ∷ built_others
 unfolding cvl

@@ -1,5 +1,5 @@
 -- The command of the program, as clap's words say it: two options of one number each, with their ranges and defaults,
--- the script, and then its inputs.
+-- the script, and then its inputs; and a version, which can be asked for.
 -- Source: this library's program.
 use Rattle.std.specs.Prelude.{ℕ, [], ◌∷◌, Some, codes, pos, true}
 use Rattle.cvl_base.specs.Limits.{longest_tile, most_workers}
@@ -37,6 +37,10 @@ tile_rule = number_rule (codes "tile") (up_to longest_tile) (codes "4096")
 abbrev pub workers_rule : Rule
 workers_rule = number_rule (codes "workers") (up_to most_workers) (codes "4")
 
+-- a command that has a version
+abbrev pub with_version : App → App
+with_version a = record a { top = record a.top { has_version = true } }
+
 unfoldable pub cvl : App
-cvl = with_rule (with_rule (with_rule (with_rule (new_app (codes "cvl")) tile_rule) workers_rule)
-    script_rule) inputs_rule
+cvl = with_version (with_rule (with_rule (with_rule (with_rule (new_app (codes "cvl")) tile_rule) workers_rule)
+    script_rule) inputs_rule)

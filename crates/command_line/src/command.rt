@@ -15,6 +15,9 @@ const TILE: &str = "4096";
 /// The number of workers where none is given.
 const WORKERS: &str = "4";
 
+/// The version of the program, which is that of the library.
+const VERSION: &str = "1.0.0";
+
 /// What the program does, in a line.
 const ABOUT: &str = "Runs a script of vector calls over files of integers";
 
@@ -68,7 +71,7 @@ fn inputs<'a>(alloc: Global) -> Arg<'a>
         .help("The file of each input, integers between white space; the first is input 1")
 }
 
-/// The command `cvl [--tile N] [--workers N] SCRIPT [INPUT ..]`.
+/// The command `cvl [--tile N] [--workers N] SCRIPT [INPUT ..]`, of which help and the version can be asked for.
 pub(crate) fn cvl_command<'a>(alloc: Global) -> Result<Command<'a>, AllocError>
     ensures { IfOk result (λ c. app_of c ≡ cvl) }
 {
@@ -91,5 +94,5 @@ pub(crate) fn cvl_command<'a>(alloc: Global) -> Result<Command<'a>, AllocError>
         .arg(workers)?
         .arg(script(alloc))?
         .arg(inputs(alloc))?;
-    Ok(command.about(ABOUT).after_help(AFTER_HELP))
+    Ok(command.about(ABOUT).version(VERSION).after_help(AFTER_HELP))
 }

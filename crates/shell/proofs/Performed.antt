@@ -1,14 +1,14 @@
 -- How the parts of the program come together.
 use Rattle.std.proofs.Common.{◌≡◌, ℕ, List, [], ◌∷◌, Some, Result, Err, refl, inl, inr}
 use Rattle.clap.specs.Words.{IsAmong, Text, fault_of}
-use Rattle.clap.specs.declared.error.kind.ErrorKind.TheVariants.{DisplayHelp}
+use Rattle.clap.specs.declared.error.kind.ErrorKind.{ErrorKind}
 use Rattle.command_line.specs.Command.{cvl}
 use Rattle.command_line.specs.Reads.{inputs_given, script_given}
 use Rattle.script_runs.specs.Ends.{EndsAs, with_answer}
 use Rattle.script_runs.specs.Hosts.{Read, Seen, Shows, read_of, with_flush, with_reads}
 use Rattle.script_runs.proofs.Shown.{nothing_answered, reads_both, shows_answer, shows_flush, shows_nothing_read, shows_on, tells_after}
-use Rattle.shell.specs.ProgramParts.{Closes, Finishes, PutsHelp, ReadsInputs, RunsOrMisses}
-use Rattle.shell.specs.Programs.{Performs, RunsFiles, Works, end_of, ended, unreadable, unreadable_line}
+use Rattle.shell.specs.ProgramParts.{Closes, Finishes, PutsShown, ReadsInputs, RunsOrMisses}
+use Rattle.shell.specs.Programs.{IsAsked, Performs, RunsFiles, Works, end_of, ended, unreadable, unreadable_line}
 use Rattle.script_runs.specs.Meaning.{meaning}
 use Rattle.vector_handles.specs.declared.input.Input.{Input}
 use Rattle.script_runs.specs.declared.stop.Stop.{Stop}
@@ -75,14 +75,14 @@ pub performs_starved : (A : Type 0) (words : List Text) (before after : Seen) (s
 performs_starved A words before after status ends =
     performs_none A words before before after status [] (Err (stop.NoResources 0)) (inl (refl, (refl, refl))) (nothing_answered (Err (stop.NoResources 0)) before refl) ends
 
--- the help is asked for
-pub performs_help : (A : Type 0) (words : List Text) (before middle after : Seen) (status : ℕ) (answer : Result (Unit {0}) Stop)
-    → IsAmong DisplayHelp (fault_of cvl words) → PutsHelp before middle answer → Finishes answer middle after status
+-- the help or the version is asked for
+pub performs_shown : (A : Type 0) (words : List Text) (before middle after : Seen) (status : ℕ) (answer : Result (Unit {0}) Stop) (kind : ErrorKind)
+    → IsAsked kind → IsAmong kind (fault_of cvl words) → PutsShown before middle answer → Finishes answer middle after status
     → Performs A words before after status
-performs_help A words before middle after status answer asked (written, inl none, shown) ends =
+performs_shown A words before middle after status answer kind asked among (written, inl none, shown) ends =
     performs_none A words before middle after status written answer (inl (refl, none)) shown ends
-performs_help A words before middle after status answer asked (written, inr help, shown) ends =
-    performs_none A words before middle after status written answer (inr (inl (refl, asked, help))) shown ends
+performs_shown A words before middle after status answer kind asked among (written, inr text, shown) ends =
+    performs_none A words before middle after status written answer (inr (inl (refl, kind, asked, among, text))) shown ends
 
 -- the files are read, and the script is run, or one of them cannot be read
 pub performs_files : (A : Type 0) (words : List Text) (script : Text) (inputs : List Text) (before after : Seen) (status : ℕ)

@@ -6,7 +6,7 @@ use Rattle.clap.specs.Words.{Text}
 use Rattle.vector_handles.specs.declared.input.Input.{Input}
 use Rattle.script_runs.specs.Ends.{with_answer}
 use Rattle.script_runs.specs.Hosts.{Read, Seen, Shows, Tells, with_flush, with_reads}
-use Rattle.shell.specs.Programs.{GaveInputs, IsHelp, RunsFiles, Says, Starves, StopsAt, end_of, ended, status_of, unreadable_line}
+use Rattle.shell.specs.Programs.{GaveInputs, IsShown, RunsFiles, Says, Starves, StopsAt, end_of, ended, status_of, unreadable_line}
 use Rattle.script_runs.specs.declared.stop.Stop.{Stop}
 use Rattle.script_runs.specs.declared.stop.Stop.TheVariants as stop
 
@@ -19,9 +19,9 @@ abbrev pub TellsSome : Seen → Seen → Type 0
 TellsSome before after = (text : List ℕ) × Tells (Some text) before after
 
 -- standard output takes some text
-abbrev pub PutsHelp : Seen → Seen → Result (Unit {0}) Stop → Type 0
-PutsHelp before after answer =
-    (written : List ℕ) × (Starves written answer ⊎ IsHelp answer)
+abbrev pub PutsShown : Seen → Seen → Result (Unit {0}) Stop → Type 0
+PutsShown before after answer =
+    (written : List ℕ) × (Starves written answer ⊎ IsShown answer)
     × Shows (with_answer written answer before) after
 
 -- after the work has given its answer, standard output is flushed and then standard error told

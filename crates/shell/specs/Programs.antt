@@ -6,7 +6,7 @@ use Rattle.std.specs.List.{All, AllZip, list_all}
 use Rattle.std.specs.Str.{is_utf8}
 use Rattle.clap.specs.Words.{IsAmong, Text, fault_of}
 use Rattle.clap.specs.declared.error.kind.ErrorKind.{ErrorKind}
-use Rattle.clap.specs.declared.error.kind.ErrorKind.TheVariants.{DisplayHelp}
+use Rattle.clap.specs.declared.error.kind.ErrorKind.TheVariants.{DisplayHelp, DisplayVersion}
 use Rattle.command_line.specs.Command.{cvl}
 use Rattle.command_line.specs.Reads.{inputs_given, script_given}
 use Rattle.vector_handles.specs.declared.input.Input.{Input}
@@ -74,13 +74,17 @@ pub record StopsAt (names : List Text) (reads : List Read) (name : Text) : Type 
 
 -- ---- the work: what it reads, what it writes on standard output, and its answer
 
--- there is no memory for the words, for the text of the help, or for what has to be ready before the first read
+-- there is no memory for the words, for the text that is asked for, or for what has to be ready before the first read
 abbrev pub Starves : List ℕ → Result (Unit {0}) Stop → Type 0
 Starves written answer = (written ≡ []) × (answer ≡ Err (stop.NoResources 0))
 
--- clap's text of the help is written, or a write of it fails
-abbrev pub IsHelp : Result (Unit {0}) Stop → Type 0
-IsHelp answer = (answer ≡ Ok tt) ⊎ (answer ≡ Err (stop.WriteFailed 0))
+-- what clap tells is no fault: the help or the version was asked for
+abbrev pub IsAsked : ErrorKind → Type 0
+IsAsked kind = (kind ≡ DisplayHelp) ⊎ (kind ≡ DisplayVersion)
+
+-- clap's text of what was asked for is written, or a write of it fails
+abbrev pub IsShown : Result (Unit {0}) Stop → Type 0
+IsShown answer = (answer ≡ Ok tt) ⊎ (answer ≡ Err (stop.WriteFailed 0))
 
 -- the script is read, then each input, and it is run over the bytes that were read
 pub record RunsFiles
@@ -97,7 +101,7 @@ pub record RunsFiles
 abbrev pub Works : Type 0 → List Text → List Read → List ℕ → Result (Unit {0}) Stop → Type 0
 Works A words reads written answer =
     ((reads ≡ []) × Starves written answer)
-    ⊎ (((reads ≡ []) × IsAmong DisplayHelp (fault_of cvl words) × IsHelp answer)
+    ⊎ (((reads ≡ []) × (kind : ErrorKind) × IsAsked kind × IsAmong kind (fault_of cvl words) × IsShown answer)
     ⊎ ((fault_of cvl words ≡ []) × (script : Text) × (script_given words ≡ Some script)
     × RunsFiles A script (inputs_given words) reads written answer))
 
@@ -111,7 +115,7 @@ Comes A words before told after (ended end) =
     × Works A words reads written answer × (end ≡ end_of answer flushed)
     × Tells told (with_flush flushed (with_answer written answer (with_reads reads before))) after
 Comes A words before told after refused =
-    (kind : ErrorKind) × IsAmong kind (fault_of cvl words) × (kind ≡ DisplayHelp → ⊥)
+    (kind : ErrorKind) × IsAmong kind (fault_of cvl words) × (IsAsked kind → ⊥)
     × Tells told before after
 Comes A words before told after (unreadable name) =
     (fault_of cvl words ≡ []) × (script : Text) × (script_given words ≡ Some script)

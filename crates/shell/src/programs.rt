@@ -4,7 +4,7 @@ ghost use Rattle.std.specs.Prelude.{◌^◌, ◌<◌, ◌-◌};
 ghost use Rattle.clap.specs.Walk.{texts};
 ghost use Rattle.script_runs.specs.Ends.{EndsAs};
 ghost use Rattle.script_runs.specs.Meaning.{meaning};
-ghost use Rattle.shell.specs.ProgramParts.{Closes, PutsHelp, RunsOrMisses, TellsSome};
+ghost use Rattle.shell.specs.ProgramParts.{Closes, PutsShown, RunsOrMisses, TellsSome};
 ghost use Rattle.shell.specs.Programs.{Performs};
 
 use crate::endings::{COMMAND_LINE, FAILED, finish, tell_stop, tell_unreadable};
@@ -22,12 +22,12 @@ use vector_handles::Input;
 /// Where there is no memory before the first line runs.
 const STARVED: Stop = Stop::NoResources { line: 0 };
 
-/// Writes clap's help to standard output.
-fn put_help<A: Memory, H: Host>(alloc: A, help: &clap::Error, host: &mut H) -> Result<(), Stop>
+/// Writes clap's text of what was asked for, the help or the version, to standard output.
+fn put_shown<A: Memory, H: Host>(alloc: A, shown: &clap::Error, host: &mut H) -> Result<(), Stop>
     requires { (H.seen host.old).failed_puts < 2 ^ 64 - 1 }
-    ensures { PutsHelp (H.seen host.old) (H.seen host.new) result }
+    ensures { PutsShown (H.seen host.old) (H.seen host.new) result }
 {
-    match format!(in alloc; "{help}") {
+    match format!(in alloc; "{shown}") {
         Err(_) => Err(STARVED),
         Ok(text) => match put_all(host, text.as_bytes()) {
             Ok(()) => Ok(()),
@@ -107,17 +107,18 @@ fn run_files<R: Threads + Sync, A: Memory, H: Host, G: Gate>(
 /// `words` are those of the command line, as `read_words` takes them, the program's own name first. The file of the
 /// script is read whole, then that of each input, each once and in that order, before the script runs; no other file is
 /// read. What the script writes goes to standard output, which is then flushed; then a line on standard error tells why
-/// the run stopped, where it did. Help goes to standard output, and clap's text of a refused command line to standard
-/// error. The first file that cannot be read, or that there is no memory for, is told as `cannot read NAME`; it is the
-/// last that is read, and nothing is run. Where there is no memory for the words, for the help, or for the list of inputs
-/// and the line of a file, which are made ready before the first read, the line is `line 0: no resources`, and
-/// `line 0: write failed` where the help or the flush fails; a run that stopped by itself keeps its own line and status.
+/// the run stopped, where it did. Help and the version go to standard output, and clap's text of a refused command line
+/// to standard error. The first file that cannot be read, or that there is no memory for, is told as `cannot read NAME`;
+/// it is the last that is read, and nothing is run. Where there is no memory for the words, for the text that is asked
+/// for, or for the list of inputs and the line of a file, which are made ready before the first read, the line is
+/// `line 0: no resources`, and `line 0: write failed` where the text that is asked for or the flush fails; a run that
+/// stopped by itself keeps its own line and status.
 ///
 /// The message is always told: a stop's line takes no memory, and that of a file has its room before the first read.
 /// Where there is no memory for clap's text of a refused command line, `line 0: no resources` stands in its place.
 ///
-/// The status is 0 where there is no fault, and after help; 1 at a fault of the script; 2 where the command line is
-/// refused; and 3 where a file cannot be read, memory is refused or a write fails.
+/// The status is 0 where there is no fault, and after help and the version; 1 at a fault of the script; 2 where the
+/// command line is refused; and 3 where a file cannot be read, memory is refused or a write fails.
 pub fn program<'a, R: Threads + Sync + AllocGlobal, A: Memory, H: Host>(
     rt: &R,
     alloc: A,
@@ -150,8 +151,8 @@ pub fn program_gated<'a, R: Threads + Sync + AllocGlobal, A: Memory, H: Host, G:
         Ok(words) => run_files(rt, alloc, &words, host, gate),
         Err(WordsFault::NoResources) => finish(Err(STARVED), host),
         Err(WordsFault::Refused(error)) => match error.kind() {
-            ErrorKind::DisplayHelp => {
-                let answer = put_help(alloc, &error, host);
+            ErrorKind::DisplayHelp | ErrorKind::DisplayVersion => {
+                let answer = put_shown(alloc, &error, host);
                 finish(answer, host)
             }
             _ => {

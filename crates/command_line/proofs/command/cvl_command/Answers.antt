@@ -1,8 +1,9 @@
-use Rattle.std.proofs.Common.{◌≡◌, ◌∙◌, ap, ap₂, rules}
+use Rattle.std.proofs.Common.{◌≡◌, ◌∙◌, false, ap, ap₂}
 use Rattle.clap.specs.Simple.{app_of_fields}
 use Rattle.clap.specs.Words.{rule_of, with_rule}
+use Rattle.clap.specs.declared.builder.arg.Arg.{Arg}
 use Rattle.cvl_base.specs.Limits.{longest_tile, most_workers}
-use Rattle.command_line.specs.Command.{cvl, tile_rule, workers_rule, up_to}
+use Rattle.command_line.specs.Command.{cvl, tile_rule, workers_rule, up_to, with_version}
 use Rattle.command_line.proofs.command.cvl_command.Goals as goal
 
 pub returns : goal.returns
@@ -14,8 +15,10 @@ returns c =
     ap rule_of c.help-tile.ensures ∙ (rw tile_range at c.number_option.ensures.rule) in
     let workers : rule_of c.help-workers.result ≡ workers_rule =
     ap rule_of c.help-workers.ensures ∙ (rw workers_range at c.number_option-2.ensures.rule) in
-    let one = c.in_ok-arg.ensures.shape (search rules) ∙ ap₂ with_rule c.new-3.ensures.app tile in
-    let two = c.in_ok-arg-2.ensures.shape (search rules) ∙ ap₂ with_rule one workers in
-    let three = c.in_ok-arg-3.ensures.shape (search rules) ∙ ap₂ with_rule two c.script.ensures.rule in
-    let four = c.in_ok-command.ensures.shape (search rules) ∙ ap₂ with_rule three c.inputs.ensures.rule in
-    ap app_of_fields c.after_help.ensures ∙ ap app_of_fields c.about.ensures ∙ four
+    let tile_own : c.help-tile.result.global ≡ false = ap (λ (a : Arg). a.global) c.help-tile.ensures ∙ c.number_option.ensures.own in
+    let workers_own : c.help-workers.result.global ≡ false = ap (λ (a : Arg). a.global) c.help-workers.ensures ∙ c.number_option-2.ensures.own in
+    let one = c.in_ok-arg.ensures.shape tile_own ∙ ap₂ with_rule c.new-3.ensures.app tile in
+    let two = c.in_ok-arg-2.ensures.shape workers_own ∙ ap₂ with_rule one workers in
+    let three = c.in_ok-arg-3.ensures.shape c.script.ensures.own ∙ ap₂ with_rule two c.script.ensures.rule in
+    let four = c.in_ok-command.ensures.shape c.inputs.ensures.own ∙ ap₂ with_rule three c.inputs.ensures.rule in
+    ap app_of_fields c.after_help.ensures ∙ ap app_of_fields c.version.ensures ∙ ap with_version (ap app_of_fields c.about.ensures ∙ four)

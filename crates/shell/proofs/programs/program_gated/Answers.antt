@@ -1,9 +1,8 @@
-use Rattle.std.proofs.Common.{◌≡◌, ◌∙◌, Some, refl, sym}
+use Rattle.std.proofs.Common.{◌∙◌, Some, inl, inr, refl}
 use Rattle.clap.specs.Walk.{texts}
 use Rattle.clap.specs.Values.{kind_of}
-use Rattle.clap.specs.declared.error.kind.ErrorKind.TheVariants.{DisplayHelp}
-use Rattle.shell.specs.Programs.{refused}
-use Rattle.shell.proofs.Performed.{performs_files, performs_help, performs_starved}
+use Rattle.shell.specs.Programs.{IsAsked, refused}
+use Rattle.shell.proofs.Performed.{performs_files, performs_shown, performs_starved}
 use Rattle.shell.proofs.programs.program_gated.Goals as goal
 
 pub returns-in-Ok : goal.returns-in-Ok
@@ -17,10 +16,10 @@ returns-in-Err-NoResources g c =
 
 pub returns-in-DisplayHelp : goal.returns-in-DisplayHelp
 returns-in-DisplayHelp g c =
-    let kind : kind_of c.in-Err-Refused.error ≡ DisplayHelp = sym c.kind.ensures ∙ c.in-DisplayHelp.is in
+    let asked : IsAsked (kind_of c.in-Err-Refused.error) = rw c.kind.ensures at c.in-DisplayHelp.is in
     let among = rw c.in-Err-Refused.field-0-is at c.in-Err-Refused.ensures.faults in
-    performs_help g.row.A.Denot (texts c.args.words.now) _ _ _ c.finish-in-DisplayHelp.result c.put_help-answer.result
-    (rw kind at among) c.put_help-answer.ensures c.finish-in-DisplayHelp.ensures
+    performs_shown g.row.A.Denot (texts c.args.words.now) _ _ _ c.finish-in-DisplayHelp.result c.put_shown-answer.result
+    _ asked among c.put_shown-answer.ensures c.finish-in-DisplayHelp.ensures
 
 pub returns : goal.returns
 returns g c =
@@ -28,7 +27,15 @@ returns g c =
     record {
       end = refused;
       told = Some c.tell_refused.ensures.0;
-      comes = (kind_of c.in-Err-Refused.error, among, (λ is. c.in_default.not-DisplayHelp (c.kind.ensures ∙ is)), c.tell_refused.ensures.1);
+      comes = (
+        kind_of c.in-Err-Refused.error,
+        among,
+        (λ is. elim is [
+          | inl help ↦ c.in_default.not-DisplayHelp (c.kind.ensures ∙ help)
+          | inr version ↦ c.in_default.not-DisplayVersion (c.kind.ensures ∙ version)
+        ]),
+        c.tell_refused.ensures.1,
+      );
       says = refl;
       status_is = refl;
     }
