@@ -74,7 +74,7 @@ fn both<'a, A: Memory>(
 /// Reads the inner lists with which the bytes begin by several threads, each of which reads a piece that begins with a list. Its
 /// answers are those of `read_lists`, but for none: that it gives in place of a fault, and where one of several tokens is no
 /// list's.
-#[cycle(halves)]
+#[cycle(pieces)]
 pub(crate) fn lists_by_several<'a, R: Threads + Sync, A: Memory>(
     rt: &R,
     alloc: A,
@@ -86,7 +86,7 @@ pub(crate) fn lists_by_several<'a, R: Threads + Sync, A: Memory>(
     if threads.get() < 2 {
         return Ok(read_lists(alloc, bytes)?.ok());
     }
-    let (fewer, others) = threads.halves();
+    let (fewer, others) = threads.split();
     let (front, back) = cut_at_list(bytes, fewer, threads);
     let read_front = move || -> Result<Option<ReadLists<A>>, NoResources>
         requires { IsSync R.row × IsSend A.row × Frees A.Allocator A.dealloc_token }

@@ -12,7 +12,7 @@ use crate::gate::Gate;
 use crate::work::Work;
 use crate::worker::take_tiles;
 use cvl_base::{Memory, NoResources};
-use sharing::ThreadCount;
+use sharing::{ThreadCount, first_of_two};
 use std::alloc::Allocator;
 use std::marker::PhantomData;
 use std::thread::{Threads, join};
@@ -30,10 +30,11 @@ pub struct Crewed<W: Work, A: Allocator> {
 /// One worker for each seat, numbered from 0 in the order of the seats, claims tiles until it is told that none is left.
 ///
 /// There is one seat or more, at most as many as there are `workers`, all of the work's board, to none of which a tile was given
-/// before. A worker passes `Claimed` before it works at a tile, and `Finished` after it has the tile's items. The seats are
-/// halved, and a half is given to a thread of its own, until each worker has one seat; where no thread can be made both halves
-/// are worked off in turn. With one seat no thread is started. At the end each seat has the fact of each tile that was given to
-/// it. Where a worker is out of memory the others end as usual, and the call answers `NoResources`.
+/// before. A worker passes `Claimed` before it works at a tile, and `Finished` after it has the tile's items. The thread that calls
+/// starts one for the last seat, then one for the seat before it, and so on, and is the first worker itself; of more than eight
+/// seats it gives half to the first thread that it starts. Where no thread can be made the workers take their turns. With one seat
+/// no thread is started. At the end each seat has the fact of each tile that was given to it. Where a worker is out of memory the
+/// others end as usual, and the call answers `NoResources`.
 pub fn run_crew<R: Threads + Sync, A: Memory, W: Work, G: Gate>(
     rt: &R,
     alloc: A,
@@ -105,11 +106,12 @@ fn run_from<R: Threads + Sync, A: Memory, W: Work, G: Gate>(
         let pieces = take_tiles(alloc, work, first, &mut seats[0], with_pieces, gate)?;
         return Ok(Crewed { pieces, seats });
     }
-    let others = seats.split_off(seats.len() / 2)?;
+    // the last ones, which are few, so that few seats are moved
+    let others = seats.split_off(seats.len() - first_of_two(seats.len()))?;
     run_both(rt, alloc, work, first, seats, others, with_pieces, gate)
 }
 
-/// `run_crew` for two lists of seats, each in a thread of its own, the workers numbered from `first` on.
+/// `run_crew` for two lists of seats, the second in a thread of its own, the workers numbered from `first` on.
 #[cycle(crew)]
 fn run_both<R: Threads + Sync, A: Memory, W: Work, G: Gate>(
     rt: &R,
@@ -153,7 +155,7 @@ fn run_both<R: Threads + Sync, A: Memory, W: Work, G: Gate>(
         let _named = item;
         run_from(rt, alloc, work, next, others, with_pieces, gate)
     };
-    let (front, back) = join(rt, front, back);
+    let (back, front) = join(rt, back, front);
     both(front?, back?)
 }
 

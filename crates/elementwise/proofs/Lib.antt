@@ -1,4 +1,3 @@
-pub mod Slots
 pub mod FirstWithout
 pub mod InPlace
 pub mod LeastFaults

@@ -1,108 +1,86 @@
-//! A vector in runs, of which `rayon` gives each to a thread of its own.
+//! A vector in runs, each of which a thread of its own writes, by `rayon`.
 
-ghost use Rattle.std.specs.Prelude.{◌≡◌, ◌+◌, ◌≤◌, ◌++◌, All, IfOk, [], length, map, vec_len, vec_capacity};
-ghost use Rattle.elementwise.specs.Slots.{InOrder, IsEmpty, IsFull, IsToWrite, items_of, written};
+ghost use Rattle.std.specs.Prelude.{◌≡◌, ◌+◌, ◌≤◌, IfOk, [], length, vec_len};
+ghost use Rattle.std.specs.Thread.{IsSend, IsSync};
+ghost use Rattle.fresh.specs.Parts.{part};
 ghost use Rattle.fresh.specs.Places.{stretch};
+ghost use Rattle.sharing.specs.Shares.{share_of_first};
 
 use cvl_base::{Memory, NoResources};
 use fresh::{Room, Run, Writer};
-use rayon::prelude::*;
+use rayon::join;
+use sharing::{first_of_two, share_of_first};
 use std::thread::Threads;
 
-/// The writer's items as a vector, in so many runs, of which `rayon` gives each to a thread of its own.
+/// The writer's items as a vector, written by so many threads, all of which but the one that calls `rayon` starts.
 pub(crate) fn written_in_runs<T: Send + Drop, R: Threads + Sync, A: Memory, W: Writer<T> + Sync>(
     rt: &R,
     alloc: A,
     writer: &W,
     items: usize,
-    runs: usize,
+    threads: usize,
 ) -> Result<Vec<T, A>, NoResources>
     requires items { items ≡ length (W.whole writer.now) }
-    requires runs { 1 ≤ runs }
+    requires threads { 1 ≤ threads }
     ensures values { IfOk result (λ v. v.items ≡ W.whole writer.now) }
     ensures as_long { IfOk result (λ v. vec_len v ≡ items) }
 {
-    // asked for before the room, which can't be let go where memory is refused
-    let slots = Vec::with_capacity(alloc, runs)?;
     let (room, run) = Room::new(alloc, items)?;
-    Ok(room.into_vec(write_runs(rt, writer, run, runs, slots)))
+    Ok(room.into_vec(write_run(rt, writer, threads, run)))
 }
 
-/// Writes all places of a block in so many runs, by way of slots for as many.
-fn write_runs<T: Send + Drop, R: Threads + Sync, A: Memory, W: Writer<T> + Sync>(
+/// Writes all places of an empty run by so many threads, each of which has as many places. Where none can be started the thread
+/// that calls writes them all.
+#[cycle(runs)]
+#[tactic(auto, using(fresh::proofs::Halves::parts_both))]
+fn write_run<T: Send + Drop, R: Threads + Sync, W: Writer<T> + Sync>(
     rt: &R,
     writer: &W,
+    threads: usize,
     run: Run<T>,
-    count: usize,
-    mut slots: Vec<Option<Run<T>>, A>,
 ) -> Run<T>
-    requires run { (run.first ≡ 0) × (run.items ≡ []) × (run.room ≡ length (W.whole writer.now)) }
-    requires count { 1 ≤ count }
-    requires slots { (slots.items ≡ []) × (vec_len slots ≡ 0) × (count ≤ vec_capacity slots) }
-    ensures { result ≡ stretch run.block 0 (W.whole writer.now) 0 }
+    requires some { 1 ≤ threads }
+    requires empty { run.items ≡ [] }
+    requires within { run.first + run.room ≤ length (W.whole writer.now) }
+    ensures { result ≡ stretch run.block run.first (part (W.whole writer.now) run.first run.room) 0 }
 {
-    let rest = cut(run, count, &mut slots);
-    write_slots(rt, writer, slots.as_mut_slice());
-    joined(slots, rest)
-}
-
-/// Cuts a run into so many, which it puts into the slots, and answers the run without a place that is left after them.
-fn cut<T, A: Memory>(run: Run<T>, count: usize, slots: &mut Vec<Option<Run<T>>, A>) -> Run<T>
-    requires empty { IsEmpty run }
-    requires count { 1 ≤ count }
-    requires slots { (slots.old.items ≡ []) × (vec_len slots.old ≡ 0) × (count ≤ vec_capacity slots.old) }
-    ensures rest { result ≡ stretch run.block (run.first + run.room) [] 0 }
-    ensures runs { InOrder IsEmpty run.block run.first (run.first + run.room) slots.new.items }
-{
-    let mut rest = run;
-    for begun in 0..count {
-        let share = rest.len() / (count - begun);
-        let (next, others) = rest.split_at(share);
-        slots.push_reserved(Some(next));
-        rest = others;
+    if threads < 2 {
+        return writer.write(run);
     }
-    rest
+    let few = first_of_two(threads);
+    let places = share_of_first(few, threads, run.room());
+    let (front, back) = run.split_at(places);
+    let (front, back) = write_both(rt, writer, few, front, threads - few, back);
+    front.joined(back)
 }
 
-/// Has the run of each slot written in a thread of its own.
-fn write_slots<T: Send, R: Threads + Sync, W: Writer<T> + Sync>(
+/// `write_run` for two runs, the first of which a thread of its own writes.
+#[cycle(runs)]
+fn write_both<T: Send + Drop, R: Threads + Sync, W: Writer<T> + Sync>(
     rt: &R,
     writer: &W,
-    slots: &mut [Option<Run<T>>],
-)
-    requires { All (IsToWrite (W.whole writer.now)) slots.old }
-    ensures { slots.new ≡ map (written (W.whole writer.now)) slots.old }
+    few: usize,
+    front: Run<T>,
+    others: usize,
+    back: Run<T>,
+) -> (Run<T>, Run<T>)
+    requires some { (1 ≤ few) × (1 ≤ others) }
+    requires share { front.room ≡ share_of_first few (few + others) (front.room + back.room) }
+    requires empty { (front.items ≡ []) × (back.items ≡ []) }
+    requires within { (front.first + front.room ≤ length (W.whole writer.now))
+        × (back.first + back.room ≤ length (W.whole writer.now)) }
+    ensures front { result.0 ≡ stretch front.block front.first (part (W.whole writer.now) front.first front.room) 0 }
+    ensures back { result.1 ≡ stretch back.block back.first (part (W.whole writer.now) back.first back.room) 0 }
 {
-    par_for_each_mut(
-        rt,
-        slots,
-        |_: usize, slot: &mut Option<Run<T>>|
-            requires { IsToWrite (W.whole writer.now) slot.now }
-            ensures { slot.new ≡ written (W.whole writer.entry.now) slot.old }
-        { write_slot(writer, slot) },
-    );
-}
-
-/// Takes the slot's run, has it written, and puts it back.
-fn write_slot<T, W: Writer<T>>(writer: &W, slot: &mut Option<Run<T>>)
-    requires { IsToWrite (W.whole writer.now) slot.old }
-    ensures { slot.new ≡ written (W.whole writer.now) slot.old }
-{
-    if let Some(run) = slot.take() {
-        *slot = Some(writer.write(run));
-    }
-}
-
-/// The run of all places: of the runs in the slots and the one after them.
-fn joined<T, A: Memory>(mut slots: Vec<Option<Run<T>>, A>, rest: Run<T>) -> Run<T>
-    requires { InOrder IsFull rest.block 0 rest.first slots.items }
-    ensures { result ≡ stretch rest.block 0 (items_of slots.items ++ rest.items) rest.room }
-{
-    let mut all = rest;
-    while let Some(slot) = slots.pop() {
-        if let Some(run) = slot {
-            all = run.joined(all);
-        }
-    }
-    all
+    let write_front = move || -> Run<T>
+        requires { IsSync R.row × IsSync W.row × IsSend T.row × (1 ≤ few) × (front.items ≡ [])
+            × (front.first + front.room ≤ length (W.whole writer.now)) }
+        ensures { result ≡ stretch front.block front.first (part (W.whole writer.entry.now) front.first front.room) 0 }
+    { write_run(rt, writer, few, front) };
+    let write_back = move || -> Run<T>
+        requires { IsSync R.row × IsSync W.row × IsSend T.row × (1 ≤ others) × (back.items ≡ [])
+            × (back.first + back.room ≤ length (W.whole writer.now)) }
+        ensures { result ≡ stretch back.block back.first (part (W.whole writer.entry.now) back.first back.room) 0 }
+    { write_run(rt, writer, others, back) };
+    join(rt, write_front, write_back)
 }

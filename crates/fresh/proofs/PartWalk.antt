@@ -29,18 +29,18 @@ module _ {P X : Type 0} (items : P → List X) where
       ∙ ap (λ p. option_or (option_or (found part first) (found_in items found low next)) (found_in items found high p)) at
 
   -- parts in two, with their counts
-  module _ (parts : List P) {low high : List P} {counts low_counts high_counts : List ℕ} (half : ℕ) {room total : ℕ} (counts_are : counts ≡ counts_of items parts)
+  module _ (parts : List P) {low high : List P} {counts low_counts high_counts : List ℕ} (few : ℕ) {room total : ℕ} (counts_are : counts ≡ counts_of items parts)
       (all : room ≡ length (flat_map items parts))
-      (low_is : low ≡ take half parts) (high_is : high ≡ drop half parts) (low_counts_are : low_counts ≡ take half counts) (high_counts_are : high_counts ≡ drop half counts)
+      (low_is : low ≡ take few parts) (high_is : high ≡ drop few parts) (low_counts_are : low_counts ≡ take few counts) (high_counts_are : high_counts ≡ drop few counts)
       (total_is : total ≡ min (sum low_counts) (2 ^ 64 - 1)) (fits : room < 2 ^ 64) where
     both : parts ≡ low ++ high
-    both = sym (take-append-drop half parts) ∙ (λ i. sym low_is i ++ sym high_is i)
+    both = sym (take-append-drop few parts) ∙ (λ i. sym low_is i ++ sym high_is i)
 
     sizes : room ≡ length (flat_map items low) + length (flat_map items high)
     sizes = all ∙ ap (λ ps. length (flat_map items ps)) both ∙ ap length (flat_map-append items low high) ∙ length-append (flat_map items low) (flat_map items high)
 
     low_counted : low_counts ≡ counts_of items low
-    low_counted = low_counts_are ∙ ap (take half) counts_are ∙ take-map (λ part. length (items part)) half parts ∙ ap (counts_of items) (sym low_is)
+    low_counted = low_counts_are ∙ ap (take few) counts_are ∙ take-map (λ part. length (items part)) few parts ∙ ap (counts_of items) (sym low_is)
 
     low_total : total ≡ length (flat_map items low)
     low_total = let sums : sum low_counts ≡ length (flat_map items low) = ap sum low_counted ∙ counted low in omega (arith, sizes)
@@ -53,9 +53,9 @@ module _ {P X : Type 0} (items : P → List X) where
 
     pub back_counted : (high_counts ≡ counts_of items high) × (room - total ≡ length (flat_map items high))
     back_counted =
-        (high_counts_are ∙ ap (drop half) counts_are ∙ drop-map (λ part. length (items part)) half parts ∙ ap (counts_of items) (sym high_is), omega (arith, sizes, low_total))
+        (high_counts_are ∙ ap (drop few) counts_are ∙ drop-map (λ part. length (items part)) few parts ∙ ap (counts_of items) (sym high_is), omega (arith, sizes, low_total))
 
-    pub found_halves : (found : P → ℕ → Option ℕ) (first : ℕ)
+    pub found_split : (found : P → ℕ → Option ℕ) (first : ℕ)
         → found_in items found parts first ≡ option_or (found_in items found low first) (found_in items found high (first + total))
-    found_halves found first =
+    found_split found first =
         ap (λ ps. found_in items found ps first) both ∙ found_both found low high first ∙ ap (λ n. option_or (found_in items found low first) (found_in items found high (first + n))) (sym low_total)

@@ -87,9 +87,10 @@ struct Places<'a, W> {
 }
 
 impl<'a, T, W: CheckedWriter<T>> Share<T> for Places<'a, W> {
-    ghost use Rattle.std.specs.Prelude.{◌+◌, ◌/◌, ◌≤◌, length};
+    ghost use Rattle.std.specs.Prelude.{◌+◌, ◌≤◌, length};
     ghost use Rattle.fresh.specs.Found.{first_without};
     ghost use Rattle.fresh.specs.Parts.{part, length_part};
+    ghost use Rattle.sharing.specs.Shares.{first_of_two};
 
     ghost IsOf = { λ s first room. first + room ≤ length (W.whole s.writer.now) };
 
@@ -99,7 +100,7 @@ impl<'a, T, W: CheckedWriter<T>> Share<T> for Places<'a, W> {
 
     ghost parts = { λ s. s.threads };
 
-    ghost IsHalved = { λ s first room places. W.IsShare s.writer.now first room (s.threads / 2) s.threads places };
+    ghost IsSplit = { λ s first room places. W.IsShare s.writer.now first room (first_of_two s.threads) s.threads places };
 
     ghost long = { λ s first room within. length_part (W.whole s.writer.now) first room within };
 
@@ -108,9 +109,9 @@ impl<'a, T, W: CheckedWriter<T>> Share<T> for Places<'a, W> {
     }
 
     #[tactic(auto, using(crate::proofs::Halves::parts_both, crate::proofs::FirstWithout::found_in_both))]
-    fn halves(self, first: usize, room: usize) -> (Places<'a, W>, usize, Places<'a, W>) {
+    fn split(self, first: usize, room: usize) -> (Places<'a, W>, usize, Places<'a, W>) {
         let Places { writer, threads } = self;
-        let (fewer, others) = threads.halves();
+        let (fewer, others) = threads.split();
         let middle = writer.share(first, room, fewer.get(), threads.get());
         let low = Places {
             writer,
@@ -161,8 +162,9 @@ pub fn write_checked_in_runs<
 
 /// The writer's items as a vector, written by at most `threads` threads.
 ///
-/// The places are halved, and a half is given to a thread of its own, until there is a run for each thread; where no thread
-/// can be made both halves are written in turn. For one thread, or an item or none, no thread is started.
+/// The thread that calls starts one for each run but the last, which it writes itself. Of more than eight threads it gives half to
+/// the first one that it starts, and so on. Where no thread can be made the runs are written in turn. For one thread, or an item or
+/// none, no thread is started.
 pub fn write_in_runs<T: Send + Drop, R: Threads + Sync, A: Allocator, W: Writer<T> + Sync>(
     rt: &R,
     alloc: A,

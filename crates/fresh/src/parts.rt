@@ -9,7 +9,7 @@ ghost use Rattle.fresh.specs.Places.{stretch};
 use crate::forks::{Writer, write_in_runs};
 use crate::run::Run;
 use crate::shares::Share;
-use sharing::ThreadCount;
+use sharing::{ThreadCount, first_of_two};
 use std::alloc::{AllocError, Allocator};
 use std::marker::PhantomData;
 use std::thread::Threads;
@@ -100,10 +100,11 @@ pub struct CountedParts<'a, P> {
 }
 
 impl<'a, T, P: Part<T>> Share<T> for CountedParts<'a, P> {
-    ghost use Rattle.std.specs.Prelude.{◌≡◌, ◌/◌, length, take};
+    ghost use Rattle.std.specs.Prelude.{◌≡◌, length, take};
     ghost use Rattle.std.specs.List.{flat_map};
     ghost use Rattle.std.proofs.Common.{sym};
     ghost use Rattle.fresh.specs.Counted.{counts_of, found_in};
+    ghost use Rattle.sharing.specs.Shares.{first_of_two};
 
     ghost IsOf = { λ s first room. (s.counts.now ≡ counts_of P.items s.parts.now)
         × (room ≡ length (flat_map P.items s.parts.now)) };
@@ -114,7 +115,8 @@ impl<'a, T, P: Part<T>> Share<T> for CountedParts<'a, P> {
 
     ghost parts = { λ s. length s.parts.now };
 
-    ghost IsHalved = { λ s first room places. places ≡ length (flat_map P.items (take (length s.parts.now / 2) s.parts.now)) };
+    ghost IsSplit = { λ s first room places. places ≡ length (flat_map P.items (take (first_of_two (length s.parts.now))
+        s.parts.now)) };
 
     ghost long = { λ s first room is. sym is.1 };
 
@@ -122,14 +124,14 @@ impl<'a, T, P: Part<T>> Share<T> for CountedParts<'a, P> {
         self.parts.len()
     }
 
-    fn halves(
+    fn split(
         self,
         _first: usize,
         _room: usize,
     ) -> (CountedParts<'a, P>, usize, CountedParts<'a, P>) {
-        let half = self.parts.len() / 2;
-        let (low, high) = self.parts.split_at(half);
-        let (low_counts, high_counts) = self.counts.split_at(half);
+        let few = first_of_two(self.parts.len());
+        let (low, high) = self.parts.split_at(few);
+        let (low_counts, high_counts) = self.counts.split_at(few);
         let low = CountedParts {
             parts: low,
             counts: low_counts,

@@ -1,8 +1,9 @@
-//! A share of the places of a fresh vector, which is halved until there is a part for each thread.
+//! A share of the places of a fresh vector, which is cut in two until there is a part for each thread.
 
-ghost use Rattle.std.specs.Prelude.{◌≡◌, ℕ, ◌+◌, ◌-◌, ◌/◌, ◌<◌, ◌≤◌, List, [], ◌++◌, Option, IfOk, length};
+ghost use Rattle.std.specs.Prelude.{◌≡◌, ℕ, ◌+◌, ◌-◌, ◌<◌, ◌≤◌, List, [], ◌++◌, Option, IfOk, length};
 ghost use Rattle.std.specs.Option.{option_or};
 ghost use Rattle.fresh.specs.Places.{stretch, with_items};
+ghost use Rattle.sharing.specs.Shares.{first_of_two};
 ghost use denote.Param.Send.{IsSync, IsSend};
 
 use crate::room::Room;
@@ -14,8 +15,8 @@ use std::thread::{Threads, join};
 /// What some neighbouring places are written from, in one or more parts.
 ///
 /// Its meaning hangs on the first of its places and on their number: whether it is a share of these places, the items that it
-/// writes there, the first place of them whose item has no value, if it looks for one, and how many of them the first half of its
-/// parts has. It has at least one part.
+/// writes there, the first place of them whose item has no value, if it looks for one, and how many of them the first of its parts
+/// have where it is cut in two. It has at least one part.
 pub trait Share<T>: Sized {
     ghost IsOf: { Self → ℕ → ℕ → Type 0 };
 
@@ -25,19 +26,20 @@ pub trait Share<T>: Sized {
 
     ghost parts: { Self → ℕ };
 
-    ghost IsHalved: { Self → ℕ → ℕ → ℕ → Type 0 };
+    ghost IsSplit: { Self → ℕ → ℕ → ℕ → Type 0 };
 
     /// The number of parts, each of which one thread writes.
     fn count(&self) -> usize
         ensures { result ≡ parts self.now };
 
-    /// The share in two, each with half of the parts, and how many of the places the first has.
-    fn halves(self, first: usize, room: usize) -> (Self, usize, Self)
+    /// The share in two: the parts of the thread that a fork starts, and those of the one that forks; and how many of the places
+    /// the first has.
+    fn split(self, first: usize, room: usize) -> (Self, usize, Self)
         requires some { 2 ≤ parts self }
         requires places { IsOf self first room }
         ensures parts { (1 ≤ parts result.0) × (1 ≤ parts result.2) × (parts result.0 + parts result.2 ≡ parts self) }
-        ensures half { parts result.0 ≡ parts self / 2 }
-        ensures halved { IsHalved self first room result.1 }
+        ensures fewer { parts result.0 ≡ first_of_two (parts self) }
+        ensures split { IsSplit self first room result.1 }
         ensures within { result.1 ≤ room }
         ensures front { IsOf result.0 first result.1 }
         ensures back { IsOf result.2 (first + result.1) (room - result.1) }
@@ -57,9 +59,9 @@ pub trait Share<T>: Sized {
     ghost long: { (s : Self) (first room : ℕ) → IsOf s first room → length (items s first room) ≡ room };
 }
 
-/// Writes an empty run of the share's places, each part by a thread of its own; where none can be made both halves are written
-/// in turn.
-#[cycle(halves)]
+/// Writes an empty run of the share's places, each part by a thread of its own; where none can be made the parts are written in
+/// turn.
+#[cycle(parts)]
 fn write_whole<T: Send + Drop, R: Threads + Sync, S: Share<T> + Send + Drop>(
     rt: &R,
     share: S,
@@ -73,14 +75,14 @@ fn write_whole<T: Send + Drop, R: Threads + Sync, S: Share<T> + Send + Drop>(
     if share.count() < 2 {
         return share.write(run);
     }
-    let (low, middle, high) = share.halves(run.first(), run.room());
+    let (low, middle, high) = share.split(run.first(), run.room());
     let (front, back) = run.split_at(middle);
     let (front, back) = write_both(rt, low, front, high, back);
     (front.0.joined(back.0), front.1.or(back.1))
 }
 
 /// `write_whole` for two runs, each in a thread of its own.
-#[cycle(halves)]
+#[cycle(parts)]
 fn write_both<T: Send + Drop, R: Threads + Sync, S: Share<T> + Send + Drop>(
     rt: &R,
     low: S,

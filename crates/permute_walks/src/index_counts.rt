@@ -31,8 +31,8 @@ pub(crate) fn count_alone(index: &[i32], places: usize) -> u32
 
 /// How many indices are none of so many places, counted by at most so many threads.
 ///
-/// The indices are halved, and a half is given to a thread of its own, until there is a part for each thread; where no thread
-/// can be made both halves are counted in turn. For one thread, or none, no thread is started.
+/// Each thread but the one that calls is started for a part of the indices; where no thread can be made the parts are counted in
+/// turn. For one thread, or none, no thread is started.
 #[cycle(parts)]
 pub(crate) fn count_outside<R: Threads + Sync>(
     rt: &R,
@@ -46,7 +46,7 @@ pub(crate) fn count_outside<R: Threads + Sync>(
     if threads.get() < 2 {
         return count_alone(index, places);
     }
-    let (fewer, others) = threads.halves();
+    let (fewer, others) = threads.split();
     let (low, high) = index.split_at(share_of_first(fewer.get(), threads.get(), index.len()));
     let (in_low, in_high) = count_both(rt, fewer, low, others, high, places);
     in_low + in_high

@@ -92,7 +92,7 @@ fn write_ranges<T: Copy + Send, R: Threads + Sync, W: Owner<T> + Sync>(
     if threads.get() < 2 {
         return owner.write(lowest, out, marks);
     }
-    let (fewer, others) = threads.halves();
+    let (fewer, others) = threads.split();
     let words = share_of_first(fewer.get(), threads.get(), out.len()) / WORD_BITS;
     let middle = words * WORD_BITS;
     let (low, high) = out.split_at_mut(middle);

@@ -178,7 +178,7 @@ fn middle_of<P: Parts>(
         .share_end(begin, end, few.get(), threads.get())
 }
 
-/// Writes the places of a share of the segments, which at most so many threads halve; false where a place of theirs is bad, or
+/// Writes the places of a share of the segments, which at most so many threads share; false where a place of theirs is bad, or
 /// there is no memory for a buffer.
 #[cycle(halves)]
 fn write_shared<T: Copy + Send, R: Threads + Sync, A: Memory, S: Sides<T> + Sync, P: Parts + Sync>(
@@ -202,7 +202,7 @@ fn write_shared<T: Copy + Send, R: Threads + Sync, A: Memory, S: Sides<T> + Sync
         let before = sides.before();
         return write_by_buffer(alloc, source, before, parts, begin, end, widest, run);
     }
-    let (fewer, others) = threads.halves();
+    let (fewer, others) = threads.split();
     let middle = middle_of(parts, begin, end, fewer, threads);
     let places = parts.places_before(middle) - run.first();
     let (front, back) = run.split_at(places);

@@ -1,14 +1,19 @@
--- How many threads share a call, and how many of the items some of them have. No result depends on it.
+-- How many threads share a call, how a fork cuts them in two, and how many of the items some of them have. No result depends on it.
 -- Source: this library's profile.
-use Rattle.std.specs.Prelude.{ℕ, ◌*◌, ◌/◌, max, min, nat_lt, if◌then◌else◌}
+use Rattle.std.specs.Prelude.{ℕ, ◌*◌, ◌/◌, max, min, nat_le, nat_lt, if◌then◌else◌}
 use Rattle.cvl_base.specs.Limits.{most_elements}
 use Rattle.sharing.specs.Thresholds.{least_cleared, least_cleared_each, least_each, least_read, least_read_each, least_searched}
-use Rattle.sharing.specs.Thresholds.{least_shared}
+use Rattle.sharing.specs.Thresholds.{least_shared, longest_chain}
 use Rattle.sharing.specs.Thresholds.{least_written, least_written_each}
 
 -- how many threads share so many items: as many as can have `each` of them, but at most `most`; one where there are fewer than `least`
 abbrev pub share_among : ℕ → ℕ → ℕ → ℕ → ℕ
 share_among most items least each = if nat_lt items least then 1 else max (min (items / each) most) 1
+
+-- how many of so many threads, two or more, a fork gives to the thread that it starts: one where they are few, so that one thread
+-- starts all others, one after another; else half of them
+abbrev pub first_of_two : ℕ → ℕ
+first_of_two threads = if nat_le threads longest_chain then 1 else threads / 2
 
 -- how many of so many items the first few of the threads have: as many for each thread, and the last have what is left over
 abbrev pub share_of_first : ℕ → ℕ → ℕ → ℕ

@@ -1,4 +1,4 @@
--- From how many elements or bytes on threads pay, and how many each of them has at least.
+-- From how many elements or bytes on threads pay, and how many each of them has at least; how many threads one of them starts.
 -- Source: measured, on a machine with four processors.
 use Rattle.std.specs.Prelude.{ℕ}
 
@@ -50,3 +50,7 @@ least_written = 32768
 
 abbrev pub least_written_each : ℕ
 least_written_each = 16384
+
+-- threads up to which one of them starts all others
+abbrev pub longest_chain : ℕ
+longest_chain = 8

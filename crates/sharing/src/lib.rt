@@ -1,5 +1,5 @@
-//! Rules of thumb: how many threads share a call, by how many elements it writes, how much of it the first few of them have, and
-//! whether workers race for its tiles. No result depends on them.
+//! Rules of thumb: how many threads share a call, by how many elements it writes, how a fork cuts them in two, how much of the call
+//! the first few of them have, and whether workers race for its tiles. No result depends on them.
 //!
 //! What forks takes a [`ThreadCount`], or a [`Pace`] of a race. Both are made here alone, of a configuration, and neither has
 //! more threads than the configuration has workers.
@@ -8,11 +8,13 @@
 //! were measured on a machine with four processors.
 #![tactic(auto)]
 
+mod forks;
 mod pace;
 mod shares;
 mod thread_count;
 mod threads;
 
+pub use forks::first_of_two;
 pub use pace::{Pace, race_pace};
 pub use shares::share_of_first;
 pub use thread_count::ThreadCount;
@@ -68,3 +70,7 @@ pub const LEAST_WRITTEN: usize = 32_768;
 
 /// How many elements' texts each thread writes at least.
 pub const LEAST_WRITTEN_EACH: usize = 16_384;
+
+/// Up to how many threads one of them starts all others, one after another. A thread that starts others has to wake before it
+/// does, and each such wait comes behind the one before; but where there are many, one thread takes longer to start them all.
+pub const LONGEST_CHAIN: usize = 8;

@@ -1,8 +1,10 @@
 //! A number of threads that no caller can make up.
 
-ghost use Rattle.std.specs.Prelude.{◌≡◌, ◌+◌, ◌/◌, ◌≤◌, max, min};
+ghost use Rattle.std.specs.Prelude.{◌≡◌, ◌+◌, ◌≤◌, max, min};
 ghost use Rattle.cvl_base.specs.Limits.{most_workers};
+ghost use Rattle.sharing.specs.Shares.{first_of_two};
 
+use crate::forks::first_of_two;
 use std::marker::Model;
 
 /// How many threads share something, 1 to 64. Only this crate makes one, by a configuration, and from a count only smaller ones
@@ -61,14 +63,14 @@ impl ThreadCount {
         }
     }
 
-    /// The threads in two, of which the first has no more than the second.
-    pub fn halves(self) -> (ThreadCount, ThreadCount)
+    /// The threads in two: those that a fork gives to the thread that it starts, and no fewer that the one that forks goes on with.
+    pub fn split(self) -> (ThreadCount, ThreadCount)
         requires { 2 ≤ self }
-        ensures fewer { result.0 ≡ self / 2 }
+        ensures fewer { result.0 ≡ first_of_two self }
         ensures order { result.0 ≤ result.1 }
         ensures whole { result.0 + result.1 ≡ self }
     {
-        let fewer = self.threads / 2;
+        let fewer = first_of_two(self.threads as usize) as u32;
         (
             ThreadCount { threads: fewer },
             ThreadCount {

@@ -1,20 +1,20 @@
 -- How many threads share a call, by the number of workers, and what each thread has in the end.
 -- Source: this library's profile.
-use Rattle.std.specs.Prelude.{ℕ, suc, ◌-◌, ◌/◌, List, [], ◌∷◌, ◌++◌, map}
-use Rattle.sharing.specs.Shares.{share_of_first}
+use Rattle.std.specs.Prelude.{ℕ, suc, ◌-◌, List, [], ◌∷◌, ◌++◌, map}
+use Rattle.sharing.specs.Shares.{first_of_two, share_of_first}
 
 -- for 1, 3, 4 and 64 workers
 abbrev pub by_workers : (ℕ → ℕ → ℕ) → ℕ → List ℕ
 by_workers threads items = map (λ workers. threads workers items) (1 ∷ 3 ∷ 4 ∷ 64 ∷ [])
 
--- what each of the threads has where they are halved, so many times at most, until each stands alone
-abbrev pub halved : ℕ → ℕ → ℕ → List ℕ
-halved (suc times) (suc (suc more)) items =
+-- what each of the threads has where forks cut them in two, so many in a row at most, until each stands alone
+abbrev pub forked : ℕ → ℕ → ℕ → List ℕ
+forked (suc times) (suc (suc more)) items =
     let threads = suc (suc more) in
-    let few = threads / 2 in
+    let few = first_of_two threads in
     let front = share_of_first few threads items in
-    halved times few front ++ halved times (threads - few) (items - front)
-halved times threads items = items ∷ []
+    forked times few front ++ forked times (threads - few) (items - front)
+forked times threads items = items ∷ []
 
 -- what each has where one thread after another takes its share of what is left
 abbrev pub in_turn : ℕ → ℕ → List ℕ

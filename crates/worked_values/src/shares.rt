@@ -1,8 +1,9 @@
 //! Worked values of how many threads share a call, about each length from which on one more does, and of what each thread has.
 
 ghost use Rattle.std.specs.Prelude.{◌≡◌, [], ◌∷◌, ◌++◌, replicate};
-ghost use Rattle.sharing.specs.Shares.{clearing_threads, reading_threads, searching_threads, text_threads, writing_threads};
-ghost use Rattle.worked_values.specs.Shared.{by_workers, halved, in_turn};
+ghost use Rattle.sharing.specs.Shares.{clearing_threads, first_of_two, reading_threads, searching_threads, text_threads};
+ghost use Rattle.sharing.specs.Shares.{writing_threads};
+ghost use Rattle.worked_values.specs.Shared.{by_workers, forked, in_turn};
 ghost use Rattle.worked_values.specs.Written.{lengths};
 
 /// The threads that write so many elements, for 1, 3, 4 and 64 workers.
@@ -52,18 +53,31 @@ pub fn texts()
     ensures too_long { by_workers text_threads 4194305 ≡ lengths "1 1 1 1" }
 {}
 
-/// What each thread has, where the threads are halved and where one after another takes its share.
+/// How many threads a fork gives to the one that it starts: one up to eight, and then half of them.
+pub fn fork()
+    ensures two { first_of_two 2 ≡ 1 }
+    ensures three { first_of_two 3 ≡ 1 }
+    ensures most_by_one { first_of_two 8 ≡ 1 }
+    ensures nine { first_of_two 9 ≡ 4 }
+    ensures sixteen { first_of_two 16 ≡ 8 }
+    ensures most { first_of_two 64 ≡ 32 }
+{}
+
+/// What each thread has, where forks cut the threads in two and where one after another takes its share.
 pub fn each_thread()
-    ensures alone { halved 6 1 262143 ≡ lengths "262143" }
-    ensures two { halved 6 2 262144 ≡ lengths "131072 131072" }
-    ensures one_left_over { halved 6 2 262145 ≡ lengths "131072 131073" }
-    ensures three { halved 6 3 393216 ≡ lengths "131072 131072 131072" }
-    ensures few_to_three { halved 6 3 10 ≡ lengths "3 3 4" }
-    ensures four { halved 6 4 524288 ≡ lengths "131072 131072 131072 131072" }
-    ensures three_left_over { halved 6 4 524291 ≡ lengths "131072 131072 131073 131074" }
-    ensures few_to_four { halved 6 4 7 ≡ lengths "1 1 2 3" }
-    ensures all { halved 6 64 8388608 ≡ replicate 64 131072 }
-    ensures one_more { halved 6 64 8388609 ≡ replicate 63 131072 ++ 131073 ∷ [] }
+    ensures alone { forked 10 1 262143 ≡ lengths "262143" }
+    ensures two { forked 10 2 262144 ≡ lengths "131072 131072" }
+    ensures one_left_over { forked 10 2 262145 ≡ lengths "131072 131073" }
+    ensures three { forked 10 3 393216 ≡ lengths "131072 131072 131072" }
+    ensures few_to_three { forked 10 3 10 ≡ lengths "3 3 4" }
+    ensures four { forked 10 4 524288 ≡ lengths "131072 131072 131072 131072" }
+    ensures three_left_over { forked 10 4 524291 ≡ lengths "131072 131073 131073 131073" }
+    ensures few_to_four { forked 10 4 7 ≡ lengths "1 2 2 2" }
+    ensures nine { forked 10 9 1179657 ≡ replicate 9 131073 }
+    ensures few_to_nine { forked 10 9 19 ≡ lengths "2 2 2 2 2 2 2 2 3" }
+    ensures few_to_sixteen { forked 10 16 30 ≡ lengths "1 1 1 1 1 1 1 1 2 2 3 3 3 3 3 3" }
+    ensures all { forked 10 64 8388608 ≡ replicate 64 131072 }
+    ensures one_more { forked 10 64 8388609 ≡ replicate 63 131072 ++ 131073 ∷ [] }
     ensures alone_in_turn { in_turn 1 131071 ≡ lengths "131071" }
     ensures three_in_turn { in_turn 3 98304 ≡ lengths "32768 32768 32768" }
     ensures few_to_three_in_turn { in_turn 3 10 ≡ lengths "3 3 4" }

@@ -8,9 +8,9 @@ run_both-returns g t c =
     let w = g.W.Work in
     let work = c.args.work.now in
     let front = IfOk-at_ok (λ crewed. Ends (w.count work) (w.items work) (w.IsSeat work) (w.HasFact work) w.given w.is_done c.args.with_pieces
-    (λ p. (p.tile, p.items.items)) _ crewed.seats.items crewed.pieces.items) c.in_ok-front.was c.join-front.ensures.first in
+    (λ p. (p.tile, p.items.items)) _ crewed.seats.items crewed.pieces.items) c.in_ok-front.was c.join-back.ensures.second in
     let back = IfOk-at_ok (λ crewed. Ends (w.count work) (w.items work) (w.IsSeat work) (w.HasFact work) w.given w.is_done c.args.with_pieces
-    (λ p. (p.tile, p.items.items)) _ crewed.seats.items crewed.pieces.items) c.in_ok-back.was c.join-front.ensures.second in
+    (λ p. (p.tile, p.items.items)) _ crewed.seats.items crewed.pieces.items) c.in_ok-back.was c.join-back.ensures.first in
     crewed_both (w.count work) (w.items work) (w.IsSeat work) (w.HasFact work) w.given w.is_done c.args.with_pieces (λ p. (p.tile, p.items.items))
     c.both.result (λ crewed. crewed.seats.items) (λ crewed. crewed.pieces.items) _ _ _ _ _ _ _ c.both.ensures.seats c.both.ensures.pieces refl front back
 

@@ -1,5 +1,5 @@
 use Rattle.std.proofs.Common.{◌+◌, ◌-◌, ◌*◌}
-use Rattle.fresh.proofs.shares.+halves.Given as goal
+use Rattle.fresh.proofs.shares.+parts.Given as goal
 
 abbrev pub decreases-write_whole : goal.decreases-write_whole
 decreases-write_whole g l = 4 * g.S.Share.parts l.share

@@ -1,0 +1,21 @@
+//! How a fork cuts threads in two.
+
+ghost use Rattle.std.specs.Prelude.{◌≡◌, ◌<◌, ◌≤◌};
+ghost use Rattle.sharing.specs.Shares.{first_of_two};
+
+use crate::LONGEST_CHAIN;
+
+/// How many of so many threads a fork gives to the thread that it starts, where the one that forks goes on with the others: one,
+/// so that it starts all others itself, and half of them where there are more than eight.
+pub fn first_of_two(threads: usize) -> usize
+    requires { 2 ≤ threads }
+    ensures exact { result ≡ first_of_two threads }
+    ensures least { 1 ≤ result }
+    ensures greatest { result < threads }
+{
+    if threads <= LONGEST_CHAIN {
+        1
+    } else {
+        threads / 2
+    }
+}
