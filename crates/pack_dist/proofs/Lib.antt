@@ -7,4 +7,4 @@ pub mod Progressed
 pub mod Pushed
 pub mod Replaced
 pub mod Segments
-pub mod Standing
+pub mod Tiles

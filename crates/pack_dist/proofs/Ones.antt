@@ -1,17 +1,25 @@
 -- The sum of flags that are read as 1 and 0 is the number of true ones.
-use Rattle.std.proofs.Common.{◌≡◌, ℕ, ◌+◌, ◌≤◌, ℤ, pos, w32, Bool, true, false, cond, List, [], ◌∷◌, length, take, map, get_or, ap, ◌∙◌, arith}
-use Rattle.std.proofs.Common.{slice_get, Some}
+use Rattle.std.proofs.Common.{◌≡◌, ℕ, ◌+◌, ◌*◌, ◌≤◌, ℤ, pos, w32, Bool, true, false, cond, List, [], ◌∷◌, length, take, map, refl, ap, ◌∙◌, arith, None}
+use Rattle.std.specs.List.{list_all, range_with_len}
 use Rattle.std.proofs.lemmas.Int.{int_wrap_fits, fits_signed_from_abs}
-use Rattle.std.proofs.lemmas.List.{length-map, length-take, take-map}
-use Rattle.std.proofs.lemmas.Option.{get_or_from_slice_get}
+use Rattle.std.proofs.lemmas.List.{length-take, take-map}
 use Rattle.cvl_base.specs.Conversions.{integer_of}
-use Rattle.cvl_base.specs.Folds.{fold_of, scan_of}
+use Rattle.cvl_base.specs.Folds.{fold_of}
 use Rattle.cvl_base.specs.Integers.{sum_of, wrap}
-use Rattle.cvl_base.specs.Limits.{most_places}
+use Rattle.cvl_base.specs.ItemWords.{is_number}
+use Rattle.cvl_base.specs.Limits.{most_elements, most_places}
+use Rattle.cvl_base.specs.Monoid.{MonoidLaws}
 use Rattle.cvl_base.specs.Packs.{count_of}
-use Rattle.cvl_base.proofs.FoldLaws.{slice_get-scan_of}
+use Rattle.cvl_base.specs.SegmentMonoid.{seg_join, seg_unit}
 use Rattle.cvl_base.proofs.Packs.{count-cons}
-use Rattle.pack_dist.specs.Kept.{ArePlaces}
+use Rattle.scan_walks.specs.Ranges.{continued}
+use Rattle.scan_walks.proofs.LastStart.{continued_summed}
+use Rattle.tile_plan.specs.Ranges.{tile_count}
+use Rattle.tile_scans.specs.TiledSums.{flagged, sums_of}
+use Rattle.tile_scans.specs.Written.{befores_of}
+use Rattle.tile_scans.proofs.Flagged.{tiled_read}
+use Rattle.tile_scans.proofs.SumsOfTiles.{befores_are, stands_before}
+use Rattle.pack_dist.specs.Kept.{counts_before}
 
 wrap-few : (n : ℕ) → n ≤ most_places → wrap (pos n) ≡ pos n
 wrap-few n few = int_wrap_fits w32 (pos n) (fits_signed_from_abs w32 (pos n) (omega arith))
@@ -34,14 +42,27 @@ ones_from n (false ∷ flags) few =
 pub ones_counted : (flags : List Bool) → length flags ≤ most_places → fold_of sum_of (pos 0) (map integer_of flags) ≡ pos (count_of flags)
 ones_counted flags few = ones_from 0 flags (omega (arith, few)) ∙ ap pos (omega arith)
 
--- ---- the counts before each flag
+-- ---- the counts before each tile
 
-pub scanned_ones : (flags : List Bool) (places : List ℤ) → length flags ≤ most_places → places ≡ scan_of sum_of (pos 0) (map integer_of flags) → ArePlaces flags places
-scanned_ones flags places few is k within =
-    let ones = map integer_of flags in
-    let at : slice_get (scan_of sum_of (pos 0) ones) k ≡ Some (fold_of sum_of (pos 0) (take k ones)) =
-    slice_get-scan_of sum_of (pos 0) ones k (omega (arith, within, length-map flags integer_of)) in
-    ap (λ ps. get_or ps k (pos 0)) is
-    ∙ get_or_from_slice_get (scan_of sum_of (pos 0) ones) k (fold_of sum_of (pos 0) (take k ones)) (pos 0) at
-    ∙ ap (fold_of sum_of (pos 0)) (take-map integer_of k flags)
-    ∙ ones_counted (take k flags) (omega (arith, few, length-take k flags))
+ones_are_numbers : (flags : List Bool) → list_all (λ flag. is_number (integer_of flag)) flags ≡ true
+ones_are_numbers [] = refl
+ones_are_numbers (true ∷ flags) = ones_are_numbers flags
+ones_are_numbers (false ∷ flags) = ones_are_numbers flags
+
+-- flags that are read as 1 and 0, in none of which a segment starts
+abbrev ones : List Bool → List (Bool × ℤ)
+ones flags = flagged None (map integer_of flags)
+
+stand_before : (flags : List Bool) (place : ℕ) → length flags ≤ most_elements → stands_before sum_of (pos 0) (ones flags) place ≡ pos (count_of (take place flags))
+stand_before flags place few =
+    ap (λ ws. (fold_of (seg_join sum_of) (seg_unit (pos 0)) ws).1)
+    (take-map (λ x. (false, x)) place (map integer_of flags) ∙ ap continued (take-map integer_of place flags))
+    ∙ ap (λ w. w.1) (continued_summed sum_of false (pos 0) (map integer_of (take place flags)))
+    ∙ ones_counted (take place flags) (omega (arith, few, length-take place flags))
+
+-- what stands before each tile of them is the number of true flags there
+pub tiles_counted : MonoidLaws is_number (pos 0) sum_of → (flags : List Bool) (tile : ℕ) → 1 ≤ tile → length flags ≤ most_elements
+    → befores_of sum_of (pos 0) (sums_of sum_of (pos 0) (length flags) tile (ones flags)) ≡ counts_before flags tile
+tiles_counted laws flags tile some few =
+    befores_are laws (tiled_read integer_of None flags refl is_number (length flags, tile) (ones_are_numbers flags) refl few some)
+    ∙ λ i. map (λ t. stand_before flags (t * tile) few i) (range_with_len 0 (tile_count (length flags) tile))

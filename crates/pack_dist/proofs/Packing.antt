@@ -1,13 +1,11 @@
 -- What a pack keeps of the first elements, of one more, and of those that a run is made of.
-use Rattle.std.proofs.Common.{◌≡◌, ℕ, zero, suc, ◌+◌, ◌<◌, ◌≤◌, Bool, true, false, cond, List, [], ◌∷◌, ◌++◌, length, take, drop, get_or, set, refl, sym, ap, ◌∙◌, arith, append-nil, append_assoc, inl}
-use Rattle.std.proofs.Common.{inr}
+use Rattle.std.proofs.Common.{◌≡◌, ℕ, zero, suc, ◌+◌, ◌<◌, ◌≤◌, Bool, true, false, cond, List, [], ◌∷◌, ◌++◌, length, take, drop, get_or, set, refl, sym, ap, ◌∙◌, arith, append-nil, append_assoc}
 use Rattle.std.proofs.Math.Seq.{drop-append_seam, take-append_seam}
-use Rattle.std.proofs.lemmas.Bool.{cases_lt}
 use Rattle.std.proofs.lemmas.List.{drop-take, drop_more, length-append, length-take, take-take, take_more_set, take-set}
 use Rattle.std.proofs.lemmas.List.Sums.{sum_by-take-drop, sum_by_more}
 use Rattle.cvl_base.specs.Packs.{count_of}
 use Rattle.fresh.specs.Parts.{part}
-use Rattle.pack_dist.specs.Kept.{StandBefore, kept_of}
+use Rattle.pack_dist.specs.Kept.{kept_of}
 use Rattle.cvl_base.proofs.Packs.{count-cons}
 
 -- the true flags in front, and the others
@@ -66,16 +64,10 @@ module _ {X : Type 0} where
   -- ---- runs of what is kept
 
   -- the elements from one on and before another, where n flags are true: what is kept of them fills n places
-  module _ (xs : List X) {flags : List Bool} {from to first : ℕ} (n : ℕ) (long : length xs ≡ length flags) (begin : StandBefore flags first from) (end : StandBefore flags (first + n) to) where
-    in_order : from ≤ to
-    in_order =
-        elim (cases_lt to from) [
-          | inl lt ↦ absurd (omega (arith, begin.fewest to lt, end.kept))
-          | inr le ↦ le
-        ]
-
+  module _ (xs : List X) (flags : List Bool) (from to first n : ℕ) (long : length xs ≡ length flags) (in_order : from ≤ to) (begin : count_of (take from flags) ≡ first)
+      (end : count_of (take to flags) ≡ first + n) where
     pub section-count : (here : List Bool) → here ≡ drop from (take to flags) → count_of here ≡ n
-    section-count here is = omega (arith, ap count_of is, count-split (take to flags) from, ap count_of (take-take from to flags in_order), begin.kept, end.kept)
+    section-count here is = omega (arith, ap count_of is, count-split (take to flags) from, ap count_of (take-take from to flags in_order), begin, end)
 
     pub section-kept : (ys : List X) (here : List Bool) → ys ≡ drop from (take to xs) → here ≡ drop from (take to flags) → kept_of ys here ≡ part (kept_of xs flags) first n
     section-kept ys here are is =
@@ -87,9 +79,9 @@ module _ {X : Type 0} where
         let front_long : length front ≡ first =
         length-kept (take from (take to xs)) (take from (take to flags)) (omega (arith, some_long, length-take from (take to xs), length-take from (take to flags)))
         ∙ ap count_of (take-take from to flags in_order)
-        ∙ begin.kept in
+        ∙ begin in
         let here_long : length kept ≡ n =
-        omega (arith, ap length both, length-kept (take to xs) (take to flags) some_long, end.kept, front_long, length-append front kept) in
+        omega (arith, ap length both, length-kept (take to xs) (take to flags) some_long, end, front_long, length-append front kept) in
         sym
         (ap (λ ys. part ys first n) (kept-split xs flags to ∙ ap (λ ys. ys ++ others) both ∙ append_assoc front kept others)
         ∙ ap (λ k. take n (drop k (front ++ (kept ++ others)))) (sym front_long)

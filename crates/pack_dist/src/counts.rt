@@ -1,4 +1,4 @@
-//! How many flags are true: of all, before each one, and of each segment.
+//! How many flags are true: of all, before each tile, and of each segment.
 
 ghost use Rattle.std.specs.Prelude.{◌≡◌, ◌≤◌, pos, IfOk, length, map, sum, unsigned_abs, vec_len};
 ghost use Rattle.cvl_base.specs.Conversions.{integer_of};
@@ -7,15 +7,17 @@ ghost use Rattle.cvl_base.specs.Gives.{Gives};
 ghost use Rattle.cvl_base.specs.Limits.{most_elements, most_places};
 ghost use Rattle.cvl_base.specs.Packs.{count_of};
 ghost use Rattle.cvl_base.specs.SegmentedCalls.{seg_count_of};
-ghost use Rattle.pack_dist.specs.Kept.{ArePlaces};
+ghost use Rattle.pack_dist.specs.Kept.{counts_before};
 
 use crew::{Gate, OpenGate};
+use cvl_base::monoid::know_laws;
 use cvl_base::monoids::Add;
 use cvl_base::{Config, Memory, NoResources, Refused, true_count};
 use scan_walks::Reading;
 use segdes::SegDes;
+use sharing::Pace;
 use std::thread::Threads;
-use tile_scans::{scan_readings_gated, seg_reduce_readings_gated};
+use tile_scans::{befores_of_readings, seg_reduce_readings_gated};
 
 /// A flag is read as 1 where it is true, and as 0 where it is false, so that the sum of flags is their count.
 struct Ones;
@@ -38,21 +40,20 @@ pub fn count_true(flags: &[bool]) -> i32
     true_count(flags) as i32
 }
 
-/// For each flag the number of true flags before it, which is where a pack puts what it keeps. The workers of its scan pass
-/// the gate.
+/// The number of true flags before each tile of the pace's length, where a pack puts what it keeps of the tile. Workers race for
+/// the tiles, and pass the gate.
 pub(crate) fn counts_before<R: Threads + Sync, A: Memory, G: Gate>(
     rt: &R,
     alloc: A,
-    config: Config,
+    pace: Pace,
     flags: &[bool],
     gate: &G,
 ) -> Result<Vec<i32, A>, NoResources>
-    requires few { length flags.now ≤ most_places }
-    ensures values { IfOk result (λ places. ArePlaces flags.now places.items) }
-    ensures as_long { IfOk result (λ places. vec_len places ≡ length flags.now) }
+    requires in_limit { length flags.now ≤ most_elements }
+    ensures { IfOk result (λ before. before.items ≡ counts_before flags.now pace.0) }
 {
-    let places = scan_readings_gated::<R, A, Add, bool, Ones, G>(rt, alloc, config, flags, gate)?;
-    Ok(places)
+    know_laws::<Add>();
+    befores_of_readings::<R, A, Add, bool, Ones, G>(rt, alloc, pace, flags, gate)
 }
 
 /// The number of true flags of each segment, which is the length of what a segmented pack keeps of it: `cnt_leb`.

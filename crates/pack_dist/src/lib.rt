@@ -10,7 +10,7 @@ mod distributes;
 mod extracts;
 mod indexes;
 mod kept_blocks;
-mod kept_runs;
+mod kept_tiles;
 mod packs;
 mod replaces;
 mod segment_packs;

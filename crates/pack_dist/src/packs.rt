@@ -6,12 +6,11 @@ ghost use Rattle.cvl_base.specs.Limits.{most_places};
 ghost use Rattle.cvl_base.specs.Packs.{count_of, pack_of};
 ghost use Rattle.cvl_base.specs.Rooms.{OverwritesFront};
 ghost use Rattle.fresh.specs.Places.{stretch};
-ghost use Rattle.pack_dist.specs.Kept.{ArePlaces, kept_of};
+ghost use Rattle.pack_dist.specs.Kept.{kept_of};
 
 use crate::counts::counts_before;
 use crate::kept_blocks::push_kept;
-use crate::kept_runs::Kept;
-use crate::writes::write_vector;
+use crate::kept_tiles::{Kept, write_kept_tiles};
 use crew::{Gate, OpenGate};
 use cvl_base::{Config, Fault, FaultNo, Memory, NoResources, Refused, check_agree, true_count};
 use fresh::{Room, Run, fill_slice};
@@ -70,8 +69,8 @@ pub fn pack_over<T: Copy>(
     kept_over(values, flags, out, count)
 }
 
-/// The elements whose flag is true, of as many as there are flags. Where workers race, a scan of the flags says where each of
-/// them is put, and so where in the flags a run of the result begins. The workers of that scan pass the gate.
+/// The elements whose flag is true, of as many as there are flags. Where workers race for the tiles of the flags, they tell where
+/// what is kept of each tile is put, and several threads then write it. The workers of that race pass the gate.
 pub(crate) fn kept<T: Copy + Send + Sync, R: Threads + Sync, A: Memory, G: Gate>(
     rt: &R,
     alloc: A,
@@ -85,18 +84,17 @@ pub(crate) fn kept<T: Copy + Send + Sync, R: Threads + Sync, A: Memory, G: Gate>
     ensures values { IfOk result (λ v. v.items ≡ kept_of values.now flags.now) }
     ensures no_longer { IfOk result (λ v. vec_len v ≤ length values.now) }
 {
-    let Some(_) = scan_pace(config, flags.len()) else {
+    let Some(pace) = scan_pace(config, flags.len()) else {
         return kept_alone(alloc, values, flags);
     };
-    let places = counts_before(rt, alloc, config, flags, gate)?;
-    let places = places.as_slice();
-    let count = count_by_places(flags, places);
+    let before = counts_before(rt, alloc, pace, flags, gate)?;
     let kept = Kept {
         values,
         flags,
-        places,
+        tile: pace.tile() as usize,
+        before: &before,
     };
-    write_vector(rt, alloc, config, &kept, count, flags.len())
+    write_kept_tiles(rt, alloc, pace.threads_writing(flags.len()), &kept)
 }
 
 /// The same by the thread that calls, which counts what is kept first, and then asks for memory for it alone.
@@ -152,16 +150,4 @@ fn write_kept<T: Copy>(values: &[T], flags: &[bool], out: &mut [T])
                 (run.items ++ kept_of values.entry.now flags.entry.now) (run.room - count_of flags.entry.now) }
         { push_kept(run, values, flags) },
     )
-}
-
-/// How many flags are true, of which there is at least one: the place of the last, and one more where it is true.
-fn count_by_places(flags: &[bool], places: &[i32]) -> usize
-    requires some { 0 < length flags.now }
-    requires few { length flags.now ≤ most_places }
-    requires places { ArePlaces flags.now places.now }
-    requires one_each { length places.now ≡ length flags.now }
-    ensures { result ≡ count_of flags.now }
-{
-    let last = flags.len() - 1;
-    places[last] as usize + usize::from(flags[last])
 }

@@ -7,8 +7,8 @@
 //! Each call has a gated form, whose workers pass a gate at each point of their way through a tile. The call itself is its
 //! gated form at the gate that holds nobody, so that a gate sees whatever the call does.
 //!
-//! A crate above that sums up tiles in a way of its own has the parts: the pace, the race for what stands before each tile, and
-//! the scan that is written where that is known.
+//! A crate above that sums up tiles in a way of its own has the parts: the pace, the race for what stands before each tile, also
+//! of elements that are read as items, and the scan that is written where that is known.
 #![tactic(auto)]
 
 mod befores;
@@ -17,6 +17,7 @@ mod known_reduces;
 mod known_scans;
 mod pace;
 mod race;
+mod readings;
 mod reduces;
 mod scans;
 mod steps;
@@ -26,5 +27,6 @@ mod tiled;
 pub use befores::scan_after_befores;
 pub use pace::{reduce_pace, scan_pace};
 pub use race::race_for_befores;
+pub use readings::befores_of_readings;
 pub use reduces::{reduce, reduce_gated, seg_reduce, seg_reduce_gated, seg_reduce_readings_gated};
 pub use scans::{scan, scan_gated, scan_readings_gated, seg_scan, seg_scan_gated};
