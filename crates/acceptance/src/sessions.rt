@@ -1,12 +1,13 @@
-//! A session by its calls: what a call that was refused memory gives when it is made again, and that one with a fault changes
-//! nothing.
+//! A session by its calls: what a call that was refused memory gives when it is made again, that one with a fault changes
+//! nothing, and that an input stays what it is after a name was bound to it and then to something else.
 
 use refusing_memory::{Flaw, Refusal, refuse_each};
 use std::test::Fail;
 use std::thread::Threads;
 use tested_runs::sessions::show;
 
-/// Three values with their texts, a call with a fault, which changes no name, and two names at once.
+/// Three values with their texts, a call with a fault, which changes no name, an input that is asked for twice, and two names
+/// at once.
 const LINES: &str = "l = input 2
 v = input 3
 d = mke_fov l
@@ -22,6 +23,8 @@ write a
 write b
 a = sub_wuz a a
 write a
+b = input 4
+write b
 v d = nested 4
 v d = nested 1
 write v d";
@@ -35,6 +38,7 @@ line 0: fault 4 UnknownName
 a = [1 0]
 line 0: fault 4 UnknownName
 a = [0 0]
+b = [1 0]
 line 0: fault 15 BadInput at 0
 v = [[1 2] [] [3]]
 ";

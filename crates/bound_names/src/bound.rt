@@ -5,15 +5,17 @@ ghost use Rattle.cvl_base.specs.Limits.{most_elements};
 ghost use Rattle.bound_names.specs.Arguments.{lengths_of};
 ghost use Rattle.bound_names.specs.Names.{AreInLimit};
 
+use crate::held::Held;
+use crate::shared::SharedInts;
 use cvl_base::{Bools, Ints, Memory, NoResources, Value};
 use segdes::SegDes;
 use std::marker::Model;
 
 /// A bound value, seen as the value. Of a descriptor, the starts of its segments are made once, when it is bound: a
-/// segmented call takes them as they are.
+/// segmented call takes them as they are. A vector of an input is not copied where a name is bound to it.
 #[derive(Drop)]
 pub struct Bound<A: Memory> {
-    value: Value<A>,
+    held: Held<A>,
     descriptor: Option<SegDes<A>>,
 }
 
@@ -21,12 +23,13 @@ impl<A: Memory> Model for Bound<A> {
     ghost use Rattle.std.specs.Prelude.{◌≡◌, IfSome};
     ghost use Rattle.bound_names.specs.Names.{AreInLimit, BoundValue};
     ghost use Rattle.bound_names.specs.Arguments.{lengths_of};
+    ghost use Rattle.bound_names.specs.Held.{value_held};
 
     ghost Value = { BoundValue A };
 
-    ghost view = { λ b. b.value };
+    ghost view = { λ b. value_held b.held };
 
-    ghost invariant = { λ b. (b.descriptor ≡ lengths_of b.value) × IfSome b.descriptor AreInLimit };
+    ghost invariant = { λ b. (b.descriptor ≡ lengths_of (value_held b.held)) × IfSome b.descriptor AreInLimit };
 }
 
 impl<A: Memory> Bound<A> {
@@ -52,7 +55,17 @@ impl<A: Memory> Bound<A> {
         ensures { result ≡ value }
     {
         Bound {
-            value,
+            held: Held::Own(value),
+            descriptor: None,
+        }
+    }
+
+    /// The vector of an input, which the input still has.
+    pub fn from_shared(items: SharedInts<A>) -> Bound<A>
+        ensures { result ≡ Value.Integers items }
+    {
+        Bound {
+            held: Held::Shared(items),
             descriptor: None,
         }
     }
@@ -64,7 +77,7 @@ impl<A: Memory> Bound<A> {
     {
         let lengths = descriptor.to_lengths(alloc)?;
         Ok(Bound {
-            value: Value::Descriptor(lengths),
+            held: Held::Own(Value::Descriptor(lengths)),
             descriptor: Some(descriptor),
         })
     }
@@ -73,7 +86,24 @@ impl<A: Memory> Bound<A> {
     pub fn value(&self) -> &Value<A>
         ensures { result.now ≡ self.now }
     {
-        &self.value
+        match &self.held {
+            Held::Own(value) => value,
+            Held::Shared(items) => items.value(),
+        }
+    }
+
+    /// The value, as one of its own. It is copied only where an input or another name has it too.
+    pub fn into_value(self, alloc: A) -> Result<Value<A>, NoResources>
+        ensures { IfOk result (λ value. value ≡ self) }
+    {
+        let Bound {
+            held,
+            descriptor: _descriptor,
+        } = self;
+        match held {
+            Held::Own(value) => Ok(value),
+            Held::Shared(items) => items.into_value(alloc),
+        }
     }
 
     /// The descriptor with its starts, where the value is one.

@@ -29,6 +29,14 @@ pub fn value_of<'a, A: Memory>(names: &'a Names<A>, name: &Name) -> Option<&'a V
     }
 }
 
+/// What is bound to a name, taken out of the names, which end.
+pub fn take_out<A: Memory>(names: Names<A>, name: &Name) -> Option<Bound<A>>
+    ensures { result ≡ value_at names.entries name.now }
+{
+    let mut names = names;
+    names.remove(name)
+}
+
 /// Binds a name to the value that a call gave. Where the call was refused, that is the answer, and no name is bound.
 pub fn bind_answer<A: Memory>(
     names: &mut Names<A>,

@@ -68,5 +68,5 @@ pub fn sparse_matvec<R: Threads + Sync, A: Memory>(
 {
     let inputs = matrix_inputs(alloc, lens, cols, vals, x)?;
     let session = run_script(rt, alloc, config, SPARSE_MATVEC, inputs)?;
-    Ok(integers_at(alloc, &session, b"y")?)
+    Ok(integers_at(session, b"y")?)
 }

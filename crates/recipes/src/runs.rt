@@ -60,34 +60,32 @@ pub(crate) fn run_script<R: Threads + Sync, A: Memory>(
     }
 }
 
-/// The vector of integers that is bound to a name.
+/// The vector of integers that is bound to a name, taken out of the session, which ends.
 pub(crate) fn integers_at<A: Memory>(
-    alloc: A,
-    session: &Session<A>,
+    session: Session<A>,
     name: &[u8],
 ) -> Result<Vec<i32, A>, NoResources>
     requires name { IsTrue (is_name name.now) }
-    requires integers { HasIntegers session.now.names name.now }
-    ensures { IfOk result (λ xs. value_at session.now.names name.now ≡ Some (value.Integers xs.items)) }
+    requires integers { HasIntegers session.names name.now }
+    ensures { IfOk result (λ xs. value_at session.names name.now ≡ Some (value.Integers xs.items)) }
 {
-    match session.get(&name_of(name)) {
-        Some(Value::Integers(numbers)) => Ok(Vec::from_slice(alloc, numbers.as_slice())?),
+    match session.into_value(&name_of(name))? {
+        Some(Value::Integers(numbers)) => Ok(numbers.into_vec()),
         _ => unreachable!(),
     }
 }
 
-/// The vector of booleans that is bound to a name.
+/// The vector of booleans that is bound to a name, taken out of the session, which ends.
 pub(crate) fn booleans_at<A: Memory>(
-    alloc: A,
-    session: &Session<A>,
+    session: Session<A>,
     name: &[u8],
 ) -> Result<Vec<bool, A>, NoResources>
     requires name { IsTrue (is_name name.now) }
-    requires booleans { HasBooleans session.now.names name.now }
-    ensures { IfOk result (λ bs. value_at session.now.names name.now ≡ Some (value.Booleans bs.items)) }
+    requires booleans { HasBooleans session.names name.now }
+    ensures { IfOk result (λ bs. value_at session.names name.now ≡ Some (value.Booleans bs.items)) }
 {
-    match session.get(&name_of(name)) {
-        Some(Value::Booleans(flags)) => Ok(Vec::from_slice(alloc, flags.as_slice())?),
+    match session.into_value(&name_of(name))? {
+        Some(Value::Booleans(flags)) => Ok(flags.into_vec()),
         _ => unreachable!(),
     }
 }

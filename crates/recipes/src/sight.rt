@@ -49,5 +49,5 @@ pub fn line_of_sight<R: Threads + Sync, A: Memory>(
 {
     let inputs = sight_inputs(alloc, altitudes)?;
     let session = run_script(rt, alloc, config, LINE_OF_SIGHT, inputs)?;
-    Ok(booleans_at(alloc, &session, b"v")?)
+    Ok(booleans_at(session, b"v")?)
 }

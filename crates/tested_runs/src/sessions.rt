@@ -2,7 +2,7 @@
 
 use crate::hosts::inputs_of;
 use call_reader::read_line;
-use cvl_base::{Config, Ints, Memory, NoResources, Refused};
+use cvl_base::{Config, Ints, Memory, Name, NoResources, Refused, Value};
 use shell::{Stop, put_stop};
 use std::alloc::Global;
 use std::thread::Threads;
@@ -52,7 +52,8 @@ fn put_line<R: Threads + Sync, A: Memory>(
     Ok(())
 }
 
-/// Whether the calls of these lines show this text on memory of which one request may be refused.
+/// Whether the calls of these lines show this text on memory of which one request may be refused, and leave the name `b` bound to
+/// the fourth input.
 pub fn show<R: Threads + Sync, A: Memory>(
     rt: &R,
     heap: A,
@@ -68,5 +69,16 @@ pub fn show<R: Threads + Sync, A: Memory>(
     for line in lines.lines() {
         put_line(rt, heap, &mut session, line, &mut text)?;
     }
-    Ok(text.as_slice() == right.as_bytes())
+    Ok(text.as_slice() == right.as_bytes() && gives_input(session)?)
+}
+
+/// Whether `b` is bound to the fourth input, which is taken out of the session.
+fn gives_input<A: Memory>(session: Session<A>) -> Result<bool, Refused> {
+    let Some(name) = Name::new(b"b") else {
+        return Ok(false);
+    };
+    match session.into_value(&name)? {
+        Some(Value::Integers(taken)) => Ok(taken.as_slice() == [1, 0]),
+        _ => Ok(false),
+    }
 }

@@ -3,6 +3,7 @@ pub use Rattle.bound_names.specs.Arguments
 pub mod CallValues
 pub mod ElementTypes
 pub mod Families
+pub mod KeptInputs
 pub use Rattle.bound_names.specs.Names
 pub use Rattle.bound_names.specs.Operands
 pub mod Sessions

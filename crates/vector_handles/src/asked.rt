@@ -4,7 +4,7 @@ ghost use Rattle.std.specs.Prelude.{◌≡◌, IfOk, MatchResult, None, Some};
 ghost use Rattle.bound_names.specs.Arguments.{args_fault, argument_at};
 ghost use Rattle.bound_names.specs.Operands.{AreTaken, held_at};
 
-use crate::input::Input;
+use crate::kept::KeptInput;
 use crate::session::Session;
 use bound_names::{Operands, resolve};
 use cvl_base::{Arg, Config, Fault, Memory, Op};
@@ -15,7 +15,7 @@ pub(crate) struct Asked<'a, R, A: Memory> {
     pub(crate) rt: &'a R,
     pub(crate) alloc: A,
     pub(crate) config: Config,
-    pub(crate) inputs: &'a [Input<A>],
+    pub(crate) inputs: &'a [KeptInput<A>],
     pub(crate) operands: Operands<'a, A>,
 }
 

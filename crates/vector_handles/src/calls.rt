@@ -4,7 +4,7 @@ ghost use Rattle.cvl_base.specs.declared.operation.Op.TheVariants as op;
 ghost use Rattle.bound_names.specs.Operands.{AreTaken};
 ghost use Rattle.vector_handles.specs.Answers.{IsTableValue};
 
-use crate::answers::{Answer, bound_integers};
+use crate::answers::Answer;
 use crate::asked::Asked;
 use bound_names::Bound;
 use crew::Gate;
@@ -57,7 +57,7 @@ impl<R: Threads + Sync, A: Memory> Asked<'_, R, A> {
         ensures { IsTableValue self.now.inputs.now op.Input self.now.operands result }
     {
         match self.input_asked_for() {
-            Some(input) => bound_integers(self.integers_of(input)),
+            Some(input) => self.value_of_input(input),
             None => Err(Refused::Fault(Fault::new(FaultNo::NoSuchInput))),
         }
     }

@@ -7,6 +7,7 @@ mod bindings;
 mod calls;
 mod elementwise_calls;
 pub mod input;
+mod kept;
 pub mod laws;
 mod numbered;
 mod pack_calls;
@@ -19,5 +20,8 @@ pub mod shown;
 mod writes;
 
 pub use input::Input;
+// A crate can name a session in a contract only if the types of its fields are exported.
+#[doc(hidden)]
+pub use kept::{Content, KeptInput};
 pub use session::Session;
 pub use shown::Shown;

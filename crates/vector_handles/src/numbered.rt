@@ -8,9 +8,13 @@ ghost use Rattle.bound_names.specs.Arguments.{integer_in};
 ghost use Rattle.bound_names.specs.Names.{AreInLimit};
 ghost use Rattle.bound_names.specs.Operands.{held, kind_held};
 ghost use Rattle.vector_handles.specs.CallValues.{integers_of, nest_of, numbered};
+ghost use Rattle.vector_handles.specs.ElementTypes.{integer};
+ghost use Rattle.vector_handles.specs.Families.{vector};
 
+use crate::answers::{Answer, bound_integers};
 use crate::asked::Asked;
-use crate::input::Input;
+use crate::kept::{Content, KeptInput};
+use bound_names::Bound;
 use call_reader::{read_nested, read_vector};
 use cvl_base::{Fault, FaultNo, Memory, Refused};
 use segdes::SegDes;
@@ -18,7 +22,7 @@ use std::thread::Threads;
 
 impl<'a, R: Threads + Sync, A: Memory> Asked<'a, R, A> {
     /// The input whose number, counted from 1, the first argument is.
-    pub(crate) fn input_asked_for(&self) -> Option<&'a Input<A>>
+    pub(crate) fn input_asked_for(&self) -> Option<&'a KeptInput<A>>
         requires { kind_held self.now.operands.first ≡ Some kind.Integer }
         ensures { option_copied result ≡ numbered self.now.inputs.now (integer_in (held self.now.operands.first)) }
     {
@@ -27,25 +31,35 @@ impl<'a, R: Threads + Sync, A: Memory> Asked<'a, R, A> {
         self.inputs.get(place)
     }
 
-    /// The integers of an input, which is read where it is bytes and copied where it is a vector.
-    pub(crate) fn integers_of(&self, input: &Input<A>) -> Result<Vec<i32, A>, Refused>
-        ensures meaning { Gives (λ xs. xs.items) result (integers_of input.now) }
-        ensures in_limit { IfOk result (λ xs. vec_len xs ≤ most_elements) }
+    /// The integers of an input: bytes are read, and a vector is that of the input itself.
+    pub(crate) fn value_of_input(&self, input: &KeptInput<A>) -> Answer<A>
+        ensures { Gives (λ v. v) result (vector integer (integers_of input.now)) }
     {
-        match input {
-            Input::Bytes(bytes) => read_vector(self.rt, self.alloc, self.config, bytes.as_slice()),
-            Input::Vector(xs) => Ok(Vec::from_slice(self.alloc, xs.as_slice())?),
+        let (rt, alloc, config) = (self.rt, self.alloc, self.config);
+        match &input.content {
+            Content::Bytes(bytes) => bound_integers(read_vector(
+                rt,
+                alloc,
+                config,
+                bytes.as_slice(),
+            )),
+            Content::Vector(items) => Ok(Bound::from_shared(items.share()?)),
         }
     }
 
     /// The integers of a nested input and their descriptor: an input that is a vector is no nested text, `BadInput` at 0.
-    pub(crate) fn nest_of(&self, input: &Input<A>) -> Result<(Vec<i32, A>, SegDes<A>), Refused>
+    pub(crate) fn nest_of(&self, input: &KeptInput<A>) -> Result<(Vec<i32, A>, SegDes<A>), Refused>
         ensures meaning { Gives (λ nest. (nest.0.items, nest.1)) result (nest_of input.now) }
         ensures in_limit { IfOk result (λ nest. (vec_len nest.0 ≤ most_elements) × AreInLimit nest.1) }
     {
-        match input {
-            Input::Bytes(bytes) => read_nested(self.rt, self.alloc, self.config, bytes.as_slice()),
-            Input::Vector(_) => Err(Refused::Fault(Fault::at(FaultNo::BadInput, 0))),
+        match &input.content {
+            Content::Bytes(bytes) => read_nested(
+                self.rt,
+                self.alloc,
+                self.config,
+                bytes.as_slice(),
+            ),
+            Content::Vector(_) => Err(Refused::Fault(Fault::at(FaultNo::BadInput, 0))),
         }
     }
 }

@@ -3,8 +3,9 @@
 ghost use Rattle.std.specs.Prelude.{◌≡◌, [], IfOk, OnErr, option_copied};
 
 use crate::input::Input;
+use crate::kept::{KeptInput, kept_inputs};
 use crate::shown::Shown;
-use bound_names::{Names, bind_answer, bind_answers, value_of};
+use bound_names::{Names, bind_answer, bind_answers, take_out, value_of};
 use crew::{Gate, OpenGate};
 use cvl_base::{Call, Config, Memory, Name, NoResources, Refused, ResultNames, Value};
 use std::collections::BTreeMap;
@@ -13,12 +14,13 @@ use std::thread::Threads;
 
 /// The names that a script has bound, with their values, and its inputs.
 ///
-/// The starts of a descriptor's segments are made once, when it is bound, and serve each call that takes it.
+/// The starts of a descriptor's segments are made once, when it is bound, and serve each call that takes it. A name that is
+/// bound to an input that is a vector shares it, and nothing is copied.
 #[derive(Drop)]
 pub struct Session<A: Memory> {
     pub(crate) config: Config,
     pub(crate) names: Names<A>,
-    pub(crate) inputs: Vec<Input<A>, A>,
+    pub(crate) inputs: Vec<KeptInput<A>, A>,
     pub(crate) alloc: A,
 }
 
@@ -46,7 +48,7 @@ impl<A: Memory> Session<A> {
         Ok(Session {
             config,
             names: BTreeMap::new(alloc),
-            inputs,
+            inputs: kept_inputs(alloc, inputs)?,
             alloc,
         })
     }
@@ -102,5 +104,23 @@ impl<A: Memory> Session<A> {
         ensures { option_copied result ≡ value_at self.now.names name.now }
     {
         value_of(&self.names, name)
+    }
+
+    /// The value that is bound to a name, taken out of the session, which ends. Nothing is copied, and no memory is asked for.
+    pub fn into_value(self, name: &Name) -> Result<Option<Value<A>>, NoResources>
+        ensures { IfOk result (λ value. value ≡ value_at self.names name.now) }
+    {
+        let Session {
+            config: _,
+            names,
+            inputs,
+            alloc,
+        } = self;
+        // the inputs go first, so that a vector of theirs has no other owner
+        drop(inputs);
+        match take_out(names, name) {
+            Some(bound) => Ok(Some(bound.into_value(alloc)?)),
+            None => Ok(None),
+        }
     }
 }

@@ -1,0 +1,14 @@
+-- The inputs as a session has them: the bytes of a file, or a vector that names share.
+-- Source: this library.
+use Rattle.vector_handles.specs.declared.input.Input.{Input}
+use Rattle.vector_handles.specs.declared.input.Input.TheVariants as input
+use Rattle.vector_handles.specs.declared.kept.Content.{Content}
+use Rattle.vector_handles.specs.declared.kept.Content.TheVariants as content
+
+-- an input, under a name that `impl Model` can say
+abbrev pub InputKept : Type 0 → Type 0
+InputKept A = Input A
+
+abbrev pub input_kept : {A : Type 0} → Content A → Input A
+input_kept (content.Bytes bytes) = input.Bytes bytes
+input_kept (content.Vector xs) = input.Vector xs

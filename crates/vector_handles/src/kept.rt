@@ -1,0 +1,61 @@
+//! The inputs of a session.
+
+ghost use Rattle.std.specs.Prelude.{◌≡◌, IfOk};
+
+use crate::input::Input;
+use bound_names::SharedInts;
+use cvl_base::{Memory, NoResources};
+use std::marker::Model;
+
+/// What a session has of an input.
+#[derive(Drop)]
+pub enum Content<A: Memory> {
+    /// The bytes, which are read each time that a script asks for them.
+    Bytes(Vec<u8, A>),
+    /// The vector, which the names that are bound to it have, too.
+    Vector(SharedInts<A>),
+}
+
+/// An input of a session, seen as the input.
+#[derive(Drop)]
+pub struct KeptInput<A: Memory> {
+    pub(crate) content: Content<A>,
+}
+
+impl<A: Memory> Model for KeptInput<A> {
+    ghost use Rattle.vector_handles.specs.KeptInputs.{InputKept, input_kept};
+
+    ghost Value = { InputKept A };
+
+    ghost view = { λ kept. input_kept kept.content };
+}
+
+impl<A: Memory> KeptInput<A> {
+    /// An input, ready to be shared where it is a vector. No element is copied.
+    pub(crate) fn new(alloc: A, input: Input<A>) -> Result<KeptInput<A>, NoResources>
+        ensures { IfOk result (λ kept. kept ≡ input) }
+    {
+        match input {
+            Input::Bytes(bytes) => Ok(KeptInput {
+                content: Content::Bytes(bytes),
+            }),
+            Input::Vector(items) => Ok(KeptInput {
+                content: Content::Vector(SharedInts::new(alloc, items)?),
+            }),
+        }
+    }
+}
+
+/// The inputs, ready to be shared, in their order.
+pub(crate) fn kept_inputs<A: Memory>(
+    alloc: A,
+    inputs: Vec<Input<A>, A>,
+) -> Result<Vec<KeptInput<A>, A>, NoResources>
+    ensures { IfOk result (λ kept. kept.items ≡ inputs.items) }
+{
+    let mut kept = Vec::with_capacity(alloc, inputs.len())?;
+    for input in inputs {
+        kept.push(KeptInput::new(alloc, input)?)?;
+    }
+    Ok(kept)
+}
