@@ -12,9 +12,6 @@ from packages import name_of
 WIDTH = 118
 NUMPY = {"ints": "numpy.int32", "flags": "bool", "marks": "numpy.uint32"}
 
-# The functions beside the calls of the table, by the sections of their families.
-SECTIONS = ("texts", "scans in parts, by threads of the caller's", "calls in parts")
-
 # Examples of families that have none in the table.
 EXAMPLES = {
     "int_scan_after": {"op": "ADD", "before": "10", "a": "3 1 4", "out": "10 13 14"},
@@ -51,7 +48,7 @@ class Direct(packages.Call):
 
 
 CALLS = packages.CALLS
-DIRECT = [Direct(row) for name, row in rows.FAMILIES.items() if row.section in SECTIONS]
+DIRECT = [Direct(row) for row in packages.BESIDE]
 FUNCTIONS = [*CALLS, *DIRECT]
 
 # The functions that tell how long a vector is: what they take, their names, and what they give.

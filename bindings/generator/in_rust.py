@@ -38,10 +38,8 @@ ENOUGH = {
 # This one gives two vectors, and is written by hand.
 BY_HAND = ("seg_read_ints",)
 
-OF_CALLS = {call.family.name for call in packages.CALLS}
-
-# The functions that are no call: texts, scans after a carry, exact sums, and a range of a permute.
-FAMILIES = [packages.Call(row) for name, row in rows.FAMILIES.items() if name not in OF_CALLS and name not in BY_HAND]
+# The functions that are no call.
+FAMILIES = [packages.Call(row) for row in packages.BESIDE if row.name not in BY_HAND]
 
 
 def _has_ranges(function):
@@ -320,7 +318,7 @@ def calls():
 
 def families():
     """`bindings/rust/src/families.rs`."""
-    about = "What is no call: texts, and what a part of a call needs that the whole does not."
+    about = "The functions that are no call of a script: texts, and what a part of a call needs that the whole does not, among others."
     uses = (
         "use alloc::string::String;\nuse alloc::vec::Vec;\n\n"
         "use crate::fault::Fault;\nuse crate::lengths::{counted, limit, most_words, same, text_limit, text_of, zeros};\n"

@@ -96,6 +96,9 @@ class Call:
 
 CALLS = [Call(row) for row in rows.CALLS]
 
+# The families that are no call's: functions that no script calls, each under the name of its family.
+BESIDE = [row for row in rows.FAMILIES.values() if row.name not in {call.family.name for call in CALLS}]
+
 
 def number_of(name):
     """The number that a status has by its name."""

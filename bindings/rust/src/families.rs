@@ -1,4 +1,4 @@
-//! What is no call: texts, and what a part of a call needs that the whole does not.
+//! The functions that are no call of a script: texts, and what a part of a call needs that the whole does not, among others.
 //!
 //! Written by the generator of the repository from its table of calls; edit the table and not this file.
 
