@@ -54,6 +54,7 @@ CUTS = {
     "seg_pack": "cut at places; each part's elements go behind those of the parts before",
     "whole": "not cut",
     "ranges": "the result is cut; each part reads all indices",
+    "senders": "the result is cut; each part reads all indices",
     "replace": "the copy is cut at places",
     "lengths": "the lengths are cut; the parts' totals are added",
     "seg_scan": "cut inside segments; each part goes on from what stands before it in its segment",
@@ -137,6 +138,14 @@ VERSION = "1.0.0"
 
 # What stands before the functions of a section: of families, and of calls.
 OF_FAMILIES = {
+    "first senders": (
+        "No script calls these. Of several places that name one place of the result the least wins, whatever the number of threads, and no values are "
+        "combined: so a search by breadth, a sort or the removal of duplicates finds its winners. A back permute by the senders that are not -1 gives "
+        "one element for each place that is named.",
+        "Where there are lengths an index counts from the start of its segment of the result, and a sender from the start of its own segment. The faults "
+        "by the lengths come first, those of `lengths` before those of `result_lengths`; there are as many of the one as of the other, else 7 "
+        "LengthMismatch.",
+    ),
     "texts": (
         "A text is bytes, with no zero at its end. A caller may not know how long a result is: it stands at the front of its room, and count is its "
         "length; the rest of the room is as it was. Where the room is too short it is as it was, the status is 7 LengthMismatch, without a place, and "
@@ -278,6 +287,10 @@ BAD_IN_DEFAULTS = Fault((10, 11), f"at the first bad index 10 IndexOutOfRange wh
 BAD_IN_SOURCE = Fault((10,), "10 IndexOutOfRange at the first index that is no place of its segment of the source", False)
 SUMS_OF_DEFAULTS = Fault((7,), "7 LengthMismatch where the lengths do not add up to n or the default lengths to m", False)
 SUMS_OF_INDEX = Fault((7,), "7 LengthMismatch where the lengths do not add up to n or the index lengths to m", False)
+FLAGS_DIFFER = Fault((7,), "7 LengthMismatch where index and flags are not equally long", False)
+BAD_NAMED = Fault((10,), "10 IndexOutOfRange at the first index that is no place of the result", False)
+SUMS_OF_RESULT = Fault((7,), "7 LengthMismatch where the lengths do not add up to the index, or the result lengths to out", False)
+BAD_NAMED_IN_SEGMENT = Fault((10,), "10 IndexOutOfRange at the first index that is no place of its segment of the result", False)
 OVERFLOW_AT_PLACE = Fault((18,), "18 Overflow at the first place whose sum does not fit 32 bits", False)
 OVERFLOW_AT_0 = Fault((18,), "18 Overflow at 0 where it does not fit 32 bits", False)
 OVERFLOW_AT_SEGMENT = Fault((18,), "18 Overflow at the first segment whose sum does not fit 32 bits", False)
@@ -478,6 +491,35 @@ FAMILIES = (
         limit="m", faults=(TOO_LONG, SUMS_OF_INDEX, BAD_IN_SOURCE), asks=True, cut=("segments", "m"),
         shape="The source has n elements in segments with the lengths; index and out have m, in as many segments with the index lengths.",
     ),
+    # ---- first senders ----
+    family(
+        "first_senders", "first senders", (ints("index"), room("ints", "m")),
+        "For each place of the result the least place whose index names it, or -1 where none does. The result may have any number of places.",
+        faults=(TOO_LONG, BAD_NAMED), cut=("senders", "m"), example={"index": "2 0 2 3", "out": "1 -1 0 3"},
+    ),
+    family(
+        "select_first_senders", "first senders", (ints("index"), copied("flags"), room("ints", "m")),
+        "For each place of the result the least place whose flag is true and whose index names it, or -1 where none does. An index whose flag is false is "
+        "not looked at. The result may have any number of places.",
+        faults=(TOO_LONG, FLAGS_DIFFER, BAD_NAMED), cut=("senders", "m"),
+        example={"index": "2 0 2 9", "flags": "false true true false", "out": "1 -1 2"},
+    ),
+    family(
+        "seg_first_senders", "first senders", (ints("index"), lengths(), lengths("result_lengths", "m"), room("ints", "m")),
+        "For each place of each segment of the result the least place of the same segment of the index that names it, or -1 where none does.",
+        faults=(TOO_LONG, SUMS_OF_RESULT, BAD_NAMED_IN_SEGMENT), cut=("segments", "n"),
+        example={"index": "1 1 0 3 0", "lengths": "2 0 3", "result_lengths": "2 1 4", "out": "-1 0 -1 0 -1 -1 1"},
+    ),
+    family(
+        "seg_select_first_senders", "first senders",
+        (ints("index"), copied("flags"), lengths(), lengths("result_lengths", "m"), room("ints", "m")),
+        "For each place of each segment of the result the least place of the same segment of the index whose flag is true and whose index names it, or -1 "
+        "where none does. An index whose flag is false is not looked at.",
+        faults=(TOO_LONG, FLAGS_DIFFER, SUMS_OF_RESULT, BAD_NAMED_IN_SEGMENT), cut=("segments", "n"),
+        example={
+            "index": "1 1 9 3 0", "flags": "false true false true true", "lengths": "2 0 3", "result_lengths": "2 1 4", "out": "-1 1 -1 2 -1 -1 1",
+        },
+    ),
     # ---- texts ----
     family(
         "read_ints", "texts", (text("text"), room("ints", "room"), told()),
@@ -594,6 +636,21 @@ FAMILIES = (
             "source": "true false false", "index": "1 9 0", "flags": "true false true", "lowest": "0", "out_len": "1", "out": "false", "marks": "1",
             "written": "1",
         },
+    ),
+    family(
+        "first_senders_range", "calls in parts", (ints("index"), value("lowest", "size"), room("ints", "range"), told("named")),
+        "One range of the first senders, its out_len places from place `lowest` on: for each the least place whose index names it, or -1. named is how "
+        "many indices name a place of the range. Each part has another range and all of index. Where all parts together named index_len, the ranges, one "
+        "after another, are the first senders. Else an index is out of range: cvl_first_senders tells which.",
+        faults=(Fault((13,), f"13 TooLong, by the index, and where the range ends behind place {MOST_ELEMENTS}", False),),
+        example={"index": "2 0 2 3", "lowest": "1", "out_len": "2", "out": "-1 0", "named": "2"},
+    ),
+    family(
+        "select_first_senders_range", "calls in parts",
+        (ints("index"), copied("flags"), value("lowest", "size"), room("ints", "range"), told("named")),
+        "The same among the places whose flag is true: where all parts together named as many as flags are true, the ranges are the first senders.",
+        faults=(Fault((13, 7), "those of cvl_first_senders_range; 7 LengthMismatch where index and flags are not equally long", False),),
+        example={"index": "2 0 2 9", "flags": "false true true false", "lowest": "1", "out_len": "2", "out": "-1 2", "named": "1"},
     ),
     family(
         "read_ints_after", "calls in parts", (value("before", "size"), text("text"), room("ints", "room"), told()),

@@ -27,9 +27,9 @@
  *
  * A boolean is a byte, and any byte but 0 is true, as in C. That is so for each array of booleans that a function reads, and
  * for a boolean by value; an array of another type of bytes may be passed by a cast, since no function reads it as bool.
- * Booleans that are results are 0 and 1. Packs, permutes, scans, texts, and replaces and distributes in segments read booleans
- * where they lie if each is 0 or 1, and else take memory for a copy, one byte an element. All other functions read any bytes
- * where they lie.
+ * Booleans that are results are 0 and 1. Packs, permutes, first senders, scans, texts, and replaces and distributes in segments
+ * read booleans where they lie if each is 0 or 1, and else take memory for a copy, one byte an element. All other functions
+ * read any bytes where they lie.
  *
  * What a caller owes, and what it costs where it isn't so:
  *
@@ -49,9 +49,9 @@
  *   - 102 Overlap; where there is no descriptor, 101 NoDescriptor, before overlaps of other arguments than it;
  *   - 2 UnknownCall, without a place, where a number is that of no operator of the family;
  *   - 13 TooLong, without a place, where the vector that a call goes by has more than 2147483647 elements: its first vector,
- *     the flags of a pack, or the index of a permute; on segments after the lengths. A call on segments other than a permute
- *     asks no vector: there are at most 2147483647 lengths, which add up to at most as much, and a longer vector has not as
- *     many elements as they add up to, which is 7. A vector that is too long is not read;
+ *     the flags of a pack, or the index of a permute or of first senders; on segments after the lengths. Another call on
+ *     segments asks no vector: there are at most 2147483647 lengths, which add up to at most as much, and a longer vector has
+ *     not as many elements as they add up to, which is 7. A vector that is too long is not read;
  *   - 13, 12 and 13 again by the lengths of segments;
  *   - 7 LengthMismatch, without a place, where vectors that belong together are not equally long, and then where a room is not
  *     as long as the result, or shorter where a count is told;
@@ -59,7 +59,7 @@
  *   - the faults of elements, in the order of the comment. Of a text that is read a room that is too short comes last.
  *
  * Other vectors may be longer than 2147483647 elements where they need not be as long as another: the source of a back permute,
- * the defaults of a permute, and the vectors of which one element is taken or replaced.
+ * the defaults of a permute, the result of first senders, and the vectors of which one element is taken or replaced.
  *
  * Each call of the table has its name with the prefix cvl_, as cvl_add_wuz. Where CVL_SHORT_NAMES is defined before this header
  * is included it has the name without it too.
@@ -432,6 +432,57 @@ CVL_CHECKED CvlStatus cvl_seg_back_permute_int(const int32_t *source, size_t sou
 CVL_CHECKED CvlStatus cvl_seg_back_permute_bool(const bool *source, size_t source_len, const int32_t *index, size_t index_len,
     CvlLengths lengths, CvlLengths index_lengths, bool *out, size_t out_len);
 
+/* ---- first senders: families ---- */
+
+/*
+ * No script calls these. Of several places that name one place of the result the least wins, whatever the number of threads,
+ * and no values are combined: so a search by breadth, a sort or the removal of duplicates finds its winners. A back permute by
+ * the senders that are not -1 gives one element for each place that is named.
+ *
+ * Where there are lengths an index counts from the start of its segment of the result, and a sender from the start of its own
+ * segment. The faults by the lengths come first, those of `lengths` before those of `result_lengths`; there are as many of the
+ * one as of the other, else 7 LengthMismatch.
+ */
+
+/*
+ * cvl_first_senders: For each place of the result the least place whose index names it, or -1 where none does. The result may
+ * have any number of places.
+ * Faults: 13 TooLong; 10 IndexOutOfRange at the first index that is no place of the result.
+ * index = 2 0 2 3: out = 1 -1 0 3
+ */
+CVL_CHECKED CvlStatus cvl_first_senders(const int32_t *index, size_t index_len, int32_t *out, size_t out_len);
+
+/*
+ * cvl_select_first_senders: For each place of the result the least place whose flag is true and whose index names it, or -1
+ * where none does. An index whose flag is false is not looked at. The result may have any number of places.
+ * Faults: 13 TooLong; 7 LengthMismatch where index and flags are not equally long; 10 IndexOutOfRange at the first index that
+ * is no place of the result.
+ * index = 2 0 2 9, flags = false true true false: out = 1 -1 2
+ */
+CVL_CHECKED CvlStatus cvl_select_first_senders(const int32_t *index, size_t index_len, const bool *flags, size_t flags_len,
+    int32_t *out, size_t out_len);
+
+/*
+ * cvl_seg_first_senders: For each place of each segment of the result the least place of the same segment of the index that
+ * names it, or -1 where none does.
+ * Faults: 13 TooLong; 7 LengthMismatch where the lengths do not add up to the index, or the result lengths to out; 10
+ * IndexOutOfRange at the first index that is no place of its segment of the result.
+ * index = 1 1 0 3 0, lengths = 2 0 3, result_lengths = 2 1 4: out = -1 0 -1 0 -1 -1 1
+ */
+CVL_CHECKED CvlStatus cvl_seg_first_senders(const int32_t *index, size_t index_len, CvlLengths lengths,
+    CvlLengths result_lengths, int32_t *out, size_t out_len);
+
+/*
+ * cvl_seg_select_first_senders: For each place of each segment of the result the least place of the same segment of the index
+ * whose flag is true and whose index names it, or -1 where none does. An index whose flag is false is not looked at.
+ * Faults: 13 TooLong; 7 LengthMismatch where index and flags are not equally long; 7 LengthMismatch where the lengths do not
+ * add up to the index, or the result lengths to out; 10 IndexOutOfRange at the first index that is no place of its segment of
+ * the result.
+ * index = 1 1 9 3 0, flags = false true false true true, lengths = 2 0 3, result_lengths = 2 1 4: out = -1 1 -1 2 -1 -1 1
+ */
+CVL_CHECKED CvlStatus cvl_seg_select_first_senders(const int32_t *index, size_t index_len, const bool *flags, size_t flags_len,
+    CvlLengths lengths, CvlLengths result_lengths, int32_t *out, size_t out_len);
+
 /* ---- texts: families ---- */
 
 /*
@@ -578,6 +629,26 @@ CVL_CHECKED CvlStatus cvl_select_permute_int_range(const int32_t *source, size_t
 CVL_CHECKED CvlStatus cvl_select_permute_bool_range(const bool *source, size_t source_len, const int32_t *index,
     size_t index_len, const bool *flags, size_t flags_len, size_t lowest, bool *out, size_t out_len, uint32_t *marks,
     size_t marks_len, size_t *written);
+
+/*
+ * cvl_first_senders_range: One range of the first senders, its out_len places from place `lowest` on: for each the least place
+ * whose index names it, or -1. named is how many indices name a place of the range. Each part has another range and all of
+ * index. Where all parts together named index_len, the ranges, one after another, are the first senders. Else an index is out
+ * of range: cvl_first_senders tells which.
+ * Faults: 13 TooLong, by the index, and where the range ends behind place 2147483647.
+ * index = 2 0 2 3, lowest = 1, out_len = 2: out = -1 0, named = 2
+ */
+CVL_CHECKED CvlStatus cvl_first_senders_range(const int32_t *index, size_t index_len, size_t lowest, int32_t *out,
+    size_t out_len, size_t *named);
+
+/*
+ * cvl_select_first_senders_range: The same among the places whose flag is true: where all parts together named as many as flags
+ * are true, the ranges are the first senders.
+ * Faults: those of cvl_first_senders_range; 7 LengthMismatch where index and flags are not equally long.
+ * index = 2 0 2 9, flags = false true true false, lowest = 1, out_len = 2: out = -1 2, named = 1
+ */
+CVL_CHECKED CvlStatus cvl_select_first_senders_range(const int32_t *index, size_t index_len, const bool *flags,
+    size_t flags_len, size_t lowest, int32_t *out, size_t out_len, size_t *named);
 
 /*
  * cvl_read_ints_after: The integers of one piece of a text that is cut at white space, as cvl_read_ints reads them. `before` is
@@ -1746,6 +1817,20 @@ CVL_CHECKED CvlStatus cvl_segments_back_permute_int(const int32_t *source, size_
 /* At each place the element at the place's index in the same segment of the source. */
 CVL_CHECKED CvlStatus cvl_segments_back_permute_bool(const bool *source, size_t source_len, const int32_t *index,
     size_t index_len, const CvlSegments *segments, const CvlSegments *index_segments, bool *out, size_t out_len);
+
+/*
+ * For each place of each segment of the result the least place of the same segment of the index that names it, or -1 where none
+ * does.
+ */
+CVL_CHECKED CvlStatus cvl_segments_first_senders(const int32_t *index, size_t index_len, const CvlSegments *segments,
+    const CvlSegments *result_segments, int32_t *out, size_t out_len);
+
+/*
+ * For each place of each segment of the result the least place of the same segment of the index whose flag is true and whose
+ * index names it, or -1 where none does. An index whose flag is false is not looked at.
+ */
+CVL_CHECKED CvlStatus cvl_segments_select_first_senders(const int32_t *index, size_t index_len, const bool *flags,
+    size_t flags_len, const CvlSegments *segments, const CvlSegments *result_segments, int32_t *out, size_t out_len);
 
 /*
  * The text of a vector of integers that is cut into segments: the texts of the segments, a space between each two, in brackets.

@@ -300,6 +300,22 @@ CVL_CHECKED CvlStatus cvl_seg_back_permute_int_on(const CvlPool *pool, const int
 CVL_CHECKED CvlStatus cvl_seg_back_permute_bool_on(const CvlPool *pool, const bool *source, size_t source_len,
     const int32_t *index, size_t index_len, CvlLengths lengths, CvlLengths index_lengths, bool *out, size_t out_len);
 
+/* cvl_first_senders in parts: the result is cut; each part reads all indices. */
+CVL_CHECKED CvlStatus cvl_first_senders_on(const CvlPool *pool, const int32_t *index, size_t index_len, int32_t *out,
+    size_t out_len);
+
+/* cvl_select_first_senders in parts: the result is cut; each part reads all indices. */
+CVL_CHECKED CvlStatus cvl_select_first_senders_on(const CvlPool *pool, const int32_t *index, size_t index_len,
+    const bool *flags, size_t flags_len, int32_t *out, size_t out_len);
+
+/* cvl_seg_first_senders in parts: cut between segments. */
+CVL_CHECKED CvlStatus cvl_seg_first_senders_on(const CvlPool *pool, const int32_t *index, size_t index_len, CvlLengths lengths,
+    CvlLengths result_lengths, int32_t *out, size_t out_len);
+
+/* cvl_seg_select_first_senders in parts: cut between segments. */
+CVL_CHECKED CvlStatus cvl_seg_select_first_senders_on(const CvlPool *pool, const int32_t *index, size_t index_len,
+    const bool *flags, size_t flags_len, CvlLengths lengths, CvlLengths result_lengths, int32_t *out, size_t out_len);
+
 /* cvl_read_ints in parts: cut at white space. */
 CVL_CHECKED CvlStatus cvl_read_ints_on(const CvlPool *pool, const char *text, size_t text_len, int32_t *out, size_t out_len,
     size_t *count);

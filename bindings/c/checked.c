@@ -1553,6 +1553,148 @@ CvlStatus cvl_seg_back_permute_bool(const bool *source, size_t source_len, const
     return cvl_seg_back_permute_bool_shared(source, source_len, index, index_len, lengths, index_lengths, out, out_len);
 }
 
+static CvlStatus first_senders_asked(size_t index_len) {
+    CvlAsked asked;
+    memset(&asked, 0, sizeof asked);
+    asked.known = 1;
+    asked.agree = cvl_first_senders_agrees(index_len);
+    asked.most = CVL_MOST_ELEMENTS;
+    asked.limited = index_len;
+    return cvl_asked(&asked);
+}
+
+CvlStatus cvl_first_senders_alone(const int32_t *index, size_t index_len, int32_t *out, size_t out_len) {
+    if (cvl_first_senders_meets(index, index_len, out, out_len)) return cvl_overlap();
+    if (!cvl_first_senders_agrees(index_len)) return first_senders_asked(index_len);
+    return cvl_proved_first_senders(index, index_len, out, out_len);
+}
+
+CvlStatus cvl_first_senders(const int32_t *index, size_t index_len, int32_t *out, size_t out_len) {
+    if (out_len < CVL_LEAST_SHARED) return cvl_first_senders_alone(index, index_len, out, out_len);
+    return cvl_first_senders_shared(index, index_len, out, out_len);
+}
+
+static CvlStatus select_first_senders_asked(size_t index_len, size_t flags_len) {
+    CvlAsked asked;
+    memset(&asked, 0, sizeof asked);
+    asked.known = 1;
+    asked.agree = cvl_select_first_senders_agrees(index_len, flags_len);
+    asked.most = CVL_MOST_ELEMENTS;
+    asked.limited = index_len;
+    return cvl_asked(&asked);
+}
+
+static CvlStatus select_first_senders_copied(const int32_t *index, size_t index_len, const bool *flags, size_t flags_len,
+    int32_t *out, size_t out_len) {
+    bool *copies[1] = {NULL};
+    CvlStatus status = select_first_senders_asked(index_len, flags_len);
+    if (status.number != CVL_DONE) return status;
+    status = cvl_copy_flags(&flags, flags_len, &copies[0]) ? cvl_proved_select_first_senders(index, index_len, flags, flags_len,
+        out, out_len) : cvl_status(CVL_NO_RESOURCES, -1);
+    free(copies[0]);
+    return status;
+}
+
+CvlStatus cvl_select_first_senders_alone(const int32_t *index, size_t index_len, const bool *flags, size_t flags_len,
+    int32_t *out, size_t out_len) {
+    if (cvl_select_first_senders_meets(index, index_len, flags, flags_len, out, out_len)) return cvl_overlap();
+    if (!cvl_select_first_senders_agrees(index_len, flags_len)) return select_first_senders_asked(index_len, flags_len);
+    if (!cvl_proved_are_flags(flags, flags_len)) {
+        return select_first_senders_copied(index, index_len, flags, flags_len, out, out_len);
+    }
+    return cvl_proved_select_first_senders(index, index_len, flags, flags_len, out, out_len);
+}
+
+CvlStatus cvl_select_first_senders(const int32_t *index, size_t index_len, const bool *flags, size_t flags_len, int32_t *out,
+    size_t out_len) {
+    if (out_len < CVL_LEAST_SHARED) return cvl_select_first_senders_alone(index, index_len, flags, flags_len, out, out_len);
+    return cvl_select_first_senders_shared(index, index_len, flags, flags_len, out, out_len);
+}
+
+static CvlStatus seg_first_senders_asked(size_t index_len, CvlLengths lengths, CvlLengths result_lengths, size_t out_len) {
+    CvlAsked asked;
+    memset(&asked, 0, sizeof asked);
+    asked.known = 1;
+    asked.agree = cvl_seg_first_senders_agrees(index_len, lengths, result_lengths, out_len);
+    asked.most = CVL_MOST_ELEMENTS;
+    asked.limited = index_len;
+    asked.lengths[0] = &lengths, asked.totals[0] = index_len;
+    asked.lengths[1] = &result_lengths, asked.totals[1] = out_len;
+    return cvl_asked(&asked);
+}
+
+CvlStatus cvl_seg_first_senders_alone(const int32_t *index, size_t index_len, CvlLengths lengths, CvlLengths result_lengths,
+    int32_t *out, size_t out_len) {
+    if (cvl_seg_first_senders_meets(index, index_len, lengths, result_lengths, out, out_len)) return cvl_overlap();
+    if (!cvl_seg_first_senders_agrees(index_len, lengths, result_lengths, out_len)) {
+        return seg_first_senders_asked(index_len, lengths, result_lengths, out_len);
+    }
+    const CvlStatus status = cvl_proved_seg_first_senders(index, index_len, lengths.lengths, lengths.segments,
+        result_lengths.lengths, result_lengths.segments, out, out_len);
+    if (!cvl_is_late(status)) return status;
+    const CvlStatus before = seg_first_senders_asked(index_len, lengths, result_lengths, out_len);
+    return before.number == CVL_DONE ? status : before;
+}
+
+CvlStatus cvl_seg_first_senders(const int32_t *index, size_t index_len, CvlLengths lengths, CvlLengths result_lengths,
+    int32_t *out, size_t out_len) {
+    if (index_len < CVL_LEAST_SHARED) {
+        return cvl_seg_first_senders_alone(index, index_len, lengths, result_lengths, out, out_len);
+    }
+    return cvl_seg_first_senders_shared(index, index_len, lengths, result_lengths, out, out_len);
+}
+
+static CvlStatus seg_select_first_senders_asked(size_t index_len, size_t flags_len, CvlLengths lengths,
+    CvlLengths result_lengths, size_t out_len) {
+    CvlAsked asked;
+    memset(&asked, 0, sizeof asked);
+    asked.known = 1;
+    asked.agree = cvl_seg_select_first_senders_agrees(index_len, flags_len, lengths, result_lengths, out_len);
+    asked.most = CVL_MOST_ELEMENTS;
+    asked.limited = index_len;
+    asked.lengths[0] = &lengths, asked.totals[0] = index_len;
+    asked.lengths[1] = &result_lengths, asked.totals[1] = out_len;
+    return cvl_asked(&asked);
+}
+
+static CvlStatus seg_select_first_senders_copied(const int32_t *index, size_t index_len, const bool *flags, size_t flags_len,
+    CvlLengths lengths, CvlLengths result_lengths, int32_t *out, size_t out_len) {
+    bool *copies[1] = {NULL};
+    CvlStatus status = seg_select_first_senders_asked(index_len, flags_len, lengths, result_lengths, out_len);
+    if (status.number != CVL_DONE) return status;
+    status = cvl_copy_flags(&flags, flags_len, &copies[0]) ? cvl_proved_seg_select_first_senders(index, index_len, flags, flags_len,
+        lengths.lengths, lengths.segments, result_lengths.lengths, result_lengths.segments, out, out_len) :
+        cvl_status(CVL_NO_RESOURCES, -1);
+    free(copies[0]);
+    return status;
+}
+
+CvlStatus cvl_seg_select_first_senders_alone(const int32_t *index, size_t index_len, const bool *flags, size_t flags_len,
+    CvlLengths lengths, CvlLengths result_lengths, int32_t *out, size_t out_len) {
+    if (cvl_seg_select_first_senders_meets(index, index_len, flags, flags_len, lengths, result_lengths, out, out_len)) {
+        return cvl_overlap();
+    }
+    if (!cvl_seg_select_first_senders_agrees(index_len, flags_len, lengths, result_lengths, out_len)) {
+        return seg_select_first_senders_asked(index_len, flags_len, lengths, result_lengths, out_len);
+    }
+    if (!cvl_proved_are_flags(flags, flags_len)) {
+        return seg_select_first_senders_copied(index, index_len, flags, flags_len, lengths, result_lengths, out, out_len);
+    }
+    const CvlStatus status = cvl_proved_seg_select_first_senders(index, index_len, flags, flags_len,
+        lengths.lengths, lengths.segments, result_lengths.lengths, result_lengths.segments, out, out_len);
+    if (!cvl_is_late(status)) return status;
+    const CvlStatus before = seg_select_first_senders_asked(index_len, flags_len, lengths, result_lengths, out_len);
+    return before.number == CVL_DONE ? status : before;
+}
+
+CvlStatus cvl_seg_select_first_senders(const int32_t *index, size_t index_len, const bool *flags, size_t flags_len,
+    CvlLengths lengths, CvlLengths result_lengths, int32_t *out, size_t out_len) {
+    if (index_len < CVL_LEAST_SHARED) {
+        return cvl_seg_select_first_senders_alone(index, index_len, flags, flags_len, lengths, result_lengths, out, out_len);
+    }
+    return cvl_seg_select_first_senders_shared(index, index_len, flags, flags_len, lengths, result_lengths, out, out_len);
+}
+
 CvlStatus cvl_read_ints_alone(const char *text, size_t text_len, int32_t *out, size_t out_len, size_t *count) {
     if (cvl_read_ints_meets(text, text_len, out, out_len, count)) return cvl_overlap();
     const CvlStatus status = cvl_proved_read_ints((const bool *)text, text_len, out, out_len, count);
@@ -1888,6 +2030,46 @@ CvlStatus cvl_select_permute_bool_range(const bool *source, size_t source_len, c
     }
     return cvl_proved_select_permute_bool_range(source, source_len, index, index_len, flags, flags_len, lowest, out, out_len,
         marks, marks_len, written);
+}
+
+CvlStatus cvl_first_senders_range(const int32_t *index, size_t index_len, size_t lowest, int32_t *out, size_t out_len,
+    size_t *named) {
+    if (cvl_first_senders_range_meets(index, index_len, out, out_len, named)) return cvl_overlap();
+    return cvl_proved_first_senders_range(index, index_len, lowest, out, out_len, named);
+}
+
+static CvlStatus select_first_senders_range_asked(size_t index_len, size_t flags_len, size_t lowest, size_t out_len) {
+    CvlAsked asked;
+    memset(&asked, 0, sizeof asked);
+    asked.known = 1;
+    asked.agree = cvl_select_first_senders_range_agrees(index_len, flags_len, lowest, out_len);
+    asked.most = CVL_MOST_ELEMENTS;
+    asked.limited = index_len > CVL_MOST_ELEMENTS || lowest > CVL_MOST_ELEMENTS || out_len > CVL_MOST_ELEMENTS - lowest ? SIZE_MAX :
+        0;
+    return cvl_asked(&asked);
+}
+
+static CvlStatus select_first_senders_range_copied(const int32_t *index, size_t index_len, const bool *flags, size_t flags_len,
+    size_t lowest, int32_t *out, size_t out_len, size_t *named) {
+    bool *copies[1] = {NULL};
+    CvlStatus status = select_first_senders_range_asked(index_len, flags_len, lowest, out_len);
+    if (status.number != CVL_DONE) return status;
+    status = cvl_copy_flags(&flags, flags_len, &copies[0]) ? cvl_proved_select_first_senders_range(index, index_len,
+        flags, flags_len, lowest, out, out_len, named) : cvl_status(CVL_NO_RESOURCES, -1);
+    free(copies[0]);
+    return status;
+}
+
+CvlStatus cvl_select_first_senders_range(const int32_t *index, size_t index_len, const bool *flags, size_t flags_len,
+    size_t lowest, int32_t *out, size_t out_len, size_t *named) {
+    if (cvl_select_first_senders_range_meets(index, index_len, flags, flags_len, out, out_len, named)) return cvl_overlap();
+    if (!cvl_select_first_senders_range_agrees(index_len, flags_len, lowest, out_len)) {
+        return select_first_senders_range_asked(index_len, flags_len, lowest, out_len);
+    }
+    if (!cvl_proved_are_flags(flags, flags_len)) {
+        return select_first_senders_range_copied(index, index_len, flags, flags_len, lowest, out, out_len, named);
+    }
+    return cvl_proved_select_first_senders_range(index, index_len, flags, flags_len, lowest, out, out_len, named);
 }
 
 CvlStatus cvl_read_ints_after(size_t before, const char *text, size_t text_len, int32_t *out, size_t out_len, size_t *count) {
@@ -2652,6 +2834,21 @@ CvlStatus cvl_segments_back_permute_bool(const bool *source, size_t source_len, 
     if (!cvl_is_made(segments) || !cvl_is_made(index_segments)) return cvl_status(CVL_NO_DESCRIPTOR, -1);
     return cvl_seg_back_permute_bool(source, source_len, index, index_len, cvl_lengths_of(segments), cvl_lengths_of(index_segments),
         out, out_len);
+}
+
+CvlStatus cvl_segments_first_senders(const int32_t *index, size_t index_len, const CvlSegments *segments,
+    const CvlSegments *result_segments, int32_t *out, size_t out_len) {
+    if (CVL_MEET(out, out_len, segments, 1) || CVL_MEET(out, out_len, result_segments, 1)) return cvl_overlap();
+    if (!cvl_is_made(segments) || !cvl_is_made(result_segments)) return cvl_status(CVL_NO_DESCRIPTOR, -1);
+    return cvl_seg_first_senders(index, index_len, cvl_lengths_of(segments), cvl_lengths_of(result_segments), out, out_len);
+}
+
+CvlStatus cvl_segments_select_first_senders(const int32_t *index, size_t index_len, const bool *flags, size_t flags_len,
+    const CvlSegments *segments, const CvlSegments *result_segments, int32_t *out, size_t out_len) {
+    if (CVL_MEET(out, out_len, segments, 1) || CVL_MEET(out, out_len, result_segments, 1)) return cvl_overlap();
+    if (!cvl_is_made(segments) || !cvl_is_made(result_segments)) return cvl_status(CVL_NO_DESCRIPTOR, -1);
+    return cvl_seg_select_first_senders(index, index_len, flags, flags_len, cvl_lengths_of(segments),
+        cvl_lengths_of(result_segments), out, out_len);
 }
 
 CvlStatus cvl_segments_write_ints(const int32_t *a, size_t a_len, const CvlSegments *segments, char *out, size_t out_len,

@@ -45,6 +45,9 @@ CVL_HIDDEN CvlStatus cvl_proved_distribute_int(int32_t value, int32_t count, int
 CVL_HIDDEN CvlStatus cvl_proved_exact_sum(const int32_t *a, size_t a_len, int64_t *out);
 CVL_HIDDEN CvlStatus cvl_proved_extract_bool(const bool *vector, size_t vector_len, int32_t index, bool *out);
 CVL_HIDDEN CvlStatus cvl_proved_extract_int(const int32_t *vector, size_t vector_len, int32_t index, int32_t *out);
+CVL_HIDDEN CvlStatus cvl_proved_first_senders(const int32_t *index, size_t index_len, int32_t *out, size_t out_len);
+CVL_HIDDEN CvlStatus cvl_proved_first_senders_range(const int32_t *index, size_t index_len, size_t lowest, int32_t *out,
+    size_t out_len, size_t *named);
 CVL_HIDDEN CvlStatus cvl_proved_index(int32_t init, int32_t stride, int32_t count, int32_t *out, size_t out_len);
 CVL_HIDDEN CvlStatus cvl_proved_int1(uint32_t op, const int32_t *a, size_t a_len, int32_t *out, size_t out_len);
 CVL_HIDDEN CvlStatus cvl_proved_int1_in(uint32_t op, int32_t *a, size_t a_len);
@@ -116,6 +119,8 @@ CVL_HIDDEN CvlStatus cvl_proved_seg_extract_bool(const bool *vector, size_t vect
     const int32_t *lengths, size_t lengths_len, bool *out, size_t out_len);
 CVL_HIDDEN CvlStatus cvl_proved_seg_extract_int(const int32_t *vector, size_t vector_len, const int32_t *index,
     size_t index_len, const int32_t *lengths, size_t lengths_len, int32_t *out, size_t out_len);
+CVL_HIDDEN CvlStatus cvl_proved_seg_first_senders(const int32_t *index, size_t index_len, const int32_t *lengths,
+    size_t lengths_len, const int32_t *result_lengths, size_t result_lengths_len, int32_t *out, size_t out_len);
 CVL_HIDDEN CvlStatus cvl_proved_seg_index(const int32_t *inits, size_t inits_len, const int32_t *strides, size_t strides_len,
     const int32_t *lengths, size_t lengths_len, int32_t *out, size_t out_len);
 CVL_HIDDEN CvlStatus cvl_proved_seg_int_reduce(uint32_t op, const int32_t *a, size_t a_len, const int32_t *lengths,
@@ -139,6 +144,9 @@ CVL_HIDDEN CvlStatus cvl_proved_seg_replace_bool(const bool *vector, size_t vect
 CVL_HIDDEN CvlStatus cvl_proved_seg_replace_int(const int32_t *vector, size_t vector_len, const int32_t *index,
     size_t index_len, const int32_t *values, size_t values_len, const int32_t *lengths, size_t lengths_len, int32_t *out,
     size_t out_len);
+CVL_HIDDEN CvlStatus cvl_proved_seg_select_first_senders(const int32_t *index, size_t index_len, const bool *flags,
+    size_t flags_len, const int32_t *lengths, size_t lengths_len, const int32_t *result_lengths, size_t result_lengths_len,
+    int32_t *out, size_t out_len);
 CVL_HIDDEN CvlStatus cvl_proved_seg_select_permute_bool(const bool *source, size_t source_len, const int32_t *index,
     size_t index_len, const bool *flags, size_t flags_len, const int32_t *lengths, size_t lengths_len, bool *out,
     size_t out_len);
@@ -155,6 +163,10 @@ CVL_HIDDEN CvlStatus cvl_proved_select_bool_in_first(const bool *flags, size_t f
     size_t b_len);
 CVL_HIDDEN CvlStatus cvl_proved_select_bool_in_second(const bool *flags, size_t flags_len, const bool *a, size_t a_len, bool *b,
     size_t b_len);
+CVL_HIDDEN CvlStatus cvl_proved_select_first_senders(const int32_t *index, size_t index_len, const bool *flags,
+    size_t flags_len, int32_t *out, size_t out_len);
+CVL_HIDDEN CvlStatus cvl_proved_select_first_senders_range(const int32_t *index, size_t index_len, const bool *flags,
+    size_t flags_len, size_t lowest, int32_t *out, size_t out_len, size_t *named);
 CVL_HIDDEN CvlStatus cvl_proved_select_int(const bool *flags, size_t flags_len, const int32_t *a, size_t a_len,
     const int32_t *b, size_t b_len, int32_t *out, size_t out_len);
 CVL_HIDDEN CvlStatus cvl_proved_select_int_in_first(const bool *flags, size_t flags_len, int32_t *a, size_t a_len,
@@ -375,6 +387,20 @@ CVL_HIDDEN CvlStatus cvl_seg_back_permute_bool_alone(const bool *source, size_t 
     size_t index_len, CvlLengths lengths, CvlLengths index_lengths, bool *out, size_t out_len);
 CVL_HIDDEN CvlStatus cvl_seg_back_permute_bool_shared(const bool *source, size_t source_len, const int32_t *index,
     size_t index_len, CvlLengths lengths, CvlLengths index_lengths, bool *out, size_t out_len);
+CVL_HIDDEN CvlStatus cvl_first_senders_alone(const int32_t *index, size_t index_len, int32_t *out, size_t out_len);
+CVL_HIDDEN CvlStatus cvl_first_senders_shared(const int32_t *index, size_t index_len, int32_t *out, size_t out_len);
+CVL_HIDDEN CvlStatus cvl_select_first_senders_alone(const int32_t *index, size_t index_len, const bool *flags, size_t flags_len,
+    int32_t *out, size_t out_len);
+CVL_HIDDEN CvlStatus cvl_select_first_senders_shared(const int32_t *index, size_t index_len, const bool *flags,
+    size_t flags_len, int32_t *out, size_t out_len);
+CVL_HIDDEN CvlStatus cvl_seg_first_senders_alone(const int32_t *index, size_t index_len, CvlLengths lengths,
+    CvlLengths result_lengths, int32_t *out, size_t out_len);
+CVL_HIDDEN CvlStatus cvl_seg_first_senders_shared(const int32_t *index, size_t index_len, CvlLengths lengths,
+    CvlLengths result_lengths, int32_t *out, size_t out_len);
+CVL_HIDDEN CvlStatus cvl_seg_select_first_senders_alone(const int32_t *index, size_t index_len, const bool *flags,
+    size_t flags_len, CvlLengths lengths, CvlLengths result_lengths, int32_t *out, size_t out_len);
+CVL_HIDDEN CvlStatus cvl_seg_select_first_senders_shared(const int32_t *index, size_t index_len, const bool *flags,
+    size_t flags_len, CvlLengths lengths, CvlLengths result_lengths, int32_t *out, size_t out_len);
 CVL_HIDDEN CvlStatus cvl_read_ints_alone(const char *text, size_t text_len, int32_t *out, size_t out_len, size_t *count);
 CVL_HIDDEN CvlStatus cvl_read_ints_shared(const char *text, size_t text_len, int32_t *out, size_t out_len, size_t *count);
 CVL_HIDDEN CvlStatus cvl_write_ints_alone(const int32_t *a, size_t a_len, char *out, size_t out_len, size_t *count);
@@ -1003,6 +1029,47 @@ static inline bool cvl_seg_back_permute_bool_agrees(size_t source_len, size_t in
         source_len <= CVL_MOST_ELEMENTS && out_len == index_len;
 }
 
+static inline bool cvl_first_senders_meets(const int32_t *index, size_t index_len, int32_t *out, size_t out_len) {
+    return CVL_MEET(out, out_len, index, index_len);
+}
+
+static inline bool cvl_first_senders_agrees(size_t index_len) {
+    return index_len <= CVL_MOST_ELEMENTS;
+}
+
+static inline bool cvl_select_first_senders_meets(const int32_t *index, size_t index_len, const bool *flags, size_t flags_len,
+    int32_t *out, size_t out_len) {
+    return CVL_MEET(out, out_len, index, index_len) || CVL_MEET(out, out_len, flags, flags_len);
+}
+
+static inline bool cvl_select_first_senders_agrees(size_t index_len, size_t flags_len) {
+    return index_len <= CVL_MOST_ELEMENTS && flags_len == index_len;
+}
+
+static inline bool cvl_seg_first_senders_meets(const int32_t *index, size_t index_len, CvlLengths lengths,
+    CvlLengths result_lengths, int32_t *out, size_t out_len) {
+    return CVL_MEET(out, out_len, index, index_len) || CVL_MEET(out, out_len, lengths.lengths, lengths.segments) || CVL_MEET(out,
+        out_len, result_lengths.lengths, result_lengths.segments);
+}
+
+static inline bool cvl_seg_first_senders_agrees(size_t index_len, CvlLengths lengths, CvlLengths result_lengths,
+    size_t out_len) {
+    return index_len <= CVL_MOST_ELEMENTS && lengths.segments <= CVL_MOST_ELEMENTS && result_lengths.segments == lengths.segments &&
+        out_len <= CVL_MOST_ELEMENTS;
+}
+
+static inline bool cvl_seg_select_first_senders_meets(const int32_t *index, size_t index_len, const bool *flags,
+    size_t flags_len, CvlLengths lengths, CvlLengths result_lengths, int32_t *out, size_t out_len) {
+    return CVL_MEET(out, out_len, index, index_len) || CVL_MEET(out, out_len, flags, flags_len) || CVL_MEET(out, out_len,
+        lengths.lengths, lengths.segments) || CVL_MEET(out, out_len, result_lengths.lengths, result_lengths.segments);
+}
+
+static inline bool cvl_seg_select_first_senders_agrees(size_t index_len, size_t flags_len, CvlLengths lengths,
+    CvlLengths result_lengths, size_t out_len) {
+    return index_len <= CVL_MOST_ELEMENTS && lengths.segments <= CVL_MOST_ELEMENTS && result_lengths.segments == lengths.segments &&
+        flags_len == index_len && out_len <= CVL_MOST_ELEMENTS;
+}
+
 static inline bool cvl_read_ints_meets(const char *text, size_t text_len, int32_t *out, size_t out_len, size_t *count) {
     return CVL_MEET(out, out_len, text, text_len) || CVL_MEET(out, out_len, count, 1) || CVL_MEET(count, 1, text, text_len);
 }
@@ -1153,6 +1220,26 @@ static inline bool cvl_select_permute_bool_range_agrees(size_t source_len, size_
     size_t out_len, size_t marks_len) {
     return index_len <= CVL_MOST_ELEMENTS && index_len == source_len && flags_len == source_len && lowest <= CVL_MOST_ELEMENTS &&
         out_len <= CVL_MOST_ELEMENTS - lowest && marks_len == (out_len + 31) / 32;
+}
+
+static inline bool cvl_first_senders_range_meets(const int32_t *index, size_t index_len, int32_t *out, size_t out_len,
+    size_t *named) {
+    return CVL_MEET(out, out_len, index, index_len) || CVL_MEET(out, out_len, named, 1) || CVL_MEET(named, 1, index, index_len);
+}
+
+static inline bool cvl_first_senders_range_agrees(size_t index_len, size_t lowest, size_t out_len) {
+    return index_len <= CVL_MOST_ELEMENTS && lowest <= CVL_MOST_ELEMENTS && out_len <= CVL_MOST_ELEMENTS - lowest;
+}
+
+static inline bool cvl_select_first_senders_range_meets(const int32_t *index, size_t index_len, const bool *flags,
+    size_t flags_len, int32_t *out, size_t out_len, size_t *named) {
+    return CVL_MEET(out, out_len, index, index_len) || CVL_MEET(out, out_len, flags, flags_len) || CVL_MEET(out, out_len, named, 1)
+        || CVL_MEET(named, 1, index, index_len) || CVL_MEET(named, 1, flags, flags_len);
+}
+
+static inline bool cvl_select_first_senders_range_agrees(size_t index_len, size_t flags_len, size_t lowest, size_t out_len) {
+    return index_len <= CVL_MOST_ELEMENTS && flags_len == index_len && lowest <= CVL_MOST_ELEMENTS && out_len <= CVL_MOST_ELEMENTS -
+        lowest;
 }
 
 static inline bool cvl_read_ints_after_meets(const char *text, size_t text_len, int32_t *out, size_t out_len, size_t *count) {

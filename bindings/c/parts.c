@@ -1654,6 +1654,126 @@ CvlStatus cvl_seg_back_permute_bool_shared(const bool *source, size_t source_len
         out_len));
 }
 
+CvlStatus cvl_first_senders_on(const CvlPool *pool, const int32_t *index, size_t index_len, int32_t *out, size_t out_len) {
+    CvlWork w;
+    const bool may = !cvl_first_senders_meets(index, index_len, out, out_len) && cvl_first_senders_agrees(index_len);
+    w.left_out = 0;
+    if (may && cvl_cut(pool, &w, out_len)) {
+        w.index = index;
+        w.a_len = index_len;
+        w.out = out, w.size = sizeof *out, w.out_len = out_len;
+        const bool done = cvl_in_senders(pool, &w);
+        cvl_let_go(&w);
+        if (done) return w.told;
+    }
+    return w.left_out ? cvl_status(CVL_NO_RESOURCES, -1) : cvl_first_senders_alone(index, index_len, out, out_len);
+}
+
+CvlStatus cvl_first_senders_shared(const int32_t *index, size_t index_len, int32_t *out, size_t out_len) {
+    const CvlPool *const pool = cvl_take_threads();
+    if (pool == NULL) return cvl_first_senders_alone(index, index_len, out, out_len);
+    return cvl_give_threads(cvl_first_senders_on(pool, index, index_len, out, out_len));
+}
+
+CvlStatus cvl_select_first_senders_on(const CvlPool *pool, const int32_t *index, size_t index_len, const bool *flags,
+    size_t flags_len, int32_t *out, size_t out_len) {
+    CvlWork w;
+    const bool may = !cvl_select_first_senders_meets(index, index_len, flags, flags_len, out, out_len) &&
+        cvl_select_first_senders_agrees(index_len, flags_len);
+    w.left_out = 0;
+    if (may && cvl_cut(pool, &w, out_len)) {
+        w.index = index;
+        w.flags = flags, w.flags_len = flags_len;
+        w.flags_are_flags = 1;
+        w.a_len = index_len;
+        w.out = out, w.size = sizeof *out, w.out_len = out_len;
+        const bool done = cvl_in_senders(pool, &w);
+        cvl_let_go(&w);
+        if (done) return w.told;
+    }
+    return w.left_out ? cvl_status(CVL_NO_RESOURCES, -1) : cvl_select_first_senders_alone(index, index_len, flags, flags_len, out,
+        out_len);
+}
+
+CvlStatus cvl_select_first_senders_shared(const int32_t *index, size_t index_len, const bool *flags, size_t flags_len,
+    int32_t *out, size_t out_len) {
+    const CvlPool *const pool = cvl_take_threads();
+    if (pool == NULL) return cvl_select_first_senders_alone(index, index_len, flags, flags_len, out, out_len);
+    return cvl_give_threads(cvl_select_first_senders_on(pool, index, index_len, flags, flags_len, out, out_len));
+}
+
+static CvlStatus seg_first_senders_part(CvlWork *w, size_t k) {
+    return cvl_proved_seg_first_senders(CVL_INTS(w->index, w->start[k]), w->start[k + 1] - w->start[k],
+        w->lengths + w->first[k], w->first[k + 1] - w->first[k], w->other_lengths + w->first[k], w->first[k + 1] - w->first[k],
+        CVL_INT_ROOM(w->out, w->other[k]), w->other[k + 1] - w->other[k]);
+}
+
+CvlStatus cvl_seg_first_senders_on(const CvlPool *pool, const int32_t *index, size_t index_len, CvlLengths lengths,
+    CvlLengths result_lengths, int32_t *out, size_t out_len) {
+    CvlWork w;
+    const bool may = !cvl_seg_first_senders_meets(index, index_len, lengths, result_lengths, out, out_len) &&
+        cvl_seg_first_senders_agrees(index_len, lengths, result_lengths, out_len);
+    w.left_out = 0;
+    if (may && cvl_cut_segments(pool, &w, index_len, lengths)) {
+        w.index = index;
+        w.out = out, w.size = sizeof *out, w.out_len = out_len;
+        w.part = seg_first_senders_part;
+        w.rooms = w.other;
+        w.other_by = CVL_BY_LENGTHS, w.other_lengths = result_lengths.lengths, w.other_len = out_len;
+        const bool done = cvl_in_segments(pool, &w);
+        cvl_let_go(&w);
+        if (done) return w.told;
+    }
+    return w.left_out ? cvl_status(CVL_NO_RESOURCES, -1) : cvl_seg_first_senders_alone(index, index_len, lengths, result_lengths,
+        out, out_len);
+}
+
+CvlStatus cvl_seg_first_senders_shared(const int32_t *index, size_t index_len, CvlLengths lengths, CvlLengths result_lengths,
+    int32_t *out, size_t out_len) {
+    const CvlPool *const pool = cvl_take_threads();
+    if (pool == NULL) return cvl_seg_first_senders_alone(index, index_len, lengths, result_lengths, out, out_len);
+    return cvl_give_threads(cvl_seg_first_senders_on(pool, index, index_len, lengths, result_lengths, out, out_len));
+}
+
+static CvlStatus seg_select_first_senders_part(CvlWork *w, size_t k) {
+    return cvl_proved_seg_select_first_senders(CVL_INTS(w->index, w->start[k]), w->start[k + 1] - w->start[k],
+        CVL_BOOLS(w->flags, w->start[k]), w->start[k + 1] - w->start[k], w->lengths + w->first[k], w->first[k + 1] - w->first[k],
+        w->other_lengths + w->first[k], w->first[k + 1] - w->first[k],
+        CVL_INT_ROOM(w->out, w->other[k]), w->other[k + 1] - w->other[k]);
+}
+
+CvlStatus cvl_seg_select_first_senders_on(const CvlPool *pool, const int32_t *index, size_t index_len, const bool *flags,
+    size_t flags_len, CvlLengths lengths, CvlLengths result_lengths, int32_t *out, size_t out_len) {
+    CvlWork w;
+    const bool may = !cvl_seg_select_first_senders_meets(index, index_len, flags, flags_len, lengths, result_lengths, out, out_len)
+        && cvl_seg_select_first_senders_agrees(index_len, flags_len, lengths, result_lengths, out_len);
+    w.left_out = 0;
+    if (may && cvl_cut_segments(pool, &w, index_len, lengths)) {
+        w.index = index;
+        w.flags = flags, w.flags_len = flags_len;
+        w.flags_are_flags = 1;
+        w.out = out, w.size = sizeof *out, w.out_len = out_len;
+        w.part = seg_select_first_senders_part;
+        w.rooms = w.other;
+        w.other_by = CVL_BY_LENGTHS, w.other_lengths = result_lengths.lengths, w.other_len = out_len;
+        const bool done = cvl_in_segments(pool, &w);
+        cvl_let_go(&w);
+        if (done) return w.told;
+    }
+    return w.left_out ? cvl_status(CVL_NO_RESOURCES, -1) : cvl_seg_select_first_senders_alone(index, index_len, flags, flags_len,
+        lengths, result_lengths, out, out_len);
+}
+
+CvlStatus cvl_seg_select_first_senders_shared(const int32_t *index, size_t index_len, const bool *flags, size_t flags_len,
+    CvlLengths lengths, CvlLengths result_lengths, int32_t *out, size_t out_len) {
+    const CvlPool *const pool = cvl_take_threads();
+    if (pool == NULL) {
+        return cvl_seg_select_first_senders_alone(index, index_len, flags, flags_len, lengths, result_lengths, out, out_len);
+    }
+    return cvl_give_threads(cvl_seg_select_first_senders_on(pool, index, index_len, flags, flags_len, lengths, result_lengths, out,
+        out_len));
+}
+
 CvlStatus cvl_read_ints_on(const CvlPool *pool, const char *text, size_t text_len, int32_t *out, size_t out_len,
     size_t *count) {
     CvlWork w;

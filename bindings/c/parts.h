@@ -133,6 +133,7 @@ CVL_HIDDEN bool cvl_in_count(const CvlPool *pool, CvlWork *w);
 CVL_HIDDEN bool cvl_in_pack(const CvlPool *pool, CvlWork *w);
 CVL_HIDDEN bool cvl_in_lengths(const CvlPool *pool, CvlWork *w);
 CVL_HIDDEN bool cvl_in_ranges(const CvlPool *pool, CvlWork *w);
+CVL_HIDDEN bool cvl_in_senders(const CvlPool *pool, CvlWork *w);
 CVL_HIDDEN bool cvl_in_segments(const CvlPool *pool, CvlWork *w);
 CVL_HIDDEN bool cvl_in_seg_scan(const CvlPool *pool, CvlWork *w);
 CVL_HIDDEN bool cvl_in_seg_reduce(const CvlPool *pool, CvlWork *w);

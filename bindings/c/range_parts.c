@@ -1,4 +1,4 @@
-/* Permutes in parts: the result is cut, and each part reads all indices and writes the elements that go to its own range. */
+/* Permutes and first senders in parts: the result is cut, and each part reads all indices and writes what goes to its own range. */
 #include "parts.h"
 
 /* How many bytes are kept of a room, up to whole words. The marks stand behind them, a bit a place, and each part has words of its own. */
@@ -39,10 +39,21 @@ static CvlStatus trues_part(CvlWork *w, size_t k) {
     return cvl_proved_count(w->flags + from, to - from, &w->sums[k].number);
 }
 
-static bool count_trues(const CvlPool *pool, CvlWork *w, size_t *trues) {
+/* How many flags are true, or how many indices there are where no flags are given. Whether the parts have counted. */
+static bool count_sent(const CvlPool *pool, CvlWork *w, size_t *sent) {
+    *sent = w->flags == NULL ? w->a_len : 0;
+    if (w->flags == NULL) return 1;
     if (!cvl_reads(pool, w, trues_part)) return 0;
-    for (size_t k = 0; k < w->parts; k++) *trues += (size_t)w->sums[k].number;
-    return *trues == w->out_len;
+    for (size_t k = 0; k < w->parts; k++) *sent += (size_t)w->sums[k].number;
+    return 1;
+}
+
+/* Whether the parts count as much as is wanted. Else what stood in the room is put back. */
+static bool are_all(CvlWork *w, size_t wanted) {
+    size_t counted = 0;
+    for (size_t k = 0; k < w->parts; k++) counted += w->counts[k];
+    if (counted != wanted && w->out_len > 0) memcpy(w->out, w->kept, w->out_len * w->size);
+    return counted == wanted;
 }
 
 /*
@@ -51,12 +62,24 @@ static bool count_trues(const CvlPool *pool, CvlWork *w, size_t *trues) {
  */
 bool cvl_in_ranges(const CvlPool *pool, CvlWork *w) {
     const size_t bytes = kept_bytes(w) + (w->out_len / 32 + w->parts) * sizeof(uint32_t);
-    size_t written = 0, wanted = w->flags == NULL ? w->a_len : 0;
+    size_t wanted;
     w->rooms = w->from, w->told = cvl_done();
-    if (w->flags != NULL && !count_trues(pool, w, &wanted)) return 0;
-    if (!cvl_make_all(pool, w) || !cvl_keep(w, bytes) || !cvl_writes_kept(pool, w, permute_part)) return 0;
-    for (size_t k = 0; k < w->parts; k++) written += w->counts[k];
-    if (written == wanted) return 1;
-    if (w->out_len > 0) memcpy(w->out, w->kept, w->out_len * w->size);
-    return 0;
+    if (!count_sent(pool, w, &wanted) || (w->flags != NULL && wanted != w->out_len)) return 0;
+    return cvl_make_all(pool, w) && cvl_keep(w, bytes) && cvl_writes_kept(pool, w, permute_part) && are_all(w, wanted);
+}
+
+/* The first senders of the part's range of the result, and how many indices name a place of it. */
+static CvlStatus senders_part(CvlWork *w, size_t k) {
+    const size_t from = w->from[k], n = w->from[k + 1] - from, len = w->a_len;
+    int32_t *out = CVL_INT_ROOM(w->out, from);
+    if (w->flags != NULL) return cvl_proved_select_first_senders_range(w->index, len, w->flags, len, from, out, n, &w->counts[k]);
+    return cvl_proved_first_senders_range(w->index, len, from, out, n, &w->counts[k]);
+}
+
+/* Where as many indices name a place of a range as take part, none is out of range. */
+bool cvl_in_senders(const CvlPool *pool, CvlWork *w) {
+    size_t wanted;
+    w->rooms = w->from, w->told = cvl_done();
+    return count_sent(pool, w, &wanted) && cvl_make_all(pool, w) && cvl_keep(w, w->out_len * w->size) &&
+        cvl_writes_kept(pool, w, senders_part) && are_all(w, wanted);
 }

@@ -254,6 +254,8 @@ module cvl
     public :: cvl_select_permute
     public :: cvl_default_permute
     public :: cvl_back_permute
+    public :: cvl_first_senders
+    public :: cvl_select_first_senders
     public :: cvl_read
     public :: cvl_write
     public :: cvl_scan_after
@@ -262,6 +264,8 @@ module cvl
     public :: cvl_checked_scan_after
     public :: cvl_permute_range
     public :: cvl_select_permute_range
+    public :: cvl_first_senders_range
+    public :: cvl_select_first_senders_range
     public :: cvl_read_after
 
     interface cvl_ext_vuz
@@ -401,6 +405,14 @@ module cvl
         module procedure back_permute_int, back_permute_bool, seg_back_permute_int, seg_back_permute_bool
     end interface cvl_back_permute
 
+    interface cvl_first_senders
+        module procedure first_senders, seg_first_senders
+    end interface cvl_first_senders
+
+    interface cvl_select_first_senders
+        module procedure select_first_senders, seg_select_first_senders
+    end interface cvl_select_first_senders
+
     interface cvl_read
         module procedure read_ints, seg_read_ints
     end interface cvl_read
@@ -432,6 +444,14 @@ module cvl
     interface cvl_select_permute_range
         module procedure select_permute_int_range, select_permute_bool_range
     end interface cvl_select_permute_range
+
+    interface cvl_first_senders_range
+        module procedure first_senders_range
+    end interface cvl_first_senders_range
+
+    interface cvl_select_first_senders_range
+        module procedure select_first_senders_range
+    end interface cvl_select_first_senders_range
 
     interface cvl_read_after
         module procedure read_ints_after
@@ -1141,6 +1161,51 @@ module cvl
             type(cvl_status) :: answer
         end function c_seg_back_permute_bool
 
+        function c_first_senders(index, index_len, out, out_len) result(answer) bind(c, name="cvl_first_senders")
+            import :: c_bool, c_char, c_int32_t, c_int64_t, c_ptr, c_size_t, cvl_status, lengths_of
+            type(c_ptr), value :: index
+            integer(c_size_t), value :: index_len
+            type(c_ptr), value :: out
+            integer(c_size_t), value :: out_len
+            type(cvl_status) :: answer
+        end function c_first_senders
+
+        function c_select_first_senders(index, index_len, flags, flags_len, out, out_len) result(answer) bind(c, &
+            name="cvl_select_first_senders")
+            import :: c_bool, c_char, c_int32_t, c_int64_t, c_ptr, c_size_t, cvl_status, lengths_of
+            type(c_ptr), value :: index
+            integer(c_size_t), value :: index_len
+            type(c_ptr), value :: flags
+            integer(c_size_t), value :: flags_len
+            type(c_ptr), value :: out
+            integer(c_size_t), value :: out_len
+            type(cvl_status) :: answer
+        end function c_select_first_senders
+
+        function c_seg_first_senders(index, index_len, lengths, result_lengths, out, out_len) result(answer) bind(c, &
+            name="cvl_seg_first_senders")
+            import :: c_bool, c_char, c_int32_t, c_int64_t, c_ptr, c_size_t, cvl_status, lengths_of
+            type(c_ptr), value :: index
+            integer(c_size_t), value :: index_len
+            type(lengths_of), value :: lengths, result_lengths
+            type(c_ptr), value :: out
+            integer(c_size_t), value :: out_len
+            type(cvl_status) :: answer
+        end function c_seg_first_senders
+
+        function c_seg_select_first_senders(index, index_len, flags, flags_len, lengths, result_lengths, out, out_len) &
+            result(answer) bind(c, name="cvl_seg_select_first_senders")
+            import :: c_bool, c_char, c_int32_t, c_int64_t, c_ptr, c_size_t, cvl_status, lengths_of
+            type(c_ptr), value :: index
+            integer(c_size_t), value :: index_len
+            type(c_ptr), value :: flags
+            integer(c_size_t), value :: flags_len
+            type(lengths_of), value :: lengths, result_lengths
+            type(c_ptr), value :: out
+            integer(c_size_t), value :: out_len
+            type(cvl_status) :: answer
+        end function c_seg_select_first_senders
+
         function c_read_ints(text, text_len, out, out_len, count) result(answer) bind(c, name="cvl_read_ints")
             import :: c_bool, c_char, c_int32_t, c_int64_t, c_ptr, c_size_t, cvl_status, lengths_of
             character(kind=c_char), intent(in) :: text(*)
@@ -1309,6 +1374,30 @@ module cvl
             integer(c_size_t), intent(inout) :: written
             type(cvl_status) :: answer
         end function c_select_permute_bool_range
+
+        function c_first_senders_range(index, index_len, lowest, out, out_len, named) result(answer) bind(c, &
+            name="cvl_first_senders_range")
+            import :: c_bool, c_char, c_int32_t, c_int64_t, c_ptr, c_size_t, cvl_status, lengths_of
+            type(c_ptr), value :: index
+            integer(c_size_t), value :: index_len, lowest
+            type(c_ptr), value :: out
+            integer(c_size_t), value :: out_len
+            integer(c_size_t), intent(inout) :: named
+            type(cvl_status) :: answer
+        end function c_first_senders_range
+
+        function c_select_first_senders_range(index, index_len, flags, flags_len, lowest, out, out_len, named) result(answer) &
+            bind(c, name="cvl_select_first_senders_range")
+            import :: c_bool, c_char, c_int32_t, c_int64_t, c_ptr, c_size_t, cvl_status, lengths_of
+            type(c_ptr), value :: index
+            integer(c_size_t), value :: index_len
+            type(c_ptr), value :: flags
+            integer(c_size_t), value :: flags_len, lowest
+            type(c_ptr), value :: out
+            integer(c_size_t), value :: out_len
+            integer(c_size_t), intent(inout) :: named
+            type(cvl_status) :: answer
+        end function c_select_first_senders_range
 
         function c_read_ints_after(before, text, text_len, out, out_len, count) result(answer) bind(c, &
             name="cvl_read_ints_after")
@@ -4058,6 +4147,61 @@ contains
             kind=c_size_t), cut(lengths), cut(index_lengths), at(out), size(out, kind=c_size_t)), status)
     end subroutine seg_back_permute_bool
 
+    ! cvl_first_senders: For each place of the result the least place whose index names it, or -1 where none does. The result
+    ! may have any number of places.
+    ! Faults: 13 TooLong; 10 IndexOutOfRange at the first index that is no place of the result.
+    subroutine first_senders(index, out, status)
+        integer(c_int32_t), intent(in), target, contiguous :: index(:)
+        integer(c_int32_t), intent(inout), target, contiguous :: out(:)
+        type(cvl_status), intent(out), optional :: status
+
+        call tell("cvl_first_senders", c_first_senders(at(index), size(index, kind=c_size_t), at(out), size(out, &
+            kind=c_size_t)), status)
+    end subroutine first_senders
+
+    ! cvl_select_first_senders: For each place of the result the least place whose flag is true and whose index names it, or -1
+    ! where none does. An index whose flag is false is not looked at. The result may have any number of places.
+    ! Faults: 13 TooLong; 7 LengthMismatch where index and flags are not equally long; 10 IndexOutOfRange at the first index
+    ! that is no place of the result.
+    subroutine select_first_senders(index, flags, out, status)
+        integer(c_int32_t), intent(in), target, contiguous :: index(:)
+        logical(c_bool), intent(in), target, contiguous :: flags(:)
+        integer(c_int32_t), intent(inout), target, contiguous :: out(:)
+        type(cvl_status), intent(out), optional :: status
+
+        call tell("cvl_select_first_senders", c_select_first_senders(at(index), size(index, kind=c_size_t), at(flags), &
+            size(flags, kind=c_size_t), at(out), size(out, kind=c_size_t)), status)
+    end subroutine select_first_senders
+
+    ! cvl_first_senders: For each place of each segment of the result the least place of the same segment of the index that
+    ! names it, or -1 where none does.
+    ! Faults: 13 TooLong; 7 LengthMismatch where the lengths do not add up to the index, or the result lengths to out; 10
+    ! IndexOutOfRange at the first index that is no place of its segment of the result.
+    subroutine seg_first_senders(index, lengths, result_lengths, out, status)
+        integer(c_int32_t), intent(in), target, contiguous :: index(:), lengths(:), result_lengths(:)
+        integer(c_int32_t), intent(inout), target, contiguous :: out(:)
+        type(cvl_status), intent(out), optional :: status
+
+        call tell("cvl_first_senders", c_seg_first_senders(at(index), size(index, kind=c_size_t), cut(lengths), &
+            cut(result_lengths), at(out), size(out, kind=c_size_t)), status)
+    end subroutine seg_first_senders
+
+    ! cvl_select_first_senders: For each place of each segment of the result the least place of the same segment of the index
+    ! whose flag is true and whose index names it, or -1 where none does. An index whose flag is false is not looked at.
+    ! Faults: 13 TooLong; 7 LengthMismatch where index and flags are not equally long; 7 LengthMismatch where the lengths do not
+    ! add up to the index, or the result lengths to out; 10 IndexOutOfRange at the first index that is no place of its segment
+    ! of the result.
+    subroutine seg_select_first_senders(index, flags, lengths, result_lengths, out, status)
+        integer(c_int32_t), intent(in), target, contiguous :: index(:)
+        logical(c_bool), intent(in), target, contiguous :: flags(:)
+        integer(c_int32_t), intent(in), target, contiguous :: lengths(:), result_lengths(:)
+        integer(c_int32_t), intent(inout), target, contiguous :: out(:)
+        type(cvl_status), intent(out), optional :: status
+
+        call tell("cvl_select_first_senders", c_seg_select_first_senders(at(index), size(index, kind=c_size_t), at(flags), &
+            size(flags, kind=c_size_t), cut(lengths), cut(result_lengths), at(out), size(out, kind=c_size_t)), status)
+    end subroutine seg_select_first_senders
+
     ! cvl_read: The integers of a text. They stand between white space (space, tab, line feed, carriage return), and each is an
     ! optional minus sign and at least one digit, inside 32 bits. A text of white space alone has none.
     ! Faults: 13 TooLong, without a place, where there are more than 4194304 words between white space, whatever they are; else
@@ -4276,6 +4420,37 @@ contains
             size(index, kind=c_size_t), at(flags), size(flags, kind=c_size_t), lowest, at(out), size(out, kind=c_size_t), &
             at(marks), size(marks, kind=c_size_t), written), status)
     end subroutine select_permute_bool_range
+
+    ! cvl_first_senders_range: One range of the first senders, its out_len places from place `lowest` on: for each the least
+    ! place whose index names it, or -1. named is how many indices name a place of the range. Each part has another range and
+    ! all of index. Where all parts together named index_len, the ranges, one after another, are the first senders. Else an
+    ! index is out of range: cvl_first_senders tells which.
+    ! Faults: 13 TooLong, by the index, and where the range ends behind place 2147483647.
+    subroutine first_senders_range(index, lowest, out, named, status)
+        integer(c_int32_t), intent(in), target, contiguous :: index(:)
+        integer(c_size_t), intent(in) :: lowest
+        integer(c_int32_t), intent(inout), target, contiguous :: out(:)
+        integer(c_size_t), intent(inout) :: named
+        type(cvl_status), intent(out), optional :: status
+
+        call tell("cvl_first_senders_range", c_first_senders_range(at(index), size(index, kind=c_size_t), lowest, at(out), &
+            size(out, kind=c_size_t), named), status)
+    end subroutine first_senders_range
+
+    ! cvl_select_first_senders_range: The same among the places whose flag is true: where all parts together named as many as
+    ! flags are true, the ranges are the first senders.
+    ! Faults: those of cvl_first_senders_range; 7 LengthMismatch where index and flags are not equally long.
+    subroutine select_first_senders_range(index, flags, lowest, out, named, status)
+        integer(c_int32_t), intent(in), target, contiguous :: index(:)
+        logical(c_bool), intent(in), target, contiguous :: flags(:)
+        integer(c_size_t), intent(in) :: lowest
+        integer(c_int32_t), intent(inout), target, contiguous :: out(:)
+        integer(c_size_t), intent(inout) :: named
+        type(cvl_status), intent(out), optional :: status
+
+        call tell("cvl_select_first_senders_range", c_select_first_senders_range(at(index), size(index, kind=c_size_t), &
+            at(flags), size(flags, kind=c_size_t), lowest, at(out), size(out, kind=c_size_t), named), status)
+    end subroutine select_first_senders_range
 
     ! cvl_read_after: The integers of one piece of a text that is cut at white space, as cvl_read_ints reads them. `before` is
     ! how many words the pieces before it have, so that a fault's place is that in the whole text.

@@ -303,7 +303,9 @@ def agrees(family):
     if any(operand.extent == "count" for operand in family.operands):
         found.append("count >= 0 && count <= CVL_MOST_ELEMENTS && (size_t)count == out_len")
     if any(operand.extent == "range" for operand in family.operands):
-        found.append("lowest <= CVL_MOST_ELEMENTS && out_len <= CVL_MOST_ELEMENTS - lowest && marks_len == (out_len + 31) / 32")
+        found.append("lowest <= CVL_MOST_ELEMENTS && out_len <= CVL_MOST_ELEMENTS - lowest")
+        if any(operand.extent == "marks" for operand in family.operands):
+            found.append("marks_len == (out_len + 31) / 32")
     return " && ".join(dict.fromkeys(found))
 
 
@@ -424,6 +426,11 @@ class Family:
         return any(operand.extent == "trues" for operand in self.family.operands)
 
     @property
+    def by_lengths(self):
+        """Whether lengths alone say how long the room is, which the export asks behind the faults of elements."""
+        return self.row.result is not None and self.row.result.extent in rows.said_by_lengths(self.row)
+
+    @property
     def is_asked(self):
         """Whether what the export asks last has to be asked before."""
         room = any(operand.role == "room" for operand in self.family.operands)
@@ -534,7 +541,7 @@ def checked(row):
             texts.append(text)
             tests = " || ".join(f"!cvl_proved_are_flags({operand.name}, {operand.name}_len)" for operand in found.copied)
             lines.append(guarded(tests, copied))
-        if found.family.asks or found.by_flags:
+        if found.family.asks or found.by_flags or found.by_lengths:
             lines += [statement(f"const CvlStatus status = {call};"), statement("if (!cvl_is_late(status)) return status;")]
             lines += [statement(f"const CvlStatus before = {asked};"), statement("return before.number == CVL_DONE ? status : before;")]
             call = None

@@ -90,6 +90,8 @@ def filled(found):
             lines.append("w.place = (size_t)index;")
         if operand.role == "told":
             lines.append(f"w.count = {operand.name};")
+    if cut == "senders":
+        lines.append("w.a_len = index_len;")
     out = found.row.result
     if out is not None:
         lines.append(f"w.out = out, w.size = sizeof *out{', w.out_len = out_len' if out.role == 'room' else ''};")

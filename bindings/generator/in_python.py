@@ -24,14 +24,17 @@ class Direct(packages.Call):
 
     def __init__(self, row):
         super().__init__(row)
-        self.example = EXAMPLES.get(self.name) or row.example
         self.told = [operand for operand in row.operands if operand.role == "told"]
-        self.is_range = any(operand.kind == "marks" for operand in row.operands)
+        self.is_range = any(operand.extent == "range" for operand in row.operands)
         rooms = [operand for operand in row.operands if operand.role == "room"]
         if self.is_range:
             self.operands = [*self.operands, *rooms]
         if row.family.operators:
             self.operands = [table.Operand("op", "operator", "size", None, False), *self.operands]
+
+    @property
+    def example(self):
+        return EXAMPLES.get(self.name) or super().example
 
     @property
     def fills(self):
@@ -103,8 +106,9 @@ def _direct_result(call, shown):
     """The last line of the example of a function beside the calls, and what it shows; nothing for one that is as a call."""
     said = call.example
     if call.gives == "WRITTEN":
-        found = int(said["written"]), _literal(said["out"].split()), [int(said["marks"])]
-        return f"{shown}, out.tolist(), marks.tolist()", found
+        rooms = [operand.name for operand in call.row.rooms]
+        found = int(said[call.told[0].name]), *(_literal(said[name].split()) for name in rooms)
+        return ", ".join([shown, *(f"{name}.tolist()" for name in rooms)]), found
     if call.gives == "TEXT":
         return shown, said["out"].strip('"')
     if call.gives == "READ_NESTED":
@@ -147,7 +151,8 @@ def _purpose(call):
     if isinstance(call, Direct):
         said = said.replace(" out may be longer than the result, which stands at its front.", "")
         said += " out may be longer than the result, which stands at its front." if call.fills and call.told else ""
-        said += " It gives how many places it wrote." if call.is_range else ""
+        said += f" It gives {call.told[0].name}." if call.is_range and len(call.row.rooms) == 1 else ""
+        said += " It gives how many places it wrote." if call.is_range and len(call.row.rooms) > 1 else ""
         said += " op is one of cvl.operators." if call.family.operators else ""
     return said + (" A number may stand for an array of it." if _spreads(call) else "")
 
@@ -216,6 +221,10 @@ def _room_extent(call):
     """How long the room of the result is: of a pack as many as flags are true."""
     if call.result is None or call.result.role != "room":
         return None
+    if call.is_sized:
+        return "count"
+    if call.result.extent in rows.said_by_lengths(call.row):
+        return "total"
     return "trues" if call.result.extent == "room" and call.counts else call.result.extent
 
 
@@ -230,6 +239,8 @@ def _measures(operand, extent):
 
 def _measured_by(call):
     """The operand that says how long the room is, by its place."""
+    if _room_extent(call) == "total":
+        return call.operands.index(call.measure())
     return next((k for k, operand in enumerate(call.operands) if _measures(operand, _room_extent(call))), 0)
 
 
@@ -272,7 +283,11 @@ def _make(call):
         return ""
     op = [f"{'(uint32_t)NUMBER(0)' if isinstance(call, Direct) else 'frame->row->op'}"] if call.family.operators else []
     given, name = ", ".join([*op, *(_argument(call, operand) for operand in call.row.operands)]), call.family.name
-    return f"static CvlStatus make_{name}(Frame *frame) {{\n{_filled(f'return cvl_{name}({given});')}\n}}\n"
+    lines = [_filled(f"return cvl_{name}({given});")]
+    if call.is_sized:
+        k = call.operands.index(packages.COUNT)
+        lines = [f"    const CvlStatus status = cvl_sized(frame, {k});", "    if (status.number != CVL_DONE) return status;", *lines]
+    return "\n".join([f"static CvlStatus make_{name}(Frame *frame) {{", *lines, "}", ""])
 
 
 def _families():

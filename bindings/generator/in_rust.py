@@ -55,7 +55,7 @@ def _words(operand, words):
 
 
 def _literal(function, operand):
-    return _words(operand, function.row.example[operand.name])
+    return _words(operand, function.example[operand.name])
 
 
 def _operator_of_example(function):
@@ -72,9 +72,14 @@ def _operator(function, text):
     return [text] if function.row.call is None and function.family.operators else []
 
 
-def _example_arguments(function, place=None):
+def _beside_room(function):
+    """The operands that stand beside a room, which says how long the result is."""
+    return [operand for operand in function.operands if not (function.is_sized and operand == packages.COUNT)]
+
+
+def _example_arguments(function, place=None, operands=None):
     found = _operator(function, f"cvl::Operator::{_operator_of_example(function)}")
-    for operand in function.operands:
+    for operand in function.operands if operands is None else operands:
         if operand == place:
             found.append(f"&mut {operand.name}")
         else:
@@ -105,11 +110,24 @@ def _example(function):
 
 
 def _example_of_range(function):
-    example, arguments = function.row.example, ", ".join(_example_arguments(function))
-    start = "0" if function.result.kind == "ints" else "false"
-    yield f"let (mut out, mut marks) = ([{start}; {example['out_len']}], [0; 1]);"
-    yield from _asserted(f"cvl::{function.name}({arguments}, &mut out, &mut marks)?", example["written"])
-    yield f"assert_eq!((out, marks), ([{', '.join(function.given)}], [{example['marks']}]));"
+    example, rooms = function.row.example, function.row.rooms
+    zeros = ["false" if room.kind == "flags" else "0" for room in rooms]
+    arrays = [f"[{zero}; {len(example[room.name].split())}]" for room, zero in zip(rooms, zeros)]
+    found = [f"[{', '.join(example[room.name].split())}]" for room in rooms]
+    several = len(rooms) > 1
+    yield f"let {_tuple([f'mut {room.name}' for room in rooms], several)} = {_tuple(arrays, several)};"
+    arguments = ", ".join([*_example_arguments(function), *(f"&mut {room.name}" for room in rooms)])
+    yield from _asserted(f"cvl::{function.name}({arguments})?", example[_told(function).name])
+    yield f"assert_eq!({_tuple([room.name for room in rooms], several)}, {_tuple(found, several)});"
+
+
+def _tuple(words, several):
+    return f"({', '.join(words)})" if several else words[0]
+
+
+def _told(function):
+    """What a range tells beside its rooms."""
+    return next(operand for operand in function.row.operands if operand.role == "told")
 
 
 def _has_example(function):
@@ -122,8 +140,8 @@ def _in_rust(text):
 
 
 def _comment(function):
-    faults = rows.fault_text(function.row)
-    lines = documented(_in_rust(function.row.sentences), faults and f"Faults: {_in_rust(faults)}", indent="")
+    faults = function.faults
+    lines = documented(_in_rust(function.sentences), faults and f"Faults: {_in_rust(faults)}", indent="")
     if _has_example(function):
         lines += _in_comment(_example(function))
     return lines
@@ -140,15 +158,15 @@ def _type_taken(operand):
     return "i64" if operand.role in ("place", "count") else TAKEN[operand.kind]
 
 
-def _taken(function, place=None):
+def _taken(function, place=None, operands=None):
     """The parameters, of which one may be the room."""
-    operands = [f"{name_of(o)}: {ROOMS[o.kind] if o == place else _type_taken(o)}" for o in function.operands]
-    return _operator(function, "operator: Operator") + operands
+    operands = function.operands if operands is None else operands
+    return _operator(function, "operator: Operator") + [f"{name_of(o)}: {ROOMS[o.kind] if o == place else _type_taken(o)}" for o in operands]
 
 
 def _passed(function):
-    """The parameters as a function passes them on."""
-    return _operator(function, "operator") + [name_of(operand) for operand in function.operands]
+    """The parameters as a function passes them on to the one with a room."""
+    return _operator(function, "operator") + [name_of(operand) for operand in _beside_room(function)]
 
 
 def _text(function):
@@ -186,7 +204,7 @@ def _extent(function):
     by = function.measure()
     if by:
         return f"{name_of(by)}.total()" if by.role == "lengths" else f"true_flags({by.name})"
-    return "places(count)?" if function.result.extent == "count" else _alike(function, function.result.extent)[0]
+    return "places(count)?" if function.is_sized or function.result.extent == "count" else _alike(function, function.result.extent)[0]
 
 
 def _argument(function, argument):
@@ -238,7 +256,8 @@ def _single(function):
 def _range(function):
     """A range of a result, into rooms of the caller's."""
     taken = [*_taken(function), *(f"{room.name}: {ROOMS[room.kind]}" for room in function.row.rooms)]
-    return _function(function.name, taken, "usize", ["let mut written = 0;", f"{_called(function)}?;", "Ok(written)"])
+    told = _told(function).name
+    return _function(function.name, taken, "usize", [f"let mut {told} = 0;", f"{_called(function)}?;", f"Ok({told})"])
 
 
 def _into(function):
@@ -249,8 +268,9 @@ def _into(function):
         answer, room = "usize", "as long as the result or longer, and how long that is"
     else:
         body.append(_called(function))
-    said = documented(f"[`{function.name}`] into a room that is {room}; a fault leaves the room as it was.", indent="")
-    taken = [*_taken(function), f"out: {ROOMS[function.result.kind]}"]
+    said = f"into a room that is {room}" if not function.is_sized else "into a room, which says how many places the result has"
+    said = documented(f"[`{function.name}`] {said}; a fault leaves the room as it was.", indent="")
+    taken = [*_taken(function, operands=_beside_room(function)), f"out: {ROOMS[function.result.kind]}"]
     return [*said, *_function(f"{function.name}_into", taken, answer, body)]
 
 
@@ -321,7 +341,7 @@ def families():
     about = "The functions that are no call of a script: texts, and what a part of a call needs that the whole does not, among others."
     uses = (
         "use alloc::string::String;\nuse alloc::vec::Vec;\n\n"
-        "use crate::fault::Fault;\nuse crate::lengths::{counted, limit, most_words, same, text_limit, text_of, zeros};\n"
+        "use crate::fault::Fault;\nuse crate::lengths::{counted, limit, most_words, places, same, text_limit, text_of, zeros};\n"
         "use crate::numbers::Operator;\nuse crate::pool::call;\nuse crate::segments::Segments;"
     )
     return HEAD.format(about=about, note=rows.NOTE, uses=uses) + "".join(map(_written, FAMILIES))
@@ -378,7 +398,7 @@ def _example_test(function):
 
 
 def _example_into(function):
-    given = [*_example_arguments(function), "&mut room"]
+    given = [*_example_arguments(function, operands=_beside_room(function)), "&mut room"]
     if function.counts:
         yield from _asserted(f"cvl::{function.name}_into({', '.join(given)})?", function.row.example["count"])
     else:
@@ -388,13 +408,17 @@ def _example_into(function):
 def _other_lengths(function):
     """Rooms and arrays of another length: they are refused, and what stands in the room stays."""
     lengths = "&[room.len() - 1]" if function.counts else "&[room.len() - 1, room.len() + 1]"
-    given = ", ".join([*_example_arguments(function), "room"])
-    yield from shown("refuses", [lengths, f"|room| cvl::{function.name}_into({given}).map(|_| ())", "room[0]"], ";", indent="")
+    given = ", ".join([*_example_arguments(function, operands=_beside_room(function)), "room"])
+    if not function.is_sized:
+        yield from shown("refuses", [lengths, f"|room| cvl::{function.name}_into({given}).map(|_| ())", "room[0]"], ";", indent="")
     for k, operand in enumerate(function.operands):
         if _has_partner(function, operand):
-            given = _example_arguments(function)
-            given[k + len(_operator(function, ""))] = _shorter(function, operand)
+            at = k + len(_operator(function, ""))
+            given = _example_arguments(function, operands=_beside_room(function))
+            given[at] = _shorter(function, operand)
             yield from shown("differ", [f"cvl::{function.name}_into({', '.join([*given, '&mut room'])})"], ";", indent="")
+            given = _example_arguments(function)
+            given[at] = _shorter(function, operand)
             if len(_alike(function, operand.extent)) > 1:
                 yield from shown("differ", [f"cvl::{function.name}({', '.join(given)})"], ";", indent="")
 

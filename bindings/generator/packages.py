@@ -12,8 +12,12 @@ def name_of(operand):
     return operand.name.replace("lengths", "segments") if operand.role == "lengths" else operand.name
 
 
+# How many elements a result has to have, where in C the room alone says it.
+COUNT = table.Operand("count", "count", "int", None, False)
+
+
 class Call:
-    """A call of the table."""
+    """A call of the table, or a function that is no call."""
 
     def __init__(self, row):
         self.row, self.name, self.family = row, row.name, row.family
@@ -23,6 +27,20 @@ class Call:
         self.operands = [operand._replace(role="reads") for operand in row.takes] if self.makes_segments else row.takes
         self.cuts = [operand for operand in self.operands if operand.role == "lengths"]
         self.result = row.result
+        if self.is_sized:
+            self.operands = [*self.operands, COUNT]
+
+    @property
+    def is_sized(self):
+        """Whether no operand says how long the result is."""
+        others = [operand for operand in self.row.operands if operand != self.result]
+        return self.result is not None and self.result.extent == "m" and all(operand.extent != "m" for operand in others)
+
+    @property
+    def example(self):
+        """The row's example, with what C does not take."""
+        said = self.row.example
+        return {**said, "count": str(len(said["out"].split()))} if said and self.is_sized else said
 
     @property
     def fills(self):
@@ -35,10 +53,15 @@ class Call:
         return self.result is not None and any(operand.role == "told" for operand in self.row.operands)
 
     @property
-    def purpose(self):
+    def sentences(self):
         """What it does, and how long its arrays are."""
+        return self.row.sentences + (" count is how many places the result has." if self.is_sized else "")
+
+    @property
+    def purpose(self):
+        """The same, and what a room may be."""
         kept = " out may be longer than the result, which stands at its front." if self.counts else ""
-        return self.row.sentences + kept
+        return self.sentences + kept
 
     @property
     def measured(self):
@@ -71,14 +94,14 @@ class Call:
 
     def measure(self):
         """The operand that says how long a room is whose length the library is told: flags or lengths; nothing for another room."""
-        if self.result.extent == "total":
+        if self.result.extent in rows.said_by_lengths(self.row):
             return self.cuts[-1]
         flags = [operand for operand in self.operands if operand.name == "flags"]
         return flags[0] if self.result.extent in ("trues", "room") else None
 
     def words(self, operand):
         """The words of an operand in the example."""
-        return self.row.example[operand.name].split()
+        return self.example[operand.name].split()
 
     @property
     def given(self):
@@ -87,7 +110,8 @@ class Call:
 
     @property
     def faults(self):
-        return rows.fault_text(self.row)
+        of_count = "".join(f"{fault.said}; " for fault in table.BAD_COUNT) if self.is_sized else ""
+        return of_count + rows.fault_text(self.row)
 
     @property
     def in_place_words(self):

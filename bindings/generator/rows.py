@@ -115,6 +115,11 @@ def _of_call(row):
     return found
 
 
+def said_by_lengths(row):
+    """What lengths add up to and no array is that is read."""
+    return {cut.extent for cut in row.cuts} - {operand.extent for operand in row.operands if operand.role == "reads"}
+
+
 def limited(family):
     """The operand whose number of elements is limited: the index of a permute, the flags of a pack, else the first vector."""
     arrays = [operand for operand in family.operands if operand.role == "reads" and operand.extent == family.limit]

@@ -164,6 +164,24 @@ static void fill_indices(const Row *row, Given *g, size_t n, size_t m) {
     if (many > 0 && chance(3)) index[below(many)] = chance(2) ? index[below(many)] : chance(2) ? -1 - (int32_t)below(2) : chance(2) ? INT32_MAX : (int32_t)m;
 }
 
+/* The indices of first senders, most times each a place of its segment of the result; those whose flag is false are no places. */
+static void fill_senders(const Row *row, Given *g) {
+    const bool selects = kind_of(row, 1) == 'f';
+    const size_t out = operand(row, "R", 0), many = g->len[0];
+    int32_t *index = (int32_t *)g->at[0];
+    if (has_negative(g, row)) return;
+    const Cuts from = cuts_of(row, g, 0, many), to = cuts_of(row, g, 1, g->len[out] + (extent_of(row, out) == 'g' ? below(9) : 0));
+    for (size_t s = 0; s < from.count && s < to.count; s++) {
+        const size_t length = to.start[s + 1] - to.start[s];
+        for (size_t k = from.start[s]; k < from.start[s + 1] && k < many; k++) {
+            index[k] = selects && k < g->len[1] && !get(row, g, 1, k) ? -7 : (int32_t)below(length);
+        }
+    }
+    for (size_t bad = many > 0 && chance(3) ? 1 + below(3) : 0; bad > 0; bad--) {
+        index[below(many)] = chance(2) ? -1 - (int32_t)below(2) : chance(2) ? INT32_MAX : (int32_t)g->len[out];
+    }
+}
+
 static void fill_text(const Row *row, char *text, size_t length) {
     static const char *const words[] = {"5", "-1", "007", "-0", "2147483647", "-2147483648", "12", "3"};
     static const char *const bad[] = {"x", "+1", "2147483648", "-", "--1", "]", "[", "1-"};
@@ -260,6 +278,7 @@ static void make(const Row *row, Given *g) {
     }
     if (row->model >= PERMUTE && row->model <= SEG_BACK_PERMUTE) fill_indices(row, g, n, m);
     if (row->model == SEG_EXTRACT || row->model == SEG_REPLACE || row->model == PERMUTE_RANGE || row->model == SELECT_PERMUTE_RANGE) fill_indices(row, g, n, n);
+    if (row->model >= FIRST_SENDERS) fill_senders(row, g);
     move_rooms(row, g);
     for (size_t k = 0; k < count; k++) {
         if (is_array(row, k) && g->len[k] == 0 && chance(3)) g->at[k] = NULL;

@@ -147,6 +147,12 @@ static bool is_white(char byte) { return byte == ' ' || byte == '\t' || byte == 
     X(seg_read_ints, cvl_seg_read_ints, in.nested, in.nested_length, r->ints, in.n, &r->count, r->lengths, in.segments, &r->segments) \
     X(seg_write_ints, cvl_seg_write_ints, in.a, in.n, BY(in.lengths, in.segments), r->text, in.text_room, &r->count)               \
     X(seg_write_bools, cvl_seg_write_bools, in.p, in.n, BY(in.lengths, in.segments), r->text, in.text_room, &r->count)             \
+    X(first_senders, cvl_first_senders, in.default_index, in.n, r->ints, in.m)                                                 \
+    X(first_of_few, cvl_first_senders, in.back_index, in.k, r->ints, in.n)                                                     \
+    X(select_first_senders, cvl_select_first_senders, in.select_index, in.n, in.flags, in.n, r->ints, in.trues)                \
+    X(seg_first_senders, cvl_seg_first_senders, in.seg_default_index, in.n, BY(in.lengths, in.segments), BY(in.wide, in.segments), r->ints, in.m) \
+    X(seg_select_first_senders, cvl_seg_select_first_senders, in.seg_select_index, in.n, in.flags, in.n, BY(in.lengths, in.segments), \
+      BY(in.lengths, in.segments), r->ints, in.n)                                                                              \
     X(askew, cvl_int2, CVL_ADD, r->ints, in.n / 2, in.b, in.n / 2, r->ints + in.n / 4, in.n / 2)                               \
     X(askew_scan, cvl_int_scan, CVL_ADD, r->ints, in.n / 2, r->ints + in.n / 4, in.n / 2)                                      \
     X(differ, cvl_int2, CVL_ADD, in.a, in.n, in.b, in.n / 2, r->ints, in.n)                                                    \

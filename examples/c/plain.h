@@ -289,6 +289,21 @@ static size_t gather(const char *call) {
     return n;
 }
 
+/* Each group of the result is as long as that of the index. The last place is sent first, so that the first one stays. */
+static size_t send_first(const char *call) {
+    for (size_t k = 0; k < n; k++) wanted[k] = -1;
+    for (size_t g = 0; g < groups(by_segments(call)); g++) {
+        const size_t start = from(by_segments(call), g);
+        for (size_t k = to(by_segments(call), g); k > start; k--) {
+            if (held[0][k - 1] >= 0) wanted[start + (size_t)held[0][k - 1]] = (int32_t)(k - 1 - start);
+        }
+    }
+    return n;
+}
+
+/* The range of all places that have a sender, of which there are as many as true flags. */
+static size_t send_first_flagged(const char *call) { return send_first(call) == n ? trues_in(0, n) : 0; }
+
 static size_t total(const char *call) {
     (void)call;
     return n;
@@ -301,7 +316,7 @@ static const struct Reading {
 } readings[] = {
     {"sel", "w", chosen}, {"sel", "p", send_flagged}, {"smp", "p", send}, {"def", "p", send}, {"bck", "p", gather}, {"pck", "l", pack},
     {"pck", "f", count_trues}, {"cnt", "l", count_trues}, {"ext", "v", extract}, {"rep", "v", replace}, {"dis", "v", distribute},
-    {"ind", "l", number}, {"mke", "f", total}, {"", "w", place_by_place}, {"", "s", scan}, {"", "r", reduce},
+    {"ind", "l", number}, {"fst", "l", send_first}, {"fsr", "l", send_first_flagged}, {"mke", "f", total}, {"", "w", place_by_place}, {"", "s", scan}, {"", "r", reduce},
 };
 
 static size_t read_plainly(const char *call) {
@@ -323,7 +338,8 @@ static const char *const calls_of_exports[][2] = {
     {"select_permute_int", "sel_puz"}, {"select_permute_bool", "sel_pub"}, {"default_permute_int", "def_puz"},
     {"default_permute_bool", "def_pub"}, {"back_permute_int", "bck_puz"}, {"back_permute_bool", "bck_pub"},
     {"permute_int_range", "smp_puz"}, {"permute_bool_range", "smp_pub"}, {"select_permute_int_range", "sel_puz"},
-    {"select_permute_bool_range", "sel_pub"}, {"int_scan_after", "add_suz"}, {"bool_scan_after", "xor_sub"},
+    {"select_permute_bool_range", "sel_pub"}, {"first_senders", "fst_luz"}, {"select_first_senders", "fst_luz"},
+    {"first_senders_range", "fst_luz"}, {"select_first_senders_range", "fsr_luz"}, {"int_scan_after", "add_suz"}, {"bool_scan_after", "xor_sub"},
     {"checked_scan_after", "tot_suz"}, {"exact_sum", "tot_ruz"}, {"read_ints", "cpy_wuz"},
     {"read_ints_after", "cpy_wuz"}, {"write_ints", "cpy_wuz"}, {"write_bools", "cpy_wub"}, {"new", "mke_fov"},
     {"free", "mke_fov"},

@@ -725,6 +725,54 @@ static void permutes_of_segments(void) {
     FAULT(bck_peb(flags, 5, I(1, 0, 0, 0), S(lengths, 3), S(I(3, 1, 0), 3), bools, 4), CVL_INDEX_OUT_OF_RANGE, 3);
 }
 
+/* The range told that so many indices name a place of it. */
+static void named(const char *call, size_t wanted) {
+    if (total != wanted) fail(call, "another number of indices");
+}
+
+static void first_senders(void) {
+    const int32_t *index = I(2, 0, 2, 3), *some = I(2, 0, 2, 9);
+    const bool *f = B(false, true, true, false);
+    const size_t many = (size_t)CVL_MOST_ELEMENTS + 1;
+    INTS(cvl_first_senders(index, 4, ints, 4), 1, -1, 0, 3);
+    INTS(cvl_first_senders(index, 4, ints, 6), 1, -1, 0, 3, -1, -1);
+    INTS(cvl_first_senders(index, 0, ints, 2), -1, -1);
+    INTS(cvl_select_first_senders(some, 4, f, 4, ints, 3), 1, -1, 2);
+    INTS_OF_COPIES(1, cvl_select_first_senders(some, 4, O(0, 9, 2, 0), 4, ints, 3), 1, -1, 2);
+    FAULT(cvl_first_senders(index, 4, ints, 3), CVL_INDEX_OUT_OF_RANGE, 3);
+    FAULT(cvl_first_senders(I(0, -1, 9), 3, ints, 2), CVL_INDEX_OUT_OF_RANGE, 1);
+    FAULT(cvl_first_senders(index, 1, ints, 0), CVL_INDEX_OUT_OF_RANGE, 0);
+    FAULT(cvl_first_senders(too_many_ints, many, ints, 3), CVL_TOO_LONG, -1);
+    FAULT(cvl_select_first_senders(some, 4, f, 4, ints, 2), CVL_INDEX_OUT_OF_RANGE, 2);
+    FAULT(cvl_select_first_senders(some, 4, f, 3, ints, 3), CVL_LENGTH_MISMATCH, -1);
+    FAULT(cvl_select_first_senders(too_many_ints, many, f, 3, ints, 3), CVL_TOO_LONG, -1);
+    INTS(cvl_first_senders_range(index, 4, 1, ints, 2, &total), -1, 0);
+    named("cvl_first_senders_range", 2);
+    INTS(cvl_first_senders_range(I(INT32_MIN, INT32_MAX - 1), 2, CVL_MOST_ELEMENTS - 1, ints, 1, &total), 1);
+    named("cvl_first_senders_range", 1);
+    INTS(cvl_select_first_senders_range(some, 4, f, 4, 1, ints, 2, &total), -1, 2);
+    named("cvl_select_first_senders_range", 1);
+    FAULT(cvl_first_senders_range(index, 4, CVL_MOST_ELEMENTS, ints, 1, &total), CVL_TOO_LONG, -1);
+    FAULT(cvl_select_first_senders_range(some, 4, f, 3, 0, ints, 1, &total), CVL_LENGTH_MISMATCH, -1);
+}
+
+static void first_senders_of_segments(void) {
+    const int32_t *index = I(1, 1, 0, 3, 0), *some = I(1, 1, 9, 3, 0), *lengths = I(2, 0, 3), *widths = I(2, 1, 4);
+    const bool *f = B(false, true, false, true, true);
+    INTS(cvl_seg_first_senders(index, 5, S(lengths, 3), S(widths, 3), ints, 7), -1, 0, -1, 0, -1, -1, 1);
+    INTS(cvl_seg_select_first_senders(some, 5, f, 5, S(lengths, 3), S(widths, 3), ints, 7), -1, 1, -1, 2, -1, -1, 1);
+    INTS_OF_COPIES(1, cvl_seg_select_first_senders(some, 5, O(0, 9, 0, 2, 1), 5, S(lengths, 3), S(widths, 3), ints, 7), -1, 1, -1, 2, -1, -1, 1);
+    FAULT(cvl_seg_first_senders(index, 5, S(lengths, 3), S(I(2, 1, 3), 3), ints, 6), CVL_INDEX_OUT_OF_RANGE, 3);
+    FAULT(cvl_seg_first_senders(I(1, 2, 0, 9, 0), 5, S(lengths, 3), S(widths, 3), ints, 7), CVL_INDEX_OUT_OF_RANGE, 1);
+    FAULT(cvl_seg_first_senders(I(1, 2, 0, 9, 0), 5, S(lengths, 3), S(widths, 3), ints, 6), CVL_LENGTH_MISMATCH, -1);
+    FAULT(cvl_seg_first_senders(index, 4, S(lengths, 3), S(widths, 3), ints, 7), CVL_LENGTH_MISMATCH, -1);
+    FAULT(cvl_seg_first_senders(index, 5, S(lengths, 3), S(I(2, 5), 2), ints, 7), CVL_LENGTH_MISMATCH, -1);
+    FAULT(cvl_seg_first_senders(index, 5, S(I(2, -1, 4), 3), S(I(-1, 4, 4), 3), ints, 7), CVL_NEGATIVE_LENGTH, 1);
+    FAULT(cvl_seg_first_senders(index, 5, S(lengths, 3), S(I(2, 6, -1), 3), ints, 7), CVL_NEGATIVE_LENGTH, 2);
+    FAULT(cvl_seg_select_first_senders(some, 5, f, 5, S(lengths, 3), S(I(1, 2, 4), 3), ints, 7), CVL_INDEX_OUT_OF_RANGE, 1);
+    FAULT(cvl_seg_select_first_senders(some, 5, f, 4, S(lengths, 3), S(widths, 3), ints, 7), CVL_LENGTH_MISMATCH, -1);
+}
+
 static void permutes_of_wrong_segments(void) {
     const int32_t *five = I(1, 2, 3, 4, 5), *lengths = I(2, 0, 3), *turn = I(1, 0, 2, 0, 1), *negative = I(2, 4, -1);
     const bool *flags = B(false, true, true, false, true);
@@ -1391,6 +1439,8 @@ int main(void) {
     permutes_of_wrong_lengths();
     permutes_of_segments();
     permutes_of_wrong_segments();
+    first_senders();
+    first_senders_of_segments();
     texts();
     texts_of_any_length();
     made_descriptors();

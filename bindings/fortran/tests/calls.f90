@@ -315,6 +315,10 @@ program calls
     call test_back_permute_bck_pez()
     call test_bck_peb()
     call test_back_permute_bck_peb()
+    call test_first_senders_first_senders()
+    call test_select_first_senders_select_first_senders()
+    call test_first_senders_seg_first_senders()
+    call test_select_first_senders_seg_select_first_senders()
     call test_read_read_ints()
     call test_write_write_ints()
     call test_write_write_bools()
@@ -327,9 +331,11 @@ program calls
     call test_permute_range_permute_bool_range()
     call test_select_permute_range_select_permute_int_range()
     call test_select_permute_range_select_permute_bool_range()
+    call test_first_senders_range_first_senders_range()
+    call test_select_first_senders_range_select_first_senders_range()
     call test_read_after_read_ints_after()
     if (count_of_wrong > 0) error stop 1
-    print "(a)", "321 examples"
+    print "(a)", "327 examples"
 contains
     subroutine test_add_wuz()
         integer(c_int32_t) :: out(3)
@@ -2902,6 +2908,42 @@ contains
             .true.])))
     end subroutine test_back_permute_bck_peb
 
+    subroutine test_first_senders_first_senders()
+        integer(c_int32_t) :: out(4)
+
+        out = 77
+        call cvl_first_senders([integer(c_int32_t) :: 2, 0, 2, 3], out, status)
+        call same("first_senders_first_senders", status, all(out == [integer(c_int32_t) :: 1, -1, 0, 3]))
+    end subroutine test_first_senders_first_senders
+
+    subroutine test_select_first_senders_select_first_senders()
+        integer(c_int32_t) :: out(3)
+
+        out = 77
+        call cvl_select_first_senders([integer(c_int32_t) :: 2, 0, 2, 9], [logical(c_bool) :: .false., .true., .true., &
+            .false.], out, status)
+        call same("select_first_senders_select_first_senders", status, all(out == [integer(c_int32_t) :: 1, -1, 2]))
+    end subroutine test_select_first_senders_select_first_senders
+
+    subroutine test_first_senders_seg_first_senders()
+        integer(c_int32_t) :: out(7)
+
+        out = 77
+        call cvl_first_senders([integer(c_int32_t) :: 1, 1, 0, 3, 0], [integer(c_int32_t) :: 2, 0, 3], [integer(c_int32_t) :: &
+            2, 1, 4], out, status)
+        call same("first_senders_seg_first_senders", status, all(out == [integer(c_int32_t) :: -1, 0, -1, 0, -1, -1, 1]))
+    end subroutine test_first_senders_seg_first_senders
+
+    subroutine test_select_first_senders_seg_select_first_senders()
+        integer(c_int32_t) :: out(7)
+
+        out = 77
+        call cvl_select_first_senders([integer(c_int32_t) :: 1, 1, 9, 3, 0], [logical(c_bool) :: .false., .true., .false., &
+            .true., .true.], [integer(c_int32_t) :: 2, 0, 3], [integer(c_int32_t) :: 2, 1, 4], out, status)
+        call same("select_first_senders_seg_select_first_senders", status, all(out == [integer(c_int32_t) :: -1, 1, -1, 2, -1, &
+            -1, 1]))
+    end subroutine test_select_first_senders_seg_select_first_senders
+
     subroutine test_read_read_ints()
         integer(c_int32_t) :: out(4)
         integer(c_size_t) :: count
@@ -3050,6 +3092,29 @@ contains
         call same("select_permute_range_select_permute_bool_range", status, all(marks == [integer(c_int32_t) :: 1]))
         call same("select_permute_range_select_permute_bool_range", status, written == 1_c_size_t)
     end subroutine test_select_permute_range_select_permute_bool_range
+
+    subroutine test_first_senders_range_first_senders_range()
+        integer(c_int32_t) :: out(2)
+        integer(c_size_t) :: named
+
+        out = 77
+        named = 77
+        call cvl_first_senders_range([integer(c_int32_t) :: 2, 0, 2, 3], 1_c_size_t, out, named, status)
+        call same("first_senders_range_first_senders_range", status, all(out == [integer(c_int32_t) :: -1, 0]))
+        call same("first_senders_range_first_senders_range", status, named == 2_c_size_t)
+    end subroutine test_first_senders_range_first_senders_range
+
+    subroutine test_select_first_senders_range_select_first_senders_range()
+        integer(c_int32_t) :: out(2)
+        integer(c_size_t) :: named
+
+        out = 77
+        named = 77
+        call cvl_select_first_senders_range([integer(c_int32_t) :: 2, 0, 2, 9], [logical(c_bool) :: .false., .true., .true., &
+            .false.], 1_c_size_t, out, named, status)
+        call same("select_first_senders_range_select_first_senders_range", status, all(out == [integer(c_int32_t) :: -1, 2]))
+        call same("select_first_senders_range_select_first_senders_range", status, named == 1_c_size_t)
+    end subroutine test_select_first_senders_range_select_first_senders_range
 
     subroutine test_read_after_read_ints_after()
         integer(c_int32_t) :: out(2)

@@ -10,9 +10,11 @@ from cvl._calls import (
     mul_rez, min_sez, min_rez, max_sez, max_rez, and_sez, and_rez, ior_sez, ior_rez, xor_sez, xor_rez, and_seb,
     and_reb, ior_seb, ior_reb, xor_seb, xor_reb, pck_luz, pck_lub, pck_lez, pck_leb, pck_fov, cnt_leb, smp_puz,
     smp_pub, sel_puz, sel_pub, def_puz, def_pub, bck_puz, bck_pub, smp_pez, smp_peb, sel_pez, sel_peb, def_pez,
-    def_peb, bck_pez, bck_peb, len_luz, len_lub, len_fos, read_ints, write_ints, write_bools, seg_read_ints,
-    seg_write_ints, seg_write_bools, int_scan_after, bool_scan_after, exact_sum, checked_scan_after,
-    permute_int_range, permute_bool_range, select_permute_int_range, select_permute_bool_range, read_ints_after,
+    def_peb, bck_pez, bck_peb, len_luz, len_lub, len_fos, first_senders, select_first_senders, seg_first_senders,
+    seg_select_first_senders, read_ints, write_ints, write_bools, seg_read_ints, seg_write_ints, seg_write_bools,
+    int_scan_after, bool_scan_after, exact_sum, checked_scan_after, permute_int_range, permute_bool_range,
+    select_permute_int_range, select_permute_bool_range, first_senders_range, select_first_senders_range,
+    read_ints_after,
 )
 
 __all__ = [
@@ -27,8 +29,9 @@ __all__ = [
     "ior_rez", "xor_sez", "xor_rez", "and_seb", "and_reb", "ior_seb", "ior_reb", "xor_seb", "xor_reb", "pck_luz",
     "pck_lub", "pck_lez", "pck_leb", "pck_fov", "cnt_leb", "smp_puz", "smp_pub", "sel_puz", "sel_pub", "def_puz",
     "def_pub", "bck_puz", "bck_pub", "smp_pez", "smp_peb", "sel_pez", "sel_peb", "def_pez", "def_peb", "bck_pez",
-    "bck_peb", "len_luz", "len_lub", "len_fos", "read_ints", "write_ints", "write_bools", "seg_read_ints",
-    "seg_write_ints", "seg_write_bools", "int_scan_after", "bool_scan_after", "exact_sum", "checked_scan_after",
-    "permute_int_range", "permute_bool_range", "select_permute_int_range", "select_permute_bool_range",
-    "read_ints_after",
+    "bck_peb", "len_luz", "len_lub", "len_fos", "first_senders", "select_first_senders", "seg_first_senders",
+    "seg_select_first_senders", "read_ints", "write_ints", "write_bools", "seg_read_ints", "seg_write_ints",
+    "seg_write_bools", "int_scan_after", "bool_scan_after", "exact_sum", "checked_scan_after", "permute_int_range",
+    "permute_bool_range", "select_permute_int_range", "select_permute_bool_range", "first_senders_range",
+    "select_first_senders_range", "read_ints_after",
 ]

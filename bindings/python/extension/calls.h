@@ -159,6 +159,9 @@ void cvl_tell(const Frame *frame, CvlStatus status, int has_room);
 /* How long the room of a call has to be. Whether that is known. */
 int cvl_measure(const Frame *frame, size_t *needed);
 
+/* What is told of a count by which Python alone says how long the result is, and of a room that is not so long. */
+CvlStatus cvl_sized(const Frame *frame, int k);
+
 /* Whether arguments are as long as they have to be. */
 int cvl_agree(const Frame *frame);
 

@@ -247,6 +247,26 @@ static CvlStatus make_seg_back_permute_bool(Frame *frame) {
     return cvl_seg_back_permute_bool(READ(bool, 0), READ(int32_t, 1), CUT(2), CUT(3), WRITE(bool, frame->room));
 }
 
+static CvlStatus make_first_senders(Frame *frame) {
+    const CvlStatus status = cvl_sized(frame, 1);
+    if (status.number != CVL_DONE) return status;
+    return cvl_first_senders(READ(int32_t, 0), WRITE(int32_t, frame->room));
+}
+
+static CvlStatus make_select_first_senders(Frame *frame) {
+    const CvlStatus status = cvl_sized(frame, 2);
+    if (status.number != CVL_DONE) return status;
+    return cvl_select_first_senders(READ(int32_t, 0), READ(bool, 1), WRITE(int32_t, frame->room));
+}
+
+static CvlStatus make_seg_first_senders(Frame *frame) {
+    return cvl_seg_first_senders(READ(int32_t, 0), CUT(1), CUT(2), WRITE(int32_t, frame->room));
+}
+
+static CvlStatus make_seg_select_first_senders(Frame *frame) {
+    return cvl_seg_select_first_senders(READ(int32_t, 0), READ(bool, 1), CUT(2), CUT(3), WRITE(int32_t, frame->room));
+}
+
 static CvlStatus make_read_ints(Frame *frame) {
     return cvl_read_ints(READ(char, 0), WRITE(int32_t, frame->room), &frame->told);
 }
@@ -308,6 +328,16 @@ static CvlStatus make_select_permute_bool_range(Frame *frame) {
         WRITE(bool, frame->given[4]), WRITE(uint32_t, frame->given[5]), &frame->told);
 }
 
+static CvlStatus make_first_senders_range(Frame *frame) {
+    return cvl_first_senders_range(READ(int32_t, 0), (size_t)NUMBER(1), WRITE(int32_t, frame->given[2]),
+        &frame->told);
+}
+
+static CvlStatus make_select_first_senders_range(Frame *frame) {
+    return cvl_select_first_senders_range(READ(int32_t, 0), READ(bool, 1), (size_t)NUMBER(2), WRITE(int32_t,
+        frame->given[3]), &frame->told);
+}
+
 static CvlStatus make_read_ints_after(Frame *frame) {
     return cvl_read_ints_after((size_t)NUMBER(0), READ(char, 1), WRITE(int32_t, frame->room), &frame->told);
 }
@@ -332,11 +362,13 @@ enum {
     FAMILY_SELECT_PERMUTE_BOOL, FAMILY_DEFAULT_PERMUTE_INT, FAMILY_DEFAULT_PERMUTE_BOOL, FAMILY_BACK_PERMUTE_INT,
     FAMILY_BACK_PERMUTE_BOOL, FAMILY_SEG_PERMUTE_INT, FAMILY_SEG_PERMUTE_BOOL, FAMILY_SEG_SELECT_PERMUTE_INT,
     FAMILY_SEG_SELECT_PERMUTE_BOOL, FAMILY_SEG_DEFAULT_PERMUTE_INT, FAMILY_SEG_DEFAULT_PERMUTE_BOOL,
-    FAMILY_SEG_BACK_PERMUTE_INT, FAMILY_SEG_BACK_PERMUTE_BOOL, FAMILY_READ_INTS, FAMILY_WRITE_INTS,
+    FAMILY_SEG_BACK_PERMUTE_INT, FAMILY_SEG_BACK_PERMUTE_BOOL, FAMILY_FIRST_SENDERS, FAMILY_SELECT_FIRST_SENDERS,
+    FAMILY_SEG_FIRST_SENDERS, FAMILY_SEG_SELECT_FIRST_SENDERS, FAMILY_READ_INTS, FAMILY_WRITE_INTS,
     FAMILY_WRITE_BOOLS, FAMILY_SEG_READ_INTS, FAMILY_SEG_WRITE_INTS, FAMILY_SEG_WRITE_BOOLS, FAMILY_INT_SCAN_AFTER,
     FAMILY_BOOL_SCAN_AFTER, FAMILY_EXACT_SUM, FAMILY_CHECKED_SCAN_AFTER, FAMILY_PERMUTE_INT_RANGE,
     FAMILY_PERMUTE_BOOL_RANGE, FAMILY_SELECT_PERMUTE_INT_RANGE, FAMILY_SELECT_PERMUTE_BOOL_RANGE,
-    FAMILY_READ_INTS_AFTER, FAMILY_LEN_LUZ, FAMILY_LEN_LUB, FAMILY_LEN_FOS
+    FAMILY_FIRST_SENDERS_RANGE, FAMILY_SELECT_FIRST_SENDERS_RANGE, FAMILY_READ_INTS_AFTER, FAMILY_LEN_LUZ,
+    FAMILY_LEN_LUB, FAMILY_LEN_FOS
 };
 
 Family cvl_families[] = {
@@ -475,6 +507,17 @@ Family cvl_families[] = {
     [FAMILY_SEG_BACK_PERMUTE_BOOL] = {4, {{"source", KIND_FLAGS, EXTENT_N, NULL}, {"index", KIND_INTS, EXTENT_M,
         NULL}, {"segments", KIND_LENGTHS, EXTENT_N, NULL}, {"index_segments", KIND_LENGTHS, EXTENT_M, NULL}},
         GIVES_FLAGS, EXTENT_M, 1, 0, CVL_MOST_ELEMENTS, make_seg_back_permute_bool},
+    [FAMILY_FIRST_SENDERS] = {2, {{"index", KIND_INTS, EXTENT_N, NULL}, {"count", KIND_WIDE, EXTENT_NONE, NULL}},
+        GIVES_INTS, EXTENT_COUNT, 1, 0, CVL_MOST_ELEMENTS, make_first_senders},
+    [FAMILY_SELECT_FIRST_SENDERS] = {3, {{"index", KIND_INTS, EXTENT_N, NULL}, {"flags", KIND_FLAGS, EXTENT_N, NULL},
+        {"count", KIND_WIDE, EXTENT_NONE, NULL}}, GIVES_INTS, EXTENT_COUNT, 2, 0, CVL_MOST_ELEMENTS,
+        make_select_first_senders},
+    [FAMILY_SEG_FIRST_SENDERS] = {3, {{"index", KIND_INTS, EXTENT_N, NULL}, {"segments", KIND_LENGTHS, EXTENT_N,
+        NULL}, {"result_segments", KIND_LENGTHS, EXTENT_M, NULL}}, GIVES_INTS, EXTENT_TOTAL, 2, 0, CVL_MOST_ELEMENTS,
+        make_seg_first_senders},
+    [FAMILY_SEG_SELECT_FIRST_SENDERS] = {4, {{"index", KIND_INTS, EXTENT_N, NULL}, {"flags", KIND_FLAGS, EXTENT_N,
+        NULL}, {"segments", KIND_LENGTHS, EXTENT_N, NULL}, {"result_segments", KIND_LENGTHS, EXTENT_M, NULL}},
+        GIVES_INTS, EXTENT_TOTAL, 3, 0, CVL_MOST_ELEMENTS, make_seg_select_first_senders},
     [FAMILY_READ_INTS] = {1, {{"text", KIND_TEXT, EXTENT_N, NULL}}, GIVES_READ, EXTENT_TRUES, 0, 0, CVL_MOST_ELEMENTS,
         make_read_ints},
     [FAMILY_WRITE_INTS] = {1, {{"a", KIND_INTS, EXTENT_N, NULL}}, GIVES_TEXT, EXTENT_TRUES, 0, 0, CVL_MOST_ELEMENTS,
@@ -510,6 +553,12 @@ Family cvl_families[] = {
         NULL}, {"flags", KIND_FLAGS, EXTENT_N, NULL}, {"lowest", KIND_SIZE, EXTENT_NONE, NULL}, {"out",
         KIND_ROOM_FLAGS, EXTENT_NONE, NULL}, {"marks", KIND_ROOM_MARKS, EXTENT_NONE, NULL}}, GIVES_WRITTEN,
         EXTENT_NONE, 0, 0, SIZE_MAX, make_select_permute_bool_range},
+    [FAMILY_FIRST_SENDERS_RANGE] = {3, {{"index", KIND_INTS, EXTENT_N, NULL}, {"lowest", KIND_SIZE, EXTENT_NONE,
+        NULL}, {"out", KIND_ROOM_INTS, EXTENT_NONE, NULL}}, GIVES_WRITTEN, EXTENT_NONE, 0, 0, SIZE_MAX,
+        make_first_senders_range},
+    [FAMILY_SELECT_FIRST_SENDERS_RANGE] = {4, {{"index", KIND_INTS, EXTENT_N, NULL}, {"flags", KIND_FLAGS, EXTENT_N,
+        NULL}, {"lowest", KIND_SIZE, EXTENT_NONE, NULL}, {"out", KIND_ROOM_INTS, EXTENT_NONE, NULL}}, GIVES_WRITTEN,
+        EXTENT_NONE, 0, 0, SIZE_MAX, make_select_first_senders_range},
     [FAMILY_READ_INTS_AFTER] = {2, {{"before", KIND_SIZE, EXTENT_NONE, NULL}, {"text", KIND_TEXT, EXTENT_N, NULL}},
         GIVES_READ, EXTENT_TRUES, 0, 0, CVL_MOST_ELEMENTS, make_read_ints_after},
     [FAMILY_LEN_LUZ] = {1, {{"a", KIND_INTS, EXTENT_N, NULL}}, GIVES_LENGTH, EXTENT_NONE, 0, 0, SIZE_MAX,
@@ -640,6 +689,10 @@ FUNCTION(def_pez, FAMILY_SEG_DEFAULT_PERMUTE_INT, 0)
 FUNCTION(def_peb, FAMILY_SEG_DEFAULT_PERMUTE_BOOL, 0)
 FUNCTION(bck_pez, FAMILY_SEG_BACK_PERMUTE_INT, 0)
 FUNCTION(bck_peb, FAMILY_SEG_BACK_PERMUTE_BOOL, 0)
+FUNCTION(first_senders, FAMILY_FIRST_SENDERS, 0)
+FUNCTION(select_first_senders, FAMILY_SELECT_FIRST_SENDERS, 0)
+FUNCTION(seg_first_senders, FAMILY_SEG_FIRST_SENDERS, 0)
+FUNCTION(seg_select_first_senders, FAMILY_SEG_SELECT_FIRST_SENDERS, 0)
 FUNCTION(read_ints, FAMILY_READ_INTS, 0)
 FUNCTION(write_ints, FAMILY_WRITE_INTS, 0)
 FUNCTION(write_bools, FAMILY_WRITE_BOOLS, 0)
@@ -654,6 +707,8 @@ FUNCTION(permute_int_range, FAMILY_PERMUTE_INT_RANGE, 0)
 FUNCTION(permute_bool_range, FAMILY_PERMUTE_BOOL_RANGE, 0)
 FUNCTION(select_permute_int_range, FAMILY_SELECT_PERMUTE_INT_RANGE, 0)
 FUNCTION(select_permute_bool_range, FAMILY_SELECT_PERMUTE_BOOL_RANGE, 0)
+FUNCTION(first_senders_range, FAMILY_FIRST_SENDERS_RANGE, 0)
+FUNCTION(select_first_senders_range, FAMILY_SELECT_FIRST_SENDERS_RANGE, 0)
 FUNCTION(read_ints_after, FAMILY_READ_INTS_AFTER, 0)
 FUNCTION(len_luz, FAMILY_LEN_LUZ, 0)
 FUNCTION(len_lub, FAMILY_LEN_LUB, 0)
@@ -2372,6 +2427,77 @@ PyDoc_STRVAR(doc_bck_peb,
     ">>> cvl.bck_peb(source, index, segments, index_segments).tolist()\n"
     "[False, False, False, True]");
 
+PyDoc_STRVAR(doc_first_senders,
+    "first_senders($module, /, index, count, *, out=None)\n"
+    "--\n"
+    "\n"
+    "For each place of the result the least place whose index names it, or -1 where none does. The result may have any\n"
+    "number of places. count is how many places the result has.\n"
+    "\n"
+    "Faults: 12 NegativeLength, without a place, where count is below 0; 13 TooLong where it is above 2147483647; 13\n"
+    "TooLong; 10 IndexOutOfRange at the first index that is no place of the result.\n"
+    "\n"
+    ">>> import cvl, numpy\n"
+    ">>> index = numpy.array([2, 0, 2, 3], dtype=numpy.int32)\n"
+    ">>> count = 4\n"
+    ">>> cvl.first_senders(index, count).tolist()\n"
+    "[1, -1, 0, 3]");
+
+PyDoc_STRVAR(doc_select_first_senders,
+    "select_first_senders($module, /, index, flags, count, *, out=None)\n"
+    "--\n"
+    "\n"
+    "For each place of the result the least place whose flag is true and whose index names it, or -1 where none does.\n"
+    "An index whose flag is false is not looked at. The result may have any number of places. count is how many places\n"
+    "the result has.\n"
+    "\n"
+    "Faults: 12 NegativeLength, without a place, where count is below 0; 13 TooLong where it is above 2147483647; 13\n"
+    "TooLong; 7 LengthMismatch where index and flags are not equally long; 10 IndexOutOfRange at the first index that\n"
+    "is no place of the result.\n"
+    "\n"
+    ">>> import cvl, numpy\n"
+    ">>> index = numpy.array([2, 0, 2, 9], dtype=numpy.int32)\n"
+    ">>> flags = numpy.array([False, True, True, False], dtype=bool)\n"
+    ">>> count = 3\n"
+    ">>> cvl.select_first_senders(index, flags, count).tolist()\n"
+    "[1, -1, 2]");
+
+PyDoc_STRVAR(doc_seg_first_senders,
+    "seg_first_senders($module, /, index, segments, result_segments, *, out=None)\n"
+    "--\n"
+    "\n"
+    "For each place of each segment of the result the least place of the same segment of the index that names it, or -1\n"
+    "where none does.\n"
+    "\n"
+    "Faults: 13 TooLong; 7 LengthMismatch where the lengths do not add up to the index, or the result lengths to out;\n"
+    "10 IndexOutOfRange at the first index that is no place of its segment of the result.\n"
+    "\n"
+    ">>> import cvl, numpy\n"
+    ">>> index = numpy.array([1, 1, 0, 3, 0], dtype=numpy.int32)\n"
+    ">>> segments = cvl.Segments([2, 0, 3])\n"
+    ">>> result_segments = cvl.Segments([2, 1, 4])\n"
+    ">>> cvl.seg_first_senders(index, segments, result_segments).tolist()\n"
+    "[-1, 0, -1, 0, -1, -1, 1]");
+
+PyDoc_STRVAR(doc_seg_select_first_senders,
+    "seg_select_first_senders($module, /, index, flags, segments, result_segments, *, out=None)\n"
+    "--\n"
+    "\n"
+    "For each place of each segment of the result the least place of the same segment of the index whose flag is true\n"
+    "and whose index names it, or -1 where none does. An index whose flag is false is not looked at.\n"
+    "\n"
+    "Faults: 13 TooLong; 7 LengthMismatch where index and flags are not equally long; 7 LengthMismatch where the\n"
+    "lengths do not add up to the index, or the result lengths to out; 10 IndexOutOfRange at the first index that is no\n"
+    "place of its segment of the result.\n"
+    "\n"
+    ">>> import cvl, numpy\n"
+    ">>> index = numpy.array([1, 1, 9, 3, 0], dtype=numpy.int32)\n"
+    ">>> flags = numpy.array([False, True, False, True, True], dtype=bool)\n"
+    ">>> segments = cvl.Segments([2, 0, 3])\n"
+    ">>> result_segments = cvl.Segments([2, 1, 4])\n"
+    ">>> cvl.seg_select_first_senders(index, flags, segments, result_segments).tolist()\n"
+    "[-1, 1, -1, 2, -1, -1, 1]");
+
 PyDoc_STRVAR(doc_read_ints,
     "read_ints($module, /, text, *, out=None)\n"
     "--\n"
@@ -2600,6 +2726,41 @@ PyDoc_STRVAR(doc_select_permute_bool_range,
     ">>> cvl.select_permute_bool_range(source, index, flags, lowest, out, marks), out.tolist(), marks.tolist()\n"
     "(1, [False], [1])");
 
+PyDoc_STRVAR(doc_first_senders_range,
+    "first_senders_range($module, /, index, lowest, out)\n"
+    "--\n"
+    "\n"
+    "One range of the first senders, its len(out) places from place `lowest` on: for each the least place whose index\n"
+    "names it, or -1. named is how many indices name a place of the range. Each part has another range and all of\n"
+    "index. Where all parts together named len(index), the ranges, one after another, are the first senders. Else an\n"
+    "index is out of range: first_senders tells which. It gives named.\n"
+    "\n"
+    "Faults: 13 TooLong, by the index, and where the range ends behind place 2147483647.\n"
+    "\n"
+    ">>> import cvl, numpy\n"
+    ">>> index = numpy.array([2, 0, 2, 3], dtype=numpy.int32)\n"
+    ">>> lowest = 1\n"
+    ">>> out = numpy.zeros(2, dtype=numpy.int32)\n"
+    ">>> cvl.first_senders_range(index, lowest, out), out.tolist()\n"
+    "(2, [-1, 0])");
+
+PyDoc_STRVAR(doc_select_first_senders_range,
+    "select_first_senders_range($module, /, index, flags, lowest, out)\n"
+    "--\n"
+    "\n"
+    "The same among the places whose flag is true: where all parts together named as many as flags are true, the ranges\n"
+    "are the first senders. It gives named.\n"
+    "\n"
+    "Faults: those of first_senders_range; 7 LengthMismatch where index and flags are not equally long.\n"
+    "\n"
+    ">>> import cvl, numpy\n"
+    ">>> index = numpy.array([2, 0, 2, 9], dtype=numpy.int32)\n"
+    ">>> flags = numpy.array([False, True, True, False], dtype=bool)\n"
+    ">>> lowest = 1\n"
+    ">>> out = numpy.zeros(2, dtype=numpy.int32)\n"
+    ">>> cvl.select_first_senders_range(index, flags, lowest, out), out.tolist()\n"
+    "(1, [-1, 2])");
+
 PyDoc_STRVAR(doc_read_ints_after,
     "read_ints_after($module, /, before, text, *, out=None)\n"
     "--\n"
@@ -2765,6 +2926,10 @@ PyMethodDef cvl_methods[] = {
     METHOD(def_peb),
     METHOD(bck_pez),
     METHOD(bck_peb),
+    METHOD(first_senders),
+    METHOD(select_first_senders),
+    METHOD(seg_first_senders),
+    METHOD(seg_select_first_senders),
     METHOD(read_ints),
     METHOD(write_ints),
     METHOD(write_bools),
@@ -2779,6 +2944,8 @@ PyMethodDef cvl_methods[] = {
     METHOD(permute_bool_range),
     METHOD(select_permute_int_range),
     METHOD(select_permute_bool_range),
+    METHOD(first_senders_range),
+    METHOD(select_first_senders_range),
     METHOD(read_ints_after),
     METHOD(len_luz),
     METHOD(len_lub),

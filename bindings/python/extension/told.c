@@ -32,6 +32,13 @@ int cvl_measure(const Frame *frame, size_t *needed) {
     return measure_by(&frame->given[family->by], family->extent, family->most, needed);
 }
 
+CvlStatus cvl_sized(const Frame *frame, int k) {
+    const int64_t count = frame->given[k].number;
+    if (count < 0) return (CvlStatus){CVL_NEGATIVE_LENGTH, -1};
+    if (count > CVL_MOST_ELEMENTS) return (CvlStatus){CVL_TOO_LONG, -1};
+    return (CvlStatus){(size_t)count == frame->room.count ? CVL_DONE : CVL_LENGTH_MISMATCH, -1};
+}
+
 /* A text that says how long two arguments are that have to be equally long, or nothing. `number` is that of the one. */
 static PyObject *differ(const char *form, const char *name, size_t number, const char *other, size_t wanted) {
     return number == wanted ? NULL : PyUnicode_FromFormat(form, name, (Py_ssize_t)number, other, (Py_ssize_t)wanted);

@@ -714,6 +714,56 @@ class Parts(unittest.TestCase):
             cvl.permute_int_range(source, index, -1, part, numpy.zeros(1, numpy.uint32))
 
 
+def first_of(index, takes_part, count):
+    """The first senders of so many places, read plainly."""
+    return [next((k for k, i in enumerate(index) if takes_part[k] and i == place), -1) for place in range(count)]
+
+
+class FirstSenders(unittest.TestCase):
+    def setUp(self):
+        rng = numpy.random.default_rng(5)
+        self.index, self.marked = rng.integers(0, 60, 100, numpy.int32), rng.random(100) < 0.5
+        self.all = numpy.ones(100, bool)
+
+    def test_of_several_the_first(self):
+        index, marked = self.index, self.marked
+        self.assertEqual(cvl.first_senders(index, 64).tolist(), first_of(index, self.all, 64))
+        self.assertEqual(cvl.select_first_senders(index, marked, 64).tolist(), first_of(index, marked, 64))
+        room = numpy.zeros(64, numpy.int32)
+        self.assertIs(cvl.first_senders(index, 64, out=room), room)
+        self.assertEqual(room.tolist(), first_of(index, self.all, 64))
+
+    def test_by_segments(self):
+        index, marked, halves = self.index, self.marked, ints(40, 0, 60)
+        wanted = [*first_of(index[:40], marked[:40], 70), *first_of(index[40:], marked[40:], 61)]
+        self.assertEqual(cvl.seg_select_first_senders(index, marked, halves, ints(70, 0, 61)).tolist(), wanted)
+        self.assertEqual(cvl.seg_first_senders(index, halves, ints(70, 3, 61)).tolist()[70:73], [-1, -1, -1])
+
+    def test_ranges_are_the_whole(self):
+        whole, named = numpy.zeros(64, numpy.int32), 0
+        for lowest in range(0, 64, 30):
+            named += cvl.first_senders_range(self.index, lowest, whole[lowest : lowest + 30])
+        self.assertEqual((named, whole.tolist()), (100, first_of(self.index, self.all, 64)))
+
+    def test_faults(self):
+        index, most = self.index, 2**31 - 1
+        for call, number, place, said in (
+            (lambda: cvl.first_senders(index, -1), 12, None, None),
+            (lambda: cvl.first_senders(index, most + 1), 13, None, None),
+            (lambda: cvl.first_senders(index, 2**40, out=ints(7)), 13, None, None),
+            (lambda: cvl.first_senders(ints(0, 3, 4), 3), 10, 1, None),
+            (lambda: cvl.first_senders(index, 3, out=ints(7)), 7, None, "len(out) is 1, and has to be 3"),
+            (lambda: cvl.select_first_senders(index, flags(True), 3), 7, None, "len(flags) is 1, and len(index) is 100"),
+            (lambda: cvl.seg_first_senders(ints(0), ints(1), ints(2), out=ints(7)), 7, None, "len(out) is 1, and has to be 2"),
+            (lambda: cvl.seg_first_senders(ints(0), ints(1), ints(2, 1)), 7, None, "len(result_segments) is 2, and len(segments) is 1"),
+            (lambda: cvl.seg_first_senders(ints(0, 2), ints(1, 1), ints(2, 1)), 10, 1, None),
+        ):
+            with self.assertRaises(cvl.Fault) as caught:
+                call()
+            fault = caught.exception
+            self.assertEqual((fault.number, fault.place, fault.said), (number, place, said))
+
+
 class Names(unittest.TestCase):
     def test_each_call_says_what_it_does(self):
         for name in cvl.calls.__all__:

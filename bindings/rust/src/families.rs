@@ -6,10 +6,121 @@ use alloc::string::String;
 use alloc::vec::Vec;
 
 use crate::fault::Fault;
-use crate::lengths::{counted, limit, most_words, same, text_limit, text_of, zeros};
+use crate::lengths::{counted, limit, most_words, places, same, text_limit, text_of, zeros};
 use crate::numbers::Operator;
 use crate::pool::call;
 use crate::segments::Segments;
+
+/// For each place of the result the least place whose index names it, or -1 where none does. The result may have any number
+/// of places. count is how many places the result has.
+///
+/// Faults: 12 NegativeLength, without a place, where count is below 0; 13 TooLong where it is above 2147483647; 13 TooLong;
+/// 10 IndexOutOfRange at the first index that is no place of the result.
+///
+/// ```
+/// assert_eq!(cvl::first_senders(&[2, 0, 2, 3], 4)?, [1, -1, 0, 3]);
+/// # Ok::<(), cvl::Fault>(())
+/// ```
+pub fn first_senders(index: &[i32], count: i64) -> Result<Vec<i32>, Fault> {
+    limit(index.len())?;
+    let mut out = zeros(places(count)?)?;
+    first_senders_into(index, &mut out)?;
+    Ok(out)
+}
+
+/// [`first_senders`] into a room, which says how many places the result has; a fault leaves the room as it was.
+pub fn first_senders_into(index: &[i32], out: &mut [i32]) -> Result<(), Fault> {
+    call!(cvl_first_senders | cvl_first_senders_on: index.as_ptr(), index.len(), out.as_mut_ptr(), out.len())
+}
+
+/// For each place of the result the least place whose flag is true and whose index names it, or -1 where none does. An index
+/// whose flag is false is not looked at. The result may have any number of places. count is how many places the result has.
+///
+/// Faults: 12 NegativeLength, without a place, where count is below 0; 13 TooLong where it is above 2147483647; 13 TooLong; 7
+/// LengthMismatch where index and flags are not equally long; 10 IndexOutOfRange at the first index that is no place of the
+/// result.
+///
+/// ```
+/// assert_eq!(cvl::select_first_senders(&[2, 0, 2, 9], &[false, true, true, false], 3)?, [1, -1, 2]);
+/// # Ok::<(), cvl::Fault>(())
+/// ```
+pub fn select_first_senders(index: &[i32], flags: &[bool], count: i64) -> Result<Vec<i32>, Fault> {
+    limit(index.len())?;
+    same(&[index.len(), flags.len()])?;
+    let mut out = zeros(places(count)?)?;
+    select_first_senders_into(index, flags, &mut out)?;
+    Ok(out)
+}
+
+/// [`select_first_senders`] into a room, which says how many places the result has; a fault leaves the room as it was.
+pub fn select_first_senders_into(index: &[i32], flags: &[bool], out: &mut [i32]) -> Result<(), Fault> {
+    call!(cvl_select_first_senders | cvl_select_first_senders_on: index.as_ptr(), index.len(), flags.as_ptr(),
+        flags.len(), out.as_mut_ptr(), out.len())
+}
+
+/// For each place of each segment of the result the least place of the same segment of the index that names it, or -1 where
+/// none does.
+///
+/// Faults: 13 TooLong; 7 LengthMismatch where the lengths do not add up to the index, or the result lengths to out; 10
+/// IndexOutOfRange at the first index that is no place of its segment of the result.
+///
+/// ```
+/// let segments = cvl::Segments::new(&[2, 0, 3])?;
+/// let result_segments = cvl::Segments::new(&[2, 1, 4])?;
+/// assert_eq!(cvl::seg_first_senders(&[1, 1, 0, 3, 0], &segments, &result_segments)?, [-1, 0, -1, 0, -1, -1, 1]);
+/// # Ok::<(), cvl::Fault>(())
+/// ```
+pub fn seg_first_senders(index: &[i32], segments: &Segments, result_segments: &Segments) -> Result<Vec<i32>, Fault> {
+    limit(index.len())?;
+    same(&[index.len(), segments.total()])?;
+    same(&[segments.len(), result_segments.len()])?;
+    let mut out = zeros(result_segments.total())?;
+    seg_first_senders_into(index, segments, result_segments, &mut out)?;
+    Ok(out)
+}
+
+/// [`seg_first_senders`] into a room that is as long as the result; a fault leaves the room as it was.
+pub fn seg_first_senders_into(
+    index: &[i32], segments: &Segments, result_segments: &Segments, out: &mut [i32],
+) -> Result<(), Fault> {
+    call!(cvl_seg_first_senders | cvl_seg_first_senders_on: index.as_ptr(), index.len(), segments.given(),
+        result_segments.given(), out.as_mut_ptr(), out.len())
+}
+
+/// For each place of each segment of the result the least place of the same segment of the index whose flag is true and whose
+/// index names it, or -1 where none does. An index whose flag is false is not looked at.
+///
+/// Faults: 13 TooLong; 7 LengthMismatch where index and flags are not equally long; 7 LengthMismatch where the lengths do not
+/// add up to the index, or the result lengths to out; 10 IndexOutOfRange at the first index that is no place of its segment
+/// of the result.
+///
+/// ```
+/// let segments = cvl::Segments::new(&[2, 0, 3])?;
+/// let result_segments = cvl::Segments::new(&[2, 1, 4])?;
+/// assert_eq!(
+///     cvl::seg_select_first_senders(&[1, 1, 9, 3, 0], &[false, true, false, true, true], &segments, &result_segments)?,
+///     [-1, 1, -1, 2, -1, -1, 1]
+/// );
+/// # Ok::<(), cvl::Fault>(())
+/// ```
+pub fn seg_select_first_senders(
+    index: &[i32], flags: &[bool], segments: &Segments, result_segments: &Segments,
+) -> Result<Vec<i32>, Fault> {
+    limit(index.len())?;
+    same(&[index.len(), flags.len(), segments.total()])?;
+    same(&[segments.len(), result_segments.len()])?;
+    let mut out = zeros(result_segments.total())?;
+    seg_select_first_senders_into(index, flags, segments, result_segments, &mut out)?;
+    Ok(out)
+}
+
+/// [`seg_select_first_senders`] into a room that is as long as the result; a fault leaves the room as it was.
+pub fn seg_select_first_senders_into(
+    index: &[i32], flags: &[bool], segments: &Segments, result_segments: &Segments, out: &mut [i32],
+) -> Result<(), Fault> {
+    call!(cvl_seg_select_first_senders | cvl_seg_select_first_senders_on: index.as_ptr(), index.len(), flags.as_ptr(),
+        flags.len(), segments.given(), result_segments.given(), out.as_mut_ptr(), out.len())
+}
 
 /// The integers of a text. They stand between white space (space, tab, line feed, carriage return), and each is an optional
 /// minus sign and at least one digit, inside 32 bits. A text of white space alone has none.
@@ -287,6 +398,43 @@ pub fn select_permute_bool_range(
     call!(cvl_select_permute_bool_range: source.as_ptr(), source.len(), index.as_ptr(), index.len(), flags.as_ptr(),
         flags.len(), lowest, out.as_mut_ptr(), out.len(), marks.as_mut_ptr(), marks.len(), &mut written)?;
     Ok(written)
+}
+
+/// One range of the first senders, its out_len places from place `lowest` on: for each the least place whose index names it,
+/// or -1. named is how many indices name a place of the range. Each part has another range and all of index. Where all parts
+/// together named index_len, the ranges, one after another, are the first senders. Else an index is out of range:
+/// first_senders tells which.
+///
+/// Faults: 13 TooLong, by the index, and where the range ends behind place 2147483647.
+///
+/// ```
+/// let mut out = [0; 2];
+/// assert_eq!(cvl::first_senders_range(&[2, 0, 2, 3], 1, &mut out)?, 2);
+/// assert_eq!(out, [-1, 0]);
+/// # Ok::<(), cvl::Fault>(())
+/// ```
+pub fn first_senders_range(index: &[i32], lowest: usize, out: &mut [i32]) -> Result<usize, Fault> {
+    let mut named = 0;
+    call!(cvl_first_senders_range: index.as_ptr(), index.len(), lowest, out.as_mut_ptr(), out.len(), &mut named)?;
+    Ok(named)
+}
+
+/// The same among the places whose flag is true: where all parts together named as many as flags are true, the ranges are the
+/// first senders.
+///
+/// Faults: those of first_senders_range; 7 LengthMismatch where index and flags are not equally long.
+///
+/// ```
+/// let mut out = [0; 2];
+/// assert_eq!(cvl::select_first_senders_range(&[2, 0, 2, 9], &[false, true, true, false], 1, &mut out)?, 1);
+/// assert_eq!(out, [-1, 2]);
+/// # Ok::<(), cvl::Fault>(())
+/// ```
+pub fn select_first_senders_range(index: &[i32], flags: &[bool], lowest: usize, out: &mut [i32]) -> Result<usize, Fault> {
+    let mut named = 0;
+    call!(cvl_select_first_senders_range: index.as_ptr(), index.len(), flags.as_ptr(), flags.len(), lowest,
+        out.as_mut_ptr(), out.len(), &mut named)?;
+    Ok(named)
 }
 
 /// The integers of one piece of a text that is cut at white space, as read_ints reads them. `before` is how many words the

@@ -3,7 +3,7 @@
 //! Each call has its name from the table of calls. It takes slices, and segments as [`Segments`], and gives a new
 //! vector, or a [`Fault`]. The function whose name ends in `_into` writes into a room of the caller's, and the one
 //! whose name ends in `_in`, where a call has one, in the place of an argument. Beside the calls there are texts, as
-//! [`read_ints`], and what a part of a call needs, as [`int_scan_after`].
+//! [`read_ints`], [`first_senders`], and what a part of a call needs, as [`int_scan_after`].
 //!
 //! ```
 //! let rows = cvl::Segments::new(&[2, 0, 3])?;

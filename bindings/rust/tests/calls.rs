@@ -463,6 +463,24 @@ fn a_permute_is_its_ranges() {
 }
 
 #[test]
+fn first_senders_are_their_ranges() {
+    let index: Vec<i32> = (0..90).map(|k| k * k % 61).collect();
+    let first = |place| index.iter().position(|i| *i == place);
+    let wanted: Vec<i32> = (0..64).map(|place| first(place).map_or(-1, |k| k as i32)).collect();
+    assert_eq!(cvl::first_senders(&index, 64).unwrap(), wanted);
+    let (mut out, mut named) = ([7; 64], 0);
+    for (k, range) in out.chunks_mut(30).enumerate() {
+        named += cvl::first_senders_range(&index, 30 * k, range).unwrap();
+    }
+    assert_eq!((out.to_vec(), named), (wanted, 90));
+    assert_eq!(told(cvl::first_senders(&index, -1).unwrap_err()), (12, None));
+    assert_eq!(told(cvl::first_senders(&index, i64::MAX).unwrap_err()), (13, None));
+    assert_eq!(told(cvl::first_senders(&[0, 3, 4], 3).unwrap_err()), (10, Some(1)));
+    assert_eq!(told(cvl::first_senders_into(&[0, 3, 4], &mut out[..3]).unwrap_err()), (10, Some(1)));
+    assert_eq!(out[..3], [0, 1, -1]);
+}
+
+#[test]
 fn the_version() {
     assert_eq!(cvl::version(), env!("CARGO_PKG_VERSION"));
 }

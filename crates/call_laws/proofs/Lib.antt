@@ -5,6 +5,7 @@ pub mod Carries
 pub mod CutResults
 pub mod ElementPlaces
 pub mod FirstBadPlaces
+pub mod FirstSent
 pub mod InParts
 pub mod LeastFaults
 pub mod Packing

@@ -3,3 +3,4 @@ pub mod CheckedParts
 pub mod CutAgain
 pub mod InParts
 pub mod Permuted
+pub mod Senders

@@ -17,4 +17,5 @@ pub mod permutes;
 pub mod permutes_in_parts;
 pub mod scans;
 pub mod segmented;
+pub mod senders;
 pub mod texts;

@@ -19,5 +19,6 @@ mod scans;
 mod seg_scans;
 mod segment_permutes;
 mod segments;
+mod senders;
 mod texts;
 mod tiles;

@@ -1,4 +1,5 @@
 pub mod Limits
 pub mod Pieces
 pub mod Ranges
+pub mod SenderRanges
 pub mod Sums

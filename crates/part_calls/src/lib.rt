@@ -1,8 +1,10 @@
 //! What one part of a call does where the whole needs no more than one call: sums that go on from what stands before the part,
-//! one range of a permute's result, and one piece of a text. The laws of `call_laws` say how the parts make the whole.
+//! one range of the result of a permute or of first senders, and one piece of a text. The laws of `call_laws` say how the parts
+//! make the whole.
 #![tactic(auto)]
 
 pub mod carries;
 mod limits;
 pub mod permute_ranges;
+pub mod sender_ranges;
 pub mod text_pieces;

@@ -19,5 +19,6 @@ pub mod permutes;
 pub mod races;
 pub mod reduces;
 pub mod scans;
+pub mod senders;
 pub mod shares;
 pub mod written;

@@ -442,6 +442,41 @@ extern "C" {
         CvlLengths, out: *mut bool, out_len: usize,
     ) -> CvlStatus;
 
+    /// For each place of the result the least place whose index names it, or -1 where none does. The result may have any
+    /// number of places.
+    ///
+    /// Faults: 13 TooLong; 10 IndexOutOfRange at the first index that is no place of the result.
+    pub fn cvl_first_senders(index: *const i32, index_len: usize, out: *mut i32, out_len: usize) -> CvlStatus;
+
+    /// For each place of the result the least place whose flag is true and whose index names it, or -1 where none does. An
+    /// index whose flag is false is not looked at. The result may have any number of places.
+    ///
+    /// Faults: 13 TooLong; 7 LengthMismatch where index and flags are not equally long; 10 IndexOutOfRange at the first index
+    /// that is no place of the result.
+    pub fn cvl_select_first_senders(
+        index: *const i32, index_len: usize, flags: *const bool, flags_len: usize, out: *mut i32, out_len: usize,
+    ) -> CvlStatus;
+
+    /// For each place of each segment of the result the least place of the same segment of the index that names it, or -1
+    /// where none does.
+    ///
+    /// Faults: 13 TooLong; 7 LengthMismatch where the lengths do not add up to the index, or the result lengths to out; 10
+    /// IndexOutOfRange at the first index that is no place of its segment of the result.
+    pub fn cvl_seg_first_senders(
+        index: *const i32, index_len: usize, lengths: CvlLengths, result_lengths: CvlLengths, out: *mut i32, out_len: usize,
+    ) -> CvlStatus;
+
+    /// For each place of each segment of the result the least place of the same segment of the index whose flag is true and
+    /// whose index names it, or -1 where none does. An index whose flag is false is not looked at.
+    ///
+    /// Faults: 13 TooLong; 7 LengthMismatch where index and flags are not equally long; 7 LengthMismatch where the lengths do
+    /// not add up to the index, or the result lengths to out; 10 IndexOutOfRange at the first index that is no place of its
+    /// segment of the result.
+    pub fn cvl_seg_select_first_senders(
+        index: *const i32, index_len: usize, flags: *const bool, flags_len: usize, lengths: CvlLengths, result_lengths:
+        CvlLengths, out: *mut i32, out_len: usize,
+    ) -> CvlStatus;
+
     /// The integers of a text. They stand between white space (space, tab, line feed, carriage return), and each is an
     /// optional minus sign and at least one digit, inside 32 bits. A text of white space alone has none.
     ///
@@ -545,6 +580,25 @@ extern "C" {
     pub fn cvl_select_permute_bool_range(
         source: *const bool, source_len: usize, index: *const i32, index_len: usize, flags: *const bool, flags_len: usize,
         lowest: usize, out: *mut bool, out_len: usize, marks: *mut u32, marks_len: usize, written: *mut usize,
+    ) -> CvlStatus;
+
+    /// One range of the first senders, its out_len places from place `lowest` on: for each the least place whose index names
+    /// it, or -1. named is how many indices name a place of the range. Each part has another range and all of index. Where
+    /// all parts together named index_len, the ranges, one after another, are the first senders. Else an index is out of
+    /// range: cvl_first_senders tells which.
+    ///
+    /// Faults: 13 TooLong, by the index, and where the range ends behind place 2147483647.
+    pub fn cvl_first_senders_range(
+        index: *const i32, index_len: usize, lowest: usize, out: *mut i32, out_len: usize, named: *mut usize,
+    ) -> CvlStatus;
+
+    /// The same among the places whose flag is true: where all parts together named as many as flags are true, the ranges are
+    /// the first senders.
+    ///
+    /// Faults: those of cvl_first_senders_range; 7 LengthMismatch where index and flags are not equally long.
+    pub fn cvl_select_first_senders_range(
+        index: *const i32, index_len: usize, flags: *const bool, flags_len: usize, lowest: usize, out: *mut i32, out_len:
+        usize, named: *mut usize,
     ) -> CvlStatus;
 
     /// The integers of one piece of a text that is cut at white space, as cvl_read_ints reads them. `before` is how many
@@ -1510,6 +1564,29 @@ extern "C" {
         CvlLengths, index_lengths: CvlLengths, out: *mut bool, out_len: usize,
     ) -> CvlStatus;
 
+    /// [`cvl_first_senders`] in parts: the result is cut; each part reads all indices.
+    pub fn cvl_first_senders_on(
+        pool: *const CvlPool, index: *const i32, index_len: usize, out: *mut i32, out_len: usize,
+    ) -> CvlStatus;
+
+    /// [`cvl_select_first_senders`] in parts: the result is cut; each part reads all indices.
+    pub fn cvl_select_first_senders_on(
+        pool: *const CvlPool, index: *const i32, index_len: usize, flags: *const bool, flags_len: usize, out: *mut i32,
+        out_len: usize,
+    ) -> CvlStatus;
+
+    /// [`cvl_seg_first_senders`] in parts: cut between segments.
+    pub fn cvl_seg_first_senders_on(
+        pool: *const CvlPool, index: *const i32, index_len: usize, lengths: CvlLengths, result_lengths: CvlLengths, out: *mut
+        i32, out_len: usize,
+    ) -> CvlStatus;
+
+    /// [`cvl_seg_select_first_senders`] in parts: cut between segments.
+    pub fn cvl_seg_select_first_senders_on(
+        pool: *const CvlPool, index: *const i32, index_len: usize, flags: *const bool, flags_len: usize, lengths: CvlLengths,
+        result_lengths: CvlLengths, out: *mut i32, out_len: usize,
+    ) -> CvlStatus;
+
     /// [`cvl_read_ints`] in parts: cut at white space.
     pub fn cvl_read_ints_on(
         pool: *const CvlPool, text: *const u8, text_len: usize, out: *mut i32, out_len: usize, count: *mut usize,
@@ -2090,6 +2167,18 @@ extern "C" {
     pub fn cvl_segments_back_permute_bool(
         source: *const bool, source_len: usize, index: *const i32, index_len: usize, segments: *const CvlSegments,
         index_segments: *const CvlSegments, out: *mut bool, out_len: usize,
+    ) -> CvlStatus;
+
+    /// [`cvl_seg_first_senders`] with a descriptor in the place of the lengths.
+    pub fn cvl_segments_first_senders(
+        index: *const i32, index_len: usize, segments: *const CvlSegments, result_segments: *const CvlSegments, out: *mut i32,
+        out_len: usize,
+    ) -> CvlStatus;
+
+    /// [`cvl_seg_select_first_senders`] with a descriptor in the place of the lengths.
+    pub fn cvl_segments_select_first_senders(
+        index: *const i32, index_len: usize, flags: *const bool, flags_len: usize, segments: *const CvlSegments,
+        result_segments: *const CvlSegments, out: *mut i32, out_len: usize,
     ) -> CvlStatus;
 
     /// [`cvl_seg_write_ints`] with a descriptor in the place of the lengths.

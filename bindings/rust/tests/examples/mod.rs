@@ -1664,6 +1664,74 @@ fn bck_peb() -> Result<(), cvl::Fault> {
 }
 
 #[test]
+fn first_senders() -> Result<(), cvl::Fault> {
+    assert_eq!(cvl::first_senders(&[2, 0, 2, 3], 4)?, [1, -1, 0, 3]);
+    let mut room = [7, 7, 7, 7];
+    cvl::first_senders_into(&[2, 0, 2, 3], &mut room)?;
+    assert_eq!(room, [1, -1, 0, 3]);
+    Ok(())
+}
+
+#[test]
+fn select_first_senders() -> Result<(), cvl::Fault> {
+    assert_eq!(cvl::select_first_senders(&[2, 0, 2, 9], &[false, true, true, false], 3)?, [1, -1, 2]);
+    let mut room = [7, 7, 7];
+    cvl::select_first_senders_into(&[2, 0, 2, 9], &[false, true, true, false], &mut room)?;
+    differ(cvl::select_first_senders_into(&[2, 0, 2], &[false, true, true, false], &mut room));
+    differ(cvl::select_first_senders(&[2, 0, 2], &[false, true, true, false], 3));
+    differ(cvl::select_first_senders_into(&[2, 0, 2, 9], &[false, true, true], &mut room));
+    differ(cvl::select_first_senders(&[2, 0, 2, 9], &[false, true, true], 3));
+    assert_eq!(room, [1, -1, 2]);
+    Ok(())
+}
+
+#[test]
+fn seg_first_senders() -> Result<(), cvl::Fault> {
+    let segments = cvl::Segments::new(&[2, 0, 3])?;
+    let result_segments = cvl::Segments::new(&[2, 1, 4])?;
+    assert_eq!(cvl::seg_first_senders(&[1, 1, 0, 3, 0], &segments, &result_segments)?, [-1, 0, -1, 0, -1, -1, 1]);
+    let mut room = [7, 7, 7, 7, 7, 7, 7];
+    cvl::seg_first_senders_into(&[1, 1, 0, 3, 0], &segments, &result_segments, &mut room)?;
+    refuses(
+        &[room.len() - 1, room.len() + 1], |room| cvl::seg_first_senders_into(&[1, 1, 0, 3, 0], &segments, &result_segments,
+        room).map(|_| ()), room[0],
+    );
+    differ(cvl::seg_first_senders_into(&[1, 1, 0, 3], &segments, &result_segments, &mut room));
+    differ(cvl::seg_first_senders(&[1, 1, 0, 3], &segments, &result_segments));
+    assert_eq!(room, [-1, 0, -1, 0, -1, -1, 1]);
+    Ok(())
+}
+
+#[test]
+fn seg_select_first_senders() -> Result<(), cvl::Fault> {
+    let segments = cvl::Segments::new(&[2, 0, 3])?;
+    let result_segments = cvl::Segments::new(&[2, 1, 4])?;
+    assert_eq!(
+        cvl::seg_select_first_senders(&[1, 1, 9, 3, 0], &[false, true, false, true, true], &segments, &result_segments)?,
+        [-1, 1, -1, 2, -1, -1, 1]
+    );
+    let mut room = [7, 7, 7, 7, 7, 7, 7];
+    cvl::seg_select_first_senders_into(
+        &[1, 1, 9, 3, 0], &[false, true, false, true, true], &segments, &result_segments, &mut room,
+    )?;
+    refuses(
+        &[room.len() - 1, room.len() + 1], |room| cvl::seg_select_first_senders_into(&[1, 1, 9, 3, 0], &[false, true, false, true,
+        true], &segments, &result_segments, room).map(|_| ()), room[0],
+    );
+    differ(
+        cvl::seg_select_first_senders_into(&[1, 1, 9, 3], &[false, true, false, true, true], &segments, &result_segments, &mut
+        room),
+    );
+    differ(cvl::seg_select_first_senders(&[1, 1, 9, 3], &[false, true, false, true, true], &segments, &result_segments));
+    differ(
+        cvl::seg_select_first_senders_into(&[1, 1, 9, 3, 0], &[false, true, false, true], &segments, &result_segments, &mut room),
+    );
+    differ(cvl::seg_select_first_senders(&[1, 1, 9, 3, 0], &[false, true, false, true], &segments, &result_segments));
+    assert_eq!(room, [-1, 1, -1, 2, -1, -1, 1]);
+    Ok(())
+}
+
+#[test]
 fn read_ints() -> Result<(), cvl::Fault> {
     assert_eq!(cvl::read_ints("5 -1\n007 -0")?, [5, -1, 7, 0]);
     let mut room = [7, 7, 7, 7];
@@ -1768,6 +1836,22 @@ fn select_permute_bool_range() -> Result<(), cvl::Fault> {
         1
     );
     assert_eq!((out, marks), ([false], [1]));
+    Ok(())
+}
+
+#[test]
+fn first_senders_range() -> Result<(), cvl::Fault> {
+    let mut out = [0; 2];
+    assert_eq!(cvl::first_senders_range(&[2, 0, 2, 3], 1, &mut out)?, 2);
+    assert_eq!(out, [-1, 0]);
+    Ok(())
+}
+
+#[test]
+fn select_first_senders_range() -> Result<(), cvl::Fault> {
+    let mut out = [0; 2];
+    assert_eq!(cvl::select_first_senders_range(&[2, 0, 2, 9], &[false, true, true, false], 1, &mut out)?, 1);
+    assert_eq!(out, [-1, 2]);
     Ok(())
 }
 

@@ -1610,6 +1610,68 @@ fn bck_peb() {
 }
 
 #[test]
+fn first_senders() {
+    let index = [2, 0, 2, 3];
+    each!(out => [99; 4] => [1, -1, 0, 3];
+        cvl_first_senders(index.as_ptr(), index.len(), out.as_mut_ptr(), out.len()),
+        cvl_first_senders_on(&cvl_pool_alone(3), index.as_ptr(), index.len(), out.as_mut_ptr(), out.len()),
+    );
+}
+
+#[test]
+fn select_first_senders() {
+    let index = [2, 0, 2, 9];
+    let flags = [false, true, true, false];
+    each!(out => [99; 3] => [1, -1, 2];
+        cvl_select_first_senders(index.as_ptr(), index.len(), flags.as_ptr(), flags.len(), out.as_mut_ptr(), out.len()),
+        cvl_select_first_senders_on(
+            &cvl_pool_alone(3), index.as_ptr(), index.len(), flags.as_ptr(), flags.len(), out.as_mut_ptr(), out.len(),
+        ),
+    );
+}
+
+#[test]
+fn seg_first_senders() {
+    let index = [1, 1, 0, 3, 0];
+    let lengths = [2, 0, 3];
+    let result_lengths = [2, 1, 4];
+    each!(out => [99; 7] => [-1, 0, -1, 0, -1, -1, 1];
+        cvl_seg_first_senders(
+            index.as_ptr(), index.len(), given(&lengths), given(&result_lengths), out.as_mut_ptr(), out.len(),
+        ),
+        cvl_seg_first_senders_on(
+            &cvl_pool_alone(3), index.as_ptr(), index.len(), given(&lengths), given(&result_lengths), out.as_mut_ptr(),
+            out.len(),
+        ),
+        cvl_segments_first_senders(
+            index.as_ptr(), index.len(), &descriptor(&lengths), &descriptor(&result_lengths), out.as_mut_ptr(), out.len(),
+        ),
+    );
+}
+
+#[test]
+fn seg_select_first_senders() {
+    let index = [1, 1, 9, 3, 0];
+    let flags = [false, true, false, true, true];
+    let lengths = [2, 0, 3];
+    let result_lengths = [2, 1, 4];
+    each!(out => [99; 7] => [-1, 1, -1, 2, -1, -1, 1];
+        cvl_seg_select_first_senders(
+            index.as_ptr(), index.len(), flags.as_ptr(), flags.len(), given(&lengths), given(&result_lengths),
+            out.as_mut_ptr(), out.len(),
+        ),
+        cvl_seg_select_first_senders_on(
+            &cvl_pool_alone(3), index.as_ptr(), index.len(), flags.as_ptr(), flags.len(), given(&lengths),
+            given(&result_lengths), out.as_mut_ptr(), out.len(),
+        ),
+        cvl_segments_select_first_senders(
+            index.as_ptr(), index.len(), flags.as_ptr(), flags.len(), &descriptor(&lengths), &descriptor(&result_lengths),
+            out.as_mut_ptr(), out.len(),
+        ),
+    );
+}
+
+#[test]
 fn read_ints() {
     let text = *b"5 -1\n007 -0";
     each!(out, count => [99; 4], 99 => [5, -1, 7, 0], 4;
@@ -1739,6 +1801,25 @@ fn select_permute_bool_range() {
         cvl_select_permute_bool_range(
             source.as_ptr(), source.len(), index.as_ptr(), index.len(), flags.as_ptr(), flags.len(), 0, out.as_mut_ptr(),
             out.len(), marks.as_mut_ptr(), marks.len(), &mut written,
+        ),
+    );
+}
+
+#[test]
+fn first_senders_range() {
+    let index = [2, 0, 2, 3];
+    each!(out, named => [99; 2], 99 => [-1, 0], 2;
+        cvl_first_senders_range(index.as_ptr(), index.len(), 1, out.as_mut_ptr(), out.len(), &mut named),
+    );
+}
+
+#[test]
+fn select_first_senders_range() {
+    let index = [2, 0, 2, 9];
+    let flags = [false, true, true, false];
+    each!(out, named => [99; 2], 99 => [-1, 2], 1;
+        cvl_select_first_senders_range(
+            index.as_ptr(), index.len(), flags.as_ptr(), flags.len(), 1, out.as_mut_ptr(), out.len(), &mut named,
         ),
     );
 }

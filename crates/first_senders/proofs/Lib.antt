@@ -1,0 +1,4 @@
+mod Found
+mod Faults
+mod BySegments
+mod Meaning

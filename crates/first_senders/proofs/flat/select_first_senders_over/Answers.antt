@@ -1,0 +1,6 @@
+use Rattle.std.proofs.Common.{arith}
+use Rattle.cvl_base.proofs.Permutes.{length-flagged_destinations}
+use Rattle.first_senders.proofs.flat.select_first_senders_over.Goals as goal
+
+pub both_walks-requires : goal.both_walks-requires
+both_walks-requires c = record { in_limit = omega (arith, length-flagged_destinations c.args.index.now c.args.flags.now c.in_ok-check_agree.ensures, c.requires.in_limit) }

@@ -1,0 +1,2 @@
+pub mod FirstSenders
+pub mod Walks

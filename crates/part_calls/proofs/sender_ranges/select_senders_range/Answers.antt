@@ -1,0 +1,19 @@
+use Rattle.std.proofs.Common.{◌+◌, Ok, arith, eq-eqb, length, sym}
+use Rattle.std.proofs.lemmas.Bool.{le-ltb}
+use Rattle.cvl_base.specs.Limits.{most_places}
+use Rattle.cvl_base.proofs.Permutes.{length-flagged_destinations}
+use Rattle.part_calls.proofs.sender_ranges.select_senders_range.Goals as goal
+
+pub write_counted-requires-clause-few : goal.write_counted-requires-clause-few
+write_counted-requires-clause-few c =
+    omega (arith, length-flagged_destinations c.args.index.now c.args.flags.now c.in_ok-check_agree.ensures, c.in_ok-check_few.ensures)
+
+pub returns : goal.returns
+returns c =
+    let told = c.write_counted.ensures in
+    rw (
+      le-ltb most_places (length c.args.index.now) c.in_ok-check_few.ensures,
+      le-ltb most_places (c.args.lowest + length c.args.out.now) c.in_ok-check_end.ensures,
+      eq-eqb (length c.args.index.now) (length c.args.flags.now) c.in_ok-check_agree.ensures,
+    )
+    (λ i. Ok (sym told.written i, sym told.counted i))

@@ -1,0 +1,17 @@
+use Rattle.std.proofs.Common.{◌+◌, Ok, arith, length, sym}
+use Rattle.std.proofs.lemmas.Bool.{le-ltb}
+use Rattle.cvl_base.specs.Limits.{most_places}
+use Rattle.cvl_base.proofs.Permutes.{length-all_destinations}
+use Rattle.part_calls.proofs.sender_ranges.senders_range.Goals as goal
+
+pub write_counted-requires-clause-few : goal.write_counted-requires-clause-few
+write_counted-requires-clause-few c = omega (arith, length-all_destinations c.args.index.now, c.in_ok-check_few.ensures)
+
+pub returns : goal.returns
+returns c =
+    let told = c.write_counted.ensures in
+    rw (
+      le-ltb most_places (length c.args.index.now) c.in_ok-check_few.ensures,
+      le-ltb most_places (c.args.lowest + length c.args.out.now) c.in_ok-check_end.ensures,
+    )
+    (λ i. Ok (sym told.written i, sym told.counted i))
