@@ -2,7 +2,7 @@
 use Rattle.call_laws.proofs.Cited.{◌≡◌, ◌≢◌, ◌∙◌, ℕ, zero, suc, ◌+◌, ◌<◌, ◌≤◌, ◌++◌, ◌↔◌, cond, true, false, List, [], ◌∷◌, length, map, Bool, refl, sym, ap, arith, ℤ, pos, negsuc}
 use Rattle.call_laws.proofs.Cited.{slice_get, Option, Some, None, Ok, none-some, same_Some, values_from, element_at, fault_at, first_fault, all_destinations, is_destination, both_ways}
 use Rattle.call_laws.proofs.Cited.{option_map, le-ltb, lt-ltb}
-use Rattle.call_laws.proofs.Cited.{Decides-int_eq, get_or_from_slice_get, slice_get-get_or, slice_get-map, range_with_len, map-append, sum_by-cons, count_destinations}
+use Rattle.call_laws.proofs.Cited.{Decides-int_eq, get_or_from_slice_get, slice_get-get_or, slice_get-map, range_with_len, sum_by-cons, count_destinations}
 use Rattle.std.proofs.Common.{get_or, position, count_by, filter, inl, inr, is_some, leb, ltb, ◌&&◌}
 use Rattle.std.specs.List.{position_from}
 use Rattle.std.proofs.lemmas.Iterator.Adapters.{position_from-zero}
@@ -10,7 +10,7 @@ use Rattle.std.proofs.lemmas.Bool.{cases_lt, le-leb, lt-leb}
 use Rattle.std.proofs.lemmas.List.Quantifiers.{position-Some}
 use Rattle.cvl_base.specs.declared.fault.FaultNo.{FaultNo}
 use Rattle.cvl_base.specs.declared.fault.FaultNo.TheVariants.{IndexOutOfRange}
-use Rattle.call_laws.specs.Senders.{found_senders, is_sender, named_places}
+use Rattle.call_laws.specs.Senders.{is_sender}
 use Rattle.first_senders.specs.FirstSenders.{first_sender, first_senders, sender_or_none, wrong_in}
 use Rattle.permute_walks.specs.Senders.{is_between}
 
@@ -23,8 +23,8 @@ not_found (Some j) e = absurd (cc)
 not_found None e = refl
 
 hit : (d : ℕ) (t : Option ℤ) → is_destination (pos d) t ≡ true → t ≡ Some (pos d)
-hit d None yes = absurd (cc)
-hit d (Some i) yes = ap (λ j. Some j) ((Decides-int_eq i (pos d)).0 yes)
+hit d None is = absurd (cc)
+hit d (Some i) is = ap (λ j. Some j) ((Decides-int_eq i (pos d)).0 is)
 
 is_hit : (d : ℕ) → is_destination (pos d) (Some (pos d)) ≡ true
 is_hit d = (Decides-int_eq (pos d) (pos d)).1 refl
@@ -109,12 +109,12 @@ in_parts low m n d =
     elim (cases_lt d low) [
       | inl below ↦ rw (lt-leb low d below, lt-leb (low + m) d (omega arith)) refl
       | inr from ↦ elim (cases_lt d (low + m)) [
-          | inl first ↦ rw (le-leb low d from, lt-ltb d (low + (m + n)) (omega arith), lt-ltb d (low + m) first, lt-leb (low + m) d first) refl
-          | inr second ↦ elim (cases_lt d (low + m + n)) [
-              | inl within ↦ rw (le-leb low d from, lt-ltb d (low + (m + n)) (omega arith), le-ltb d (low + m) second, le-leb (low + m) d second, lt-ltb d (low + m + n) within) refl
-              | inr past ↦ rw (le-leb low d from, le-ltb d (low + (m + n)) (omega arith), le-ltb d (low + m) second, le-leb (low + m) d second, le-ltb d (low + m + n) past) refl
-            ]
+        | inl first ↦ rw (le-leb low d from, lt-ltb d (low + (m + n)) (omega arith), lt-ltb d (low + m) first, lt-leb (low + m) d first) refl
+        | inr second ↦ elim (cases_lt d (low + m + n)) [
+          | inl within ↦ rw (le-leb low d from, lt-ltb d (low + (m + n)) (omega arith), le-ltb d (low + m) second, le-leb (low + m) d second, lt-ltb d (low + m + n) within) refl
+          | inr past ↦ rw (le-leb low d from, le-ltb d (low + (m + n)) (omega arith), le-ltb d (low + m) second, le-leb (low + m) d second, le-ltb d (low + m + n) past) refl
         ]
+      ]
     ]
 
 one-parts : (low m n : ℕ) (t : Option ℤ) → one low (low + (m + n)) t ≡ one low (low + m) t + one (low + m) (low + m + n) t
@@ -135,7 +135,7 @@ some t = cond (is_some t) 1 0
 named-le : (m : ℕ) (t : Option ℤ) → one 0 m t ≤ some t
 named-le m None = omega arith
 named-le m (Some (negsuc d)) = omega arith
-named-le m (Some (pos d)) = elim (cases_lt d m) [ | inl lt ↦ rw (lt-ltb d m lt) (omega arith) | inr ge ↦ rw (le-ltb d m ge) (omega arith) ]
+named-le m (Some (pos d)) = elim (cases_lt d m) [ inl lt ↦ rw (le-leb 0 d (omega arith), lt-ltb d m lt) (omega arith) | inr ge ↦ rw (le-leb 0 d (omega arith), le-ltb d m ge) (omega arith) ]
 
 all-le : (m : ℕ) (ts : List (Option ℤ)) → count_by (is_between 0 m) ts ≤ count_destinations ts
 all-le m [] = omega arith
@@ -144,14 +144,14 @@ all-le m (t ∷ ts) = omega (arith, sum_by-cons (one 0 m) t ts, sum_by-cons some
 right-one : (m : ℕ) (t : Option ℤ) → one 0 m t ≡ some t → wrong_in m t ≡ None
 right-one m None same = refl
 right-one m (Some (negsuc d)) same = absurd (omega arith)
-right-one m (Some (pos d)) same = elim (cases_lt d m) [ | inl lt ↦ rw (lt-ltb d m lt) refl | inr ge ↦ absurd (let none : one 0 m (Some (pos d)) ≡ 0 = rw (le-ltb d m ge) refl in omega arith) ]
+right-one m (Some (pos d)) same = elim (cases_lt d m) [ inl lt ↦ rw (lt-ltb d m lt) refl | inr ge ↦ absurd (let none : one 0 m (Some (pos d)) ≡ zero = rw (le-leb 0 d (omega arith), le-ltb d m ge) refl in omega arith) ]
 
 counted-one : (m : ℕ) (t : Option ℤ) → wrong_in m t ≡ None → one 0 m t ≡ some t
 counted-one m None right = refl
 counted-one m (Some (negsuc d)) right = absurd (none-some IndexOutOfRange (sym right))
 counted-one m (Some (pos d)) right =
     elim (cases_lt d m) [
-      | inl lt ↦ rw (lt-ltb d m lt) refl
+      | inl lt ↦ rw (le-leb 0 d (omega arith), lt-ltb d m lt) refl
       | inr ge ↦ absurd (none-some IndexOutOfRange (sym (let wrong : wrong_in m (Some (pos d)) ≡ Some IndexOutOfRange = rw (le-ltb d m ge) refl in sym wrong ∙ right)))
     ]
 

@@ -73,9 +73,7 @@ pub extern "C" fn cvl_seg_select_first_senders(
     let d = or_tell!(segments(lengths));
     let result_d = or_tell!(segments(result_lengths));
     or_tell!(check_limit(index));
-    told_over::<i32>(seg_select_first_senders_over(
-        index, flags, &d, &result_d, out,
-    ))
+    told_over::<i32>(seg_select_first_senders_over(index, flags, &d, &result_d, out))
 }
 
 /// Tells a caller whether a range of first senders was written, and how many places name one of it.

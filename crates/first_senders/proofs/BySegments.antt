@@ -1,5 +1,5 @@
 -- The walks from segment to segment: what the first has found, and what the second has written.
-use Rattle.std.proofs.Common.{◌≡◌, ◌∙◌, ℕ, ◌+◌, ◌-◌, ◌<◌, ◌≤◌, List, [], ◌∷◌, ◌++◌, length, length-drop, map, sum, take, drop, get_or, refl, sym, ap, append-nil, append_assoc, arith, ℤ, Option, Some}
+use Rattle.std.proofs.Common.{◌≡◌, ◌∙◌, ℕ, ◌+◌, ◌-◌, ◌<◌, ◌≤◌, List, [], ◌∷◌, ◌++◌, length, length-drop, map, sum, take, drop, get_or, sym, ap, append-nil, append_assoc, arith, ℤ, Option, Some}
 use Rattle.std.proofs.Common.{None}
 use Rattle.std.specs.Option.{option_or}
 use Rattle.std.proofs.lemmas.List.{drop_all, drop-drop, drop_more, length-take-le, take_all}

@@ -1,5 +1,5 @@
 -- The walk that looks whether destinations are places of the result: the first that is none is at fault.
-use Rattle.std.proofs.Common.{◌≡◌, ◌∙◌, ℕ, ◌+◌, ◌<◌, ◌≤◌, Bool, true, false, if◌then◌else◌, List, [], ◌∷◌, length, length-drop, map, drop, take, get_or, refl, sym, ap, arith, ℤ, unsigned_abs}
+use Rattle.std.proofs.Common.{◌≡◌, ◌∙◌, ℕ, ◌+◌, ◌<◌, ◌≤◌, Bool, true, false, if◌then◌else◌, List, ◌∷◌, length, length-drop, map, drop, take, get_or, refl, sym, ap, arith, ℤ, unsigned_abs}
 use Rattle.std.proofs.Common.{Option, Some, None}
 use Rattle.std.proofs.lemmas.List.{at_drop_all, at_drop_more, get_or-drop, get_or-take, length-take-le}
 use Rattle.std.proofs.lemmas.Option.{none-some}

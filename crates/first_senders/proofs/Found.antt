@@ -1,8 +1,8 @@
 -- The walk from the last place to the first: what it has written before the places behind k, and with place k.
-use Rattle.std.proofs.Common.{◌≡◌, ◌≢◌, ◌∙◌, ℕ, ◌+◌, ◌-◌, ◌<◌, ◌≤◌, Bool, true, false, ◌&&◌, cond, List, [], ◌∷◌, length, map, drop, get_or, set, replicate, refl, sym, ap}
+use Rattle.std.proofs.Common.{◌≡◌, ◌∙◌, ℕ, ◌+◌, ◌-◌, ◌<◌, ◌≤◌, Bool, true, false, cond, List, [], length, map, drop, get_or, set, replicate, refl, sym, ap}
 use Rattle.std.proofs.Common.{arith, inl, inr, leb, ltb, ℤ, pos, negsuc, Option, Some, None}
 use Rattle.std.specs.Prelude.{count_by}
-use Rattle.std.specs.List.{range_with_len, position_from, sum_by}
+use Rattle.std.specs.List.{range_with_len, position_from}
 use Rattle.std.proofs.lemmas.Bool.{and_from, and_left, and_right, le-leb, lt-ltb, le-ltb, lt-leb}
 use Rattle.std.proofs.lemmas.Bool.Decides.{eqb_tells, Decides-int_eq}
 use Rattle.std.proofs.lemmas.Iterator.Adapters.{position_from-zero}
@@ -13,7 +13,7 @@ use Rattle.std.proofs.lemmas.Simd.{splat_is_map}
 use Rattle.cvl_base.specs.Permutes.{is_destination}
 use Rattle.permute_walks.specs.Senders.{is_between}
 use Rattle.permute_walks.proofs.Sent.{other_place}
-use Rattle.first_senders.specs.FirstSenders.{first_sender, first_senders, sender_or_none}
+use Rattle.first_senders.specs.FirstSenders.{first_senders, sender_or_none}
 
 -- the first place with destination d, where the first of all stands at k
 abbrev pub sender_from : ℕ → List (Option ℤ) → ℕ → ℤ
@@ -109,7 +109,7 @@ module _ (ts : List (Option ℤ)) (lowest m : ℕ) where
             | inl same ↦
                 let at : d ≡ lowest + e = omega (arith, same.1, from) in
                 let hit : is_destination (pos (lowest + e)) (get_or ts k None) ≡ true =
-                    ap (is_destination (pos (lowest + e))) is ∙ (Decides-int_eq (pos d) (pos (lowest + e))).1 (ap (λ n. pos n) at) in
+                ap (is_destination (pos (lowest + e))) is ∙ (Decides-int_eq (pos d) (pos (lowest + e))).1 (ap (λ n. pos n) at) in
                 ap (λ j. get_or (set out (d - lowest) (pos k)) j (pos 0)) same.1
                 ∙ get_or-set_same out (d - lowest) (pos k) (pos 0) within_room
                 ∙ sym (ap (λ b. cond b (pos k) (get_or out e (pos 0))) hit)

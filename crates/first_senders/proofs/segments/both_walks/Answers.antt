@@ -1,4 +1,4 @@
-use Rattle.std.proofs.Common.{◌≡◌, ◌∙◌, ap, arith, length, sum, sym, Err, Ok}
+use Rattle.std.proofs.Common.{◌≡◌, ◌∙◌, ap, length, sum, sym, Err, Ok}
 use Rattle.cvl_base.specs.Rooms.{in_room}
 use Rattle.cvl_base.proofs.Rooms.{told}
 use Rattle.permutes.proofs.Told.{fits_in_room, mismatch, told_err}

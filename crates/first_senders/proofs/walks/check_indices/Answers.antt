@@ -1,4 +1,4 @@
-use Rattle.std.proofs.Common.{◌≡◌, ◌∙◌, ◌+◌, ◌<◌, List, Option, ℤ, Some, None, ap, arith, drop, get_or, length, sym, take}
+use Rattle.std.proofs.Common.{◌∙◌, ◌<◌, Some, ap, arith, drop, length, sym, take}
 use Rattle.cvl_base.specs.Permutes.{destination_if}
 use Rattle.first_senders.proofs.Faults.{fails_outside, part_at, part_long, past_inside, past_skip}
 use Rattle.first_senders.proofs.walks.check_indices.Goals as goal

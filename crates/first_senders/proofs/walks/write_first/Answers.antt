@@ -1,4 +1,4 @@
-use Rattle.std.proofs.Common.{◌≡◌, ◌∙◌, ◌+◌, ◌-◌, ◌<◌, ◌≤◌, List, Option, ℤ, ℕ, pos, Some, None, ap, arith, drop, get_or, length, set, subst, sym, take, to_z, w32}
+use Rattle.std.proofs.Common.{◌≡◌, ◌∙◌, ◌+◌, ◌-◌, ◌<◌, Some, ap, arith, drop, length, set, subst, sym, take, to_z, w32}
 use Rattle.std.proofs.lemmas.Int.{to_z_pos}
 use Rattle.cvl_base.specs.Permutes.{destination_if}
 use Rattle.first_senders.proofs.Faults.{part_at, part_long}

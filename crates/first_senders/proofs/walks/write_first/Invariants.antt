@@ -1,4 +1,4 @@
-use Rattle.std.proofs.Common.{◌≡◌, ◌+◌, ◌≤◌, drop, length, take}
+use Rattle.std.proofs.Common.{◌+◌, ◌≤◌, drop, length, take}
 use Rattle.first_senders.proofs.Found.{IsWrittenBehind}
 use Rattle.first_senders.proofs.walks.write_first.Given as goal
 
