@@ -124,7 +124,8 @@ DESCRIPTORS = (
     "A descriptor names the lengths of segments and how many there are. It is plain memory: the lengths stay where they are, no call writes them or "
     "the descriptor, and nothing of the library's is held. So it may be constant and copied, any number of threads may use it at once, and there is "
     "nothing to let go. It starts as CVL_NO_SEGMENTS, and cvl_segments_new makes it.",
-    "Each function here is the family on segments of its name, cvl_seg_int_scan for cvl_segments_int_scan, with a descriptor in the place of the "
+    "The functions from cvl_segments_free to cvl_segments_numbers make descriptors and tell of them. Each of the others is the family on segments of its "
+    "name, cvl_seg_int_scan for cvl_segments_int_scan, with a descriptor in the place of the "
     "lengths: the same results and faults, and in place where that may be. Each looks at the lengths before it writes anything, so that lengths that "
     "were changed after the descriptor was made are those of the call, and wrong ones are told by a fault; nobody may write them while a call runs. A "
     "room may share memory with neither the lengths nor the descriptor. Without a descriptor, at CVL_NO_SEGMENTS or a null pointer, a call answers "
@@ -145,7 +146,36 @@ OF_DESCRIPTORS = (
         "CVL_CHECKED CvlStatus cvl_segments_new(CvlLengths lengths, CvlSegments *segments);",
     ),
     (
+        "cvl_segments_from_offsets",
+        (
+            "Makes the descriptor of segments that start at these offsets, one more than there are segments: at the last one the last segment ends, as in "
+            "a matrix of compressed rows. The lengths are written into a room of the caller's, one for each segment, which the descriptor names. After a "
+            "fault there is none, and the room is as it was.",
+            f"Faults: 13 TooLong, without a place, where there are more than {MOST_ELEMENTS} segments; 12 NegativeLength at the first segment whose end stands "
+            "before its start; 7 LengthMismatch where there is no offset, the first one is not 0, or the room has not one place for each segment; "
+            "else 101 NoDescriptor where `segments` is null.",
+        ),
+        "CVL_CHECKED CvlStatus cvl_segments_from_offsets(const int32_t *offsets, size_t offsets_len, int32_t *lengths, size_t lengths_len,\n"
+        "    CvlSegments *segments);",
+    ),
+    (
         "cvl_segments_total", ("How many elements the segments have in all.",),
         "CVL_CHECKED CvlStatus cvl_segments_total(const CvlSegments *segments, size_t *total);",
+    ),
+    (
+        "cvl_segments_offsets",
+        (
+            "Where each segment starts, and last where the last one ends.",
+            "Faults: those of lengths; 7 LengthMismatch where out has not one place more than there are segments.",
+        ),
+        "CVL_CHECKED CvlStatus cvl_segments_offsets(const CvlSegments *segments, int32_t *out, size_t out_len);",
+    ),
+    (
+        "cvl_segments_numbers",
+        (
+            "At each place the number of its segment, counted from 0.",
+            "Faults: those of lengths; 7 LengthMismatch where out has not as many places as the segments; 100 NoResources.",
+        ),
+        "CVL_CHECKED CvlStatus cvl_segments_numbers(const CvlSegments *segments, int32_t *out, size_t out_len);",
     ),
 )

@@ -1686,12 +1686,12 @@ CVL_CHECKED CvlStatus cvl_bck_peb(const bool *source, size_t n, const int32_t *i
  * call writes them or the descriptor, and nothing of the library's is held. So it may be constant and copied, any number of
  * threads may use it at once, and there is nothing to let go. It starts as CVL_NO_SEGMENTS, and cvl_segments_new makes it.
  *
- * Each function here is the family on segments of its name, cvl_seg_int_scan for cvl_segments_int_scan, with a descriptor in
- * the place of the lengths: the same results and faults, and in place where that may be. Each looks at the lengths before it
- * writes anything, so that lengths that were changed after the descriptor was made are those of the call, and wrong ones are
- * told by a fault; nobody may write them while a call runs. A room may share memory with neither the lengths nor the
- * descriptor. Without a descriptor, at CVL_NO_SEGMENTS or a null pointer, a call answers 101 NoDescriptor, and its room is as
- * it was.
+ * The functions from cvl_segments_free to cvl_segments_numbers make descriptors and tell of them. Each of the others is the
+ * family on segments of its name, cvl_seg_int_scan for cvl_segments_int_scan, with a descriptor in the place of the lengths:
+ * the same results and faults, and in place where that may be. Each looks at the lengths before it writes anything, so that
+ * lengths that were changed after the descriptor was made are those of the call, and wrong ones are told by a fault; nobody may
+ * write them while a call runs. A room may share memory with neither the lengths nor the descriptor. Without a descriptor, at
+ * CVL_NO_SEGMENTS or a null pointer, a call answers 101 NoDescriptor, and its room is as it was.
  */
 typedef struct CvlSegments {
     const int32_t *lengths; /* the caller's, which live as long as the descriptor is used */
@@ -1713,8 +1713,31 @@ CvlStatus cvl_segments_free(CvlSegments *segments);
  */
 CVL_CHECKED CvlStatus cvl_segments_new(CvlLengths lengths, CvlSegments *segments);
 
+/*
+ * Makes the descriptor of segments that start at these offsets, one more than there are segments: at the last one the last
+ * segment ends, as in a matrix of compressed rows. The lengths are written into a room of the caller's, one for each segment,
+ * which the descriptor names. After a fault there is none, and the room is as it was.
+ * Faults: 13 TooLong, without a place, where there are more than 2147483647 segments; 12 NegativeLength at the first segment
+ * whose end stands before its start; 7 LengthMismatch where there is no offset, the first one is not 0, or the room has not one
+ * place for each segment; else 101 NoDescriptor where `segments` is null.
+ */
+CVL_CHECKED CvlStatus cvl_segments_from_offsets(const int32_t *offsets, size_t offsets_len, int32_t *lengths, size_t lengths_len,
+    CvlSegments *segments);
+
 /* How many elements the segments have in all. */
 CVL_CHECKED CvlStatus cvl_segments_total(const CvlSegments *segments, size_t *total);
+
+/*
+ * Where each segment starts, and last where the last one ends.
+ * Faults: those of lengths; 7 LengthMismatch where out has not one place more than there are segments.
+ */
+CVL_CHECKED CvlStatus cvl_segments_offsets(const CvlSegments *segments, int32_t *out, size_t out_len);
+
+/*
+ * At each place the number of its segment, counted from 0.
+ * Faults: those of lengths; 7 LengthMismatch where out has not as many places as the segments; 100 NoResources.
+ */
+CVL_CHECKED CvlStatus cvl_segments_numbers(const CvlSegments *segments, int32_t *out, size_t out_len);
 
 /* For each integer the sum of those before it in its segment. */
 CVL_CHECKED CvlStatus cvl_segments_checked_scan(const int32_t *a, size_t a_len, const CvlSegments *segments, int32_t *out,

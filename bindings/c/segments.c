@@ -1,4 +1,4 @@
-/* Descriptors are made and let go, and the version is told. */
+/* Descriptors are made, told of and let go, and the version is told. */
 #include "segments.h"
 
 const char *cvl_version(void) { return CVL_VERSION; }
@@ -27,8 +27,77 @@ CvlStatus cvl_segments_new(CvlLengths lengths, CvlSegments *segments) {
     return status;
 }
 
+/* The first fault of offsets: they are as many as there may be, none is less than the one before it, and the first is 0. */
+/*@ requires \valid_read(offsets + (0 .. offsets_len - 1));
+    assigns \nothing;
+    ensures \result.number == CVL_DONE <==> are_offsets(offsets, offsets_len);
+    ensures \result.number == CVL_NEGATIVE_LENGTH ==> first_fall(offsets, offsets_len, \result.place); */
+static CvlStatus offsets_told(const int32_t *offsets, size_t offsets_len) {
+    if (offsets_len > (size_t)CVL_MOST_ELEMENTS + 1) return cvl_status(CVL_TOO_LONG, -1);
+    /*@ loop invariant 1 <= s && ascends(offsets, s < offsets_len ? s : offsets_len);
+        loop assigns s;
+        loop variant offsets_len - s; */
+    for (size_t s = 1; s < offsets_len; s++) {
+        if (offsets[s] < offsets[s - 1]) return cvl_status(CVL_NEGATIVE_LENGTH, (int64_t)s - 1);
+    }
+    return offsets_len == 0 || offsets[0] != 0 ? cvl_status(CVL_LENGTH_MISMATCH, -1) : cvl_done();
+}
+
+/* Each length is the difference of two offsets from 0 on that don't fall, and so fits 32 bits. */
+CvlStatus cvl_segments_from_offsets(const int32_t *offsets, size_t offsets_len, int32_t *lengths, size_t lengths_len,
+                                    CvlSegments *segments) {
+    const CvlLengths made = {lengths, lengths_len};
+    if (CVL_MEET(lengths, lengths_len, offsets, offsets_len)) return cvl_overlap();
+    if (segments != NULL && (CVL_MEET(segments, 1, offsets, offsets_len) || CVL_MEET(segments, 1, lengths, lengths_len))) {
+        return cvl_overlap();
+    }
+    CvlStatus status = offsets_told(offsets, offsets_len);
+    if (status.number == CVL_DONE && lengths_len != offsets_len - 1) status = cvl_status(CVL_LENGTH_MISMATCH, -1);
+    if (segments == NULL) return status.number == CVL_DONE ? cvl_status(CVL_NO_DESCRIPTOR, -1) : status;
+    if (status.number == CVL_DONE) {
+        status = cvl_int2(CVL_SUB, offsets + 1, lengths_len, offsets, lengths_len, lengths, lengths_len);
+    }
+    if (status.number == CVL_DONE) put(segments, made, 1);
+    else put(segments, none, 0);
+    return status;
+}
+
 CvlStatus cvl_segments_total(const CvlSegments *segments, size_t *total) {
     if (CVL_MEET(total, 1, segments, 1)) return cvl_overlap();
     if (!cvl_is_made(segments)) return cvl_status(CVL_NO_DESCRIPTOR, -1);
     return cvl_make_descriptor(cvl_lengths_of(segments), total);
+}
+
+/* The lengths of a descriptor and what they add up to, where a room shares memory with neither; or the first fault. */
+static CvlStatus lengths_told(const CvlSegments *segments, const int32_t *out, size_t out_len, CvlLengths *lengths,
+                              size_t *total) {
+    if (CVL_MEET(out, out_len, segments, 1)) return cvl_overlap();
+    if (!cvl_is_made(segments)) return cvl_status(CVL_NO_DESCRIPTOR, -1);
+    *lengths = cvl_lengths_of(segments);
+    if (CVL_MEET(out, out_len, lengths->lengths, lengths->segments)) return cvl_overlap();
+    return cvl_make_descriptor(*lengths, total);
+}
+
+CvlStatus cvl_segments_offsets(const CvlSegments *segments, int32_t *out, size_t out_len) {
+    CvlLengths lengths;
+    size_t total;
+    CvlStatus status = lengths_told(segments, out, out_len, &lengths, &total);
+    if (status.number == CVL_DONE && out_len != lengths.segments + 1) status = cvl_status(CVL_LENGTH_MISMATCH, -1);
+    if (status.number == CVL_DONE) status = cvl_int_scan(CVL_ADD, lengths.lengths, lengths.segments, out, lengths.segments);
+    if (status.number == CVL_DONE) out[lengths.segments] = (int32_t)total;
+    return status;
+}
+
+CvlStatus cvl_segments_numbers(const CvlSegments *segments, int32_t *out, size_t out_len) {
+    CvlLengths lengths;
+    size_t total;
+    CvlStatus status = lengths_told(segments, out, out_len, &lengths, &total);
+    if (status.number == CVL_DONE && out_len != total) status = cvl_status(CVL_LENGTH_MISMATCH, -1);
+    if (status.number != CVL_DONE || total == 0) return status;
+    int32_t *numbers = malloc(lengths.segments * sizeof *numbers);
+    if (numbers == NULL) return cvl_status(CVL_NO_RESOURCES, -1);
+    status = cvl_index(0, 1, (int64_t)lengths.segments, numbers, lengths.segments);
+    if (status.number == CVL_DONE) status = cvl_seg_distribute_int(numbers, lengths.segments, lengths, out, out_len);
+    free(numbers);
+    return status;
 }

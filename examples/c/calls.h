@@ -36,7 +36,10 @@ typedef struct Row {
 #define OTHERS(X)                                                                                                              \
     X(cvl_segments_free, "h", "", (p[0]))                                                                                      \
     X(cvl_segments_new, "lh", "", (lengths_at(p[0]), p[1]))                                                                    \
-    X(cvl_segments_total, "dc", "", (p[0], p[1]))
+    X(cvl_segments_total, "dc", "", (p[0], p[1]))                                                                              \
+    X(cvl_segments_from_offsets, "bSh", "", (p[0], segments + 1, p[1], segments, p[2]))                                        \
+    X(cvl_segments_offsets, "dO", "", (p[0], p[1], segments + 1))                                                              \
+    X(cvl_segments_numbers, "dI", "", (p[0], p[1], n))
 
 #define ROW(name, arrays, in_place, arguments) static CvlStatus call_##name(void **p) { return name arguments; }
 OTHERS(ROW)
@@ -57,20 +60,22 @@ typedef struct Array {
     bool is_room;
 } Array;
 
-/* What the letter of an array means: integers, flags, lengths, indices, texts, a descriptor, words of marks, and in upper case and by o, p, q, c
- * and h the rooms. */
+/* What the letter of an array means: integers, flags, lengths, offsets, indices, texts, a descriptor, words of marks, and in upper case and by
+ * o, p, q, c and h the rooms. */
 static Array array_of(char letter) {
     const size_t of_int = sizeof(int32_t);
     switch (letter) {
     case 'i': case 'x': case 'y': case 'z': case 'w': return (Array){of_int, n, false};
     case 'f': return (Array){1, n, false};
     case 'l': case 's': case 'e': return (Array){of_int, segments, false};
+    case 'b': return (Array){of_int, segments + 1, false};
     case 'g': return (Array){1, segments, false};
     case 't': case 'u': return (Array){1, text_length, false};
     case 'd': return (Array){sizeof(CvlSegments), 1, false};
     case 'I': return (Array){of_int, n, true};
     case 'F': return (Array){1, n, true};
     case 'S': return (Array){of_int, segments, true};
+    case 'O': return (Array){of_int, segments + 1, true};
     case 'G': return (Array){1, segments, true};
     case 'M': return (Array){of_int, trues, true};
     case 'N': return (Array){1, trues, true};

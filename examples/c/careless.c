@@ -98,6 +98,7 @@ static void fill(char letter, unsigned char *at, bool any) {
         case 'i': case 's': ints[k] = int_at(k, any); break;
         case 'f': case 'g': at[k] = any ? any_byte() : flag_at(k); break;
         case 'l': ints[k] = length_at(k); break;
+        case 'b': ints[k] = k == 0 ? 0 : ints[k - 1] + length_at(k - 1); break;
         case 'e': ints[k] = 0; break;
         case 't': at[k] = (unsigned char)"3 1 4 1"[k]; break;
         case 'u': at[k] = (unsigned char)"[[3 1]]"[k]; break;

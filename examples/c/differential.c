@@ -71,13 +71,42 @@ static CvlLengths lengths_of(const Given *g, size_t k) {
     return lengths;
 }
 
+/* The functions that no row is written for, on lengths in the place of a descriptor. */
+static CvlStatus cvl_segments_offsets_of(CvlLengths lengths, int32_t *out, size_t out_len) {
+    const CvlSegments segments = {lengths.lengths, lengths.segments, true};
+    return cvl_segments_offsets(&segments, out, out_len);
+}
+
+static CvlStatus cvl_segments_numbers_of(CvlLengths lengths, int32_t *out, size_t out_len) {
+    const CvlSegments segments = {lengths.lengths, lengths.segments, true};
+    return cvl_segments_numbers(&segments, out, out_len);
+}
+
+/* A descriptor is there where the call is done, and else none, but that an overlap leaves the one before: or it answers no status. */
+static CvlStatus cvl_segments_of_offsets(const int32_t *offsets, size_t offsets_len, int32_t *out, size_t out_len) {
+    CvlSegments segments = {offsets, offsets_len, true};
+    const CvlStatus status = cvl_segments_from_offsets(offsets, offsets_len, out, out_len, &segments);
+    const bool is_made = segments.some && segments.lengths == out && segments.segments == out_len;
+    const bool is_before = segments.some && segments.lengths == offsets && segments.segments == offsets_len;
+    const bool right = status.number == CVL_DONE ? is_made : status.number == CVL_OVERLAP ? is_before : !segments.some;
+    return right ? status : told(UINT32_MAX, -1);
+}
+
+#define OTHERS(X)                                                                                                              \
+    X(cvl_segments_offsets_of, TELL_OFFSETS, "liaRie", "", -1, -1, -1, false, (lengths_of(g, 0), (int32_t *)g->at[1], g->len[1])) \
+    X(cvl_segments_numbers_of, TELL_NUMBERS, "liaRia", "", -1, -1, -1, false, (lengths_of(g, 0), (int32_t *)g->at[1], g->len[1])) \
+    X(cvl_segments_of_offsets, FROM_OFFSETS, "rieRis", "", -1, -1, -1, false,                                                  \
+      ((const int32_t *)g->at[0], g->len[0], (int32_t *)g->at[1], g->len[1]))
+
 #define ROW(name, model, operands, in_place, least, most, limited, is_call, arguments)                                         \
     static CvlStatus call_##name(const Given *g) { return name arguments; }
+OTHERS(ROW)
 #include "reading_rows.h"
 #undef ROW
 #define ROW(name, model, operands, in_place, least, most, limited, is_call, arguments)                                         \
     {#name, model, operands, in_place, least, most, limited, is_call, call_##name},
 static const Row rows[] = {
+    OTHERS(ROW)
 #include "reading_rows.h"
 };
 #undef ROW
@@ -164,6 +193,12 @@ static void fill_indices(const Row *row, Given *g, size_t n, size_t m) {
     if (many > 0 && chance(3)) index[below(many)] = chance(2) ? index[below(many)] : chance(2) ? -1 - (int32_t)below(2) : chance(2) ? INT32_MAX : (int32_t)m;
 }
 
+/* Offsets that begin with 0 and never fall; then sometimes others. */
+static void fill_offsets(int32_t *offsets, size_t count) {
+    for (size_t k = 0; k < count; k++) offsets[k] = k == 0 ? 0 : offsets[k - 1] + (int32_t)below(4);
+    for (size_t other = chance(3) ? below(3) : 0; other > 0 && count > 0; other--) offsets[below(count)] = any_int();
+}
+
 /* The indices of first senders, most times each a place of its segment of the result; those whose flag is false are no places. */
 static void fill_senders(const Row *row, Given *g) {
     const bool selects = kind_of(row, 1) == 'f';
@@ -209,6 +244,7 @@ static void fill(const Row *row, Given *g, size_t k, size_t n, size_t m) {
     for (size_t j = 0; j < g->len[k] && kind_of(row, k) == 'i'; j++) ints[j] = small ? (int32_t)below(19) - 9 : any_int();
     for (size_t j = 0; j < g->len[k] && kind_of(row, k) == 'f'; j++) bytes[j] = chance(2) ? 0 : plain || chance(2) ? 1 : (unsigned char)below(256);
     if (kind_of(row, k) == 't') fill_text(row, (char *)g->at[k], g->len[k]);
+    if (row->model == FROM_OFFSETS) fill_offsets(ints, g->len[k]);
     if (row->model == PAIRS && k == 1 && g->op >= CVL_DIV && kind_of(row, k) == 'i') {
         for (size_t j = 0; j < g->len[k]; j++) ints[j] = g->op >= CVL_LSH ? (int32_t)below(32) : ints[j] == 0 ? 7 : ints[j];
         /* several, so that the first is told from the others */
@@ -224,6 +260,7 @@ static size_t long_as(char extent, size_t n, size_t m, size_t segments, int64_t 
     case 'n': case 'a': return n;
     case 'm': return m;
     case 's': return segments;
+    case 'e': return segments + 1;
     case 'c': return count < 0 || count > MOST_PLACES ? 0 : (size_t)count;
     default: return room;
     }

@@ -70,13 +70,13 @@ static void hold_indices(int32_t *numbers, bool cut_up, bool by_flags) {
 static void hold(const Row *row, size_t j) {
     const char letter = row->arrays[j];
     const bool takes_part = strchr(row->arrays + j + 1, 'f') == NULL;
-    const bool is_text = letter == 't' || letter == 'u'; /* which is as long as its numbers make it */
-    const size_t count = is_text || array_of(letter).count > n ? n : array_of(letter).count;
+    const size_t count = array_of(letter).count < n ? array_of(letter).count : n;
     for (size_t k = 0; k < count; k++) {
         switch (letter) {
         case 'f': held[j][k] = takes_part ? flag_at(k) : k % 5 < 2; break;
         case 'g': held[j][k] = k % 4 < 3; break;
         case 'l': held[j][k] = lengths[k]; break;
+        case 'b': held[j][k] = (int32_t)starts[k]; break;
         case 'e': held[j][k] = (int32_t)(k % (size_t)lengths[k]); break;
         default: held[j][k] = (int32_t)((k * 7907 + j) % 31 + 1); /* none divides by 0, shifts too far or adds up to too much */
         }
@@ -310,6 +310,26 @@ static size_t total(const char *call) {
     return n;
 }
 
+/* What is no call of the table: the offsets and the lengths of a descriptor, and the number of its segment at each place. */
+static size_t tell_offsets(const char *call) {
+    (void)call;
+    for (size_t s = 0; s <= segments; s++) wanted[s] = (int32_t)starts[s];
+    return segments + 1;
+}
+
+static size_t tell_lengths(const char *call) {
+    (void)call;
+    memcpy(wanted, lengths, segments * sizeof *wanted);
+    return segments;
+}
+
+static size_t tell_numbers(const char *call) {
+    for (size_t g = 0; g < groups(by_segments(call)); g++) {
+        for (size_t k = from(by_segments(call), g); k < to(by_segments(call), g); k++) wanted[k] = (int32_t)g;
+    }
+    return n;
+}
+
 /* By how a call's name begins, and by its fifth letter where several begin so. */
 static const struct Reading {
     const char *begins, *fifth;
@@ -317,7 +337,8 @@ static const struct Reading {
 } readings[] = {
     {"sel", "w", chosen}, {"sel", "p", send_flagged}, {"smp", "p", send}, {"def", "p", send}, {"bck", "p", gather}, {"pck", "l", pack},
     {"pck", "f", count_trues}, {"cnt", "l", count_trues}, {"ext", "v", extract}, {"rep", "v", replace}, {"dis", "v", distribute},
-    {"ind", "l", number}, {"fst", "l", send_first}, {"fsr", "l", send_first_flagged}, {"mke", "f", total}, {"", "w", place_by_place}, {"", "s", scan}, {"", "r", reduce},
+    {"ind", "l", number}, {"fst", "l", send_first}, {"fsr", "l", send_first_flagged}, {"mke", "f", total}, {"off", "f", tell_offsets},
+    {"len", "f", tell_lengths}, {"num", "f", tell_numbers}, {"", "w", place_by_place}, {"", "s", scan}, {"", "r", reduce},
 };
 
 static size_t read_plainly(const char *call) {
@@ -343,7 +364,7 @@ static const char *const calls_of_exports[][2] = {
     {"first_senders_range", "fst_luz"}, {"select_first_senders_range", "fsr_luz"}, {"int_scan_after", "add_suz"}, {"bool_scan_after", "xor_sub"},
     {"checked_scan_after", "tot_suz"}, {"exact_sum", "tot_ruz"}, {"read_ints", "cpy_wuz"},
     {"read_ints_after", "cpy_wuz"}, {"write_ints", "cpy_wuz"}, {"write_bools", "cpy_wub"}, {"new", "mke_fov"},
-    {"free", "mke_fov"},
+    {"free", "mke_fov"}, {"from_offsets", "len_fov"}, {"offsets", "off_fov"}, {"numbers", "num_fov"},
 };
 
 /* The call that a function makes, into `call`: a call of the table has three letters, a stroke, and three more. */

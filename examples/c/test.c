@@ -877,6 +877,8 @@ static void without_a_descriptor(const CvlSegments *none) {
     const int32_t *a = I(3, 1, 4, 1, 5), *index = I(0, 0, 0, 0, 0);
     const bool *f = B(true, false, true, false, true);
     FAULT(cvl_segments_total(none, &total), CVL_NO_DESCRIPTOR, -1);
+    FAULT(cvl_segments_offsets(none, ints, 1), CVL_NO_DESCRIPTOR, -1);
+    FAULT(cvl_segments_numbers(none, ints, 5), CVL_NO_DESCRIPTOR, -1);
     FAULT(cvl_segments_checked_scan(a, 5, none, ints, 5), CVL_NO_DESCRIPTOR, -1);
     FAULT(cvl_segments_checked_reduce(a, 5, none, ints, 3), CVL_NO_DESCRIPTOR, -1);
     FAULT(cvl_segments_int_scan(CVL_SUB, a, 5, none, ints, 5), CVL_NO_DESCRIPTOR, -1);
@@ -917,6 +919,10 @@ static void with_a_descriptor(const CvlSegments *d, const CvlSegments *wide, con
     const int32_t *a = I(3, 1, 4, 1, 5), *up = I(1, 2, 3, 4, 5);
     const bool *f = B(true, false, true, false, true), *flags = B(false, true, true, false, true);
     counts("cvl_segments_total", (reset(), cvl_segments_total(d, &total)), CVL_DONE, 5);
+    INTS(cvl_segments_offsets(d, ints, 4), 0, 2, 2, 5);
+    INTS(cvl_segments_numbers(d, ints, 5), 0, 0, 2, 2, 2);
+    FAULT(cvl_segments_offsets(d, ints, 3), CVL_LENGTH_MISMATCH, -1);
+    FAULT(cvl_segments_numbers(d, ints, 4), CVL_LENGTH_MISMATCH, -1);
     INTS(cvl_segments_checked_scan(a, 5, d, ints, 5), 0, 3, 0, 4, 5);
     INTS(cvl_segments_checked_reduce(a, 5, d, ints, 3), 4, 0, 10);
     INTS(cvl_segments_int_scan(CVL_MUL, a, 5, d, ints, 5), 1, 3, 1, 4, 4);
@@ -951,6 +957,40 @@ static void with_a_descriptor(const CvlSegments *d, const CvlSegments *wide, con
     FAULT(cvl_segments_int_scan(CVL_ADD, a, 5, d, ints, 4), CVL_LENGTH_MISMATCH, -1);
     FAULT(cvl_segments_bool_scan(CVL_AND, f, 4, d, bools, 5), CVL_LENGTH_MISMATCH, -1);
     FAULT(cvl_segments_checked_scan(I(1, 2, 2147483647, 1, 1), 5, d, ints, 5), CVL_OVERFLOW, 4);
+}
+
+/* Descriptors of segments that start at offsets. */
+static void descriptors_of_offsets(void) {
+    const int32_t *a = I(3, 1, 4, 1, 5);
+    int32_t some[3] = {7, 7, 7};
+    CvlSegments made = CVL_NO_SEGMENTS;
+    INTS(cvl_segments_from_offsets(I(0, 2, 2, 5), 4, ints, 3, &made), 2, 0, 3);
+    FAULT(cvl_segments_from_offsets(I(0, 2, 2, 5), 4, some, 3, &made), CVL_DONE, -1);
+    INTS(cvl_segments_int_reduce(CVL_ADD, a, 5, &made, ints, 3), 4, 0, 10);
+    /* where the last offset is not the number of elements, the call on these tells it */
+    FAULT(cvl_segments_int_reduce(CVL_ADD, a, 4, &made, ints, 3), CVL_LENGTH_MISMATCH, -1);
+    FAULT(cvl_segments_from_offsets(I(0, 3, 2, 1), 4, some, 3, &made), CVL_NEGATIVE_LENGTH, 1);
+    without_a_descriptor(&made);
+    FAULT(cvl_segments_from_offsets(I(1, 0), 2, some, 1, &made), CVL_NEGATIVE_LENGTH, 0);
+    FAULT(cvl_segments_from_offsets(I(5, INT32_MIN), 2, some, 1, &made), CVL_NEGATIVE_LENGTH, 0);
+    FAULT(cvl_segments_from_offsets(I(INT32_MIN, INT32_MAX), 2, some, 1, &made), CVL_LENGTH_MISMATCH, -1);
+    FAULT(cvl_segments_from_offsets(I(1, 2), 2, some, 1, &made), CVL_LENGTH_MISMATCH, -1);
+    FAULT(cvl_segments_from_offsets(a, 0, some, 0, &made), CVL_LENGTH_MISMATCH, -1);
+    FAULT(cvl_segments_from_offsets(I(0, 2, 2, 5), 4, some, 2, &made), CVL_LENGTH_MISMATCH, -1);
+    FAULT(cvl_segments_from_offsets(too_many_ints, (size_t)CVL_MOST_ELEMENTS + 2, some, 3, &made), CVL_TOO_LONG, -1);
+    FAULT(cvl_segments_from_offsets(I(0, 2, 2, 5), 4, some, 3, NULL), CVL_NO_DESCRIPTOR, -1);
+    FAULT(cvl_segments_from_offsets(I(1, 2), 2, some, 1, NULL), CVL_LENGTH_MISMATCH, -1);
+    INTS(cvl_segments_from_offsets(I(0, CVL_MOST_ELEMENTS), 2, ints, 1, &made), CVL_MOST_ELEMENTS);
+    FAULT(cvl_segments_from_offsets(I(0), 1, NULL, 0, &made), CVL_DONE, -1);
+    INTS(cvl_segments_offsets(&made, ints, 1), 0);
+    FAULT(cvl_segments_numbers(&made, NULL, 0), CVL_DONE, -1);
+    if (memcmp(some, I(2, 0, 3), sizeof some) != 0) fail("cvl_segments_from_offsets", "after a fault lengths were written");
+    refusing = 1;
+    FAULT(cvl_segments_from_offsets(I(0, 2, 2, 5), 4, some, 3, &made), CVL_DONE, -1);
+    tells("offsets without memory", cvl_segments_offsets(&made, ints, 4), CVL_DONE, -1);
+    FAULT(cvl_segments_numbers(&made, ints, 5), CVL_NO_RESOURCES, -1);
+    refusing = 0;
+    FAULT(cvl_segments_free(&made), CVL_DONE, -1);
 }
 
 static void made_descriptors(void) {
@@ -1444,6 +1484,7 @@ int main(void) {
     texts();
     texts_of_any_length();
     made_descriptors();
+    descriptors_of_offsets();
     nested_texts();
     long_rows();
     longer_than_a_text();

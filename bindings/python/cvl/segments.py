@@ -7,7 +7,10 @@ from typing import TYPE_CHECKING, Any
 import numpy
 import numpy.ma
 
-from cvl._calls import Lengths
+from cvl import faults
+from cvl._calls import MOST_ELEMENTS, Lengths
+from cvl.calls import add_suz, dis_vez, ind_luz
+from cvl.fault import Fault
 
 if TYPE_CHECKING:
     from numpy.typing import ArrayLike
@@ -39,12 +42,18 @@ def _as_ints(numbers: Any, name: str) -> Any:
     return numpy.ascontiguousarray(given, INT)
 
 
+def _frozen(found: IntArray) -> IntArray:
+    """A new array, which nobody writes from now on."""
+    found.flags.writeable = False
+    return found
+
+
 class Segments(Lengths):
     """Segments of a vector, one after another, made once from their lengths and then used by any calls and threads.
 
     `lengths` is an array of int32, `total` how many elements the segments have in all, and `len` of it how many segments there
-    are. None of it can be changed, so that a copy is the same object. A negative length and a total above `cvl.MOST_ELEMENTS` are
-    faults.
+    are; `offsets` says where each starts, and `numbers` whose each place is. None of it can be changed, so that a copy is the same
+    object. A negative length and a total above `cvl.MOST_ELEMENTS` are faults.
 
     >>> import cvl, numpy
     >>> rows = cvl.Segments([2, 0, 3])
@@ -72,23 +81,43 @@ class Segments(Lengths):
 
     @classmethod
     def from_offsets(cls, offsets: ArrayLike) -> Segments:
-        """Segments whose starts stand in `offsets`, and last where the last one ends, as in a matrix of compressed rows."""
+        """Segments whose starts stand in `offsets`, and last where the last one ends, as in a matrix of compressed rows.
+
+        Faults: 12 NegativeLength at the first segment whose end stands before its start; 7 LengthMismatch where the first offset
+        is not 0, or there is none; 13 TooLong where the last one is above `cvl.MOST_ELEMENTS`.
+        """
         given = _whole_numbers(offsets, "offsets")
+        falls = given[1:] < given[:-1]
+        if falls.any():
+            raise Fault(faults.NEGATIVE_LENGTH, "NegativeLength", int(falls.argmax()))
         if given.size == 0 or given[0] != 0:
-            raise ValueError("offsets begin with 0")
-        return cls(numpy.diff(given.astype(numpy.int64)))
+            raise Fault(faults.LENGTH_MISMATCH, "LengthMismatch", None, "offsets begin with 0")
+        if given[-1] > MOST_ELEMENTS:
+            raise Fault(faults.TOO_LONG, "TooLong")
+        return cls(numpy.diff(given))
 
     @property
     def offsets(self) -> IntArray:
-        """Where each segment starts, and last where the last one ends.
+        """Where each segment starts, and last where the last one ends: one more than there are segments.
 
         >>> import cvl
         >>> cvl.Segments([2, 0, 3]).offsets.tolist()
         [0, 2, 2, 5]
         """
         found = numpy.zeros(len(self) + 1, INT)
-        numpy.cumsum(self.lengths, out=found[1:])
-        return found
+        add_suz(self.lengths, out=found[:-1])
+        found[-1] = self.total
+        return _frozen(found)
+
+    @property
+    def numbers(self) -> IntArray:
+        """At each place the number of its segment, counted from 0.
+
+        >>> import cvl
+        >>> cvl.Segments([2, 0, 3]).numbers.tolist()
+        [0, 0, 2, 2, 2]
+        """
+        return _frozen(dis_vez(ind_luz(0, 1, len(self)), self))
 
     def __eq__(self, other: object) -> bool:
         if not isinstance(other, Segments):

@@ -397,14 +397,34 @@ class Cut(unittest.TestCase):
         self.assertEqual(repr(rows), "Segments([2, 0, 3])")
         many = cvl.Segments(numpy.arange(200000) % 10)
         self.assertEqual(repr(many), "<200000 Segments of 900000 elements: 0, 1, 2, .., 7, 8, 9>")
-        for offsets in ([1, 2], []):
-            with self.assertRaises(ValueError):
-                cvl.Segments.from_offsets(offsets)
         with self.assertRaises(OverflowError):
             cvl.Segments([2**31])
         for make in (cvl.Segments, cvl.Segments.from_offsets):
             with self.assertRaises(TypeError):
                 make([0, 0.5])
+
+    def test_offsets_that_are_none(self):
+        given = (
+            ([0, 3, 2, 1], 12, 1), ([1, 0], 12, 0), (numpy.array([0, 5, 4], dtype=numpy.uint64), 12, 1), ([-(2**63), 2**63 - 1], 7, None),
+            ([1, 2], 7, None), ([], 7, None), ([0, 2**31], 13, None), ([0, 5, 2**40], 13, None),
+        )  # fmt: skip
+        for offsets, number, place in given:
+            with self.assertRaises(cvl.Fault) as caught:
+                cvl.Segments.from_offsets(offsets)
+            self.assertEqual((caught.exception.number, caught.exception.place), (number, place), offsets)
+        self.assertEqual(cvl.Segments.from_offsets(numpy.array([0, MOST], dtype=numpy.uint64)).total, MOST)
+        # where the last offset is not the number of elements, the call on these tells it
+        with self.assertRaisesRegex(cvl.Fault, "segments add up to 2, and len.a. is 3"):
+            cvl.add_rez(ints(1, 1, 1), cvl.Segments.from_offsets([0, 2]))
+
+    def test_offsets_and_the_segment_of_each_place(self):
+        for lengths in ([], [0], [3], [0, 0, 2], [2, 0, 3, 0], numpy.arange(2000) % 7):
+            rows = cvl.Segments(lengths)
+            self.assertEqual(rows.offsets.tolist(), [0, *numpy.cumsum(rows.lengths).tolist()])
+            self.assertEqual(rows.numbers.tolist(), numpy.repeat(numpy.arange(len(rows)), rows.lengths).tolist())
+            self.assertEqual(cvl.Segments.from_offsets(rows.offsets), rows)
+            for found in (rows.offsets, rows.numbers):
+                self.assertEqual((found.dtype, found.flags.writeable), (numpy.int32, False))
 
     def test_segments_are_frozen(self):
         rows = cvl.Segments([2, 0, 3])
@@ -415,7 +435,7 @@ class Cut(unittest.TestCase):
                 found.lengths[0] = 1
             with self.assertRaises(ValueError):
                 found.lengths.flags.writeable = True
-            for name in ("lengths", "total", "more"):
+            for name in ("lengths", "total", "offsets", "numbers", "more"):
                 with self.assertRaises(AttributeError):
                     setattr(found, name, ints(1, 4))
                 with self.assertRaises(AttributeError):

@@ -46,6 +46,14 @@ impl Fault {
         Fault::of(faults::NEGATIVE_LENGTH)
     }
 
+    /// The length of this segment is below 0.
+    pub(crate) fn negative_length_of(segment: usize) -> Fault {
+        Fault {
+            number: faults::NEGATIVE_LENGTH,
+            place: Some(segment as u64),
+        }
+    }
+
     /// More elements than a vector may have.
     pub(crate) fn too_long() -> Fault {
         Fault::of(faults::TOO_LONG)

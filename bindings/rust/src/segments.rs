@@ -4,8 +4,9 @@ use alloc::vec::Vec;
 
 use cvl_sys::CvlLengths;
 
+use crate::calls::{add_suz_into, dis_vez, ind_luz};
 use crate::fault::Fault;
-use crate::lengths::{copied, limit};
+use crate::lengths::{copied, limit, zeros};
 use crate::pool::call;
 
 /// Segments of a vector, one after another, made once from their lengths and then used by any calls and threads.
@@ -39,17 +40,48 @@ impl Segments {
 
     /// Segments whose starts are these, and whose last one ends at the last of them, as in a matrix of compressed rows.
     ///
-    /// Faults: 7 LengthMismatch where the first is not 0, or there is none; those of [`Segments::new`].
+    /// Faults: 13 TooLong where there are more than [`MOST_ELEMENTS`](crate::MOST_ELEMENTS) segments; 12 NegativeLength at the
+    /// first segment whose end stands before its start; 7 LengthMismatch where the first offset is not 0, or there is none; 100
+    /// NoResources where there is no memory for the lengths.
     pub fn from_offsets(offsets: &[i32]) -> Result<Segments, Fault> {
-        if offsets.first() != Some(&0) {
-            return Err(Fault::length_mismatch());
+        limit(offsets.len().saturating_sub(1))?;
+        if let Some(segment) = offsets.windows(2).position(|pair| pair[1] < pair[0]) {
+            return Err(Fault::negative_length_of(segment));
         }
-        limit(offsets.len() - 1)?;
-        Segments::new(&copied(
-            offsets
-                .windows(2)
-                .map(|pair| pair[1].saturating_sub(pair[0])),
-        )?)
+        match (offsets.first(), offsets.last()) {
+            (Some(0), Some(&end)) => Ok(Segments {
+                lengths: copied(offsets.windows(2).map(|pair| pair[1] - pair[0]))?,
+                total: end as usize,
+            }),
+            _ => Err(Fault::length_mismatch()),
+        }
+    }
+
+    /// Where each segment starts, and last where the last one ends: one more than there are segments.
+    ///
+    /// ```
+    /// assert_eq!(cvl::Segments::new(&[2, 0, 3])?.offsets()?, [0, 2, 2, 5]);
+    /// # Ok::<(), cvl::Fault>(())
+    /// ```
+    ///
+    /// Faults: 100 NoResources where there is no memory for them.
+    pub fn offsets(&self) -> Result<Vec<i32>, Fault> {
+        let mut offsets = zeros(self.len() + 1)?;
+        add_suz_into(&self.lengths, &mut offsets[..self.len()])?;
+        offsets[self.len()] = self.total as i32;
+        Ok(offsets)
+    }
+
+    /// At each place the number of its segment, counted from 0.
+    ///
+    /// ```
+    /// assert_eq!(cvl::Segments::new(&[2, 0, 3])?.numbers()?, [0, 0, 2, 2, 2]);
+    /// # Ok::<(), cvl::Fault>(())
+    /// ```
+    ///
+    /// Faults: 100 NoResources where there is no memory for them.
+    pub fn numbers(&self) -> Result<Vec<i32>, Fault> {
+        dis_vez(&ind_luz(0, 1, self.len() as i64)?, self)
     }
 
     /// The length of each segment.

@@ -234,11 +234,43 @@ fn segments_of_lengths_and_of_offsets() {
         (7, None)
     );
     assert_eq!(told(Segments::from_offsets(&[]).unwrap_err()), (7, None));
+    let falls = [
+        (&[0, 3, 2, 1][..], 1),
+        (&[1, 0], 0),
+        (&[0, i32::MAX, i32::MIN], 1),
+    ];
+    for (offsets, segment) in falls {
+        assert_eq!(
+            told(Segments::from_offsets(offsets).unwrap_err()),
+            (12, Some(segment))
+        );
+    }
     assert_eq!(
-        told(Segments::from_offsets(&[0, 3, 2]).unwrap_err()),
-        (12, Some(1))
+        told(Segments::from_offsets(&[i32::MIN, i32::MAX]).unwrap_err()),
+        (7, None)
+    );
+    assert_eq!(
+        Segments::from_offsets(&[0, i32::MAX]).unwrap().total(),
+        cvl::MOST_ELEMENTS
     );
     assert_eq!(cvl::len_fos(&rows), [2, 0, 3]);
+    // where the last offset is not the number of elements, the call on these tells it
+    assert_eq!(told(cvl::add_rez(&[1; 4], &rows).unwrap_err()), (7, None));
+}
+
+#[test]
+fn offsets_of_segments_and_the_segment_of_each_place() {
+    for lengths in [&[][..], &[0], &[3], &[0, 0, 2], &[2, 0, 3, 0]] {
+        let rows = Segments::new(lengths).unwrap();
+        let (offsets, numbers) = (rows.offsets().unwrap(), rows.numbers().unwrap());
+        let (mut starts, mut each) = (vec![0], vec![]);
+        for (number, &length) in lengths.iter().enumerate() {
+            each.extend((0..length).map(|_| number as i32));
+            starts.push(each.len() as i32);
+        }
+        assert_eq!((&offsets, numbers), (&starts, each));
+        assert_eq!(Segments::from_offsets(&offsets).unwrap(), rows);
+    }
 }
 
 #[test]

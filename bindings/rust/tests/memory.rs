@@ -59,6 +59,8 @@ fn no_memory_is_told_after_what_needs_none() {
         (number(cvl::pck_lub(&kept, &kept)), 100),
         (number(Segments::new(&lengths)), 100),
         (number(Segments::from_offsets(&[0; 1_000])), 100),
+        (number(rows.offsets()), 100),
+        (number(rows.numbers()), 100),
         (number(cvl::add_wuz(&ones, &zeros[1..])), 7),
         (number(cvl::add_sez(&ones[1..], &rows)), 7),
         (number(cvl::and_wub(&more, &kept)), 13),

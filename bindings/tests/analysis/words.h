@@ -70,6 +70,12 @@ static inline unsigned char atomic_exchange(unsigned char *at, unsigned char val
       0 <= first <= segments && start_of(lengths, first) >= place &&
       \forall integer s; 0 <= s < first ==> start_of(lengths, s) < place; */
 
+/* Offsets of segments are as many as there may be and one more, begin with 0, and never fall. */
+/*@ predicate ascends{L}(int32_t *offsets, integer count) = \forall integer s; 0 < s < count ==> offsets[s - 1] <= offsets[s];
+    predicate are_offsets{L}(int32_t *offsets, integer count) = 0 < count <= INT32_MAX + 1 && offsets[0] == 0 && ascends(offsets, count);
+    predicate first_fall{L}(int32_t *offsets, integer count, integer segment) =
+      0 <= segment < count - 1 && offsets[segment + 1] < offsets[segment] && ascends(offsets, segment + 1); */
+
 /* ---- texts ---- */
 
 /*@ predicate is_white_byte(integer byte) = byte == ' ' || byte == '\t' || byte == '\n' || byte == '\r'; */

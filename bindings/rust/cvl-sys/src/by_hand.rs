@@ -90,11 +90,35 @@ extern "C" {
     /// Makes the descriptor of segments with these lengths. After a fault of the lengths there is none.
     pub fn cvl_segments_new(lengths: CvlLengths, segments: *mut CvlSegments) -> CvlStatus;
 
+    /// Makes the descriptor of segments that start at these offsets, the last of which is where the last one ends, and writes
+    /// their lengths into a room. After a fault there is none.
+    pub fn cvl_segments_from_offsets(
+        offsets: *const i32,
+        offsets_len: usize,
+        lengths: *mut i32,
+        lengths_len: usize,
+        segments: *mut CvlSegments,
+    ) -> CvlStatus;
+
     /// Lets go of a descriptor, of which nothing is left then; a null pointer is none.
     pub fn cvl_segments_free(segments: *mut CvlSegments) -> CvlStatus;
 
     /// How many elements the segments have in all.
     pub fn cvl_segments_total(segments: *const CvlSegments, total: *mut usize) -> CvlStatus;
+
+    /// Where each segment starts, and last where the last one ends.
+    pub fn cvl_segments_offsets(
+        segments: *const CvlSegments,
+        out: *mut i32,
+        out_len: usize,
+    ) -> CvlStatus;
+
+    /// At each place the number of its segment, counted from 0.
+    pub fn cvl_segments_numbers(
+        segments: *const CvlSegments,
+        out: *mut i32,
+        out_len: usize,
+    ) -> CvlStatus;
 
     /// A pool of the thread that calls, which runs so many parts in turn.
     pub fn cvl_pool_alone(parts: usize) -> CvlPool;

@@ -97,6 +97,12 @@ fn descriptors() {
     unsafe {
         assert_eq!(cvl_segments_total(&made, &mut total), DONE);
         assert_eq!((total, made.segments, made.some), (5, 3, true));
+        let (mut offsets, mut numbers, mut room) = ([9; 4], [9; 5], [9; 3]);
+        assert_eq!(cvl_segments_offsets(&made, offsets.as_mut_ptr(), 4), DONE);
+        assert_eq!(cvl_segments_numbers(&made, numbers.as_mut_ptr(), 5), DONE);
+        assert_eq!((offsets, numbers), ([0, 2, 2, 5], [0, 0, 2, 2, 2]));
+        let read = cvl_segments_from_offsets(offsets.as_ptr(), 4, room.as_mut_ptr(), 3, &mut made);
+        assert_eq!((read, room, made.segments), (DONE, lengths, 3));
         assert_eq!(cvl_segments_free(&mut made), DONE);
         assert_eq!(cvl_segments_free(null_mut()), DONE);
         let wrong = cvl_segments_new(given(&[1, -1]), &mut made);
