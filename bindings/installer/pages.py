@@ -24,11 +24,11 @@ MOVED = {
 # the examples: the folder of the repository, and its files
 EXAMPLES = (
     ("crates/script_cases/data/examples", ("*.cvl", "*.txt")),
-    ("examples/c", ("sparse_product.c", "polynomial.c", "quicksort.c", "radix_sort.c", "threads.c")),
+    ("examples/c", ("sparse_product.c", "sparse_transpose.c", "polynomial.c", "quicksort.c", "radix_sort.c", "distinct.c", "threads.c")),
     ("examples/cpp", ("*.cpp",)),
     ("examples/mpi", ("parts.c",)),
     ("bindings/python/examples", ("*.py",)),
-    ("bindings/rust/examples", ("sparse_product.rs",)),
+    ("bindings/rust/examples", ("sparse_product.rs", "join.rs")),
     ("bindings/fortran/examples", ("*.f90",)),
 )
 
