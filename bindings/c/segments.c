@@ -34,7 +34,7 @@ CvlStatus cvl_segments_new(CvlLengths lengths, CvlSegments *segments) {
     ensures \result.number == CVL_NEGATIVE_LENGTH ==> first_fall(offsets, offsets_len, \result.place); */
 static CvlStatus offsets_told(const int32_t *offsets, size_t offsets_len) {
     if (offsets_len > (size_t)CVL_MOST_ELEMENTS + 1) return cvl_status(CVL_TOO_LONG, -1);
-    /*@ loop invariant 1 <= s && ascends(offsets, s < offsets_len ? s : offsets_len);
+    /*@ loop invariant 1 <= s <= offsets_len + 1 && (s <= offsets_len || s == 1) && ascends(offsets, s);
         loop assigns s;
         loop variant offsets_len - s; */
     for (size_t s = 1; s < offsets_len; s++) {
