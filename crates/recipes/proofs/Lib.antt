@@ -3,6 +3,7 @@ mod Calls
 mod Fractions
 mod Greatest
 mod ProductBound
+mod ProductFaults
 mod ProductScript
 mod RowProducts
 mod SightBound

@@ -7,7 +7,7 @@ use Rattle.cvl_base.specs.Gives.{◌>>=◌, Gives}
 use Rattle.cvl_base.specs.Limits.{most_elements}
 use Rattle.vector_handles.specs.Names.{bind, value_at}
 use Rattle.recipes.specs.declared.scripts.TheConstants.{SPARSE_MATVEC}
-use Rattle.recipes.specs.Products.{IsMatrix, at_column, product_of}
+use Rattle.sparse_products.specs.Products.{IsMatrix, at_column, product_of}
 use Rattle.recipes.specs.Recipes.{GivesBound, bound_by}
 use Rattle.recipes.proofs.Answered.{is_answer}
 use Rattle.recipes.proofs.Calls.{goes_on}

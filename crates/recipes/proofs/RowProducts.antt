@@ -26,7 +26,7 @@ use Rattle.cvl_base.proofs.Segmented.{results-ok}
 use Rattle.cvl_base.specs.Permutes.{back_of, is_place}
 use Rattle.cvl_base.specs.Segmented.{results_from, in_vector}
 use Rattle.cvl_base.specs.SegmentedCalls.{seg_reduce_of}
-use Rattle.recipes.specs.Products.{at_column, term, row_product}
+use Rattle.sparse_products.specs.Products.{at_column, term, row_product}
 use Rattle.recipes.proofs.Tables.{all_values}
 
 -- ---- the lengths

@@ -1,6 +1,6 @@
 -- What a script binds to a name: the value that its lines leave there, or the fault at which its run stops, without the line.
 -- Source: this library's script format.
-use Rattle.std.specs.Prelude.{◌≡◌, ℕ, ℤ, Bool, List, [], Option, Some, Result, Ok}
+use Rattle.std.specs.Prelude.{◌≡◌, ℕ, ℤ, Bool, List, [], Option, Some, Result, Ok, Err}
 use Rattle.cvl_base.specs.declared.fault.Fault.{Fault}
 use Rattle.cvl_base.specs.declared.value.Value.{Value}
 use Rattle.cvl_base.specs.declared.value.Value.TheVariants as value
@@ -29,3 +29,8 @@ module _ {A : Type 0} where
 
   abbrev pub HasBooleans : Entries A → List ℕ → Type 0
   HasBooleans names name = (bs : List Bool) × (value_at names name ≡ Some (value.Booleans bs))
+
+  -- a vector of integers, as a script binds it, or the fault
+  abbrev pub as_bound : Result (List ℤ) Fault → Result (Option (Value A)) Fault
+  as_bound (Ok xs) = Ok (Some (value.Integers xs))
+  as_bound (Err f) = Err f

@@ -6,8 +6,9 @@ ghost use Rattle.cvl_base.specs.declared.fault.FaultNo.TheVariants as no;
 ghost use Rattle.cvl_base.specs.declared.value.Value.TheVariants.{Booleans, Integers};
 ghost use Rattle.cvl_base.specs.Faults.{fault, fault_at};
 ghost use Rattle.vector_handles.specs.declared.input.Input.TheVariants.{Vector};
-ghost use Rattle.recipes.specs.Products.{product_of};
-ghost use Rattle.recipes.specs.Recipes.{bound_by};
+ghost use Rattle.sparse_products.specs.Products.{product_of};
+ghost use Rattle.sparse_products.specs.Answers.{sparse_product_of};
+ghost use Rattle.recipes.specs.Recipes.{as_bound, bound_by};
 ghost use Rattle.recipes.specs.Visibility.{is_visible, rise, visible_of};
 
 use crate::scripts::{LINE_OF_SIGHT, SPARSE_MATVEC};
@@ -54,6 +55,13 @@ pub fn product_script_values()
     ensures too_few_entries { bound_by {A = Unit {0}} SPARSE_MATVEC.now
         (Vector (pos 2 ∷ []) ∷ Vector (pos 0 ∷ []) ∷ Vector (pos 1 ∷ []) ∷ Vector (pos 1 ∷ []) ∷ []) (codes "y")
         ≡ Err (fault no.LengthMismatch) }
+{}
+
+/// The script of the sparse product binds `y` to the sparse product, of any inputs, or stops at its fault.
+pub fn product_script_law()
+    ensures { (lens cols vals x : List ℤ) → bound_by {A = Unit {0}} SPARSE_MATVEC.now
+        (Vector lens ∷ Vector cols ∷ Vector vals ∷ Vector x ∷ []) (codes "y")
+        ≡ as_bound (sparse_product_of lens cols vals x) }
 {}
 
 /// What the script of line of sight binds to `v`: slopes that differ by less than 1 are told apart, of two equal slopes

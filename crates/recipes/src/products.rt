@@ -5,7 +5,8 @@ ghost use Rattle.cvl_base.specs.Gives.{Gives};
 ghost use Rattle.cvl_base.specs.Limits.{most_elements};
 ghost use Rattle.cvl_base.specs.declared.value.Value.TheVariants as value;
 ghost use Rattle.vector_handles.specs.declared.input.Input.TheVariants as input;
-ghost use Rattle.recipes.specs.Products.{IsMatrix, product_of};
+ghost use Rattle.sparse_products.specs.Products.{IsMatrix, product_of};
+ghost use Rattle.sparse_products.specs.Answers.{sparse_product_of};
 ghost use Rattle.recipes.specs.Recipes.{GivesBound};
 
 use crate::runs::{integers_at, run_script};
@@ -62,6 +63,7 @@ pub fn sparse_matvec<R: Threads + Sync, A: Memory>(
     requires x { vec_len x ≤ most_elements }
     ensures product { IsMatrix lens.items cols.items vals.items x.items →
         Gives (λ y. y.items) result (Ok (product_of lens.items cols.items vals.items x.items)) }
+    ensures exact { Gives (λ y. y.items) result (sparse_product_of lens.items cols.items vals.items x.items) }
     ensures meaning { GivesBound {A = A} (λ y. value.Integers y.items) result SPARSE_MATVEC.now
         (input.Vector lens.items ∷ input.Vector cols.items ∷ input.Vector vals.items ∷ input.Vector x.items ∷ [])
         (codes "y") }

@@ -3,6 +3,7 @@ use Rattle.cvl_base.specs.declared.value.Value.TheVariants as value
 use Rattle.recipes.specs.declared.scripts.TheConstants.{SPARSE_MATVEC}
 use Rattle.recipes.proofs.Answered.{out_of_memory, run_over, refused_by_run, bound_after_run}
 use Rattle.recipes.proofs.ProductBound.{product_given}
+use Rattle.recipes.proofs.ProductFaults.{answers_product, script_is}
 use Rattle.recipes.proofs.ProductScript.{inputs, binds_integers}
 use Rattle.recipes.proofs.products.sparse_matvec.Goals as goal
 
@@ -20,6 +21,11 @@ pub returns-in_err-session-clause-product : goal.returns-in_err-session-clause-p
 returns-in_err-session-clause-product g c = λ matrix.
     product_given g.row.A.Denot c.args.lens.items c.args.cols.items c.args.vals.items c.args.x.items
     (omega (arith, c.requires.cols, c.args.cols.ok.0)) matrix (λ y. y.items) c.from_residual-in_err-session.result (returns-in_err-session-clause-meaning g c)
+
+pub returns-in_err-session-clause-exact : goal.returns-in_err-session-clause-exact
+returns-in_err-session-clause-exact g c =
+    answers_product (λ y. y.items) c.from_residual-in_err-session.result _ _
+    (script_is g.row.A.Denot c.args.lens.items c.args.cols.items c.args.vals.items c.args.x.items) (returns-in_err-session-clause-meaning g c)
 
 pub integers_at-requires-clause-integers : goal.integers_at-requires-clause-integers
 integers_at-requires-clause-integers g c κs within =
@@ -40,3 +46,8 @@ pub returns-clause-product : goal.returns-clause-product
 returns-clause-product g c = λ matrix.
     product_given g.row.A.Denot c.args.lens.items c.args.cols.items c.args.vals.items c.args.x.items
     (omega (arith, c.requires.cols, c.args.cols.ok.0)) matrix (λ y. y.items) (Ok c.in_ok-integers_at.field-0) (returns-clause-meaning g c)
+
+pub returns-clause-exact : goal.returns-clause-exact
+returns-clause-exact g c =
+    answers_product (λ y. y.items) (Ok c.in_ok-integers_at.field-0) _ _
+    (script_is g.row.A.Denot c.args.lens.items c.args.cols.items c.args.vals.items c.args.x.items) (returns-clause-meaning g c)

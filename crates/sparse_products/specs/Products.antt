@@ -1,10 +1,10 @@
 -- The product of a sparse matrix with a vector. The matrix is kept by rows: how many entries each row has, and then the
 -- column and the value of each entry, row after row.
 -- Source: Blelloch, Vector Models for Data-Parallel Computing, 1990, the product of a sparse matrix with a dense vector.
-use Rattle.std.specs.Prelude.{◌≡◌, ℤ, pos, ◌+ℤ◌, ◌*ℤ◌, unsigned_abs, List, length, map, sum, unwrap_or}
+use Rattle.std.specs.Prelude.{◌≡◌, ℤ, pos, ◌*ℤ◌, unsigned_abs, List, length, map, sum, unwrap_or}
 use Rattle.std.specs.List.{zip, AllPass}
+use Rattle.cvl_base.specs.Exact.{total_of}
 use Rattle.cvl_base.specs.Extracts.{element_at}
-use Rattle.cvl_base.specs.Folds.{fold_of}
 use Rattle.cvl_base.specs.Integers.{wrap}
 use Rattle.cvl_base.specs.Nests.{cut_of}
 use Rattle.cvl_base.specs.Permutes.{is_place}
@@ -25,9 +25,13 @@ at_column x column = unwrap_or (element_at x column) (pos 0)
 abbrev pub term : List ℤ → ℤ × ℤ → ℤ
 term x entry = entry.1 *ℤ at_column x entry.0
 
--- the sum over the entries of a row, wrapped once
+-- the sum over the entries of a row, of whole numbers
+abbrev pub row_total : List ℤ → List (ℤ × ℤ) → ℤ
+row_total x row = total_of (map (term x) row)
+
+-- the same, wrapped once
 abbrev pub row_product : List ℤ → List (ℤ × ℤ) → ℤ
-row_product x row = wrap (fold_of (λ a b. a +ℤ b) (pos 0) (map (term x) row))
+row_product x row = wrap (row_total x row)
 
 -- the rows, cut from the entries by their lengths
 abbrev pub rows_of : List ℤ → List ℤ → List ℤ → List (List (ℤ × ℤ))

@@ -1,0 +1,5 @@
+pub mod Answered
+pub mod Cuts
+pub mod Entries
+pub mod RowLengths
+pub mod Within

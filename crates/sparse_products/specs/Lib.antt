@@ -1,0 +1,6 @@
+pub mod Answers
+pub mod Products
+pub mod Rows
+pub use Rattle.cvl_base.specs.Descriptors
+pub use Rattle.cvl_base.specs.Gives
+pub use Rattle.cvl_base.specs.Limits

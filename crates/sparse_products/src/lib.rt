@@ -1,0 +1,21 @@
+//! The product of a sparse matrix with a vector in one walk over the rows: each gathers, multiplies and adds, and no vector stands
+//! between. The rows come by their lengths, or by offsets as those of compressed sparse rows.
+//!
+//! A sum is wrapped to 32 bits, or is that of whole numbers and has to fit them. Beside the calls for Rattle, by several threads, stand
+//! those by the thread that calls, for code that has no runtime.
+#![tactic(auto)]
+
+mod answers;
+pub mod laws;
+pub mod offsets;
+pub mod products;
+mod row_sums;
+mod row_walks;
+pub mod rows_alone;
+
+pub use offsets::row_lengths;
+pub use products::{
+    checked_sparse_product, checked_sparse_product_by_offsets, sparse_product,
+    sparse_product_by_offsets,
+};
+pub use rows_alone::{checked_rows_product, rows_product};

@@ -1,0 +1,106 @@
+//! The walk over the rows of a matrix, each of which is summed up and written; of all rows, or of one thread's share of them.
+
+ghost use Rattle.std.specs.Prelude.{◌≡◌, ◌+◌, ◌≤◌, length, map, sum, unsigned_abs};
+ghost use Rattle.std.specs.List.{zip};
+ghost use Rattle.cvl_base.specs.Descriptors.{AreLengthsWithin};
+ghost use Rattle.cvl_base.specs.Limits.{most_places};
+ghost use Rattle.cvl_base.specs.Nests.{cut_of};
+ghost use Rattle.fresh.specs.Found.{first_without};
+ghost use Rattle.fresh.specs.Places.{with_items};
+ghost use Rattle.sparse_products.specs.Rows.{row_item, row_value};
+
+use crate::row_sums::RowSum;
+use fresh::{CheckedWriter, Run, first_found};
+use segdes::SegDes;
+use std::alloc::Allocator;
+use std::marker::PhantomData;
+
+/// Writes the values of the rows with these lengths, 0 for a row that has none, and tells the place of the first of these.
+///
+/// The entries begin with those of the rows; what stands behind them is not read. The run must have room for one element for each
+/// row.
+pub(crate) fn rows_into<S: RowSum>(
+    run: Run<i32>,
+    lengths: &[i32],
+    columns: &[i32],
+    values: &[i32],
+    x: &[i32],
+) -> (Run<i32>, Option<usize>)
+    requires lengths { AreLengthsWithin most_places lengths.now }
+    requires as_many { length values.now ≡ length columns.now }
+    requires covered { sum (map unsigned_abs lengths.now) ≤ length columns.now }
+    requires room { length lengths.now ≤ run.room }
+    ensures run { result.0 ≡ with_items run (map (row_item S.rule x.now)
+        (cut_of (map unsigned_abs lengths.now) (zip columns.now values.now))) }
+    ensures found { result.1 ≡ first_without (run.first + length run.items) (map (row_value S.rule x.now)
+        (cut_of (map unsigned_abs lengths.now) (zip columns.now values.now))) }
+{
+    let (mut run, mut columns_left, mut values_left, mut found) = (run, columns, values, None);
+    for length in lengths {
+        let entries = *length as usize;
+        let (row_columns, later_columns) = columns_left.split_at(entries);
+        let (row_values, later_values) = values_left.split_at(entries);
+        let value = S::value(row_columns, row_values, x);
+        found = first_found(found, value, run.next_place());
+        run.push(value.unwrap_or(0));
+        columns_left = later_columns;
+        values_left = later_values;
+    }
+    (run, found)
+}
+
+/// Writes the values of the rows of a matrix.
+#[derive(Drop)]
+pub(crate) struct RowValues<'a, S, A: Allocator> {
+    pub(crate) rows: &'a SegDes<A>,
+    pub(crate) columns: &'a [i32],
+    pub(crate) values: &'a [i32],
+    pub(crate) x: &'a [i32],
+    pub(crate) rule: PhantomData<S>,
+    ghost as_many: { length values.now ≡ length columns.now },
+    ghost covered: { sum rows.now ≡ length columns.now },
+}
+
+impl<'a, S: RowSum, A: Allocator> CheckedWriter<i32> for RowValues<'a, S, A> {
+    ghost use Rattle.std.specs.Prelude.{◌≡◌, ◌+◌, ◌≤◌, [], length, map};
+    ghost use Rattle.std.specs.List.{zip};
+    ghost use Rattle.cvl_base.specs.Nests.{cut_of};
+    ghost use Rattle.fresh.specs.Found.{first_without};
+    ghost use Rattle.fresh.specs.Parts.{part};
+    ghost use Rattle.fresh.specs.Places.{stretch};
+    ghost use Rattle.segdes.specs.Shares.{IsShareEnd};
+    ghost use Rattle.sparse_products.specs.Rows.{row_item, row_value};
+
+    ghost whole = { λ m. map (row_item S.rule m.x.now) (cut_of m.rows.now (zip m.columns.now m.values.now)) };
+
+    ghost values = { λ m. map (row_value S.rule m.x.now) (cut_of m.rows.now (zip m.columns.now m.values.now)) };
+
+    ghost IsShare = { λ m first room few threads places.
+        IsShareEnd m.rows.now first (first + room) few threads (first + places) };
+
+    fn write(&self, run: Run<i32>) -> (Run<i32>, Option<usize>)
+        requires empty { run.items ≡ [] }
+        requires within { run.first + run.room ≤ length (map (row_item S.rule self.now.x.now)
+            (cut_of self.now.rows.now (zip self.now.columns.now self.now.values.now))) }
+        ensures run { result.0 ≡ stretch run.block run.first (part (map (row_item S.rule self.now.x.now)
+            (cut_of self.now.rows.now (zip self.now.columns.now self.now.values.now))) run.first run.room) 0 }
+        ensures found { result.1 ≡ first_without run.first (part (map (row_value S.rule self.now.x.now)
+            (cut_of self.now.rows.now (zip self.now.columns.now self.now.values.now))) run.first run.room) }
+    {
+        let (first, count) = (run.next_place(), run.room());
+        let start = self.rows.start_or_total(first);
+        let (_, columns) = self.columns.split_at(start);
+        let (_, values) = self.values.split_at(start);
+        let (_, lengths) = self.rows.lengths().split_at(first);
+        let (lengths, _) = lengths.split_at(count);
+        rows_into::<S>(run, lengths, columns, values, self.x)
+    }
+
+    /// Rows with about as many entries for each thread.
+    #[tactic(auto, using(crate::proofs::Cuts::rows_long))]
+    fn share(&self, first: usize, room: usize, few: usize, threads: usize) -> usize {
+        // its contract bounds the number of rows
+        let _count = self.rows.count();
+        self.rows.share_end(first, first + room, few, threads) - first
+    }
+}
