@@ -37,7 +37,8 @@ typedef void (*CvlPart)(void *work, size_t part);
  *     waits for threads, or takes and lets go of a lock, does that;
  *   - no exception and no longjmp leaves a part, which throws none, or `run` itself.
  * A part that is run twice does its work once. Where a pool leaves a part out of a step that only reads, as the first one of each call
- * is, the status is 100 NoResources, and the rooms are as they were; one of a step that writes is run by the thread that called.
+ * is, the status is 100 NoResources, and the rooms are as they were. One of a step that writes is run by the thread that called, and the
+ * call goes on, as if the pool had run it: by then other parts may have written, and no call keeps what stood in its room for that.
  */
 typedef struct CvlPool {
     size_t parts;

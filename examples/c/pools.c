@@ -1,6 +1,6 @@
 /*
- * Tries the pools of cvl_parallel.h: how many parts they have; that the threads of a pool take no signal; a call within a part, and two calls
- * at once, on one pool; a child of a fork, which calls and stops, also where a thread held the pool's lock at the fork; a thread that
+ * Tries the pools of cvl_parallel.h: how many parts they have; a part that is left out of each step of each kind of call; that the threads of a
+ * pool take no signal; a call within a part, and two calls at once, on one pool; a child of a fork, which calls and stops, also where a thread held the pool's lock at the fork; a thread that
  * is cancelled in its call; and threads that start, use and stop pools of their own at once. Each result is held against the plain call.
  * It prints what is not as it should be, and its status is then 1. `examples/c/run pools` builds and runs it, also under the thread
  * sanitizer.
@@ -17,7 +17,7 @@
 #include <sys/wait.h>
 #include <unistd.h>
 
-enum { MOST = 600, CALLERS = 4, ROUNDS = 60, PARTS = 4 };
+enum { MOST = 600, SEGMENTS = 30, CALLERS = 4, ROUNDS = 60, PARTS = 4, UNTOUCHED = 0x5a };
 
 static int32_t a[MOST], wanted[MOST];
 static CvlThreads *threads;
@@ -61,6 +61,116 @@ static void parts_of_pools(void) {
     check("a pool of no threads calls otherwise", pool.parts == 1 && scans_by(&pool));
     check("no place for threads is no error", cvl_threads_start(2, NULL) != 0);
     cvl_threads_stop(NULL);
+}
+
+/* ---- a part that is left out of one step ---- */
+
+static struct {
+    int32_t out[MOST];
+    char text[12 * MOST];
+    size_t count;
+} rooms;
+
+static int32_t ones[MOST], in_order[MOST], lengths[SEGMENTS], firsts[SEGMENTS];
+static bool truths[MOST];
+static unsigned char any_bytes[MOST];
+static char spoken[2 * MOST];
+static const CvlLengths cut = {lengths, SEGMENTS}, ones_of_segments = {ones, SEGMENTS};
+#define BOOL_ROOM ((bool *)rooms.out)
+
+/* A call of each kind, with a letter for each of its steps: r for one that only reads, w for one that writes, also into memory of its own. */
+#define KINDS(X)                                                                                                               \
+    X(add_wuz, "rw", a, a, rooms.out, MOST)                                                                                    \
+    X(div_wuz, "rrw", a, ones, rooms.out, MOST)                                                                                \
+    X(rep_vuz, "rw", a, 7, 5, rooms.out, MOST)                                                                                 \
+    X(add_ruz, "rr", a, MOST, rooms.out)                                                                                       \
+    X(add_suz, "rrw", a, rooms.out, MOST)                                                                                      \
+    X(ior_sub, "rrrw", truths, BOOL_ROOM, MOST)                                                                                \
+    X(xor_sub, "rrwrw", (const bool *)any_bytes, BOOL_ROOM, MOST)                                                              \
+    X(tot_ruz, "rr", a, MOST, rooms.out)                                                                                       \
+    X(tot_suz, "rrrw", a, rooms.out, MOST)                                                                                     \
+    X(cnt_lub, "rr", truths, MOST, rooms.out)                                                                                  \
+    X(pck_luz, "rrrw", a, truths, MOST, rooms.out, MOST, &rooms.count)                                                         \
+    X(dis_vuz, "rw", 5, MOST, rooms.out)                                                                                       \
+    X(bck_puz, "rrw", a, MOST, in_order, rooms.out, MOST)                                                                      \
+    X(smp_puz, "rw", a, in_order, rooms.out, MOST)                                                                             \
+    X(def_puz, "rw", a, in_order, MOST, ones, rooms.out, MOST)                                                                 \
+    X(mke_fov, "rr", cut, &rooms.count)                                                                                        \
+    X(add_sez, "rrrw", a, cut, rooms.out, MOST)                                                                                \
+    X(add_rez, "rrw", a, MOST, cut, rooms.out)                                                                                 \
+    X(tot_sez, "rrrrrw", a, cut, rooms.out, MOST)                                                                              \
+    X(tot_rez, "rrrw", a, MOST, cut, rooms.out)                                                                                \
+    X(cnt_leb, "rrw", truths, MOST, cut, rooms.out)                                                                            \
+    X(dis_vez, "rrw", lengths, cut, rooms.out, MOST)                                                                           \
+    X(ind_lez, "rrw", lengths, firsts, cut, rooms.out, MOST)                                                                   \
+    X(ext_vez, "rrw", a, MOST, firsts, cut, rooms.out)                                                                         \
+    X(bck_pez, "rrrw", a, MOST, firsts, cut, ones_of_segments, rooms.out, SEGMENTS)                                            \
+    X(read_ints, "rww", spoken, sizeof spoken, rooms.out, MOST, &rooms.count)                                                  \
+    X(write_ints, "rww", a, MOST, rooms.text, sizeof rooms.text, &rooms.count)                                                 \
+    X(seg_write_ints, "rrww", a, MOST, cut, rooms.text, sizeof rooms.text, &rooms.count)
+
+#define KIND(name, steps, ...)                                                                                                 \
+    static CvlStatus plain_##name(void) { return cvl_##name(__VA_ARGS__); }                                                    \
+    static CvlStatus parts_##name(const CvlPool *pool) { return cvl_##name##_on(pool, __VA_ARGS__); }
+KINDS(KIND)
+#undef KIND
+
+typedef struct Kind {
+    const char *name, *steps;
+    CvlStatus (*plain)(void), (*parts)(const CvlPool *pool);
+} Kind;
+
+#define KIND(name, steps, ...) {#name, steps, plain_##name, parts_##name},
+static const Kind kinds[] = {KINDS(KIND)};
+#undef KIND
+
+static size_t steps_run, step_with_gap, part_left_out;
+
+static void run_with_gap(void *state, CvlPart part, void *work, size_t parts) {
+    (void)state;
+    for (size_t k = 0; k < parts; k++) {
+        if (steps_run != step_with_gap || k != part_left_out) part(work, k);
+    }
+    steps_run++;
+}
+
+static CvlStatus call_with_gap(const Kind *kind, size_t step, size_t part) {
+    const CvlPool pool = {PARTS, run_with_gap, NULL};
+    steps_run = 0, step_with_gap = step, part_left_out = part;
+    memset(&rooms, UNTOUCHED, sizeof rooms);
+    return kind->parts(&pool);
+}
+
+static bool is_untouched(void) {
+    const unsigned char *bytes = (const unsigned char *)&rooms;
+    size_t k = 0;
+    while (k < sizeof rooms && bytes[k] == UNTOUCHED) k++;
+    return k == sizeof rooms;
+}
+
+/* Where the step only reads the status is 100 and nothing is written; one that writes is run by the thread that calls, and the call is done. */
+static void leave_out(const Kind *kind) {
+    static unsigned char right[sizeof rooms];
+    memset(&rooms, UNTOUCHED, sizeof rooms);
+    check(kind->name, kind->plain().number == CVL_DONE);
+    memcpy(right, &rooms, sizeof rooms);
+    const size_t steps = strlen(kind->steps);
+    check(kind->name, call_with_gap(kind, steps, 0).number == CVL_DONE && steps_run == steps && memcmp(&rooms, right, sizeof rooms) == 0);
+    for (size_t k = 0; k < steps * PARTS; k++) {
+        const CvlStatus status = call_with_gap(kind, k / PARTS, k % PARTS);
+        const bool told = status.number == CVL_NO_RESOURCES && status.place == -1 && is_untouched();
+        const bool done = status.number == CVL_DONE && memcmp(&rooms, right, sizeof rooms) == 0;
+        check(kind->name, kind->steps[k / PARTS] == 'r' ? told : done);
+    }
+}
+
+static void gaps(void) {
+    for (int32_t k = 0; k < MOST; k++) {
+        ones[k] = 1, in_order[k] = MOST - 1 - k, truths[k] = k % 3 == 0, any_bytes[k] = (unsigned char)(k % 3 * 100);
+        memcpy(spoken + 2 * k, "7 ", 2);
+    }
+    for (int32_t s = 0; s < SEGMENTS; s++) lengths[s] = MOST / SEGMENTS;
+    for (size_t k = 0; k < sizeof kinds / sizeof *kinds; k++) leave_out(&kinds[k]);
 }
 
 /* ---- signals ---- */
@@ -257,6 +367,7 @@ int main(void) {
     for (int32_t k = 0; k < MOST; k++) a[k] = k * 2654435 % 1000 - 500;
     if (cvl_add_suz(a, wanted, MOST).number != CVL_DONE || cvl_threads_start(PARTS, &threads) != 0) abort();
     parts_of_pools();
+    gaps();
     signals();
     nested();
     at_once("calls at once on one pool are others", call_often);
