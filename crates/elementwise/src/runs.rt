@@ -32,7 +32,6 @@ pub(crate) fn written_in_runs<T: Send + Drop, R: Threads + Sync, A: Memory, W: W
 /// Writes all places of an empty run by so many threads, each of which has as many places. Where none can be started the thread
 /// that calls writes them all.
 #[cycle(runs)]
-#[tactic(auto, using(fresh::proofs::Halves::parts_both))]
 fn write_run<T: Send + Drop, R: Threads + Sync, W: Writer<T> + Sync>(
     rt: &R,
     writer: &W,
