@@ -74,7 +74,7 @@ fn both<'a, A: Memory>(
 /// Reads the inner lists with which the bytes begin by several threads, each of which reads a piece that begins with a list. Its
 /// answers are those of `read_lists`, but for none: that it gives in place of a fault, and where one of several tokens is no
 /// list's.
-#[cycle(pieces)]
+#[cycle(halves)]
 pub(crate) fn lists_by_several<'a, R: Threads + Sync, A: Memory>(
     rt: &R,
     alloc: A,

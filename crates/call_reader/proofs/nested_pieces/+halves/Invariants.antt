@@ -1,5 +1,5 @@
 use Rattle.std.proofs.Common.{◌+◌, ◌*◌}
-use Rattle.call_reader.proofs.nested_pieces.+pieces.Given as goal
+use Rattle.call_reader.proofs.nested_pieces.+halves.Given as goal
 
 abbrev pub decreases-lists_by_several : goal.decreases-lists_by_several
 decreases-lists_by_several g l = 2 * l.threads

@@ -2,7 +2,7 @@ use Rattle.std.proofs.Common.{subst, IfSome}
 use Rattle.std.proofs.lemmas.Result.{IfOk-at_ok}
 use Rattle.call_reader.specs.NestedReads.{AreListsRead}
 use Rattle.call_reader.proofs.NestedPieces.{both_read}
-use Rattle.call_reader.proofs.nested_pieces.+pieces.Goals as goal
+use Rattle.call_reader.proofs.nested_pieces.+halves.Goals as goal
 
 pub returns-in-Some-Some : goal.returns-in-Some-Some
 returns-in-Some-Some g t c =
