@@ -579,8 +579,8 @@ class Example:
         made = {"cvl": cvl, "numpy": numpy}
         for line in lines:
             exec(line.source, made)
-        words = list(inspect.signature(self.call).parameters)
-        self.has_room = words[-1] == "out"
+        words = inspect.signature(self.call).parameters
+        self.has_room = "out" in words and words["out"].kind is inspect.Parameter.KEYWORD_ONLY
         self.arguments = {word: made[word] for word in words if word != "out" or word in made}
         self.found = self.call(**self.arguments)
         self.wanted = ast.literal_eval(last.want)

@@ -144,7 +144,11 @@ all-le m (t ∷ ts) = omega (arith, sum_by-cons (one 0 m) t ts, sum_by-cons some
 right-one : (m : ℕ) (t : Option ℤ) → one 0 m t ≡ some t → wrong_in m t ≡ None
 right-one m None same = refl
 right-one m (Some (negsuc d)) same = absurd (omega arith)
-right-one m (Some (pos d)) same = elim (cases_lt d m) [ inl lt ↦ rw (lt-ltb d m lt) refl | inr ge ↦ absurd (let none : one 0 m (Some (pos d)) ≡ zero = rw (le-leb 0 d (omega arith), le-ltb d m ge) refl in omega arith) ]
+right-one m (Some (pos d)) same =
+    elim (cases_lt d m) [
+      | inl lt ↦ rw (lt-ltb d m lt) refl
+      | inr ge ↦ absurd (let none : one 0 m (Some (pos d)) ≡ zero = rw (le-leb 0 d (omega arith), le-ltb d m ge) refl in omega arith)
+    ]
 
 counted-one : (m : ℕ) (t : Option ℤ) → wrong_in m t ≡ None → one 0 m t ≡ some t
 counted-one m None right = refl
