@@ -160,6 +160,11 @@ OF_FAMILIES = {
         "Then out is what cvl_int_scan gives of the whole. The tiles may have any lengths, 0 too, and any thread may take any tile of a step. "
         "examples/c/threads.c does this with POSIX threads.",
     ),
+    "sparse products": (
+        "A sparse matrix comes by its rows: how many entries each row has, and the column and the value of each entry, row after row. Each row is one "
+        "walk, so that no vector stands between, as it does where cvl_bck_puz, cvl_mul_wuz and cvl_add_rez are called in turn. Faults by the lengths come "
+        "first, as at the calls on segments.",
+    ),
     "calls in parts": (
         "A caller with threads or machines of its own makes a call in parts, each a range of the vector. Most calls need nothing more than "
         "themselves for that, and the functions here are what a part needs where the whole does not. docs/parallel.md tells for each call how it is "
@@ -293,6 +298,9 @@ SUMS_OF_RESULT = Fault((7,), "7 LengthMismatch where the lengths do not add up t
 BAD_NAMED_IN_SEGMENT = Fault((10,), "10 IndexOutOfRange at the first index that is no place of its segment of the result", False)
 OVERFLOW_AT_PLACE = Fault((18,), "18 Overflow at the first place whose sum does not fit 32 bits", False)
 OVERFLOW_AT_0 = Fault((18,), "18 Overflow at 0 where it does not fit 32 bits", False)
+BAD_COLUMN = Fault((10,), "10 IndexOutOfRange at the first column below 0, or m or more", False)
+SUM_OF_ENTRIES = Fault((7,), "7 LengthMismatch where columns and values are not equally many, or the lengths do not add up to n", False)
+OVERFLOW_AT_ROW = Fault((18,), "18 Overflow at the first row whose sum does not fit 32 bits", False)
 OVERFLOW_AT_SEGMENT = Fault((18,), "18 Overflow at the first segment whose sum does not fit 32 bits", False)
 RANGE_FAULTS = (
     Fault((13,), f"13 TooLong, by the index, and where the range ends behind place {MOST_ELEMENTS}", False),
@@ -664,6 +672,23 @@ FAMILIES = (
                 f"{MOST_ELEMENTS} words is the caller's to see", False),
         ),
         asks=True, example={"before": "3", "text": '"9 10"', "out": "9 10", "count": "2"},
+    ),
+    # ---- sparse products ----
+    family(
+        "sparse_product", "sparse products", (lengths(), ints("columns"), ints("values"), ints("x", "m"), room("ints", "segments")),
+        "The product of a sparse matrix in rows with the vector x: for each row the sum, over its entries, of the value times the element of x at the "
+        "column. Sums and products are wrapped to 32 bits, and a row without entries has 0.",
+        faults=(TOO_LONG, SUM_OF_ENTRIES, BAD_COLUMN), asks=True, cut=("segments", "n"),
+        shape="lengths are those of the rows, columns and values have n elements, one for each entry, row after row; x has m, which may be any number; out has "
+        "one for each row.",
+        example={"lengths": "2 0 2", "columns": "0 2 1 2", "values": "2 1 3 4", "x": "1 2 3", "out": "5 0 18"},
+    ),
+    family(
+        "checked_sparse_product", "sparse products", (lengths(), ints("columns"), ints("values"), ints("x", "m"), room("ints", "segments")),
+        "The same product, in which no product wraps and no sum: each row is added up in whole numbers.",
+        faults=(TOO_LONG, SUM_OF_ENTRIES, BAD_COLUMN, OVERFLOW_AT_ROW), asks=True, cut=("segments", "n"),
+        shape="lengths, columns, values, x and out are those of cvl_sparse_product.",
+        example={"lengths": "2 1", "columns": "0 1 0", "values": "2147483647 -1 3", "x": "2 2147483647", "out": "2147483647 6"},
     ),
 )
 

@@ -661,6 +661,33 @@ CVL_CHECKED CvlStatus cvl_select_first_senders_range(const int32_t *index, size_
 CVL_CHECKED CvlStatus cvl_read_ints_after(size_t before, const char *text, size_t text_len, int32_t *out, size_t out_len,
     size_t *count);
 
+/* ---- sparse products: families ---- */
+
+/*
+ * A sparse matrix comes by its rows: how many entries each row has, and the column and the value of each entry, row after row.
+ * Each row is one walk, so that no vector stands between, as it does where cvl_bck_puz, cvl_mul_wuz and cvl_add_rez are called
+ * in turn. Faults by the lengths come first, as at the calls on segments.
+ */
+
+/*
+ * cvl_sparse_product: The product of a sparse matrix in rows with the vector x: for each row the sum, over its entries, of the
+ * value times the element of x at the column. Sums and products are wrapped to 32 bits, and a row without entries has 0.
+ * Faults: 13 TooLong; 7 LengthMismatch where columns and values are not equally many, or the lengths do not add up to n; 10
+ * IndexOutOfRange at the first column below 0, or m or more.
+ * lengths = 2 0 2, columns = 0 2 1 2, values = 2 1 3 4, x = 1 2 3: out = 5 0 18
+ */
+CVL_CHECKED CvlStatus cvl_sparse_product(CvlLengths lengths, const int32_t *columns, size_t columns_len, const int32_t *values,
+    size_t values_len, const int32_t *x, size_t x_len, int32_t *out, size_t out_len);
+
+/*
+ * cvl_checked_sparse_product: The same product, in which no product wraps and no sum: each row is added up in whole numbers.
+ * Faults: 13 TooLong; 7 LengthMismatch where columns and values are not equally many, or the lengths do not add up to n; 10
+ * IndexOutOfRange at the first column below 0, or m or more; 18 Overflow at the first row whose sum does not fit 32 bits.
+ * lengths = 2 1, columns = 0 1 0, values = 2147483647 -1 3, x = 2 2147483647: out = 2147483647 6
+ */
+CVL_CHECKED CvlStatus cvl_checked_sparse_product(CvlLengths lengths, const int32_t *columns, size_t columns_len,
+    const int32_t *values, size_t values_len, const int32_t *x, size_t x_len, int32_t *out, size_t out_len);
+
 /* ---- booleans that are neither 0 nor 1 ---- */
 
 /* Whether each byte is 0 or 1. */

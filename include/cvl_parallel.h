@@ -341,6 +341,14 @@ CVL_CHECKED CvlStatus cvl_seg_write_ints_on(const CvlPool *pool, const int32_t *
 CVL_CHECKED CvlStatus cvl_seg_write_bools_on(const CvlPool *pool, const bool *a, size_t a_len, CvlLengths lengths, char *out,
     size_t out_len, size_t *count);
 
+/* cvl_sparse_product in parts: cut between segments. */
+CVL_CHECKED CvlStatus cvl_sparse_product_on(const CvlPool *pool, CvlLengths lengths, const int32_t *columns, size_t columns_len,
+    const int32_t *values, size_t values_len, const int32_t *x, size_t x_len, int32_t *out, size_t out_len);
+
+/* cvl_checked_sparse_product in parts: cut between segments. */
+CVL_CHECKED CvlStatus cvl_checked_sparse_product_on(const CvlPool *pool, CvlLengths lengths, const int32_t *columns,
+    size_t columns_len, const int32_t *values, size_t values_len, const int32_t *x, size_t x_len, int32_t *out, size_t out_len);
+
 /* ---- the calls of the table in parts ---- */
 
 /* cvl_add_wuz in parts: cut at places. */

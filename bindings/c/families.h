@@ -33,6 +33,8 @@ CVL_HIDDEN CvlStatus cvl_proved_checked_scan(const int32_t *a, size_t a_len, int
 CVL_HIDDEN CvlStatus cvl_proved_checked_scan_after(int64_t before, const int32_t *a, size_t a_len, int32_t *out,
     size_t out_len);
 CVL_HIDDEN CvlStatus cvl_proved_checked_scan_in(int32_t *a, size_t a_len);
+CVL_HIDDEN CvlStatus cvl_proved_checked_sparse_product(const int32_t *lengths, size_t lengths_len, const int32_t *columns,
+    size_t columns_len, const int32_t *values, size_t values_len, const int32_t *x, size_t x_len, int32_t *out, size_t out_len);
 CVL_HIDDEN CvlStatus cvl_proved_compare(uint32_t op, const int32_t *a, size_t a_len, const int32_t *b, size_t b_len, bool *out,
     size_t out_len);
 CVL_HIDDEN CvlStatus cvl_proved_count(const bool *flags, size_t flags_len, int32_t *out);
@@ -183,6 +185,8 @@ CVL_HIDDEN CvlStatus cvl_proved_select_permute_int(const int32_t *source, size_t
 CVL_HIDDEN CvlStatus cvl_proved_select_permute_int_range(const int32_t *source, size_t source_len, const int32_t *index,
     size_t index_len, const bool *flags, size_t flags_len, size_t lowest, int32_t *out, size_t out_len, uint32_t *marks,
     size_t marks_len, size_t *written);
+CVL_HIDDEN CvlStatus cvl_proved_sparse_product(const int32_t *lengths, size_t lengths_len, const int32_t *columns,
+    size_t columns_len, const int32_t *values, size_t values_len, const int32_t *x, size_t x_len, int32_t *out, size_t out_len);
 CVL_HIDDEN CvlStatus cvl_proved_write_bools(const bool *a, size_t a_len, bool *out, size_t out_len, size_t *count);
 CVL_HIDDEN CvlStatus cvl_proved_write_ints(const int32_t *a, size_t a_len, bool *out, size_t out_len, size_t *count);
 
@@ -415,6 +419,14 @@ CVL_HIDDEN CvlStatus cvl_seg_write_bools_alone(const bool *a, size_t a_len, CvlL
     size_t *count);
 CVL_HIDDEN CvlStatus cvl_seg_write_bools_shared(const bool *a, size_t a_len, CvlLengths lengths, char *out, size_t out_len,
     size_t *count);
+CVL_HIDDEN CvlStatus cvl_sparse_product_alone(CvlLengths lengths, const int32_t *columns, size_t columns_len,
+    const int32_t *values, size_t values_len, const int32_t *x, size_t x_len, int32_t *out, size_t out_len);
+CVL_HIDDEN CvlStatus cvl_sparse_product_shared(CvlLengths lengths, const int32_t *columns, size_t columns_len,
+    const int32_t *values, size_t values_len, const int32_t *x, size_t x_len, int32_t *out, size_t out_len);
+CVL_HIDDEN CvlStatus cvl_checked_sparse_product_alone(CvlLengths lengths, const int32_t *columns, size_t columns_len,
+    const int32_t *values, size_t values_len, const int32_t *x, size_t x_len, int32_t *out, size_t out_len);
+CVL_HIDDEN CvlStatus cvl_checked_sparse_product_shared(CvlLengths lengths, const int32_t *columns, size_t columns_len,
+    const int32_t *values, size_t values_len, const int32_t *x, size_t x_len, int32_t *out, size_t out_len);
 
 static inline bool cvl_int2_meets(const int32_t *a, size_t a_len, const int32_t *b, size_t b_len, int32_t *out,
     size_t out_len) {
@@ -1244,6 +1256,29 @@ static inline bool cvl_select_first_senders_range_agrees(size_t index_len, size_
 
 static inline bool cvl_read_ints_after_meets(const char *text, size_t text_len, int32_t *out, size_t out_len, size_t *count) {
     return CVL_MEET(out, out_len, text, text_len) || CVL_MEET(out, out_len, count, 1) || CVL_MEET(count, 1, text, text_len);
+}
+
+static inline bool cvl_sparse_product_meets(CvlLengths lengths, const int32_t *columns, size_t columns_len,
+    const int32_t *values, size_t values_len, const int32_t *x, size_t x_len, int32_t *out, size_t out_len) {
+    return CVL_MEET(out, out_len, lengths.lengths, lengths.segments) || CVL_MEET(out, out_len, columns, columns_len) ||
+        CVL_MEET(out, out_len, values, values_len) || CVL_MEET(out, out_len, x, x_len);
+}
+
+static inline bool cvl_sparse_product_agrees(CvlLengths lengths, size_t columns_len, size_t values_len, size_t out_len) {
+    return columns_len <= CVL_MOST_ELEMENTS && lengths.segments <= CVL_MOST_ELEMENTS && values_len == columns_len && out_len ==
+        lengths.segments;
+}
+
+static inline bool cvl_checked_sparse_product_meets(CvlLengths lengths, const int32_t *columns, size_t columns_len,
+    const int32_t *values, size_t values_len, const int32_t *x, size_t x_len, int32_t *out, size_t out_len) {
+    return CVL_MEET(out, out_len, lengths.lengths, lengths.segments) || CVL_MEET(out, out_len, columns, columns_len) ||
+        CVL_MEET(out, out_len, values, values_len) || CVL_MEET(out, out_len, x, x_len);
+}
+
+static inline bool cvl_checked_sparse_product_agrees(CvlLengths lengths, size_t columns_len, size_t values_len,
+    size_t out_len) {
+    return columns_len <= CVL_MOST_ELEMENTS && lengths.segments <= CVL_MOST_ELEMENTS && values_len == columns_len && out_len ==
+        lengths.segments;
 }
 
 #endif

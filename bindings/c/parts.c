@@ -1895,6 +1895,79 @@ CvlStatus cvl_seg_write_bools_shared(const bool *a, size_t a_len, CvlLengths len
     return cvl_give_threads(cvl_seg_write_bools_on(pool, a, a_len, lengths, out, out_len, count));
 }
 
+static CvlStatus sparse_product_part(CvlWork *w, size_t k) {
+    return cvl_proved_sparse_product(w->lengths + w->first[k], w->first[k + 1] - w->first[k],
+        CVL_INTS(w->index, w->start[k]), w->start[k + 1] - w->start[k], CVL_INTS(w->a, w->start[k]), w->start[k + 1] - w->start[k],
+        CVL_INTS(w->b, 0), w->b_len, CVL_INT_ROOM(w->out, w->first[k]), w->first[k + 1] - w->first[k]);
+}
+
+CvlStatus cvl_sparse_product_on(const CvlPool *pool, CvlLengths lengths, const int32_t *columns, size_t columns_len,
+    const int32_t *values, size_t values_len, const int32_t *x, size_t x_len, int32_t *out, size_t out_len) {
+    CvlWork w;
+    const bool may = !cvl_sparse_product_meets(lengths, columns, columns_len, values, values_len, x, x_len, out, out_len) &&
+        cvl_sparse_product_agrees(lengths, columns_len, values_len, out_len);
+    w.left_out = 0;
+    if (may && cvl_cut_segments(pool, &w, columns_len, lengths)) {
+        w.index = columns;
+        w.a = values, w.a_len = values_len;
+        w.b = x, w.b_len = x_len;
+        w.out = out, w.size = sizeof *out, w.out_len = out_len;
+        w.part = sparse_product_part;
+        w.rooms = w.first;
+        const bool done = cvl_in_segments(pool, &w);
+        cvl_let_go(&w);
+        if (done) return w.told;
+    }
+    return w.left_out ? cvl_status(CVL_NO_RESOURCES, -1) : cvl_sparse_product_alone(lengths, columns, columns_len, values,
+        values_len, x, x_len, out, out_len);
+}
+
+CvlStatus cvl_sparse_product_shared(CvlLengths lengths, const int32_t *columns, size_t columns_len, const int32_t *values,
+    size_t values_len, const int32_t *x, size_t x_len, int32_t *out, size_t out_len) {
+    const CvlPool *const pool = cvl_take_threads();
+    if (pool == NULL) {
+        return cvl_sparse_product_alone(lengths, columns, columns_len, values, values_len, x, x_len, out, out_len);
+    }
+    return cvl_give_threads(cvl_sparse_product_on(pool, lengths, columns, columns_len, values, values_len, x, x_len, out, out_len));
+}
+
+static CvlStatus checked_sparse_product_part(CvlWork *w, size_t k) {
+    return cvl_proved_checked_sparse_product(w->lengths + w->first[k], w->first[k + 1] - w->first[k],
+        CVL_INTS(w->index, w->start[k]), w->start[k + 1] - w->start[k], CVL_INTS(w->a, w->start[k]), w->start[k + 1] - w->start[k],
+        CVL_INTS(w->b, 0), w->b_len, CVL_INT_ROOM(w->out, w->first[k]), w->first[k + 1] - w->first[k]);
+}
+
+CvlStatus cvl_checked_sparse_product_on(const CvlPool *pool, CvlLengths lengths, const int32_t *columns, size_t columns_len,
+    const int32_t *values, size_t values_len, const int32_t *x, size_t x_len, int32_t *out, size_t out_len) {
+    CvlWork w;
+    const bool may = !cvl_checked_sparse_product_meets(lengths, columns, columns_len, values, values_len, x, x_len, out, out_len) &&
+        cvl_checked_sparse_product_agrees(lengths, columns_len, values_len, out_len);
+    w.left_out = 0;
+    if (may && cvl_cut_segments(pool, &w, columns_len, lengths)) {
+        w.index = columns;
+        w.a = values, w.a_len = values_len;
+        w.b = x, w.b_len = x_len;
+        w.out = out, w.size = sizeof *out, w.out_len = out_len;
+        w.part = checked_sparse_product_part;
+        w.rooms = w.first;
+        const bool done = cvl_in_segments(pool, &w);
+        cvl_let_go(&w);
+        if (done) return w.told;
+    }
+    return w.left_out ? cvl_status(CVL_NO_RESOURCES, -1) : cvl_checked_sparse_product_alone(lengths, columns, columns_len, values,
+        values_len, x, x_len, out, out_len);
+}
+
+CvlStatus cvl_checked_sparse_product_shared(CvlLengths lengths, const int32_t *columns, size_t columns_len,
+    const int32_t *values, size_t values_len, const int32_t *x, size_t x_len, int32_t *out, size_t out_len) {
+    const CvlPool *const pool = cvl_take_threads();
+    if (pool == NULL) {
+        return cvl_checked_sparse_product_alone(lengths, columns, columns_len, values, values_len, x, x_len, out, out_len);
+    }
+    return cvl_give_threads(cvl_checked_sparse_product_on(pool, lengths, columns, columns_len, values, values_len, x, x_len, out,
+        out_len));
+}
+
 CvlStatus cvl_add_wuz_on(const CvlPool *pool, const int32_t *a, const int32_t *b, int32_t *out, size_t n) {
     return cvl_int2_on(pool, CVL_ADD, a, n, b, n, out, n);
 }

@@ -267,6 +267,8 @@ module cvl
     public :: cvl_first_senders_range
     public :: cvl_select_first_senders_range
     public :: cvl_read_after
+    public :: cvl_sparse_product
+    public :: cvl_checked_sparse_product
 
     interface cvl_ext_vuz
         module procedure ext_vuz_of_64, ext_vuz_of_32
@@ -456,6 +458,14 @@ module cvl
     interface cvl_read_after
         module procedure read_ints_after
     end interface cvl_read_after
+
+    interface cvl_sparse_product
+        module procedure sparse_product
+    end interface cvl_sparse_product
+
+    interface cvl_checked_sparse_product
+        module procedure checked_sparse_product
+    end interface cvl_checked_sparse_product
 
     ! How a call ended.
     type, public, bind(c) :: cvl_status
@@ -1410,6 +1420,36 @@ module cvl
             integer(c_size_t), intent(inout) :: count
             type(cvl_status) :: answer
         end function c_read_ints_after
+
+        function c_sparse_product(lengths, columns, columns_len, values, values_len, x, x_len, out, out_len) result(answer) &
+            bind(c, name="cvl_sparse_product")
+            import :: c_bool, c_char, c_int32_t, c_int64_t, c_ptr, c_size_t, cvl_status, lengths_of
+            type(lengths_of), value :: lengths
+            type(c_ptr), value :: columns
+            integer(c_size_t), value :: columns_len
+            type(c_ptr), value :: values
+            integer(c_size_t), value :: values_len
+            type(c_ptr), value :: x
+            integer(c_size_t), value :: x_len
+            type(c_ptr), value :: out
+            integer(c_size_t), value :: out_len
+            type(cvl_status) :: answer
+        end function c_sparse_product
+
+        function c_checked_sparse_product(lengths, columns, columns_len, values, values_len, x, x_len, out, out_len) &
+            result(answer) bind(c, name="cvl_checked_sparse_product")
+            import :: c_bool, c_char, c_int32_t, c_int64_t, c_ptr, c_size_t, cvl_status, lengths_of
+            type(lengths_of), value :: lengths
+            type(c_ptr), value :: columns
+            integer(c_size_t), value :: columns_len
+            type(c_ptr), value :: values
+            integer(c_size_t), value :: values_len
+            type(c_ptr), value :: x
+            integer(c_size_t), value :: x_len
+            type(c_ptr), value :: out
+            integer(c_size_t), value :: out_len
+            type(cvl_status) :: answer
+        end function c_checked_sparse_product
 
         function c_version() result(text) bind(c, name="cvl_version")
             import :: c_ptr
@@ -4467,6 +4507,35 @@ contains
         call tell("cvl_read_after", c_read_ints_after(before, text, len(text, kind=c_size_t), at(out), size(out, &
             kind=c_size_t), count), status)
     end subroutine read_ints_after
+
+    ! cvl_sparse_product: The product of a sparse matrix in rows with the vector x: for each row the sum, over its entries, of
+    ! the value times the element of x at the column. Sums and products are wrapped to 32 bits, and a row without entries has 0.
+    ! lengths are those of the rows, columns and values have n elements, one for each entry, row after row; x has m, which may
+    ! be any number; out has one for each row.
+    ! Faults: 13 TooLong; 7 LengthMismatch where columns and values are not equally many, or the lengths do not add up to n; 10
+    ! IndexOutOfRange at the first column below 0, or m or more.
+    subroutine sparse_product(lengths, columns, values, x, out, status)
+        integer(c_int32_t), intent(in), target, contiguous :: lengths(:), columns(:), values(:), x(:)
+        integer(c_int32_t), intent(inout), target, contiguous :: out(:)
+        type(cvl_status), intent(out), optional :: status
+
+        call tell("cvl_sparse_product", c_sparse_product(cut(lengths), at(columns), size(columns, kind=c_size_t), at(values), &
+            size(values, kind=c_size_t), at(x), size(x, kind=c_size_t), at(out), size(out, kind=c_size_t)), status)
+    end subroutine sparse_product
+
+    ! cvl_checked_sparse_product: The same product, in which no product wraps and no sum: each row is added up in whole numbers.
+    ! lengths, columns, values, x and out are those of cvl_sparse_product.
+    ! Faults: 13 TooLong; 7 LengthMismatch where columns and values are not equally many, or the lengths do not add up to n; 10
+    ! IndexOutOfRange at the first column below 0, or m or more; 18 Overflow at the first row whose sum does not fit 32 bits.
+    subroutine checked_sparse_product(lengths, columns, values, x, out, status)
+        integer(c_int32_t), intent(in), target, contiguous :: lengths(:), columns(:), values(:), x(:)
+        integer(c_int32_t), intent(inout), target, contiguous :: out(:)
+        type(cvl_status), intent(out), optional :: status
+
+        call tell("cvl_checked_sparse_product", c_checked_sparse_product(cut(lengths), at(columns), size(columns, &
+            kind=c_size_t), at(values), size(values, kind=c_size_t), at(x), size(x, kind=c_size_t), at(out), size(out, &
+            kind=c_size_t)), status)
+    end subroutine checked_sparse_product
     ! The version of the library, as "1.0.0".
     function cvl_version() result(version)
         character(:), allocatable :: version

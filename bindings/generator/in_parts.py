@@ -8,7 +8,7 @@ from in_c import given, kept, parameters, statement, wrapped
 POOL = kept("const CvlPool *pool")
 
 # The field of the work that has an operand, by its name; the first array is `a`, and a second one `b`.
-FIELDS = {"index": "index", "flags": "flags"}
+FIELDS = {"index": "index", "columns": "index", "flags": "flags"}
 
 # Ways to cut that copy no flags, since their exports take any bytes.
 ANY_BYTES = {"a": ("ranges",), "b": ("ranges",), "flags": ()}
@@ -30,7 +30,9 @@ def offset(family, extent):
         return "from" if extent == cut_extent(family) else None
     if extent == "segments":
         return "first"
-    return "start" if extent == cut_extent(family) else "other"
+    if extent == cut_extent(family):
+        return "start"
+    return "other" if extent == "trues" or any(o.role == "lengths" and o.extent == extent for o in family.operands) else None
 
 
 NUMBERS = {"value": "w->value", "init": "cvl_number_at(w->value, w->stride, w->from[k])", "stride": "w->stride", "index": "w->place"}

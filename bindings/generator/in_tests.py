@@ -32,6 +32,8 @@ def _extent(row, operand):
 
 
 def _letter(row, operand):
+    if operand.name == "columns":
+        return "x"
     if operand.name == "index" and operand.role == "reads":
         if operand.extent == "segments":
             return "e"

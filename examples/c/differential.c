@@ -217,6 +217,16 @@ static void fill_senders(const Row *row, Given *g) {
     }
 }
 
+/* Columns of which each is a place of the vector; then sometimes with some that are not. */
+static void fill_columns(Given *g) {
+    int32_t *columns = (int32_t *)g->at[1];
+    const size_t many = g->len[1], places = g->len[3];
+    for (size_t k = 0; k < many; k++) columns[k] = (int32_t)below(places);
+    for (size_t bad = chance(3) ? 1 + below(3) : 0; bad > 0 && many > 0; bad--) {
+        columns[below(many)] = chance(2) ? -1 - (int32_t)below(2) : chance(2) ? INT32_MAX : (int32_t)places;
+    }
+}
+
 static void fill_text(const Row *row, char *text, size_t length) {
     static const char *const words[] = {"5", "-1", "007", "-0", "2147483647", "-2147483648", "12", "3"};
     static const char *const bad[] = {"x", "+1", "2147483648", "-", "--1", "]", "[", "1-"};
@@ -315,7 +325,8 @@ static void make(const Row *row, Given *g) {
     }
     if (row->model >= PERMUTE && row->model <= SEG_BACK_PERMUTE) fill_indices(row, g, n, m);
     if (row->model == SEG_EXTRACT || row->model == SEG_REPLACE || row->model == PERMUTE_RANGE || row->model == SELECT_PERMUTE_RANGE) fill_indices(row, g, n, n);
-    if (row->model >= FIRST_SENDERS) fill_senders(row, g);
+    if (row->model >= FIRST_SENDERS && row->model <= SELECT_FIRST_SENDERS_RANGE) fill_senders(row, g);
+    if (row->model == SPARSE_PRODUCT || row->model == CHECKED_SPARSE_PRODUCT) fill_columns(g);
     move_rooms(row, g);
     for (size_t k = 0; k < count; k++) {
         if (is_array(row, k) && g->len[k] == 0 && chance(3)) g->at[k] = NULL;

@@ -453,6 +453,23 @@ static void checked_sums(void) {
     FAULT(cvl_seg_checked_reduce(a, 5, S(lengths, 3), ints, 2), CVL_LENGTH_MISMATCH, -1);
 }
 
+static void sparse_products(void) {
+    const int32_t *lengths = I(2, 0, 2), *columns = I(0, 2, 1, 2), *values = I(2, 1, 3, 4), *x = I(1, 2, 3);
+    INTS(cvl_sparse_product(S(lengths, 3), columns, 4, values, 4, x, 3, ints, 3), 5, 0, 18);
+    INTS(cvl_checked_sparse_product(S(lengths, 3), columns, 4, values, 4, x, 3, ints, 3), 5, 0, 18);
+    INTS(cvl_sparse_product(S(I(2), 1), I(0, 0), 2, I(2147483647, 1), 2, I(1), 1, ints, 1), INT32_MIN);
+    FAULT(cvl_checked_sparse_product(S(I(2), 1), I(0, 0), 2, I(2147483647, 1), 2, I(1), 1, ints, 1), CVL_OVERFLOW, 0);
+    /* what adds up to more than 64 bits on the way, and to less than 32 in the end */
+    INTS(cvl_checked_sparse_product(S(I(6), 1), I(0, 0, 1, 1, 0, 2), 6, I(INT32_MIN, INT32_MIN, INT32_MIN, INT32_MIN, 2, 7), 6,
+                                    I(INT32_MIN, INT32_MAX, 1), 3, ints, 1), 7);
+    FAULT(cvl_sparse_product(S(I(2), 1), I(0, 3), 2, I(1, 1), 2, x, 3, ints, 1), CVL_INDEX_OUT_OF_RANGE, 1);
+    FAULT(cvl_sparse_product(S(I(-1), 1), columns, 0, values, 0, x, 3, ints, 1), CVL_NEGATIVE_LENGTH, 0);
+    FAULT(cvl_sparse_product(S(lengths, 3), columns, 4, values, 3, x, 3, ints, 3), CVL_LENGTH_MISMATCH, -1);
+    FAULT(cvl_sparse_product(S(lengths, 3), columns, 3, values, 3, x, 3, ints, 3), CVL_LENGTH_MISMATCH, -1);
+    FAULT(cvl_sparse_product(S(lengths, 3), columns, 4, values, 4, x, 3, ints, 2), CVL_LENGTH_MISMATCH, -1);
+    FAULT(cvl_sparse_product(S(lengths, 3), too_many_ints, (size_t)CVL_MOST_ELEMENTS + 1, values, 4, x, 3, ints, 3), CVL_TOO_LONG, -1);
+}
+
 static void elements(void) {
     const bool *f = B(true, true, true);
     INTS(cnt_lub(B(false, true, true, false, true), 5, ints), 3);
@@ -1468,6 +1485,7 @@ int main(void) {
     ranges_of_permutes();
     pieces_of_texts();
     checked_sums();
+    sparse_products();
     elements();
     descriptors();
     segments();

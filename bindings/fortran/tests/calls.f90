@@ -334,8 +334,10 @@ program calls
     call test_first_senders_range_first_senders_range()
     call test_select_first_senders_range_select_first_senders_range()
     call test_read_after_read_ints_after()
+    call test_sparse_product_sparse_product()
+    call test_checked_sparse_product_checked_sparse_product()
     if (count_of_wrong > 0) error stop 1
-    print "(a)", "327 examples"
+    print "(a)", "329 examples"
 contains
     subroutine test_add_wuz()
         integer(c_int32_t) :: out(3)
@@ -3126,6 +3128,24 @@ contains
         call same("read_after_read_ints_after", status, all(out == [integer(c_int32_t) :: 9, 10]))
         call same("read_after_read_ints_after", status, count == 2_c_size_t)
     end subroutine test_read_after_read_ints_after
+
+    subroutine test_sparse_product_sparse_product()
+        integer(c_int32_t) :: out(3)
+
+        out = 77
+        call cvl_sparse_product([integer(c_int32_t) :: 2, 0, 2], [integer(c_int32_t) :: 0, 2, 1, 2], [integer(c_int32_t) :: 2, &
+            1, 3, 4], [integer(c_int32_t) :: 1, 2, 3], out, status)
+        call same("sparse_product_sparse_product", status, all(out == [integer(c_int32_t) :: 5, 0, 18]))
+    end subroutine test_sparse_product_sparse_product
+
+    subroutine test_checked_sparse_product_checked_sparse_product()
+        integer(c_int32_t) :: out(2)
+
+        out = 77
+        call cvl_checked_sparse_product([integer(c_int32_t) :: 2, 1], [integer(c_int32_t) :: 0, 1, 0], [integer(c_int32_t) :: &
+            2147483647, -1, 3], [integer(c_int32_t) :: 2, 2147483647], out, status)
+        call same("checked_sparse_product_checked_sparse_product", status, all(out == [integer(c_int32_t) :: 2147483647, 6]))
+    end subroutine test_checked_sparse_product_checked_sparse_product
 
     subroutine same(name, status, agrees)
         character(*), intent(in) :: name

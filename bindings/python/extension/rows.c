@@ -342,6 +342,16 @@ static CvlStatus make_read_ints_after(Frame *frame) {
     return cvl_read_ints_after((size_t)NUMBER(0), READ(char, 1), WRITE(int32_t, frame->room), &frame->told);
 }
 
+static CvlStatus make_sparse_product(Frame *frame) {
+    return cvl_sparse_product(CUT(0), READ(int32_t, 1), READ(int32_t, 2), READ(int32_t, 3), WRITE(int32_t,
+        frame->room));
+}
+
+static CvlStatus make_checked_sparse_product(Frame *frame) {
+    return cvl_checked_sparse_product(CUT(0), READ(int32_t, 1), READ(int32_t, 2), READ(int32_t, 3), WRITE(int32_t,
+        frame->room));
+}
+
 static CvlStatus make_length(Frame *frame) {
     (void)frame;
     return (CvlStatus){CVL_DONE, -1};
@@ -367,8 +377,8 @@ enum {
     FAMILY_WRITE_BOOLS, FAMILY_SEG_READ_INTS, FAMILY_SEG_WRITE_INTS, FAMILY_SEG_WRITE_BOOLS, FAMILY_INT_SCAN_AFTER,
     FAMILY_BOOL_SCAN_AFTER, FAMILY_EXACT_SUM, FAMILY_CHECKED_SCAN_AFTER, FAMILY_PERMUTE_INT_RANGE,
     FAMILY_PERMUTE_BOOL_RANGE, FAMILY_SELECT_PERMUTE_INT_RANGE, FAMILY_SELECT_PERMUTE_BOOL_RANGE,
-    FAMILY_FIRST_SENDERS_RANGE, FAMILY_SELECT_FIRST_SENDERS_RANGE, FAMILY_READ_INTS_AFTER, FAMILY_LEN_LUZ,
-    FAMILY_LEN_LUB, FAMILY_LEN_FOS
+    FAMILY_FIRST_SENDERS_RANGE, FAMILY_SELECT_FIRST_SENDERS_RANGE, FAMILY_READ_INTS_AFTER, FAMILY_SPARSE_PRODUCT,
+    FAMILY_CHECKED_SPARSE_PRODUCT, FAMILY_LEN_LUZ, FAMILY_LEN_LUB, FAMILY_LEN_FOS
 };
 
 Family cvl_families[] = {
@@ -561,6 +571,12 @@ Family cvl_families[] = {
         EXTENT_NONE, 0, 0, SIZE_MAX, make_select_first_senders_range},
     [FAMILY_READ_INTS_AFTER] = {2, {{"before", KIND_SIZE, EXTENT_NONE, NULL}, {"text", KIND_TEXT, EXTENT_N, NULL}},
         GIVES_READ, EXTENT_TRUES, 0, 0, CVL_MOST_ELEMENTS, make_read_ints_after},
+    [FAMILY_SPARSE_PRODUCT] = {4, {{"segments", KIND_LENGTHS, EXTENT_N, NULL}, {"columns", KIND_INTS, EXTENT_N, NULL},
+        {"values", KIND_INTS, EXTENT_N, NULL}, {"x", KIND_INTS, EXTENT_M, NULL}}, GIVES_INTS, EXTENT_SEGMENTS, 0, 0,
+        CVL_MOST_ELEMENTS, make_sparse_product},
+    [FAMILY_CHECKED_SPARSE_PRODUCT] = {4, {{"segments", KIND_LENGTHS, EXTENT_N, NULL}, {"columns", KIND_INTS,
+        EXTENT_N, NULL}, {"values", KIND_INTS, EXTENT_N, NULL}, {"x", KIND_INTS, EXTENT_M, NULL}}, GIVES_INTS,
+        EXTENT_SEGMENTS, 0, 0, CVL_MOST_ELEMENTS, make_checked_sparse_product},
     [FAMILY_LEN_LUZ] = {1, {{"a", KIND_INTS, EXTENT_N, NULL}}, GIVES_LENGTH, EXTENT_NONE, 0, 0, SIZE_MAX,
         make_length},
     [FAMILY_LEN_LUB] = {1, {{"a", KIND_FLAGS, EXTENT_N, NULL}}, GIVES_LENGTH, EXTENT_NONE, 0, 0, SIZE_MAX,
@@ -710,6 +726,8 @@ FUNCTION(select_permute_bool_range, FAMILY_SELECT_PERMUTE_BOOL_RANGE, 0)
 FUNCTION(first_senders_range, FAMILY_FIRST_SENDERS_RANGE, 0)
 FUNCTION(select_first_senders_range, FAMILY_SELECT_FIRST_SENDERS_RANGE, 0)
 FUNCTION(read_ints_after, FAMILY_READ_INTS_AFTER, 0)
+FUNCTION(sparse_product, FAMILY_SPARSE_PRODUCT, 0)
+FUNCTION(checked_sparse_product, FAMILY_CHECKED_SPARSE_PRODUCT, 0)
 FUNCTION(len_luz, FAMILY_LEN_LUZ, 0)
 FUNCTION(len_lub, FAMILY_LEN_LUB, 0)
 FUNCTION(len_fos, FAMILY_LEN_FOS, 0)
@@ -2779,6 +2797,45 @@ PyDoc_STRVAR(doc_read_ints_after,
     ">>> cvl.read_ints_after(before, text).tolist()\n"
     "[9, 10]");
 
+PyDoc_STRVAR(doc_sparse_product,
+    "sparse_product($module, /, segments, columns, values, x, *, out=None)\n"
+    "--\n"
+    "\n"
+    "The product of a sparse matrix in rows with the vector x: for each row the sum, over its entries, of the value\n"
+    "times the element of x at the column. Sums and products are wrapped to 32 bits, and a row without entries has 0.\n"
+    "lengths are those of the rows, columns and values have n elements, one for each entry, row after row; x has m,\n"
+    "which may be any number; out has one for each row.\n"
+    "\n"
+    "Faults: 13 TooLong; 7 LengthMismatch where columns and values are not equally many, or the lengths do not add up\n"
+    "to n; 10 IndexOutOfRange at the first column below 0, or m or more.\n"
+    "\n"
+    ">>> import cvl, numpy\n"
+    ">>> segments = cvl.Segments([2, 0, 2])\n"
+    ">>> columns = numpy.array([0, 2, 1, 2], dtype=numpy.int32)\n"
+    ">>> values = numpy.array([2, 1, 3, 4], dtype=numpy.int32)\n"
+    ">>> x = numpy.array([1, 2, 3], dtype=numpy.int32)\n"
+    ">>> cvl.sparse_product(segments, columns, values, x).tolist()\n"
+    "[5, 0, 18]");
+
+PyDoc_STRVAR(doc_checked_sparse_product,
+    "checked_sparse_product($module, /, segments, columns, values, x, *, out=None)\n"
+    "--\n"
+    "\n"
+    "The same product, in which no product wraps and no sum: each row is added up in whole numbers. lengths, columns,\n"
+    "values, x and out are those of sparse_product.\n"
+    "\n"
+    "Faults: 13 TooLong; 7 LengthMismatch where columns and values are not equally many, or the lengths do not add up\n"
+    "to n; 10 IndexOutOfRange at the first column below 0, or m or more; 18 Overflow at the first row whose sum does\n"
+    "not fit 32 bits.\n"
+    "\n"
+    ">>> import cvl, numpy\n"
+    ">>> segments = cvl.Segments([2, 1])\n"
+    ">>> columns = numpy.array([0, 1, 0], dtype=numpy.int32)\n"
+    ">>> values = numpy.array([2147483647, -1, 3], dtype=numpy.int32)\n"
+    ">>> x = numpy.array([2, 2147483647], dtype=numpy.int32)\n"
+    ">>> cvl.checked_sparse_product(segments, columns, values, x).tolist()\n"
+    "[2147483647, 6]");
+
 PyDoc_STRVAR(doc_len_luz,
     "len_luz($module, /, a)\n"
     "--\n"
@@ -2947,6 +3004,8 @@ PyMethodDef cvl_methods[] = {
     METHOD(first_senders_range),
     METHOD(select_first_senders_range),
     METHOD(read_ints_after),
+    METHOD(sparse_product),
+    METHOD(checked_sparse_product),
     METHOD(len_luz),
     METHOD(len_lub),
     METHOD(len_fos),

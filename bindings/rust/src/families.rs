@@ -461,3 +461,62 @@ pub fn read_ints_after_into(before: usize, text: impl AsRef<[u8]>, out: &mut [i3
     call!(cvl_read_ints_after: before, text.as_ptr(), text.len(), out.as_mut_ptr(), out.len(), &mut count)?;
     Ok(count)
 }
+
+/// The product of a sparse matrix in rows with the vector x: for each row the sum, over its entries, of the value times the
+/// element of x at the column. Sums and products are wrapped to 32 bits, and a row without entries has 0. lengths are those
+/// of the rows, columns and values have n elements, one for each entry, row after row; x has m, which may be any number; out
+/// has one for each row.
+///
+/// Faults: 13 TooLong; 7 LengthMismatch where columns and values are not equally many, or the lengths do not add up to n; 10
+/// IndexOutOfRange at the first column below 0, or m or more.
+///
+/// ```
+/// let segments = cvl::Segments::new(&[2, 0, 2])?;
+/// assert_eq!(cvl::sparse_product(&segments, &[0, 2, 1, 2], &[2, 1, 3, 4], &[1, 2, 3])?, [5, 0, 18]);
+/// # Ok::<(), cvl::Fault>(())
+/// ```
+pub fn sparse_product(segments: &Segments, columns: &[i32], values: &[i32], x: &[i32]) -> Result<Vec<i32>, Fault> {
+    limit(columns.len())?;
+    same(&[columns.len(), values.len(), segments.total()])?;
+    let mut out = zeros(segments.len())?;
+    sparse_product_into(segments, columns, values, x, &mut out)?;
+    Ok(out)
+}
+
+/// [`sparse_product`] into a room that is as long as the result; a fault leaves the room as it was.
+pub fn sparse_product_into(
+    segments: &Segments, columns: &[i32], values: &[i32], x: &[i32], out: &mut [i32],
+) -> Result<(), Fault> {
+    call!(cvl_sparse_product | cvl_sparse_product_on: segments.given(), columns.as_ptr(), columns.len(), values.as_ptr(),
+        values.len(), x.as_ptr(), x.len(), out.as_mut_ptr(), out.len())
+}
+
+/// The same product, in which no product wraps and no sum: each row is added up in whole numbers. lengths, columns, values, x
+/// and out are those of sparse_product.
+///
+/// Faults: 13 TooLong; 7 LengthMismatch where columns and values are not equally many, or the lengths do not add up to n; 10
+/// IndexOutOfRange at the first column below 0, or m or more; 18 Overflow at the first row whose sum does not fit 32 bits.
+///
+/// ```
+/// let segments = cvl::Segments::new(&[2, 1])?;
+/// assert_eq!(
+///     cvl::checked_sparse_product(&segments, &[0, 1, 0], &[2147483647, -1, 3], &[2, 2147483647])?,
+///     [2147483647, 6]
+/// );
+/// # Ok::<(), cvl::Fault>(())
+/// ```
+pub fn checked_sparse_product(segments: &Segments, columns: &[i32], values: &[i32], x: &[i32]) -> Result<Vec<i32>, Fault> {
+    limit(columns.len())?;
+    same(&[columns.len(), values.len(), segments.total()])?;
+    let mut out = zeros(segments.len())?;
+    checked_sparse_product_into(segments, columns, values, x, &mut out)?;
+    Ok(out)
+}
+
+/// [`checked_sparse_product`] into a room that is as long as the result; a fault leaves the room as it was.
+pub fn checked_sparse_product_into(
+    segments: &Segments, columns: &[i32], values: &[i32], x: &[i32], out: &mut [i32],
+) -> Result<(), Fault> {
+    call!(cvl_checked_sparse_product | cvl_checked_sparse_product_on: segments.given(), columns.as_ptr(), columns.len(),
+        values.as_ptr(), values.len(), x.as_ptr(), x.len(), out.as_mut_ptr(), out.len())
+}

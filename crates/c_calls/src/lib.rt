@@ -15,6 +15,7 @@ pub mod packs;
 pub mod place_by_place;
 pub mod scans;
 pub mod seg_scans;
+pub mod sparse_products;
 pub mod status;
 pub mod texts;
 pub mod tiles;

@@ -20,5 +20,6 @@ mod seg_scans;
 mod segment_permutes;
 mod segments;
 mod senders;
+mod sparse_products;
 mod texts;
 mod tiles;

@@ -1,5 +1,6 @@
 -- Lengths between offsets, of which the first few are known.
-use Rattle.std.proofs.Common.{◌≡◌, ℕ, ◌+◌, ◌<◌, ◌≤◌, true, false, ℤ, pos, ◌-ℤ◌, List, [], ◌∷◌, ◌++◌, length, get_or, refl, sym, ap, ◌∙◌, arith, Some, None, Ok, Err, inl, inr, append-nil, append_assoc, drop, length-append}
+use Rattle.std.proofs.Common.{◌≡◌, ℕ, ◌+◌, ◌<◌, ◌≤◌, true, false, ℤ, pos, ◌-ℤ◌, List, [], ◌∷◌, ◌++◌, length, get_or, refl, sym, ap, ◌∙◌, arith, Some, None, Ok, Err, inl}
+use Rattle.std.proofs.Common.{inr, append-nil, append_assoc, drop, length-append}
 use Rattle.std.specs.Prelude.{◌<ℤ◌, ◌≤ℤ◌, cond, nat_lt, option_map, position}
 use Rattle.std.specs.Int.{is_negative}
 use Rattle.std.specs.List.{position_or_len}
@@ -57,7 +58,8 @@ negative_between a b less = let below : (a -ℤ b) <ℤ pos 0 = omega (arith, in
 natural_between : (a b : ℤ) → b ≤ℤ a → is_negative (a -ℤ b) ≡ false
 natural_between a b no_less = let above : pos 0 ≤ℤ (a -ℤ b) = omega (arith, ints) in grind (arith, ints)
 
-module _ (offsets done : List ℤ) (row : ℕ) (before : ℤ) (lt : row < length offsets) (so_far : done ++ lengths_after before (drop row offsets) ≡ lengths_after (pos 0) offsets) (are : AreNatural done) where
+module _ (offsets done : List ℤ) (row : ℕ) (before : ℤ) (lt : row < length offsets)
+    (so_far : done ++ lengths_after before (drop row offsets) ≡ lengths_after (pos 0) offsets) (are : AreNatural done) where
   abbrev offset : ℤ
   offset = get_or offsets row (pos 0)
 
@@ -70,7 +72,8 @@ module _ (offsets done : List ℤ) (row : ℕ) (before : ℤ) (lt : row < length
       ∙ first_negative done are (offset -ℤ before) (lengths_after offset (drop (row + 1) offsets)) (negative_between offset before less)
       ∙ ap (λ k. Err (fault_at no.NegativeLength k)) count
 
-  pub one_length_more : (z : ℤ) → before ≤ℤ offset → z ≡ offset -ℤ before → ((done ++ z ∷ []) ++ lengths_after offset (drop (row + 1) offsets) ≡ lengths_after (pos 0) offsets) × AreNatural (done ++ z ∷ [])
+  pub one_length_more : (z : ℤ) → before ≤ℤ offset → z ≡ offset -ℤ before
+      → ((done ++ z ∷ []) ++ lengths_after offset (drop (row + 1) offsets) ≡ lengths_after (pos 0) offsets) × AreNatural (done ++ z ∷ [])
   one_length_more z no_less is = (
     append_assoc done (z ∷ []) (lengths_after offset (drop (row + 1) offsets)) ∙ ap (λ y. done ++ y ∷ lengths_after offset (drop (row + 1) offsets)) is ∙ whole,
     one_more done are z (ap is_negative is ∙ natural_between offset before no_less),

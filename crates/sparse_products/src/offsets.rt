@@ -44,11 +44,12 @@ fn lengths_after_0<A: Allocator>(alloc: A, offsets: &[i32]) -> Result<Vec<i32, A
     Ok(lengths)
 }
 
-/// The lengths of the rows between offsets, one fewer than there are offsets: row r has the entries from the one at offset r to the
-/// one before offset r + 1. There are at most 2,147,483,648 offsets.
+/// The lengths of the rows between offsets, one fewer than there are offsets: row r has the entries from the one at offset r
+/// to the one before offset r + 1. There are at most 2,147,483,648 offsets.
 ///
-/// `LengthMismatch`, without a place, where there is no offset or the first isn't 0; `NegativeLength` at the first row whose offset is
-/// above the next one. That the last is the number of entries is asked where the lengths are. Source: compressed sparse rows.
+/// `LengthMismatch`, without a place, where there is no offset or the first isn't 0; `NegativeLength` at the first row whose
+/// offset is above the next one. That the last is the number of entries is asked where the lengths are. Source: compressed
+/// sparse rows.
 pub fn row_lengths<A: Allocator>(alloc: A, offsets: &[i32]) -> Result<Vec<i32, A>, Refused>
     requires { length offsets.now ≤ most_places + 1 }
     ensures lengths { Gives (λ lengths. lengths.items) result (row_lengths_of offsets.now) }

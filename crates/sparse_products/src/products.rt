@@ -46,12 +46,14 @@ fn product_in_runs<S: RowSum + Send + Sync, R: Threads + Sync, A: Memory>(
 
 /// The product of a sparse matrix with the vector `x`, in one walk over the rows by one thread or several.
 ///
-/// Row r has `lengths[r]` entries; `columns` and `values` are those of all entries, row after row. The product has one element for each
-/// row, 0 for a row without entries. Sums and products are wrapped to 32 bits. There are at most 4,194,304 lengths, and as many columns.
+/// Row r has `lengths[r]` entries; `columns` and `values` are those of all entries, row after row. The product has one
+/// element for each row, 0 for a row without entries. Sums and products are wrapped to 32 bits. There are at most 4,194,304
+/// lengths, and as many columns.
 ///
-/// Faults come in this order: `NegativeLength` at the first negative length; `TooLong` where the lengths add up to more than 4,194,304;
-/// `IndexOutOfRange` at the first entry whose column is no place of `x`; `LengthMismatch` where columns and values are not equally
-/// many, or the lengths don't add up to their number. Source: Blelloch, Vector Models for Data-Parallel Computing, 1990.
+/// Faults come in this order: `NegativeLength` at the first negative length; `TooLong` where the lengths add up to more than
+/// 4,194,304; `IndexOutOfRange` at the first entry whose column is no place of `x`; `LengthMismatch` where columns and values
+/// are not equally many, or the lengths don't add up to their number. Source: Blelloch, Vector Models for Data-Parallel
+/// Computing, 1990.
 pub fn sparse_product<R: Threads + Sync, A: Memory>(
     rt: &R,
     alloc: A,
@@ -87,8 +89,8 @@ pub fn checked_sparse_product<R: Threads + Sync, A: Memory>(
     product_in_runs::<Checked, R, A>(rt, alloc, config, &rows, columns, values, x)
 }
 
-/// [`sparse_product`] of rows that come by their offsets, of which there is one more than rows: row r has the entries from the one at
-/// offset r to the one before offset r + 1. The faults of [`row_lengths`] come first.
+/// [`sparse_product`] of rows that come by their offsets, of which there is one more than rows: row r has the entries from
+/// the one at offset r to the one before offset r + 1. The faults of [`row_lengths`] come first.
 pub fn sparse_product_by_offsets<R: Threads + Sync, A: Memory>(
     rt: &R,
     alloc: A,

@@ -611,6 +611,29 @@ extern "C" {
         before: usize, text: *const u8, text_len: usize, out: *mut i32, out_len: usize, count: *mut usize,
     ) -> CvlStatus;
 
+    /// The product of a sparse matrix in rows with the vector x: for each row the sum, over its entries, of the value times
+    /// the element of x at the column. Sums and products are wrapped to 32 bits, and a row without entries has 0. lengths are
+    /// those of the rows, columns and values have n elements, one for each entry, row after row; x has m, which may be any
+    /// number; out has one for each row.
+    ///
+    /// Faults: 13 TooLong; 7 LengthMismatch where columns and values are not equally many, or the lengths do not add up to n;
+    /// 10 IndexOutOfRange at the first column below 0, or m or more.
+    pub fn cvl_sparse_product(
+        lengths: CvlLengths, columns: *const i32, columns_len: usize, values: *const i32, values_len: usize, x: *const i32,
+        x_len: usize, out: *mut i32, out_len: usize,
+    ) -> CvlStatus;
+
+    /// The same product, in which no product wraps and no sum: each row is added up in whole numbers. lengths, columns,
+    /// values, x and out are those of cvl_sparse_product.
+    ///
+    /// Faults: 13 TooLong; 7 LengthMismatch where columns and values are not equally many, or the lengths do not add up to n;
+    /// 10 IndexOutOfRange at the first column below 0, or m or more; 18 Overflow at the first row whose sum does not fit 32
+    /// bits.
+    pub fn cvl_checked_sparse_product(
+        lengths: CvlLengths, columns: *const i32, columns_len: usize, values: *const i32, values_len: usize, x: *const i32,
+        x_len: usize, out: *mut i32, out_len: usize,
+    ) -> CvlStatus;
+
     /// The wrapped sums. a, b and out have n elements.
     ///
     /// Faults: 13 TooLong.
@@ -1618,6 +1641,18 @@ extern "C" {
     pub fn cvl_seg_write_bools_on(
         pool: *const CvlPool, a: *const bool, a_len: usize, lengths: CvlLengths, out: *mut u8, out_len: usize, count: *mut
         usize,
+    ) -> CvlStatus;
+
+    /// [`cvl_sparse_product`] in parts: cut between segments.
+    pub fn cvl_sparse_product_on(
+        pool: *const CvlPool, lengths: CvlLengths, columns: *const i32, columns_len: usize, values: *const i32, values_len:
+        usize, x: *const i32, x_len: usize, out: *mut i32, out_len: usize,
+    ) -> CvlStatus;
+
+    /// [`cvl_checked_sparse_product`] in parts: cut between segments.
+    pub fn cvl_checked_sparse_product_on(
+        pool: *const CvlPool, lengths: CvlLengths, columns: *const i32, columns_len: usize, values: *const i32, values_len:
+        usize, x: *const i32, x_len: usize, out: *mut i32, out_len: usize,
     ) -> CvlStatus;
 
     /// [`cvl_add_wuz`] in parts: cut at places.

@@ -1831,3 +1831,39 @@ fn read_ints_after() {
         cvl_read_ints_after(3, text.as_ptr(), text.len(), out.as_mut_ptr(), out.len(), &mut count),
     );
 }
+
+#[test]
+fn sparse_product() {
+    let lengths = [2, 0, 2];
+    let columns = [0, 2, 1, 2];
+    let values = [2, 1, 3, 4];
+    let x = [1, 2, 3];
+    each!(out => [99; 3] => [5, 0, 18];
+        cvl_sparse_product(
+            given(&lengths), columns.as_ptr(), columns.len(), values.as_ptr(), values.len(), x.as_ptr(), x.len(),
+            out.as_mut_ptr(), out.len(),
+        ),
+        cvl_sparse_product_on(
+            &cvl_pool_alone(3), given(&lengths), columns.as_ptr(), columns.len(), values.as_ptr(), values.len(), x.as_ptr(),
+            x.len(), out.as_mut_ptr(), out.len(),
+        ),
+    );
+}
+
+#[test]
+fn checked_sparse_product() {
+    let lengths = [2, 1];
+    let columns = [0, 1, 0];
+    let values = [2147483647, -1, 3];
+    let x = [2, 2147483647];
+    each!(out => [99; 2] => [2147483647, 6];
+        cvl_checked_sparse_product(
+            given(&lengths), columns.as_ptr(), columns.len(), values.as_ptr(), values.len(), x.as_ptr(), x.len(),
+            out.as_mut_ptr(), out.len(),
+        ),
+        cvl_checked_sparse_product_on(
+            &cvl_pool_alone(3), given(&lengths), columns.as_ptr(), columns.len(), values.as_ptr(), values.len(), x.as_ptr(),
+            x.len(), out.as_mut_ptr(), out.len(),
+        ),
+    );
+}

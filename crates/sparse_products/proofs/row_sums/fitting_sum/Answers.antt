@@ -8,7 +8,8 @@ use Rattle.sparse_products.proofs.row_sums.fitting_sum.Goals as goal
 
 pub returns-in-None : goal.returns-in-None
 returns-in-None c =
-    sym (entry_outside ◌+ℤ◌ fitting c.args.x.now c.args.columns.now c.args.values.now c.requires.as_many c.loop-k.k (to_z w128 c.loop-k.sum-bits) c.loop-k-test.true (sym c.element_of.ensures ∙ c.in-None.is))
+    sym (entry_outside ◌+ℤ◌ fitting c.args.x.now c.args.columns.now c.args.values.now c.requires.as_many c.loop-k.k (to_z w128 c.loop-k.sum-bits) c.loop-k-test.true
+    (sym c.element_of.ensures ∙ c.in-None.is))
     ∙ c.loop-k.invariant.so_far ∙ fitting_value c.args.x.now (zip c.args.columns.now c.args.values.now)
 
 pub loop-k-preserved : goal.loop-k-preserved
