@@ -148,23 +148,22 @@ static CvlStatus copies(const CvlWork *w, size_t segment, size_t from, size_t to
     return cvl_proved_distribute_int(*CVL_INTS(w->a, segment), (int32_t)n, CVL_INT_ROOM(w->out, from), n);
 }
 
-static CvlStatus whole_copies(const CvlWork *w, CvlPiece p) {
-    const size_t n = p.tail - p.head;
-    const int32_t *lengths = w->lengths + p.first;
-    if (w->of_bools) {
-        return cvl_proved_seg_distribute_bool(CVL_BOOLS(w->a, p.first), p.count, lengths, p.count, CVL_BOOL_ROOM(w->out, p.head), n);
-    }
-    return cvl_proved_seg_distribute_int(CVL_INTS(w->a, p.first), p.count, lengths, p.count, CVL_INT_ROOM(w->out, p.head), n);
-}
-
+/* Segment by segment, since a call on several takes memory, which may be refused, so that the room would have to be kept. */
 static CvlStatus copies_part(CvlWork *w, size_t k) {
     const CvlPiece p = cvl_piece(w, k);
-    return cvl_first_of(copies(w, p.first - 1, p.from, p.head), whole_copies(w, p), copies(w, w->first[k + 1] - 1, p.tail, p.to));
+    CvlStatus status = copies(w, p.first - 1, p.from, p.head);
+    size_t from = p.head;
+    for (size_t segment = p.first; segment < w->first[k + 1] && status.number == CVL_DONE; segment++) {
+        const size_t to = segment - p.first < p.count ? from + (size_t)w->lengths[segment] : p.to;
+        status = copies(w, segment, from, to);
+        from = to;
+    }
+    return status;
 }
 
 bool cvl_in_seg_copies(const CvlPool *pool, CvlWork *w) {
-    w->rooms = w->from, w->told = cvl_done();
-    return cvl_make_all(pool, w) && cvl_keep(w, w->out_len * w->size) && cvl_writes_kept(pool, w, copies_part);
+    w->told = cvl_done();
+    return cvl_make_all(pool, w) && cvl_writes(pool, w, copies_part);
 }
 
 /* The numbers of one segment, from its place `done` on. */
@@ -175,20 +174,23 @@ static CvlStatus numbers(const CvlWork *w, size_t segment, size_t done, size_t f
     return cvl_proved_index(init, stride, (int32_t)n, CVL_INT_ROOM(w->out, from), n);
 }
 
+/* The same as copies_part. */
 static CvlStatus numbers_part(CvlWork *w, size_t k) {
     const CvlPiece p = cvl_piece(w, k);
-    const size_t n = p.tail - p.head, done = p.head > p.from ? p.from - (w->start[k] - (size_t)w->lengths[p.first - 1]) : 0;
-    return cvl_first_of(
-        numbers(w, p.first - 1, done, p.from, p.head),
-        cvl_proved_seg_index(
-            CVL_INTS(w->a, p.first), p.count, CVL_INTS(w->b, p.first), p.count, w->lengths + p.first, p.count,
-            CVL_INT_ROOM(w->out, p.head), n),
-        numbers(w, w->first[k + 1] - 1, 0, p.tail, p.to));
+    const size_t done = p.head > p.from ? p.from - (w->start[k] - (size_t)w->lengths[p.first - 1]) : 0;
+    CvlStatus status = numbers(w, p.first - 1, done, p.from, p.head);
+    size_t from = p.head;
+    for (size_t segment = p.first; segment < w->first[k + 1] && status.number == CVL_DONE; segment++) {
+        const size_t to = segment - p.first < p.count ? from + (size_t)w->lengths[segment] : p.to;
+        status = numbers(w, segment, 0, from, to);
+        from = to;
+    }
+    return status;
 }
 
 bool cvl_in_seg_numbers(const CvlPool *pool, CvlWork *w) {
-    w->rooms = w->from, w->told = cvl_done();
-    return cvl_keep(w, w->out_len * w->size) && cvl_writes_kept(pool, w, numbers_part);
+    w->told = cvl_done();
+    return cvl_writes(pool, w, numbers_part);
 }
 
 /* ---- cut between segments ---- */
