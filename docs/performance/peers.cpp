@@ -2,11 +2,13 @@
 // four threads, into memory that was written before, or into fresh memory where the line says so. Thrust's scatter does not look
 // whether an index is out of range or is repeated.
 //   c++ -O3 -march=native -std=c++17 peers.cpp -ltbb -o peers && ./peers
+// `./peers COUNT ROUNDS` has as many elements and rounds, and comparisons and quotients too.
 #define THRUST_DEVICE_SYSTEM THRUST_DEVICE_SYSTEM_TBB
 #include <algorithm>
 #include <chrono>
 #include <cstdint>
 #include <cstdio>
+#include <cstdlib>
 #include <execution>
 #include <functional>
 #include <numeric>
@@ -23,10 +25,10 @@
 
 using Numbers = thrust::device_vector<uint32_t>;
 
-constexpr size_t COUNT = 4'194'304;
+size_t COUNT = 4'194'304;
 constexpr size_t SEGMENT = 1'000;
 constexpr int THREADS = 4;
-constexpr int ROUNDS = 40;
+int ROUNDS = 40;
 
 template <class F> void measure(const char *name, F work) {
     int64_t best = INT64_MAX;
@@ -105,9 +107,31 @@ void by_standard_library(const Vectors &v) {
     });
 }
 
-int main() {
+// Integers with a sign, since that is what a quotient is of; no divisor is 0.
+void more(const Vectors &v) {
+    const std::vector<int32_t> a(v.a.begin(), v.a.end());
+    std::vector<int32_t> b(v.b.begin(), v.b.end()), out(COUNT);
+    std::vector<uint8_t> flags(COUNT);
+    for (auto &divisor : b) divisor = divisor >> 7 | 1;
+    const auto policy = std::execution::par_unseq;
+    measure("C++17, less", [&] { std::transform(policy, a.begin(), a.end(), b.begin(), flags.begin(), std::less<int32_t>()); });
+    measure("C++17, divide", [&] { std::transform(policy, a.begin(), a.end(), b.begin(), out.begin(), std::divides<int32_t>()); });
+    const thrust::device_vector<int32_t> left(a), right(b);
+    thrust::device_vector<int32_t> quotients(COUNT);
+    thrust::device_vector<uint8_t> less(COUNT);
+    measure("Thrust, less", [&] { thrust::transform(left.begin(), left.end(), right.begin(), less.begin(), thrust::less<int32_t>()); });
+    measure("Thrust, divide",
+            [&] { thrust::transform(left.begin(), left.end(), right.begin(), quotients.begin(), thrust::divides<int32_t>()); });
+}
+
+int main(int words, char **word) {
     const tbb::global_control threads(tbb::global_control::max_allowed_parallelism, THREADS);
-    const Vectors v = made();
-    by_thrust(v);
-    by_standard_library(v);
+    if (words > 1) COUNT = std::strtoull(word[1], nullptr, 10);
+    if (words > 2) ROUNDS = std::atoi(word[2]);
+    {
+        const Vectors v = made();
+        by_thrust(v);
+        by_standard_library(v);
+        if (words > 1) more(v);
+    }
 }
