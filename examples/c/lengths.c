@@ -1,8 +1,8 @@
 /*
  * Calls each function of cvl.h on vectors of 4,194,304, 4,194,305, 8,388,613 and 67,108,864 elements, by one thread and by four, without a fault
  * and with one in the last places, and holds what it answers and writes against plain loops. Texts end at 4,194,304 elements, and more
- * are told. Then some calls on 2,147,483,647 booleans, the most of a vector, and on one more, of which nothing may be read. It
- * takes up to 6 GB of memory. It prints what differs, and its status is then 1. `examples/c/run lengths` builds and runs it; the functions
+ * are told. Then some calls on 2,147,483,647 booleans, the most of a vector, and on one more, of which nothing may be read; and faults in the
+ * last places of as many integers, zeros that the system has at hand, of which a page alone is written. It takes up to 6 GB of memory. It prints what differs, and its status is then 1. `examples/c/run lengths` builds and runs it; the functions
  * are those of calls.h, and the loops those of plain.h. One of the lengths may be named alone.
  */
 #define _DEFAULT_SOURCE
@@ -150,7 +150,7 @@ static void each_call(size_t elements) {
 
 static void check(const char *what, bool is_so) {
     if (!is_so) {
-        printf("the most booleans: %s\n", what);
+        printf("the most elements: %s\n", what);
         failed = 1;
     }
 }
@@ -210,6 +210,42 @@ static void most_of_all(void) {
     printf("%zu booleans\n", most);
 }
 
+/* ---- faults in the last places of the longest vectors of integers ---- */
+
+static int32_t *far_zeros(size_t count) {
+    int32_t *found = (int32_t *)mmap(NULL, count * sizeof *found, PROT_READ | PROT_WRITE, MAP_PRIVATE | MAP_ANONYMOUS | MAP_NORESERVE, -1, 0);
+    if (found == MAP_FAILED) abort();
+    return found;
+}
+
+static void last_faults(int32_t *a, int32_t *room, size_t most) {
+    const CvlLengths cut = {a, most};
+    const int64_t last = (int64_t)most - 1;
+    size_t total = 7;
+    a[last] = -1;
+    check("a length below 0 at the last place", is(cvl_mke_fov(cut, &total), CVL_NEGATIVE_LENGTH, last) && total == 7);
+    check("an index below 0 at the last place", is(cvl_bck_puz(a, most, a, room, most), CVL_INDEX_OUT_OF_RANGE, last));
+    a[last] = 32;
+    check("a shift by 32 at the last place", is(cvl_lsh_wuz(room, a, room, most), CVL_SHIFT_OUT_OF_RANGE, last));
+    a[last] = 0, a[last - 1] = INT32_MAX, a[last - 2] = 1;
+    check("a sum that no longer fits at the last place", is(cvl_tot_suz(a, a, most), CVL_OVERFLOW, last));
+    check("a sum of all that no longer fits", is(cvl_tot_ruz(a, most, room), CVL_OVERFLOW, 0));
+    check("a room after a fault", room[0] == 0 && room[last] == 0 && a[last] == 0 && a[last - 1] == INT32_MAX && a[last - 2] == 1);
+    a[last - 1] = a[last - 2] = 0;
+}
+
+static void last_places(void) {
+    const size_t most = CVL_MOST_ELEMENTS;
+    int32_t *a = far_zeros(most), *room = far_zeros(most);
+    for (size_t threads = 1; threads <= THREADS; threads += THREADS - 1) {
+        if (cvl_set_threads(threads) != 0) abort();
+        last_faults(a, room, most);
+    }
+    munmap(a, most * sizeof *a);
+    munmap(room, most * sizeof *room);
+    printf("%zu integers\n", most);
+}
+
 int main(int words, char **word) {
     static const size_t all[] = {4194304, 4194305, 8388613, 67108864};
     const size_t named = words > 1 ? (size_t)atol(word[1]) : 0, longest_one = named > 0 && named < CVL_MOST_ELEMENTS ? named : all[3];
@@ -218,6 +254,6 @@ int main(int words, char **word) {
     make_arrays(longest_one, longest_one / SEGMENT + 10);
     for (size_t k = 0; k < sizeof all / sizeof *all && named == 0; k++) each_call(all[k]);
     if (named > 0 && named < CVL_MOST_ELEMENTS) each_call(named);
-    else most_of_all();
+    else most_of_all(), last_places();
     return failed ? EXIT_FAILURE : EXIT_SUCCESS;
 }
