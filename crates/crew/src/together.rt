@@ -30,11 +30,11 @@ pub struct Crewed<W: Work, A: Allocator> {
 /// One worker for each seat, numbered from 0 in the order of the seats, claims tiles until it is told that none is left.
 ///
 /// There is one seat or more, at most as many as there are `workers`, all of the work's board, to none of which a tile was given
-/// before. A worker passes `Claimed` before it works at a tile, and `Finished` after it has the tile's items. The thread that calls
-/// starts one for the last seat, then one for the seat before it, and so on, and is the first worker itself; of more than eight
-/// seats it gives half to the first thread that it starts. Where no thread can be made the workers take their turns. With one seat
-/// no thread is started. At the end each seat has the fact of each tile that was given to it. Where a worker is out of memory the
-/// others end as usual, and the call answers `NoResources`.
+/// before. A worker passes `Claimed` before it works at a tile, and `Finished` after it has the tile's items. The thread that
+/// calls starts one for the last seat, then one for the seat before it, and so on, and is the first worker itself; of more than
+/// eight seats it gives half to the first thread that it starts. Where no thread can be made the workers take their turns. With
+/// one seat no thread is started. At the end each seat has the fact of each tile that was given to it. Where a worker is out of
+/// memory the others end as usual, and the call answers `NoResources`.
 pub fn run_crew<R: Threads + Sync, A: Memory, W: Work, G: Gate>(
     rt: &R,
     alloc: A,

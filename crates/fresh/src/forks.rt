@@ -162,9 +162,9 @@ pub fn write_checked_in_runs<
 
 /// The writer's items as a vector, written by at most `threads` threads.
 ///
-/// The thread that calls starts one for each run but the last, which it writes itself. Of more than eight threads it gives half to
-/// the first one that it starts, and so on. Where no thread can be made the runs are written in turn. For one thread, or an item or
-/// none, no thread is started.
+/// The thread that calls starts one for each run but the last, which it writes itself. Of more than eight threads it gives half
+/// to the first one that it starts, and so on. Where no thread can be made the runs are written in turn. For one thread, or an
+/// item or none, no thread is started.
 pub fn write_in_runs<T: Send + Drop, R: Threads + Sync, A: Allocator, W: Writer<T> + Sync>(
     rt: &R,
     alloc: A,

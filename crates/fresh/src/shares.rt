@@ -15,8 +15,8 @@ use std::thread::{Threads, join};
 /// What some neighbouring places are written from, in one or more parts.
 ///
 /// Its meaning hangs on the first of its places and on their number: whether it is a share of these places, the items that it
-/// writes there, the first place of them whose item has no value, if it looks for one, and how many of them the first of its parts
-/// have where it is cut in two. It has at least one part.
+/// writes there, the first place of them whose item has no value, if it looks for one, and how many of them the first of its
+/// parts have where it is cut in two. It has at least one part.
 pub trait Share<T>: Sized {
     ghost IsOf: { Self → ℕ → ℕ → Type 0 };
 

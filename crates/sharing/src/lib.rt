@@ -1,5 +1,5 @@
-//! Rules of thumb: how many threads share a call, by how many elements it writes, how a fork cuts them in two, how much of the call
-//! the first few of them have, and whether workers race for its tiles. No result depends on them.
+//! Rules of thumb: how many threads share a call, by how many elements it writes, how a fork cuts them in two, how much of the
+//! call the first few of them have, and whether workers race for its tiles. No result depends on them.
 //!
 //! What forks takes a [`ThreadCount`], or a [`Pace`] of a race. Both are made here alone, of a configuration, and neither has
 //! more threads than the configuration has workers.

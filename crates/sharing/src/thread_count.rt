@@ -63,7 +63,8 @@ impl ThreadCount {
         }
     }
 
-    /// The threads in two: those that a fork gives to the thread that it starts, and no fewer that the one that forks goes on with.
+    /// The threads in two: those that a fork gives to the thread that it starts, and no fewer, with which the one that forks goes
+    /// on.
     pub fn split(self) -> (ThreadCount, ThreadCount)
         requires { 2 ≤ self }
         ensures fewer { result.0 ≡ first_of_two self }
