@@ -13,7 +13,7 @@
 /* The most places of a table are 2 to the power of this: each is an integer of 32 bits, and so is how many there are. */
 enum { MOST_BITS = 30 };
 
-/* Keys that are not yet known to stay or to go, and the place of each among all keys, from the last on. */
+/* Keys that are not yet known to stay or to go, in their order, and the place of each among all keys. */
 typedef struct Left {
     int32_t *keys, *places;
     size_t n;
@@ -59,13 +59,11 @@ static void send(const Left *left, int bits, Step *s) {
     must(and_wuz(s->slots, s->numbers, s->slots, left->n));
 }
 
-/* Tells which keys stay, and which have met another key. Of keys that are sent to one place the last stands there: the first of
- * these among all keys. */
-static void meet(const Left *left, int bits, int32_t *table, uint32_t *marks, Step *s) {
+/* Tells which keys stay, and which have met another key: of keys that are sent to one place the first stands there. */
+static void meet(const Left *left, int bits, int32_t *table, Step *s) {
     const size_t n = left->n, places = (size_t)1 << bits;
-    size_t written;
+    must(cvl_first_senders(s->slots, n, table, places));
     must(ind_luz(0, 1, (int64_t)n, s->numbers));
-    must(cvl_permute_int_range(s->numbers, n, s->slots, n, 0, table, places, marks, (places + 31) / 32, &written));
     must(bck_puz(table, places, s->slots, s->others, n));
     must(bck_puz(left->keys, n, s->others, s->met, n));
     must(eql_wuz(s->others, s->numbers, s->stay, n));
@@ -76,18 +74,17 @@ static void meet(const Left *left, int bits, int32_t *table, uint32_t *marks, St
 size_t distinct(const int32_t *keys, size_t n, int32_t *out) {
     const size_t most = (size_t)1 << bits_for(n);
     int32_t *all = room(9 * n, sizeof *all), *table = room(most, sizeof *table), *stays = all + 8 * n;
-    uint32_t *marks = room(most / 32 + 1, sizeof *marks);
     bool *flags = room(2 * n, sizeof *flags), *none = room(2 * n, sizeof *none);
     Left left = {all, all + n, n}, next = {all + 2 * n, all + 3 * n, 0};
     Step step = {all + 4 * n, all + 5 * n, all + 6 * n, all + 7 * n, flags, flags + n};
     size_t some = 0, more;
-    must(ind_luz((int32_t)n - 1, -1, (int64_t)n, left.places));
-    must(bck_puz(keys, n, left.places, left.keys, n));
+    must(ind_luz(0, 1, (int64_t)n, left.places));
+    must(cpy_wuz(keys, left.keys, n));
     while (left.n > 0) {
         const int bits = bits_for(left.n);
         const Left before = left;
         send(&left, bits, &step);
-        meet(&left, bits, table, marks, &step);
+        meet(&left, bits, table, &step);
         must(pck_luz(left.places, step.stay, left.n, stays + some, n - some, &more));
         some += more;
         must(pck_luz(left.keys, step.again, left.n, next.keys, n, &next.n));
@@ -98,7 +95,7 @@ size_t distinct(const int32_t *keys, size_t n, int32_t *out) {
     must(dis_vub(true, (int64_t)some, none + n));
     must(def_pub(none + n, stays, some, none, flags, n));
     must(pck_luz(keys, flags, n, out, n, &some));
-    free(all), free(table), free(marks), free(flags), free(none);
+    free(all), free(table), free(flags), free(none);
     return some;
 }
 

@@ -45,11 +45,8 @@ def connected_parts(rows, ends):
     """
     many = len(rows)
     found = roots(many, rows.numbers, ends)
-    # the first vertex of each part stands at its root: from the last vertex on, the last that is sent there
-    down = cvl.ind_luz(many - 1, -1, many)
-    first = cvl.dis_vuz(0, many)
-    cvl.permute_int_range(down, cvl.bck_puz(found, down), 0, first, numpy.zeros((many + 31) // 32, numpy.uint32))
-    first = cvl.bck_puz(first, found)
+    # the first vertex of all that lead to its root
+    first = cvl.bck_puz(cvl.first_senders(found, many), found)
     numbers = cvl.add_suz(cvl.int_wub(cvl.eql_wuz(first, cvl.ind_luz(0, 1, many))))
     return cvl.bck_puz(numbers, first)
 
