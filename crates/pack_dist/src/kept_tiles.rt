@@ -106,7 +106,8 @@ impl<'a, T: Copy> Share<T> for KeptTiles<'a, T> {
     ghost use Rattle.pack_dist.specs.Kept.{ArePlacesOf, count_before, kept_of};
     ghost use Rattle.sharing.specs.Shares.{share_of_first};
 
-    ghost IsOf = { λ s first room. ArePlacesOf s.kept.now.values.now s.kept.now.flags.now s.kept.now.tile s.from s.to first room };
+    ghost IsOf = { λ s first room. ArePlacesOf s.kept.now.values.now s.kept.now.flags.now s.kept.now.tile s.from s.to
+        first room };
 
     ghost items = { λ s first room. part (kept_of s.kept.now.values.now s.kept.now.flags.now) first room };
 

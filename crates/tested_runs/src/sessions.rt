@@ -78,7 +78,7 @@ fn gives_input<A: Memory>(session: Session<A>) -> Result<bool, Refused> {
         return Ok(false);
     };
     match session.into_value(&name)? {
-        Some(Value::Integers(taken)) => Ok(taken.as_slice() == [1, 0]),
+        Some(Value::Integers(taken)) => Ok(taken.as_slice() == [1, 0].as_slice()),
         _ => Ok(false),
     }
 }
