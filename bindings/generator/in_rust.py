@@ -264,7 +264,7 @@ def _into(function):
     """The function into a room."""
     body, answer, room = [*_text(function)], "()", "as long as the result"
     if function.counts:
-        body += ["let mut count = 0;", f"{_called(function)}?;", "Ok(count)"]
+        body += ["let mut count = NOT_TOLD;", f"{_called(function)}.map_err(|fault| fault.needing(count))?;", "Ok(count)"]
         answer, room = "usize", "as long as the result or longer, and how long that is"
     else:
         body.append(_called(function))
@@ -330,7 +330,7 @@ def calls():
     )
     uses = (
         "use alloc::vec::Vec;\n\n"
-        "use crate::fault::Fault;\nuse crate::lengths::{counted, limit, places, same, true_flags, zeros};\n"
+        "use crate::fault::{Fault, NOT_TOLD};\nuse crate::lengths::{counted, limit, places, same, true_flags, zeros};\n"
         "use crate::pool::call;\nuse crate::segments::Segments;"
     )
     return HEAD.format(about=about, note=rows.NOTE, uses=uses) + "".join(map(_written, packages.CALLS))
@@ -341,7 +341,7 @@ def families():
     about = "The functions that are no call of a script: texts, and what a part of a call needs that the whole does not, among others."
     uses = (
         "use alloc::string::String;\nuse alloc::vec::Vec;\n\n"
-        "use crate::fault::Fault;\nuse crate::lengths::{counted, limit, most_words, places, same, text_limit, text_of, zeros};\n"
+        "use crate::fault::{Fault, NOT_TOLD};\nuse crate::lengths::{counted, limit, most_words, places, same, text_limit, text_of, zeros};\n"
         "use crate::numbers::Operator;\nuse crate::pool::call;\nuse crate::segments::Segments;"
     )
     return HEAD.format(about=about, note=rows.NOTE, uses=uses) + "".join(map(_written, FAMILIES))

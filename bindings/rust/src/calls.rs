@@ -5,7 +5,7 @@
 
 use alloc::vec::Vec;
 
-use crate::fault::Fault;
+use crate::fault::{Fault, NOT_TOLD};
 use crate::lengths::{counted, limit, places, same, true_flags, zeros};
 use crate::pool::call;
 use crate::segments::Segments;
@@ -2391,9 +2391,9 @@ pub fn pck_luz(values: &[i32], flags: &[bool]) -> Result<Vec<i32>, Fault> {
 
 /// [`pck_luz`] into a room that is as long as the result or longer, and how long that is; a fault leaves the room as it was.
 pub fn pck_luz_into(values: &[i32], flags: &[bool], out: &mut [i32]) -> Result<usize, Fault> {
-    let mut count = 0;
+    let mut count = NOT_TOLD;
     call!(cvl_pack_int | cvl_pack_int_on: values.as_ptr(), values.len(), flags.as_ptr(), flags.len(), out.as_mut_ptr(),
-        out.len(), &mut count)?;
+        out.len(), &mut count).map_err(|fault| fault.needing(count))?;
     Ok(count)
 }
 
@@ -2413,9 +2413,9 @@ pub fn pck_lub(values: &[bool], flags: &[bool]) -> Result<Vec<bool>, Fault> {
 
 /// [`pck_lub`] into a room that is as long as the result or longer, and how long that is; a fault leaves the room as it was.
 pub fn pck_lub_into(values: &[bool], flags: &[bool], out: &mut [bool]) -> Result<usize, Fault> {
-    let mut count = 0;
+    let mut count = NOT_TOLD;
     call!(cvl_pack_bool | cvl_pack_bool_on: values.as_ptr(), values.len(), flags.as_ptr(), flags.len(), out.as_mut_ptr(),
-        out.len(), &mut count)?;
+        out.len(), &mut count).map_err(|fault| fault.needing(count))?;
     Ok(count)
 }
 
@@ -2436,9 +2436,9 @@ pub fn pck_lez(values: &[i32], flags: &[bool], segments: &Segments) -> Result<Ve
 
 /// [`pck_lez`] into a room that is as long as the result or longer, and how long that is; a fault leaves the room as it was.
 pub fn pck_lez_into(values: &[i32], flags: &[bool], segments: &Segments, out: &mut [i32]) -> Result<usize, Fault> {
-    let mut count = 0;
+    let mut count = NOT_TOLD;
     call!(cvl_seg_pack_int | cvl_seg_pack_int_on: values.as_ptr(), values.len(), flags.as_ptr(), flags.len(),
-        segments.given(), out.as_mut_ptr(), out.len(), &mut count)?;
+        segments.given(), out.as_mut_ptr(), out.len(), &mut count).map_err(|fault| fault.needing(count))?;
     Ok(count)
 }
 
@@ -2459,9 +2459,9 @@ pub fn pck_leb(values: &[bool], flags: &[bool], segments: &Segments) -> Result<V
 
 /// [`pck_leb`] into a room that is as long as the result or longer, and how long that is; a fault leaves the room as it was.
 pub fn pck_leb_into(values: &[bool], flags: &[bool], segments: &Segments, out: &mut [bool]) -> Result<usize, Fault> {
-    let mut count = 0;
+    let mut count = NOT_TOLD;
     call!(cvl_seg_pack_bool | cvl_seg_pack_bool_on: values.as_ptr(), values.len(), flags.as_ptr(), flags.len(),
-        segments.given(), out.as_mut_ptr(), out.len(), &mut count)?;
+        segments.given(), out.as_mut_ptr(), out.len(), &mut count).map_err(|fault| fault.needing(count))?;
     Ok(count)
 }
 

@@ -5,7 +5,7 @@
 use alloc::string::String;
 use alloc::vec::Vec;
 
-use crate::fault::Fault;
+use crate::fault::{Fault, NOT_TOLD};
 use crate::lengths::{counted, limit, most_words, places, same, text_limit, text_of, zeros};
 use crate::numbers::Operator;
 use crate::pool::call;
@@ -141,8 +141,9 @@ pub fn read_ints(text: impl AsRef<[u8]>) -> Result<Vec<i32>, Fault> {
 /// was.
 pub fn read_ints_into(text: impl AsRef<[u8]>, out: &mut [i32]) -> Result<usize, Fault> {
     let text = text.as_ref();
-    let mut count = 0;
-    call!(cvl_read_ints | cvl_read_ints_on: text.as_ptr(), text.len(), out.as_mut_ptr(), out.len(), &mut count)?;
+    let mut count = NOT_TOLD;
+    call!(cvl_read_ints | cvl_read_ints_on: text.as_ptr(), text.len(), out.as_mut_ptr(), out.len(), &mut
+        count).map_err(|fault| fault.needing(count))?;
     Ok(count)
 }
 
@@ -162,8 +163,9 @@ pub fn write_ints(a: &[i32]) -> Result<String, Fault> {
 /// [`write_ints`] into a room that is as long as the result or longer, and how long that is; a fault leaves the room as it
 /// was.
 pub fn write_ints_into(a: &[i32], out: &mut [u8]) -> Result<usize, Fault> {
-    let mut count = 0;
-    call!(cvl_write_ints | cvl_write_ints_on: a.as_ptr(), a.len(), out.as_mut_ptr(), out.len(), &mut count)?;
+    let mut count = NOT_TOLD;
+    call!(cvl_write_ints | cvl_write_ints_on: a.as_ptr(), a.len(), out.as_mut_ptr(), out.len(), &mut
+        count).map_err(|fault| fault.needing(count))?;
     Ok(count)
 }
 
@@ -183,8 +185,9 @@ pub fn write_bools(a: &[bool]) -> Result<String, Fault> {
 /// [`write_bools`] into a room that is as long as the result or longer, and how long that is; a fault leaves the room as it
 /// was.
 pub fn write_bools_into(a: &[bool], out: &mut [u8]) -> Result<usize, Fault> {
-    let mut count = 0;
-    call!(cvl_write_bools | cvl_write_bools_on: a.as_ptr(), a.len(), out.as_mut_ptr(), out.len(), &mut count)?;
+    let mut count = NOT_TOLD;
+    call!(cvl_write_bools | cvl_write_bools_on: a.as_ptr(), a.len(), out.as_mut_ptr(), out.len(), &mut
+        count).map_err(|fault| fault.needing(count))?;
     Ok(count)
 }
 
@@ -209,9 +212,9 @@ pub fn seg_write_ints(a: &[i32], segments: &Segments) -> Result<String, Fault> {
 /// [`seg_write_ints`] into a room that is as long as the result or longer, and how long that is; a fault leaves the room as
 /// it was.
 pub fn seg_write_ints_into(a: &[i32], segments: &Segments, out: &mut [u8]) -> Result<usize, Fault> {
-    let mut count = 0;
+    let mut count = NOT_TOLD;
     call!(cvl_seg_write_ints | cvl_seg_write_ints_on: a.as_ptr(), a.len(), segments.given(), out.as_mut_ptr(), out.len(),
-        &mut count)?;
+        &mut count).map_err(|fault| fault.needing(count))?;
     Ok(count)
 }
 
@@ -232,9 +235,9 @@ pub fn seg_write_bools(a: &[bool], segments: &Segments) -> Result<String, Fault>
 /// [`seg_write_bools`] into a room that is as long as the result or longer, and how long that is; a fault leaves the room as
 /// it was.
 pub fn seg_write_bools_into(a: &[bool], segments: &Segments, out: &mut [u8]) -> Result<usize, Fault> {
-    let mut count = 0;
+    let mut count = NOT_TOLD;
     call!(cvl_seg_write_bools | cvl_seg_write_bools_on: a.as_ptr(), a.len(), segments.given(), out.as_mut_ptr(),
-        out.len(), &mut count)?;
+        out.len(), &mut count).map_err(|fault| fault.needing(count))?;
     Ok(count)
 }
 
@@ -457,8 +460,9 @@ pub fn read_ints_after(before: usize, text: impl AsRef<[u8]>) -> Result<Vec<i32>
 /// it was.
 pub fn read_ints_after_into(before: usize, text: impl AsRef<[u8]>, out: &mut [i32]) -> Result<usize, Fault> {
     let text = text.as_ref();
-    let mut count = 0;
-    call!(cvl_read_ints_after: before, text.as_ptr(), text.len(), out.as_mut_ptr(), out.len(), &mut count)?;
+    let mut count = NOT_TOLD;
+    call!(cvl_read_ints_after: before, text.as_ptr(), text.len(), out.as_mut_ptr(), out.len(), &mut count).map_err(|fault|
+        fault.needing(count))?;
     Ok(count)
 }
 

@@ -17,7 +17,11 @@ use crate::numbers::faults;
 pub struct Fault {
     number: u32,
     place: Option<u64>,
+    needed: Option<usize>,
 }
+
+/// What a count says that the library did not write.
+pub(crate) const NOT_TOLD: usize = usize::MAX;
 
 impl Fault {
     /// The number that a fault is printed with, one of [`faults`]; 100 where memory ran out.
@@ -34,6 +38,25 @@ impl Fault {
     /// Where the fault is, counted from 0, if it has a place.
     pub fn place(&self) -> Option<u64> {
         self.place
+    }
+
+    /// How many elements there have to be room for, where the room of a function that counts what it writes is too short:
+    /// of a pack, or of a text.
+    ///
+    /// ```
+    /// let fault = cvl::pck_luz_into(&[5, 1, 7], &[true, false, true], &mut []).unwrap_err();
+    /// assert_eq!((fault.number(), fault.needed()), (cvl::faults::LENGTH_MISMATCH, Some(2)));
+    /// ```
+    pub fn needed(&self) -> Option<usize> {
+        self.needed
+    }
+
+    /// The same fault, with what the library counted, if it did.
+    pub(crate) fn needing(self, count: usize) -> Fault {
+        Fault {
+            needed: (count != NOT_TOLD).then_some(count),
+            ..self
+        }
     }
 
     /// Lengths that must agree differ.
@@ -68,6 +91,7 @@ impl Fault {
         Fault {
             number,
             place: None,
+            needed: None,
         }
     }
 }
@@ -92,6 +116,7 @@ pub(crate) fn told(status: CvlStatus) -> Result<(), Fault> {
         CvlStatus { number, place } => Err(Fault {
             number,
             place: u64::try_from(place).ok(),
+            needed: None,
         }),
     }
 }

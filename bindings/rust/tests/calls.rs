@@ -58,6 +58,32 @@ fn a_room_of_another_length_is_a_fault_and_stays() {
 }
 
 #[test]
+fn a_room_that_is_too_short_is_told_how_long_it_has_to_be() {
+    let (values, flags) = ([5, 1, 7], [true, false, true]);
+    let (mut room, mut text) = ([9; 1], [b'?'; 1]);
+    let needed = |found: Result<usize, Fault>| found.unwrap_err().needed();
+    assert_eq!(
+        needed(cvl::pck_luz_into(&values, &flags, &mut room)),
+        Some(2)
+    );
+    assert_eq!(
+        needed(cvl::pck_lub_into(&flags, &flags, &mut [])),
+        Some(2)
+    );
+    assert_eq!(needed(cvl::read_ints_into("1 2 3", &mut room)), Some(3));
+    assert_eq!(needed(cvl::write_ints_into(&[10], &mut text)), Some(4));
+    assert_eq!((room, text), ([9], [b'?']));
+    // where two lengths are wrong it is told that the vectors differ, and nothing was counted
+    assert_eq!(
+        needed(cvl::pck_luz_into(&values[1..], &flags, &mut room)),
+        None
+    );
+    assert_eq!(needed(cvl::read_ints_into("x", &mut room)), None);
+    let unequal = cvl::add_wuz_into(&[1], &[1], &mut []).unwrap_err();
+    assert_eq!(unequal.needed(), None);
+}
+
+#[test]
 fn a_fault_has_its_place_and_leaves_the_room() {
     let mut room = [7; 3];
     let fault = cvl::div_wuz_into(&[1, 2, 3], &[1, 0, 0], &mut room).unwrap_err();

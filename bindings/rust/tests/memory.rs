@@ -64,6 +64,7 @@ fn no_memory_is_told_after_what_needs_none() {
         (number(cvl::add_wuz(&ones, &zeros[1..])), 7),
         (number(cvl::add_sez(&ones[1..], &rows)), 7),
         (number(cvl::and_wub(&more, &kept)), 13),
+        (number(cvl::cpy_wub(&more)), 13),
         (number(cvl::pck_lub(&more, &more)), 13),
         (number(cvl::dis_vuz(1, 1 << 40)), 13),
         (number(cvl::dis_vuz(1, -1_000)), 12),
