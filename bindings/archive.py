@@ -127,9 +127,11 @@ def library(folder, archive, flags=()):
 def linking():
     """The words that link a shared object."""
     hardened = ["-Wl,-z,relro", "-Wl,-z,now", "-Wl,-z,noexecstack"]
+    # dlclose leaves it where it is, since its threads may wait in it
+    stays = ["-Wl,-z,nodelete"]
     named = [f"-Wl,-soname,{SONAME}", f"-Wl,--version-script={TOP / 'bindings/c/cvl.map'}"]
     given = [*program("CC"), *words_of("CFLAGS"), "-fno-lto", *words_of("LDFLAGS")]
-    return [*given, "-shared", "-pthread", "-Wl,-z,defs", *hardened, *named]
+    return [*given, "-shared", "-pthread", "-Wl,-z,defs", *hardened, *stays, *named]
 
 
 def shared(made):

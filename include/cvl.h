@@ -178,8 +178,9 @@ const char *cvl_fault_name(uint32_t number);
  *
  * Between calls the threads sleep. They block all signals, so that handlers run on the program's own threads; a handler calls
  * nothing of the library. The child of a fork has none of the threads, and may set a number of its own, also where the fork
- * came in the middle of a call by another thread. At exit nothing is owed: the threads end with the process. Before the library
- * is unloaded, by dlclose, cvl_set_threads(1) ends them, since they would go on in memory that is gone.
+ * came in the middle of a call by another thread. At exit nothing is owed: the threads end with the process. The shared object
+ * stays where it is after dlclose, so that they never go on in memory that is gone; cvl_set_threads(1) ends them. An object of
+ * one's own that has the archive inside is linked by -z nodelete where it may be unloaded, or calls cvl_set_threads(1) before.
  */
 /*
  * Says how many threads there are for long calls, 1 to 64, with the one that calls. The answer is 0; EINVAL where it is no such
