@@ -30,9 +30,11 @@ CvlStatus cvl_reduce_of(const CvlWork *w, size_t from, size_t to, CvlItem *sum) 
 }
 
 CvlStatus cvl_join_of(const CvlWork *w, CvlItem first, CvlItem second, CvlItem *joined) {
-    const bool flags[2] = {first.flag, second.flag};
+    if (w->of_bools) {
+        const bool flags[2] = {first.flag, second.flag};
+        return cvl_proved_bool_reduce(w->op, flags, 2, &joined->flag);
+    }
     const int32_t numbers[2] = {first.number, second.number};
-    if (w->of_bools) return cvl_proved_bool_reduce(w->op, flags, 2, &joined->flag);
     return cvl_proved_int_reduce(w->op, numbers, 2, &joined->number);
 }
 

@@ -30,9 +30,7 @@
 /*@ assigns \nothing;
     ensures \result.number == number && \result.place == place; */
 static inline CvlStatus cvl_status(uint32_t number, int64_t place) {
-    CvlStatus status;
-    status.number = number;
-    status.place = place;
+    const CvlStatus status = {number, place};
     return status;
 }
 

@@ -5,6 +5,11 @@
  * Where a part's text begins in the memory for all of them, which are as long as they can be: an element has 12 bytes with its sign and a
  * space, or 2, a segment 3 more, and a text 2 brackets.
  */
+/*@ requires \valid_read(w) && k <= w->parts <= CVL_MOST_PARTS && w->from[k] <= CVL_MOST_ELEMENTS;
+    requires w->start[k] <= CVL_MOST_ELEMENTS && w->first[k] <= CVL_MOST_ELEMENTS;
+    assigns \nothing;
+    ensures w->lengths == \null ==> \result == text_begins(w->of_bools, w->from[k], 0, k);
+    ensures w->lengths != \null ==> \result == text_begins(w->of_bools, w->start[k], w->first[k], k); */
 static size_t text_place(const CvlWork *w, size_t k) {
     const size_t each = w->of_bools ? 2 : 12;
     return w->lengths == NULL ? w->from[k] * each + 2 * k : w->start[k] * each + w->first[k] * 3 + 2 * k;
@@ -53,21 +58,26 @@ bool cvl_in_write(const CvlPool *pool, CvlWork *w) {
     return 1;
 }
 
-/* A part of a text has at most one integer for each two bytes; its integers are read to a room of its own. */
+/* Where the room for a part's integers begins. A part of a text has at most one for each two bytes. */
+/*@ requires \valid_read(w) && k <= w->parts <= CVL_MOST_PARTS && w->from[k] <= SIZE_MAX - CVL_MOST_PARTS;
+    assigns \nothing;
+    ensures \result == read_begins(w->from[k], k); */
+static size_t read_place(const CvlWork *w, size_t k) { return (w->from[k] + k) / 2; }
+
 static CvlStatus read_part(CvlWork *w, size_t k) {
     const size_t from = w->from[k], n = w->from[k + 1] - from;
-    return cvl_proved_read_ints(CVL_BYTES(w->a, from), n, (int32_t *)(void *)w->kept + (from + k) / 2, (n + 1) / 2, &w->counts[k]);
+    return cvl_proved_read_ints(CVL_BYTES(w->a, from), n, (int32_t *)(void *)w->kept + read_place(w, k), (n + 1) / 2, &w->counts[k]);
 }
 
 static CvlStatus put_read_part(CvlWork *w, size_t k) {
-    const int32_t *read = (const int32_t *)(const void *)w->kept + (w->from[k] + k) / 2;
+    const int32_t *read = (const int32_t *)(const void *)w->kept + read_place(w, k);
     if (w->counts[k] > 0) memcpy(CVL_INT_ROOM(w->out, w->other[k]), read, w->counts[k] * sizeof *read);
     return cvl_done();
 }
 
 /* Where a part has a fault, or there are too many integers, the whole text is read again, and tells it. */
 bool cvl_in_read(const CvlPool *pool, CvlWork *w) {
-    if (!cvl_keep(w, (w->a_len + w->parts + 1) / 2 * sizeof(int32_t)) || !cvl_writes(pool, w, read_part)) return 0;
+    if (!cvl_keep(w, read_place(w, w->parts) * sizeof(int32_t)) || !cvl_writes(pool, w, read_part)) return 0;
     for (size_t k = 0; k < w->parts; k++) w->other[k + 1] = w->other[k] + w->counts[k];
     const size_t count = w->other[w->parts];
     if (count > CVL_MOST_OF_TEXT) return 0;

@@ -51,12 +51,28 @@ static int start(size_t count) {
     return 0;
 }
 
-/* What the variable says: a number from 1 to 64, in digits alone, else 1. */
+/* A number from 1 to 64 that a text says, in digits alone, else 1. */
+/*@ requires valid_read_string(text) && strlen(text) < SIZE_MAX;
+    assigns \nothing;
+    ensures is_number(text, strlen(text)) && 1 <= number_in(text, strlen(text)) <= CVL_MOST_PARTS ?
+      \result == number_in(text, strlen(text)) : \result == 1; */
+static size_t number_of(const char *text) {
+    size_t count = 0, k = 0;
+    /*@ loop invariant 0 <= k <= strlen(text) && is_number(text, k);
+        loop invariant count <= CVL_MOST_PARTS ? count == number_in(text, k) : number_in(text, k) > CVL_MOST_PARTS;
+        loop invariant count <= 10 * CVL_MOST_PARTS + 9;
+        loop assigns k, count;
+        loop variant strlen(text) - k; */
+    for (; text[k] >= '0' && text[k] <= '9'; k++) {
+        if (count <= CVL_MOST_PARTS) count = count * 10 + (size_t)(text[k] - '0');
+    }
+    return text[k] != 0 || count == 0 || count > CVL_MOST_PARTS ? 1 : count;
+}
+
+/* What the variable says. */
 static size_t asked_for(void) {
     const char *text = getenv("CVL_NUM_THREADS");
-    size_t count = 0;
-    for (; text != NULL && *text >= '0' && *text <= '9' && count <= CVL_MOST_PARTS; text++) count = count * 10 + (size_t)(*text - '0');
-    return text == NULL || *text != 0 || count == 0 || count > CVL_MOST_PARTS ? 1 : count;
+    return text == NULL ? 1 : number_of(text);
 }
 
 /* The word, once somebody has asked: the first that does reads the variable. */

@@ -8,10 +8,17 @@
 #include <stddef.h>
 #include <stdint.h>
 
-/* C11's atomic booleans, as one thread at a time sees them. */
+/* C11's atomic numbers and booleans, as one thread at a time sees them. */
 #define __FC_STDATOMIC
+#define _Atomic
 typedef unsigned char atomic_bool;
+enum { memory_order_relaxed, memory_order_acquire, memory_order_release };
 #define atomic_init(at, value) (*(at) = (value))
+#define atomic_load_explicit(at, order) (*(at))
+#define atomic_store_explicit(at, value, order) (*(at) = (value))
+#define atomic_fetch_and_explicit(at, value, order) (*(at) &= (value))
+#define atomic_compare_exchange_strong_explicit(at, seen, next, order, other)                                                  \
+    (*(at) == *(seen) ? (*(at) = (next), 1) : (*(seen) = *(at), 0))
 static inline unsigned char atomic_exchange(unsigned char *at, unsigned char value) {
     const unsigned char was = *at;
     *at = value;
@@ -79,5 +86,52 @@ static inline unsigned char atomic_exchange(unsigned char *at, unsigned char val
 /* ---- texts ---- */
 
 /*@ predicate is_white_byte(integer byte) = byte == ' ' || byte == '\t' || byte == '\n' || byte == '\r'; */
+
+/* Words stand between white space and, in a nested text, brackets; how many begin among the first bytes, and how many lists. */
+/*@ predicate is_between(integer byte, integer nested) = is_white_byte(byte) || (nested != 0 && (byte == '[' || byte == ']'));
+
+    predicate begins_word{L}(char *text, integer nested, integer k) =
+      !is_between(text[k], nested) && (k == 0 || is_between(text[k - 1], nested));
+
+    axiomatic Words {
+      logic integer words_in{L}(char *text, integer nested, integer n) reads text[0 .. n - 1];
+      axiom no_words{L}: \forall char *text, integer nested, n; n <= 0 ==> words_in(text, nested, n) == 0;
+      axiom one_word{L}: \forall char *text, integer nested, n; n > 0 && begins_word(text, nested, n - 1) ==>
+        words_in(text, nested, n) == words_in(text, nested, n - 1) + 1;
+      axiom no_word{L}: \forall char *text, integer nested, n; n > 0 && !begins_word(text, nested, n - 1) ==>
+        words_in(text, nested, n) == words_in(text, nested, n - 1);
+    }
+
+    logic integer lists_in{L}(char *text, integer nested, integer n) =
+      n <= 0 ? 0 : lists_in(text, nested, n - 1) + (nested != 0 && text[n - 1] == '[' ? 1 : 0); */
+
+/* How many bytes a number has in a text: its digits, of which there are at most 10, and a sign; and those of some numbers. */
+/*@ logic integer digits_of(integer x) =
+      x < 10 ? 1 : x < 100 ? 2 : x < 1000 ? 3 : x < 10000 ? 4 : x < 100000 ? 5 : x < 1000000 ? 6 : x < 10000000 ? 7 :
+      x < 100000000 ? 8 : x < 1000000000 ? 9 : 10;
+
+    logic integer written_of(integer number) = (number < 0 ? 1 : 0) + digits_of(\abs(number));
+
+    logic integer written_in{L}(int32_t *a, integer n) = n <= 0 ? 0 : written_in(a, n - 1) + written_of(a[n - 1]);
+
+    lemma digits_more: \forall integer x; 10 <= x < 10000000000 ==> digits_of(x) == 1 + digits_of(x / 10);
+    lemma written_at_most: \forall integer x; INT32_MIN <= x <= INT32_MAX ==> 1 <= written_of(x) <= 11; */
+
+/* How many bytes lists have beside those of their elements: brackets, and a space between each two. */
+/*@ logic integer around_of(integer count) = count == 0 ? 2 : count + 1;
+
+    logic integer around_in{L}(int32_t *lengths, integer n) =
+      n <= 0 ? 0 : around_in(lengths, n - 1) + around_of(lengths[n - 1]); */
+
+/* Where the room for a part's text begins, and the one for what a part of a text has of integers. */
+/*@ logic integer text_begins(integer of_bools, integer elements, integer lists, integer part) =
+      elements * (of_bools != 0 ? 2 : 12) + lists * 3 + part * 2;
+
+    logic integer read_begins(integer bytes, integer part) = (bytes + part) / 2; */
+
+/* A text of digits alone, so many, and the number that they say. */
+/*@ predicate is_number{L}(char *text, integer n) = \forall integer k; 0 <= k < n ==> '0' <= text[k] <= '9';
+
+    logic integer number_in{L}(char *text, integer n) = n <= 0 ? 0 : 10 * number_in(text, n - 1) + (text[n - 1] - '0'); */
 
 #endif

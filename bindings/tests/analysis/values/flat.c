@@ -1,0 +1,88 @@
+/* flat.c: calls in parts on whole vectors, and permutes: flat_parts.c, range_parts.c and what they take of cut.c. */
+#include "drivers.h"
+
+static int32_t number;
+static bool flag;
+
+static void add(size_t n) { (void)cvl_int2_on(&pool, CVL_ADD, ints[n], n, others[n], n, room[n], n); }
+static void divide(size_t n) { (void)cvl_int2_on(&pool, CVL_DIV, ints[n], n, others[n], n, room[n], n); }
+static void divide_in_place(size_t n) { (void)cvl_int2_on(&pool, CVL_DIV, room[n], n, others[n], n, room[n], n); }
+static void select_bools(size_t n) { (void)cvl_select_bool_on(&pool, flags[n], n, bools[n], n, flags[n], n, bool_room[n], n); }
+static void replace_int(size_t n) { (void)cvl_replace_int_on(&pool, ints[n], n, (int64_t)n - 1, any_int(), room[n], n); }
+static void replace_bool(size_t n) { (void)cvl_replace_bool_on(&pool, bools[n], n, (int64_t)n - 1, any_true(), bool_room[n], n); }
+static void reduce_ints(size_t n) { (void)cvl_int_reduce_on(&pool, CVL_MIN, ints[n], n, &number); }
+static void reduce_bools(size_t n) { (void)cvl_bool_reduce_on(&pool, CVL_XOR, bools[n], n, &flag); }
+static void scan_ints(size_t n) { (void)cvl_int_scan_on(&pool, CVL_ADD, ints[n], n, room[n], n); }
+static void scan_in_place(size_t n) { (void)cvl_int_scan_on(&pool, CVL_ADD, room[n], n, room[n], n); }
+static void scan_bools(size_t n) { (void)cvl_bool_scan_on(&pool, CVL_IOR, bools[n], n, bool_room[n], n); }
+static void checked_reduce(size_t n) { (void)cvl_checked_reduce_on(&pool, ints[n], n, &number); }
+static void checked_scan(size_t n) { (void)cvl_checked_scan_on(&pool, ints[n], n, room[n], n); }
+static void count_flags(size_t n) { (void)cvl_count_on(&pool, flags[n], n, &number); }
+static void pack_ints(size_t n) { (void)cvl_pack_int_on(&pool, ints[n], n, flags[n], n, room[n], n, &count); }
+static void pack_bools(size_t n) { (void)cvl_pack_bool_on(&pool, bools[n], n, flags[n], n, bool_room[n], n, &count); }
+static void pack_into_less(size_t n) { (void)cvl_pack_int_on(&pool, ints[n], n, flags[n], n, room[n > 0], n > 0, &count); }
+static void permute_ints(size_t n) { (void)cvl_permute_int_on(&pool, ints[n], n, others[n], n, room[n], n); }
+static void permute_bools(size_t n) { (void)cvl_permute_bool_on(&pool, bools[n], n, others[n], n, bool_room[n], n); }
+
+static size_t trues_of(const bool *array, size_t n) {
+    size_t found = 0;
+    for (size_t k = 0; k < n; k++) found += array[k] != 0;
+    return found;
+}
+
+static void select_permute_ints(size_t n) {
+    const size_t m = trues_of(flags[n], n);
+    (void)cvl_select_permute_int_on(&pool, ints[n], n, others[n], n, flags[n], n, room[m], m);
+}
+
+static void select_permute_bools(size_t n) {
+    const size_t m = trues_of(flags[n], n);
+    (void)cvl_select_permute_bool_on(&pool, bools[n], n, others[n], n, flags[n], n, bool_room[m], m);
+}
+
+static void default_permute_ints(size_t n) {
+    (void)cvl_default_permute_int_on(&pool, ints[1], 1, others[1], 1, ints[n], n, room[n], n);
+}
+static void default_permute_bools(size_t n) {
+    (void)cvl_default_permute_bool_on(&pool, flags[1], 1, others[1], 1, bools[n], n, bool_room[n], n);
+}
+
+void places(void) {
+    fill(5, 1);
+    fill_ints(room);
+    each_length(add, 2, 3);
+    each_length(divide, 5, 4);
+    each_length(divide_in_place, 5, 4);
+    each_length(replace_int, 3, 2);
+    each_pattern(select_bools, 3, 2);
+    each_pattern(replace_bool, 4, 3);
+}
+
+void reduces(void) {
+    each_length(reduce_ints, 6, 2);
+    each_pattern(reduce_bools, 6, 2);
+    each_length(scan_ints, 7, 3);
+    each_length(scan_in_place, 7, 3);
+    each_pattern(scan_bools, 8, 4);
+    each_length(checked_reduce, 4, 2);
+    each_length(checked_scan, 7, 4);
+}
+
+void packs(void) {
+    each_pattern(count_flags, 3, 2);
+    each_pattern(pack_ints, 6, 4);
+    each_pattern(pack_bools, 6, 4);
+    each_pattern(pack_into_less, 6, 2);
+    fill(0, 1);
+    each_length(pack_into_less, 0, 0);
+}
+
+void permutes(void) {
+    fill(5, 1);
+    each_length(permute_ints, 5, 3);
+    each_length(default_permute_ints, 5, 3);
+    each_pattern(permute_bools, 6, 4);
+    each_pattern(select_permute_ints, 7, 4);
+    each_pattern(select_permute_bools, 7, 4);
+    each_pattern(default_permute_bools, 6, 4);
+}
