@@ -10,7 +10,7 @@ use cvl_base::{Fault, check_agree};
 use permute_walks::{AllDestinations, Destinations, FlaggedDestinations};
 
 /// The first sender of each place of the room, by both walks.
-fn both_walks<D: Destinations>(destinations: &D, out: &mut [i32]) -> Result<(), Fault>
+fn both_walks<D: Destinations + Copy>(destinations: &D, out: &mut [i32]) -> Result<(), Fault>
     requires in_limit { length (D.destinations destinations.now) ≤ most_places }
     ensures { Overwrites (first_senders_to (D.destinations destinations.now) (length out.old)) result out.old out.new }
 {

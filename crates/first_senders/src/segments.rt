@@ -34,7 +34,7 @@ fn check_segments<D: Destinations>(
 }
 
 /// Writes the first senders of each segment, one segment after another.
-fn write_segments<D: Destinations>(
+fn write_segments<D: Destinations + Copy>(
     destinations: &D,
     d: &SegLengths,
     result_d: &SegLengths,
@@ -58,7 +58,7 @@ fn write_segments<D: Destinations>(
 
 /// The first senders of each segment over a room, by both walks. The faults of lengths that do not agree come first, and that of
 /// the room last.
-fn both_walks<D: Destinations>(
+fn both_walks<D: Destinations + Copy>(
     destinations: &D,
     d: &SegLengths,
     result_d: &SegLengths,

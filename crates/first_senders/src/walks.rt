@@ -42,7 +42,7 @@ pub(crate) fn check_indices<D: Destinations>(
 /// from place `first` on that takes part and names it, counted from that one, or `NONE`. Tells how many of these places name
 /// one of the range.
 #[inline(never)]
-pub fn write_first<D: Destinations>(
+pub fn write_first<D: Destinations + Copy>(
     destinations: &D,
     first: usize,
     count: usize,
@@ -57,13 +57,15 @@ pub fn write_first<D: Destinations>(
     ensures counted { result ≡ count_by (is_between lowest (lowest + length out.old))
         (take count (drop first (D.destinations destinations.now))) }
 {
+    // In a copy of its own the walk keeps its pointers in registers, whatever it writes.
+    let own = *destinations;
     out.fill(NONE);
     let end = lowest + out.len();
     let mut named = 0;
     let mut left = count;
     while left > 0 {
         left -= 1;
-        let (index, takes_part) = destinations.at(first + left);
+        let (index, takes_part) = own.at(first + left);
         if takes_part {
             if let Some(place) = place_among(end, index) {
                 if place >= lowest {

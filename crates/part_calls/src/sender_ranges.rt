@@ -14,7 +14,7 @@ use first_senders::write_first;
 use permute_walks::{AllDestinations, Destinations, FlaggedDestinations};
 
 /// Writes the first senders of one range, and tells how many places that take part name one of it.
-fn write_counted<D: Destinations>(destinations: &D, lowest: usize, out: &mut [i32]) -> usize
+fn write_counted<D: Destinations + Copy>(destinations: &D, lowest: usize, out: &mut [i32]) -> usize
     requires few { length (D.destinations destinations.now) ≤ most_places }
     requires within { lowest + length out.old ≤ most_places }
     ensures written { out.new ≡ first_senders (D.destinations destinations.now) lowest (length out.old) }
