@@ -58,14 +58,14 @@ static void copies(void) {
 }
 
 static void descriptors(void) {
-    CvlSegments segments = CVL_NO_SEGMENTS;
+    CvlSegments segments = CVL_NO_SEGMENTS, made = {length, 2, 1};
     size_t total;
     (void)cvl_segments_total(&segments, &total);
     (void)cvl_segments_new(cut, NULL);
     for (int32_t first = -1; first < 2; first++) {
-        length[0] = first, length[1] = Frama_C_interval(0, INT32_MAX - 1);
+        length[0] = first, length[1] = Frama_C_interval(0, INT32_MAX);
         (void)cvl_segments_new(cut, &segments);
-        (void)cvl_segments_total(&segments, &total);
+        (void)cvl_segments_total(&made, &total);
         (void)cvl_segments_free(&segments);
     }
     (void)cvl_segments_free(NULL);
