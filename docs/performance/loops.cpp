@@ -437,7 +437,7 @@ void recipes() {
         lens.push_back(32 - len);
     }
     const std::string what = std::to_string(ENTRIES) + " entries, " + std::to_string(lens.size()) + " rows, 65536 columns";
-    measure_loop("sparse product", what, [&] {
+    const auto product = [&] {
         const auto y = fresh<int32_t>(lens.size());
         size_t at = 0;
         for (size_t row = 0; row < lens.size(); row++) {
@@ -449,7 +449,9 @@ void recipes() {
             y[row] = int32_t(sum);
         }
         return last(y.get(), lens.size());
-    });
+    };
+    measure_loop("sparse product", what, product);
+    measure_loop("sparse product in one walk", what, product);
 }
 
 int main(int count, char **words) {
