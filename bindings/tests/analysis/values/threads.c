@@ -70,3 +70,10 @@ void threads_of_process(void) {
     children();
     pools();
 }
+
+/* Who sets a number while a call has the threads naps until they are given back: for ever, where there is no other thread. */
+void waiting(void) {
+    (void)cvl_set_threads(3);
+    (void)cvl_take_threads();
+    (void)cvl_set_threads(2);
+}
