@@ -100,11 +100,11 @@ pub(crate) fn write_kept_tiles<T: Copy + Send + Sync, R: Threads + Sync, A: Memo
 }
 
 impl<'a, T: Copy> Share<T> for KeptTiles<'a, T> {
-    ghost use Rattle.std.specs.Prelude.{◌≡◌, ◌+◌, ◌-◌, ◌/◌, length, None};
+    ghost use Rattle.std.specs.Prelude.{◌≡◌, ◌+◌, ◌-◌, length, None};
     ghost use Rattle.cvl_base.specs.Packs.{count_of};
     ghost use Rattle.fresh.specs.Parts.{length_part, part};
     ghost use Rattle.pack_dist.specs.Kept.{ArePlacesOf, count_before, kept_of};
-    ghost use Rattle.sharing.specs.Shares.{share_of_first};
+    ghost use Rattle.sharing.specs.Shares.{first_of_two, share_of_first};
 
     ghost IsOf = { λ s first room. ArePlacesOf s.kept.now.values.now s.kept.now.flags.now s.kept.now.tile s.from s.to
         first room };
@@ -115,9 +115,9 @@ impl<'a, T: Copy> Share<T> for KeptTiles<'a, T> {
 
     ghost parts = { λ s. s.threads };
 
-    ghost IsHalved = { λ s first room places. first + places
+    ghost IsSplit = { λ s first room places. first + places
         ≡ count_before s.kept.now.flags.now s.kept.now.tile
-        (s.from + share_of_first (s.threads / 2) s.threads (s.to - s.from)) };
+        (s.from + share_of_first (first_of_two s.threads) s.threads (s.to - s.from)) };
 
     ghost long = { λ s first room is. length_part (kept_of s.kept.now.values.now s.kept.now.flags.now) first room is.within };
 
@@ -125,9 +125,9 @@ impl<'a, T: Copy> Share<T> for KeptTiles<'a, T> {
         self.threads.get()
     }
 
-    fn halves(self, first: usize, room: usize) -> (KeptTiles<'a, T>, usize, KeptTiles<'a, T>) {
+    fn split(self, first: usize, room: usize) -> (KeptTiles<'a, T>, usize, KeptTiles<'a, T>) {
         let (kept, from, to) = (self.kept, self.from, self.to);
-        let (fewer, others) = self.threads.halves();
+        let (fewer, others) = self.threads.split();
         let middle = from + share_of_first(fewer.get(), self.threads.get(), to - from);
         let places = if middle < to {
             kept.count_before(middle) - first

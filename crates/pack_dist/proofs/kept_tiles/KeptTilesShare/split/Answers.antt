@@ -3,14 +3,14 @@ use Rattle.sharing.specs.Shares.{share_of_first}
 use Rattle.fresh.proofs.Halves.{parts_both}
 use Rattle.pack_dist.specs.Kept.{count_before, kept_of}
 use Rattle.pack_dist.proofs.Tiles.{all_places, back_placed, before_middle, counted_places, front_placed, places_within}
-use Rattle.pack_dist.proofs.kept_tiles.KeptTilesShare.halves.Goals as goal
-use Rattle.pack_dist.proofs.kept_tiles.KeptTilesShare.halves.Goals.{then-middle-to, else-middle-to}
+use Rattle.pack_dist.proofs.kept_tiles.KeptTilesShare.split.Goals as goal
+use Rattle.pack_dist.proofs.kept_tiles.KeptTilesShare.split.Goals.{then-middle-to, else-middle-to}
 
 pub overflow_sub-places : goal.overflow_sub-places
 overflow_sub-places g c = omega (arith, c.count_before.ensures, before_middle c.requires.places (c.args.self.from + c.share_of_first.result) (omega arith))
 
-pub returns-clause-halved : goal.returns-clause-halved
-returns-clause-halved g c =
+pub returns-clause-split : goal.returns-clause-split
+returns-clause-split g c =
     let s = c.args.self in let k = s.kept.now in let middle = s.from + c.share_of_first.result in
     let le : middle ≤ s.to = omega (arith, c.share_of_first.ensures.within, s.in_order) in
     let at : c.args.first + c.if-middle-to.places ≡ count_before k.flags.now k.tile middle =
@@ -20,7 +20,7 @@ returns-clause-halved g c =
     ] in
     at
     ∙ ap (λ places. count_before k.flags.now k.tile (s.from + places))
-    (c.share_of_first.ensures.exact ∙ λ i. share_of_first ((c.get.ensures.value ∙ c.halves.ensures.fewer) i) (c.get-2.ensures.value i) (s.to - s.from))
+    (c.share_of_first.ensures.exact ∙ λ i. share_of_first ((c.get.ensures.value ∙ c.split.ensures.fewer) i) (c.get-2.ensures.value i) (s.to - s.from))
 
 pub returns-clause-within : goal.returns-clause-within
 returns-clause-within g c =
