@@ -163,7 +163,8 @@ OF_FAMILIES = {
     "sparse products": (
         "A sparse matrix comes by its rows: how many entries each row has, and the column and the value of each entry, row after row. Each row is one "
         "walk, so that no vector stands between, as it does where cvl_bck_puz, cvl_mul_wuz and cvl_add_rez are called in turn. Faults by the lengths come "
-        "first, as at the calls on segments.",
+        "first, as at the calls on segments. Of rows that come by their offsets, as those of a matrix of compressed rows do, cvl_segments_from_offsets "
+        "writes the lengths, for any number of products.",
     ),
     "calls in parts": (
         "A caller with threads or machines of its own makes a call in parts, each a range of the vector. Most calls need nothing more than "

@@ -667,7 +667,8 @@ CVL_CHECKED CvlStatus cvl_read_ints_after(size_t before, const char *text, size_
 /*
  * A sparse matrix comes by its rows: how many entries each row has, and the column and the value of each entry, row after row.
  * Each row is one walk, so that no vector stands between, as it does where cvl_bck_puz, cvl_mul_wuz and cvl_add_rez are called
- * in turn. Faults by the lengths come first, as at the calls on segments.
+ * in turn. Faults by the lengths come first, as at the calls on segments. Of rows that come by their offsets, as those of a
+ * matrix of compressed rows do, cvl_segments_from_offsets writes the lengths, for any number of products.
  */
 
 /*
