@@ -5,7 +5,7 @@ ghost use Rattle.c_calls.specs.Calls.{by_segments, in_limit};
 ghost use Rattle.c_calls.specs.Told.{ToldOr, in_room};
 ghost use Rattle.sparse_products.specs.Answers.{checked_rows_product, rows_product};
 
-use c_calls::sparse_products::{checked_product, product};
+use c_calls::products::{checked_product, product};
 use c_calls::status::{CvlStatus, told};
 use std::alloc::Global;
 
