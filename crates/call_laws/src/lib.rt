@@ -13,7 +13,7 @@ pub mod elementwise;
 pub mod extracts;
 pub mod nests;
 pub mod packs;
-pub mod permutes;
+pub mod permuted;
 pub mod permutes_in_parts;
 pub mod scans;
 pub mod segmented;

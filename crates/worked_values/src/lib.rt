@@ -15,7 +15,7 @@ pub mod elementwise;
 pub mod extracts;
 pub mod nests;
 pub mod packs;
-pub mod permutes;
+pub mod permuted;
 pub mod races;
 pub mod reduces;
 pub mod scans;

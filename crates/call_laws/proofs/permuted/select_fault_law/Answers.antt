@@ -2,7 +2,7 @@ use Rattle.call_laws.proofs.Cited.{ℕ, ℤ, Bool, List, length, inl, inr, eqb_t
 use Rattle.call_laws.specs.Permuted.{AreOnceFlagged, AreWithinFlagged, IsGoodBefore}
 use Rattle.call_laws.proofs.FirstBadPlaces.{fault-again, fault-outside}
 use Rattle.call_laws.proofs.Selecting.{flagged-here, here-flagged}
-use Rattle.call_laws.proofs.permutes.select_fault_law.Goals as goal
+use Rattle.call_laws.proofs.permuted.select_fault_law.Goals as goal
 
 flagged_good : (m : ℕ) (index : List ℤ) (flags : List Bool) (k : ℕ) → AreWithinFlagged m index flags k → AreOnceFlagged index flags k → IsGoodBefore m (flagged_destinations index flags) k
 flagged_good m index flags k within once = record {

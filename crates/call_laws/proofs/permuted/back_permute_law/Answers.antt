@@ -1,5 +1,5 @@
 use Rattle.call_laws.proofs.BackPermutes.{back-meaning}
-use Rattle.call_laws.proofs.permutes.back_permute_law.Goals as goal
+use Rattle.call_laws.proofs.permuted.back_permute_law.Goals as goal
 
 pub returns : goal.returns
 returns g c = back-meaning

@@ -3,7 +3,7 @@ use Rattle.call_laws.proofs.Cited.{none-some, same_Some, values_from, element_at
 use Rattle.std.proofs.lemmas.Option.{slice_get_past}
 use Rattle.cvl_base.specs.declared.fault.FaultNo.TheVariants.{IndexOutOfRange}
 use Rattle.call_laws.specs.Permuted.{AreWithin}
-use Rattle.call_laws.proofs.permutes.back_fault_law.Goals as goal
+use Rattle.call_laws.proofs.permuted.back_fault_law.Goals as goal
 
 element-within : {X : Type 0} (source : List X) (i : ℤ) → is_place (length source) i ≡ true → (x : X) × (element_at source i ≡ Some x)
 element-within source (pos d) inside = element source d (ltb-true d (length source) inside)

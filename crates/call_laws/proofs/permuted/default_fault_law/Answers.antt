@@ -1,7 +1,7 @@
 use Rattle.call_laws.proofs.Cited.{length, all_destinations, if_as_long-fits, if_as_long-misfits}
 use Rattle.call_laws.proofs.FirstBadPlaces.{fault-again, fault-outside}
 use Rattle.call_laws.proofs.Sending.{all_good, destination-here}
-use Rattle.call_laws.proofs.permutes.default_fault_law.Goals as goal
+use Rattle.call_laws.proofs.permuted.default_fault_law.Goals as goal
 
 pub returns : goal.returns
 returns g c = record {

@@ -3,7 +3,7 @@ use Rattle.call_laws.specs.Permuted.{IsSimplePermute}
 use Rattle.call_laws.proofs.BackPermutes.{back-meaning}
 use Rattle.call_laws.proofs.Destinations.{each_is_destination}
 use Rattle.call_laws.proofs.Sending.{index-here, sent-from_simple, simple-meaning}
-use Rattle.call_laws.proofs.permutes.simple_permute_law.Goals as goal
+use Rattle.call_laws.proofs.permuted.simple_permute_law.Goals as goal
 
 -- an index in range has an element
 element-sent : {X : Type 0} (source : List X) (index : List ℤ) (result : List X) → IsSimplePermute source index result → (k : ℕ) (i : ℤ) → slice_get index k ≡ Some i
