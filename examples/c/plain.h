@@ -70,7 +70,8 @@ static void hold_indices(int32_t *numbers, bool cut_up, bool by_flags) {
 static void hold(const Row *row, size_t j) {
     const char letter = row->arrays[j];
     const bool takes_part = strchr(row->arrays + j + 1, 'f') == NULL;
-    const size_t count = array_of(letter).count < n ? array_of(letter).count : n;
+    const bool is_text = letter == 't' || letter == 'u'; /* which is as long as its numbers make it */
+    const size_t count = is_text || array_of(letter).count > n ? n : array_of(letter).count;
     for (size_t k = 0; k < count; k++) {
         switch (letter) {
         case 'f': held[j][k] = takes_part ? flag_at(k) : k % 5 < 2; break;
