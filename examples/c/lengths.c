@@ -31,11 +31,11 @@ static size_t last_before(size_t place, char letter) {
     return place;
 }
 
-/* Indices: out of range, or, in the second way, one that stands there already; a back permute and first senders may repeat one. */
+/* Indices: out of range, or, in the second way, one that stands there already; those of back permutes, first senders and products may repeat. */
 static CvlStatus spoil_index(const Row *row, const char *call, const char *array, int way) {
     int32_t *index = ints_at(row, array);
     const size_t last = last_before(n, *array), other = last_before(last, *array);
-    const bool repeats = way == 1 && !begins(call, "bck") && !begins(call, "fst");
+    const bool repeats = way == 1 && !begins(call, "bck") && !begins(call, "fst") && !begins(call, "prd");
     index[last] = repeats ? index[other] : way == 1 ? INT32_MAX : -1;
     return told(repeats ? CVL_INDEX_REPEATED : CVL_INDEX_OUT_OF_RANGE, last);
 }

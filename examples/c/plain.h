@@ -82,6 +82,8 @@ static void hold(const Row *row, size_t j) {
         default: held[j][k] = (int32_t)((k * 7907 + j) % 31 + 1); /* none divides by 0, shifts too far or adds up to too much */
         }
     }
+    /* the values of a matrix, so that no row adds up to too much */
+    for (size_t k = 0; j == 2 && k < count && strstr(row->name, "sparse_product") != NULL; k++) held[j][k] %= 2;
     if (strchr("xyzw", letter) != NULL) hold_indices(held[j], letter == 'y' || letter == 'w', letter == 'z' || letter == 'w');
 }
 
@@ -209,6 +211,18 @@ static size_t reduce(const char *call) {
         }
     }
     return groups(by_segments(call));
+}
+
+/* The product of a sparse matrix, whose rows are the segments, with a vector. */
+static size_t multiply(const char *call) {
+    (void)call;
+    for (size_t s = 0; s < segments; s++) {
+        wanted[s] = 0;
+        for (size_t k = starts[s]; k < starts[s + 1]; k++) {
+            wanted[s] = joined(CVL_ADD, wanted[s], joined(CVL_MUL, held[2][k], held[3][held[1][k]]));
+        }
+    }
+    return segments;
 }
 
 static size_t count_trues(const char *call) {
@@ -339,7 +353,8 @@ static const struct Reading {
     {"sel", "w", chosen}, {"sel", "p", send_flagged}, {"smp", "p", send}, {"def", "p", send}, {"bck", "p", gather}, {"pck", "l", pack},
     {"pck", "f", count_trues}, {"cnt", "l", count_trues}, {"ext", "v", extract}, {"rep", "v", replace}, {"dis", "v", distribute},
     {"ind", "l", number}, {"fst", "l", send_first}, {"fsr", "l", send_first_flagged}, {"mke", "f", total}, {"off", "f", tell_offsets},
-    {"len", "f", tell_lengths}, {"num", "f", tell_numbers}, {"", "w", place_by_place}, {"", "s", scan}, {"", "r", reduce},
+    {"len", "f", tell_lengths}, {"num", "f", tell_numbers}, {"prd", "r", multiply}, {"", "w", place_by_place}, {"", "s", scan},
+    {"", "r", reduce},
 };
 
 static size_t read_plainly(const char *call) {
@@ -365,7 +380,8 @@ static const char *const calls_of_exports[][2] = {
     {"first_senders_range", "fst_luz"}, {"select_first_senders_range", "fsr_luz"}, {"int_scan_after", "add_suz"}, {"bool_scan_after", "xor_sub"},
     {"checked_scan_after", "tot_suz"}, {"exact_sum", "tot_ruz"}, {"read_ints", "cpy_wuz"},
     {"read_ints_after", "cpy_wuz"}, {"write_ints", "cpy_wuz"}, {"write_bools", "cpy_wub"}, {"new", "mke_fov"},
-    {"free", "mke_fov"}, {"from_offsets", "len_fov"}, {"offsets", "off_fov"}, {"numbers", "num_fov"},
+    {"free", "mke_fov"}, {"from_offsets", "len_fov"}, {"offsets", "off_fov"}, {"numbers", "num_fov"}, {"sparse_product", "prd_rez"},
+    {"checked_sparse_product", "prd_rez"},
 };
 
 /* The call that a function makes, into `call`: a call of the table has three letters, a stroke, and three more. */
