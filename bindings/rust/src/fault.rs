@@ -74,6 +74,7 @@ impl Fault {
         Fault {
             number: faults::NEGATIVE_LENGTH,
             place: Some(segment as u64),
+            needed: None,
         }
     }
 
