@@ -344,7 +344,7 @@ class Pages(Tree):
             self.assertEqual(after.count("!["), before.count("!["), f"the pictures of {name}")
 
     def test_what_help_names_is_there(self):
-        told = (TOP / "crates/acceptance/src/programs.rt").read_text()
+        told = (TOP / "crates/test_runs/src/programs.rt").read_text()
         named = re.findall(r"docs/\w+\.md", re.search(r'const HELP: &str = "(.*?)";', told, re.S).group(1))
         self.assertTrue(named)
         for name in named:

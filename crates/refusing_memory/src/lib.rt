@@ -9,7 +9,7 @@
 //!
 //! Proved: the allocator is safe, a block goes back to no other allocator than the one that gave it, in any thread, and a
 //! rule refuses the numbers that it says. That the counts are those of the requests and the frees, also across threads,
-//! and that no block is kept, is tested in `acceptance`: no clause speaks of a number that other threads change.
+//! and that no block is kept, is tested in `test_runs`: no clause speaks of a number that other threads change.
 #![tactic(auto)]
 
 ghost use Rattle.std.specs.Prelude.{◌≡◌};

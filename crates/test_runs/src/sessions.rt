@@ -4,7 +4,7 @@
 use refusing_memory::{Flaw, Refusal, refuse_each};
 use std::test::Fail;
 use std::thread::Threads;
-use tested_runs::sessions::show;
+use test_fixtures::sessions::show;
 
 /// Three values with their texts, a call with a fault, which changes no name, an input that is asked for twice, and two names
 /// at once.

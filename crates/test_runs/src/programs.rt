@@ -4,9 +4,9 @@ use recipes::{LINE_OF_SIGHT, SPARSE_MATVEC};
 use refusing_memory::Refusing;
 use shell::OpenGate;
 use std::test::Fail;
-use tested_runs::hosts::Failing::{Errors, Flush, Nothing, Room, Writes};
-use tested_runs::hosts::{Failing, Files};
-use tested_runs::programs::{REFUSED, Row, ends_as};
+use test_fixtures::hosts::Failing::{Errors, Flush, Nothing, Room, Writes};
+use test_fixtures::hosts::{Failing, Files};
+use test_fixtures::programs::{REFUSED, Row, ends_as};
 
 /// A script that sums up a vector segment by segment. Its lines 4, 6 and 8 write 29, 30 and 17 bytes.
 const SEGMENTS: &str = "l = input 1

@@ -4,7 +4,7 @@
 ghost use Rattle.std.specs.Prelude.{◌≡◌, ◌+◌, ◌≤◌, [], length, map};
 ghost use Rattle.fresh.specs.Parts.{part};
 ghost use Rattle.fresh.specs.Places.{stretch};
-ghost use Rattle.shared_tests.specs.Doubles.{double};
+ghost use Rattle.test_sharing.specs.Doubles.{double};
 
 use crate::counter::Counter;
 use cvl_base::{Config, Memory, NoResources};

@@ -4,7 +4,7 @@ use Rattle.std.proofs.lemmas.List.Elements.{All-map}
 use Rattle.std.proofs.lemmas.List.Sums.{AllPass-from_list_all}
 use Rattle.cvl_base.specs.ItemWords.{is_number}
 use Rattle.cvl_base.specs.SegmentMonoid.{is_seg_item}
-use Rattle.shared_tests.proofs.tiles.CountedTilesTiles.count.Goals as goal
+use Rattle.test_sharing.proofs.tiles.CountedTilesTiles.count.Goals as goal
 
 pub returns-clause-items : goal.returns-clause-items
 returns-clause-items c = All-map (λ (s : Bool × ℤ). is_seg_item is_number s ≡ true) (λ (x : ℤ). (false, x)) c.args.self.now.numbers.now

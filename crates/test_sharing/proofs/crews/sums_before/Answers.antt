@@ -1,8 +1,8 @@
 use Rattle.std.proofs.Common.{◌≡◌, ◌<◌, ◌≤◌, refl, sym, ap, ◌∙◌, length, arith}
 use Rattle.std.proofs.lemmas.List.{length-replicate}
 use Rattle.boards.specs.Boards.{new_seat}
-use Rattle.shared_tests.proofs.Crewed.{all_given, some_done}
-use Rattle.shared_tests.proofs.crews.sums_before.Goals as goal
+use Rattle.test_sharing.proofs.Crewed.{all_given, some_done}
+use Rattle.test_sharing.proofs.crews.sums_before.Goals as goal
 
 pub gather-requires-after_bounds : goal.gather-requires-after_bounds
 gather-requires-after_bounds g c κs within =

@@ -4,7 +4,7 @@ use cvl_base::NoResources;
 use std::alloc::Global;
 use std::test::Fail;
 use std::thread::Threads;
-use tested_runs::scripts::{ONE, SCAN, Script, TWO, comes_out};
+use test_fixtures::scripts::{ONE, SCAN, Script, TWO, comes_out};
 use watching_gate::{Holds, Race};
 
 /// The first lines of each script. Its first input is how many elements there are and the last place, and its second one the

@@ -11,11 +11,11 @@ mod allocator;
 #[cfg(test)]
 mod files;
 #[cfg(test)]
+mod held_workers;
+#[cfg(test)]
 mod memory_of_calls;
 #[cfg(test)]
 mod programs;
-#[cfg(test)]
-mod racing;
 #[cfg(test)]
 mod requests;
 #[cfg(test)]

@@ -6,7 +6,7 @@ use cvl_base::NoResources;
 use std::alloc::Global;
 use std::test::Fail;
 use std::thread::Threads;
-use tested_runs::scripts::{ONE, Run, SCAN, Script, TWO, comes_out};
+use test_fixtures::scripts::{ONE, Run, SCAN, Script, TWO, comes_out};
 use watching_gate::{Holds, Race};
 
 const INPUTS: &[&str] = &[

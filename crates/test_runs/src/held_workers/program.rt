@@ -3,9 +3,9 @@
 use crew::Point;
 use refusing_memory::Refusing;
 use std::test::Fail;
-use tested_runs::hosts::Failing::Nothing;
-use tested_runs::hosts::Files;
-use tested_runs::programs::ends_as;
+use test_fixtures::hosts::Failing::Nothing;
+use test_fixtures::hosts::Files;
+use test_fixtures::programs::ends_as;
 use watching_gate::{Holds, Race, Watch};
 
 const FILES: Files = &[

@@ -6,11 +6,11 @@ use refusing_memory::{Flaw, withstands_refusals};
 use shell::{MemSink, OpenGate, Sink};
 use std::test::Fail;
 use std::thread::Threads;
-use tested_runs::hosts::Failing::Nothing;
-use tested_runs::hosts::{Files, text_of};
-use tested_runs::kept_texts::{LONG_TEXT, appends};
-use tested_runs::other_calls::{Call, answer_of};
-use tested_runs::programs::{Row, ends_as};
+use test_fixtures::hosts::Failing::Nothing;
+use test_fixtures::hosts::{Files, text_of};
+use test_fixtures::kept_texts::{LONG_TEXT, appends};
+use test_fixtures::other_calls::{Call, answer_of};
+use test_fixtures::programs::{Row, ends_as};
 
 /// What is made.
 #[derive(Drop)]

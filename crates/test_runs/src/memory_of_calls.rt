@@ -6,8 +6,8 @@ use shell::MemSink;
 use std::alloc::Global;
 use std::test::Fail;
 use std::thread::Threads;
-use tested_runs::hosts::text_of;
-use tested_runs::memory_of_calls::{asked_by, session_before};
+use test_fixtures::hosts::text_of;
+use test_fixtures::memory_of_calls::{asked_by, session_before};
 
 /// Calls, and the requests and the bytes that each of them asks for: by one worker in one tile, and by four in tiles of 100
 /// elements.
