@@ -1,19 +1,12 @@
-#!/usr/bin/env python3
-"""Holds pages against the source where a shell would be long-winded; .ci/check-pages runs it. Each difference is told with its
-file; the status is then 1.
+"""Pages against the source of the crates: definitions, and which crate stands on which; and how long lines are."""
 
-    definitions   docs/definitions.md names each public definition of the crates' specs, and none that is not there
-    drawing       docs/architecture.md draws each crate above those that it stands on, in the groups of crates.txt
-    bases         its tables say on which crates each one stands, as crates.txt does
-    columns       no line of specs, proofs, code or comments is too long
-"""
-
-import pathlib
 import re
-import sys
 
-ROOT = pathlib.Path(__file__).resolve().parent.parent
-CRATES = ROOT / "crates"
+from pages.texts import TOP, lines_of, text_of
+
+CRATES = TOP / "crates"
+
+DEFINITIONS, ARCHITECTURE, LIST = "docs/definitions.md", "docs/architecture.md", "crates.txt"
 
 # what these define serves an example and a test
 UNNAMED_CRATES = {"embedding", "test_sharing"}
@@ -59,13 +52,13 @@ def named(page):
 
 def check_definitions():
     """A file's row may leave its folder out. What the page has of Rust's code is not looked for."""
-    page = named((ROOT / "docs/definitions.md").read_text())
+    page = named(text_of(DEFINITIONS))
     for file, name in sorted(defined(public=True)):
         if file.split("/")[0] not in UNNAMED_CRATES and not {(file, name), (file.split("/")[-1], name)} & page:
-            yield f"docs/definitions.md does not name {name} of crates/{file}"
+            yield f"{DEFINITIONS} does not name {name} of crates/{file}"
     for file, name in sorted(page - defined(public=False)):
         if "/specs/" in file:
-            yield f"docs/definitions.md names {name}, which crates/{file} does not define"
+            yield f"{DEFINITIONS} names {name}, which crates/{file} does not define"
 
 
 def crates_of(text):
@@ -94,20 +87,20 @@ def drawn_in(page):
 
 def check_drawing():
     """The crates of the page's first table are drawn; none of these rests on those of its second."""
-    page = (ROOT / "docs/architecture.md").read_text()
-    groups, drawn, below = crates_of((ROOT / "crates.txt").read_text()), drawn_in(page), set()
+    page = text_of(ARCHITECTURE)
+    groups, drawn, below = crates_of(text_of(LIST)), drawn_in(page), set()
     needs = {crate: named for group in groups for crate, named in group.items()}
     for line in (line for group in drawn for line in group):
         for crate in line:
             for missing in sorted(needs.get(crate, set()) & set(needs) - below):
-                yield f"docs/architecture.md draws {crate} not above {missing}, on which it stands"
+                yield f"{ARCHITECTURE} draws {crate} not above {missing}, on which it stands"
         below |= set(line)
     for crate in sorted(below ^ set(told_in(page.split("| Crate |")[1]))):
-        yield f"docs/architecture.md has {crate} in one alone of its drawing and the table below it"
+        yield f"{ARCHITECTURE} has {crate} in one alone of its drawing and the table below it"
     for have, want in zip(drawn, groups):
         crates = {crate for line in have for crate in line}
         if crates != set(want):
-            yield f"docs/architecture.md draws the group {' '.join(sorted(crates))}, and crates.txt has {' '.join(sorted(want))}"
+            yield f"{ARCHITECTURE} draws the group {' '.join(sorted(crates))}, and {LIST} has {' '.join(sorted(want))}"
             break
 
 
@@ -118,11 +111,11 @@ def told_in(page):
 
 
 def check_bases():
-    told = told_in((ROOT / "docs/architecture.md").read_text())
-    needs = {crate: named for group in crates_of((ROOT / "crates.txt").read_text()) for crate, named in group.items()}
+    told = told_in(text_of(ARCHITECTURE))
+    needs = {crate: named for group in crates_of(text_of(LIST)) for crate, named in group.items()}
     for crate in sorted(set(needs) | set(told)):
         if told.get(crate) != needs.get(crate):
-            yield f"docs/architecture.md says otherwise than crates.txt on what {crate} stands"
+            yield f"{ARCHITECTURE} says otherwise than {LIST} on what {crate} stands"
 
 
 def check_columns():
@@ -131,15 +124,4 @@ def check_columns():
         for path in sorted(CRATES.glob("*/" + files)):
             for number, line in enumerate(path.read_text().splitlines(), 1):
                 if len(line) > most and not line.lstrip().startswith("#["):
-                    yield f"{path.relative_to(ROOT)}:{number} has {len(line)} columns, more than {most}"
-
-
-def main():
-    told = [*check_definitions(), *check_drawing(), *check_bases(), *check_columns()]
-    for line in told:
-        print(line)
-    return 1 if told else 0
-
-
-if __name__ == "__main__":
-    sys.exit(main())
+                    yield f"{path.relative_to(TOP)}:{number} has {len(line)} columns, more than {most}"

@@ -1,0 +1,137 @@
+"""What pages show against the cases and the files that it comes of: scripts with their texts and stops, runs of the program, and code."""
+
+import re
+
+from pages.texts import CASES, TOP, blocks_of, held, indented_behind, lines_of, text_of
+
+# pages whose examples are the cases of a file
+PAGES_OF_CASES = {"calls": "reference", "segments": "segments", "mistakes": "mistakes"}
+
+PAGES_WITH_RUNS = ("README.md", "docs/examples.md")
+
+PAGES_WITH_CODE = ("docs/embedding.md", "docs/look-back.md", "docs/segments.md")
+
+EMBEDDING = "crates/embedding"
+
+
+def cases_of(file):
+    """The cases of a file without their inputs and tiles, in a form that pages are brought to as well: a line for each part, then
+    what it holds."""
+    shown, inside = [], False
+    for line in lines_of(file):
+        words = line.split()
+        if line.startswith(("== tile", "== input")):
+            inside = False
+        elif line.startswith("== case "):
+            shown.append(line)
+            inside = False
+        elif line.startswith(("== script", "== text", "== stop")):
+            shown.append(f"== {words[1]}")
+            inside = True
+        elif inside:
+            shown.append(line)
+    return shown
+
+
+def examples_of(page):
+    """The examples of a page: under each heading the first block of no other language is a script, and those below `writes` and `stops
+    with` are its text and its stop."""
+    blocks = {number: (language, block) for language, number, block in blocks_of(page)}
+    inside = {number + k for number, (_, block) in blocks.items() for k in range(1, len(block) + 1)}
+    shown, in_case, part = [], False, ""
+    for number, line in enumerate(page):
+        if number in inside:
+            continue
+        if line.startswith("## "):
+            in_case = False
+        elif line.startswith("### "):
+            shown.append(f"== case {line}")
+            in_case, part = True, "script"
+        elif line in ("writes", "stops with"):
+            part = "text" if line == "writes" else "stop"
+        elif number in blocks and blocks[number][0] == "" and in_case and part:
+            shown += [f"== {part}", *blocks[number][1]]
+            part = ""
+    return shown
+
+
+def check_examples():
+    """The examples of docs/calls.md, docs/segments.md and docs/mistakes.md are the cases of their files."""
+    for name, cases in PAGES_OF_CASES.items():
+        page, file = f"docs/{name}.md", f"{CASES}/{cases}.cases"
+        wanted = [line.replace("== case ", "== case ### ", 1) if line.startswith("== case ") else line for line in cases_of(file)]
+        yield from held(page, file, examples_of(lines_of(page)), wanted)
+
+
+def runs_of(page):
+    """Each run of a page: the words of its line `./cvl ..`, what the page says that it prints, and the block before it, if one is."""
+    command, waits, printed, block = "", "", [], []
+    blocks = {number + 1: (len(lines), lines) for _, number, lines in blocks_of(page)}
+    skipped = 0
+    for number, line in enumerate([*page, ""]):
+        if number in blocks:
+            skipped, block = blocks[number]
+        if skipped:
+            skipped -= 1
+        elif line.startswith("    ./cvl "):
+            command, waits, printed = line.removeprefix("    ./cvl "), "prints", []
+        elif waits and re.fullmatch(r" *(and )?prints", line):
+            waits = "text"
+        elif waits == "text" and line.startswith("    "):
+            printed.append(line[4:])
+        elif waits == "text" and printed:
+            yield command.split(), printed, block
+            waits, block = "", []
+
+
+def text_of_run(words):
+    """The text of the first case of these files of the examples: a script and its inputs."""
+    for case in text_of(f"{CASES}/examples.cases").split("\n== case ")[1:]:
+        parts = [part.split("\n") for part in case.split("\n== ")[1:]]
+        named = {"script": [], "input": []}
+        for head, *_ in parts:
+            word, _, file = head.partition(" ")
+            if file.startswith("examples/"):
+                named[word].append(file.removeprefix("examples/"))
+        if named["script"] + named["input"] == words:
+            return next(([line for line in lines if line] for head, *lines in parts if head == "text"), [])
+    return []
+
+
+def check_runs():
+    """What a page says that a run prints is the text of the case of that script and those inputs, and the block before it stands in the
+    script's file."""
+    for page in PAGES_WITH_RUNS:
+        for words, printed, block in runs_of(lines_of(page)):
+            run, script = f"{page}: ./cvl {' '.join(words)}", f"{CASES}/examples/{words[0]}"
+            yield from held(run, f"{CASES}/examples.cases", printed, text_of_run(words))
+            yield from stands_in(run, script, block)
+
+
+def stands_in(page, file, block):
+    """The block, where it does not stand in the file."""
+    if not (TOP / file).is_file() or "".join(f"{line}\n" for line in block) not in text_of(file):
+        yield f"{page}: {file} does not have"
+        yield from (f"    {line}" for line in block)
+
+
+def check_code():
+    """Each block of code below a line that names a file stands in that file."""
+    for path in PAGES_WITH_CODE:
+        page = lines_of(path)
+        named, last = "", 0
+        for _, number, block in blocks_of(page):
+            for line in page[last:number]:
+                file = re.fullmatch(r"`((?:crates|examples)/.*)`", line)
+                named = file[1] if file else named
+            if named:
+                yield from stands_in(path, named, block)
+            named, last = "", number + len(block) + 2
+
+
+def check_embedding():
+    """What docs/embedding.md says that its program prints, and the line of crates.txt, are the crate's."""
+    page = lines_of("docs/embedding.md")
+    yield from held("docs/embedding.md", f"{EMBEDDING}/stdout", indented_behind(page, "## What it prints"), lines_of(f"{EMBEDDING}/stdout"))
+    shown, wanted = ([line.strip() for line in lines if line.strip().startswith("embedding: ")] for lines in (page, lines_of("crates.txt")))
+    yield from held("docs/embedding.md", "crates.txt", shown, wanted)

@@ -1,0 +1,49 @@
+"""The paths, the pages and the links that pages name."""
+
+import re
+
+from pages.texts import TOP, lines_of, outside_blocks
+
+
+def pages():
+    """All pages, by their paths."""
+    return sorted(str(path.relative_to(TOP)) for files in ("*.md", "docs/*.md", "crates/*/README.md") for path in TOP.glob(files))
+
+
+def anchors_of(page):
+    """What a link names of each heading of a page."""
+    headings = (re.match(r"#{1,6} (.*)", line) for line in page)
+    return {"#" + re.sub(r"[^a-z0-9 _-]", "", heading[1].lower()).replace(" ", "-") for heading in headings if heading}
+
+
+def check_paths():
+    """A path below crates, docs, examples or .ci that a page names is there, or was built."""
+    for page in pages():
+        for number, line in outside_blocks(lines_of(page)):
+            for path in re.findall(r"`((?:crates|docs|examples|\.ci)/[A-Za-z0-9_./-]+)`", line):
+                if "/out/" not in path and not (TOP / path).exists():
+                    yield f"{page}:{number} {path} is not there"
+
+
+def check_links():
+    """A link leads to a file, or to a heading of its page or of another one."""
+    for page in pages():
+        folder, own = (TOP / page).parent, anchors_of(lines_of(page))
+        for number, line in outside_blocks(lines_of(page)):
+            for link in re.findall(r"\]\(([^)]+)\)", line):
+                path, _, heading = link.partition("#")
+                if link.startswith("http"):
+                    continue
+                if path and not (folder / path).exists():
+                    yield f"{page}:{number} {link} is not there"
+                elif heading and f"#{heading}" not in (anchors_of((folder / path).read_text().splitlines()) if path else own):
+                    yield f"{page}:{number} no heading {link}"
+
+
+def check_named_pages():
+    """A page that another names in a word of code is there."""
+    for page in pages():
+        for number, line in outside_blocks(lines_of(page)):
+            for name in re.findall(r"`([a-z-]+\.md)`", line):
+                if not any((folder / name).exists() for folder in ((TOP / page).parent, TOP / "docs", TOP)):
+                    yield f"{page}:{number} {name} is not there"
