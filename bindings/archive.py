@@ -1,29 +1,11 @@
-#!/usr/bin/env python3
-"""Builds the library for C, and prints where it is.
-
-    archive.py                  the archive of the crate cvl_c alone, whose exports are proved
-    archive.py FOLDER           FOLDER/libcvl.a, the whole library: the exports, the C over them, and the parts in C of the kit
-    archive.py --shared FOLDER  that, and the same as a shared object, FOLDER/libcvl.so.1, with its version's file and its link
-    archive.py --proved FOLDER  FOLDER/libcvl_proved.a, the exports and the parts of the kit, for another build of the C
-
-In the library an export has a name of its own, as cvl_proved_int2 for cvl_int2, which no other object sees. CC, OBJCOPY, LD,
-NM and AR name other programs than cc, objcopy, ld, nm and ar, and may have options; CPPFLAGS, CFLAGS and LDFLAGS are taken as
-other builds take them; CVL_ARCHIVE names a built archive of the crate.
-
-Where `rt ci` has proved all crates that it stands on here, and nothing was changed after that, it is built over the libraries
-that `rt ci` left; else by `rt lib`, which proves them first. `rt ci` keeps what it proved for itself, so the kit's compiler is
-called here in the first case: it proves the exports once more, over libraries that are proved.
-"""
+"""The library for C, as an archive and as a shared object: the exports, the C over them, and the parts in C of the kit. In the library an
+export has a name of its own, as cvl_proved_int2 for cvl_int2, which no other object sees."""
 
 import os
 import pathlib
 import shlex
 import subprocess
-import sys
 import tempfile
-
-sys.dont_write_bytecode = True
-sys.path.insert(0, str(pathlib.Path(__file__).resolve().parent))
 
 import proved
 import table
@@ -150,21 +132,3 @@ def proved_alone(folder, archive):
         work = pathlib.Path(work)
         exports, names = renamed(work, archive)
         return joined(work, folder / "libcvl_proved.a", [exports], names)
-
-
-def main(words):
-    archive = pathlib.Path(os.environ.get("CVL_ARCHIVE") or proved.Crates().build_archive())
-    if not words:
-        print(archive)
-    elif len(words) == 1 and not words[0].startswith("-"):
-        print(library(pathlib.Path(words[0]), archive))
-    elif len(words) == 2 and words[0] == "--shared":
-        print(shared(library(pathlib.Path(words[1]), archive)))
-    elif len(words) == 2 and words[0] == "--proved":
-        print(proved_alone(pathlib.Path(words[1]), archive))
-    else:
-        sys.exit(__doc__)
-
-
-if __name__ == "__main__":
-    main(sys.argv[1:])

@@ -7,7 +7,7 @@ from pages.texts import TOP, lines_of, outside_blocks
 
 def pages():
     """All pages, by their paths."""
-    return sorted(str(path.relative_to(TOP)) for files in ("*.md", "docs/*.md", "crates/*/README.md") for path in TOP.glob(files))
+    return sorted(str(path.relative_to(TOP)) for files in ("*.md", "docs/*.md", "bindings/*.md") for path in TOP.glob(files))
 
 
 def anchors_of(page):

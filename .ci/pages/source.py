@@ -1,5 +1,6 @@
 """Pages against the source of the crates: definitions, and which crate stands on which; and how long lines are."""
 
+import os
 import re
 
 from pages.texts import TOP, lines_of, text_of
@@ -10,6 +11,9 @@ DEFINITIONS, ARCHITECTURE, LIST = "docs/definitions.md", "docs/architecture.md",
 
 # what these define serves an example and a test
 UNNAMED_CRATES = {"embedding", "test_sharing"}
+
+# where programs stand
+WITH_PROGRAMS = ("*", ".ci/**/*", "bindings/**/*", "crates/*/*", "docs/**/*", "examples/**/*")
 
 MOST_COLUMNS = {"specs/**/*.antt": 140, "proofs/**/*.antt": 200, "src/**/*.rt": 130}
 
@@ -116,6 +120,16 @@ def check_bases():
     for crate in sorted(set(needs) | set(told)):
         if told.get(crate) != needs.get(crate):
             yield f"{ARCHITECTURE} says otherwise than {LIST} on what {crate} stands"
+
+
+def check_programs():
+    """A program in Python has no ending, a line that says what runs it, and may be run; a module has the ending."""
+    for path in sorted(path for files in WITH_PROGRAMS for path in TOP.glob(files) if path.is_file()):
+        with open(path, "rb") as file:
+            is_program = file.readline() == b"#!/usr/bin/env python3\n"
+        may_run = os.access(path, os.X_OK)
+        if is_program and (path.suffix or not may_run) or path.suffix == ".py" and may_run:
+            yield f"{path.relative_to(TOP)} is a program with an ending, or one that cannot be run, or a module that can"
 
 
 def check_columns():

@@ -1,4 +1,4 @@
-"""The package for Python: which folder a Python looks into below a prefix, and the package's files, as `bindings/python/package.py`
+"""The package for Python: which folder a Python looks into below a prefix, and the package's files, as `bindings/python/package`
 builds them for that Python."""
 
 import pathlib
@@ -7,7 +7,7 @@ import subprocess
 
 import proved
 
-BUILDS = proved.TOP / "bindings/python/package.py"
+BUILDS = proved.TOP / "bindings/python/package"
 
 
 def folder(tells, prefix):

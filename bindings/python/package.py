@@ -1,15 +1,8 @@
-#!/usr/bin/env python3
-"""Builds the package `cvl` for the Python that runs this, with the library inside its compiled module.
+"""The package `cvl` for the Python that runs this, with the library inside its compiled module: below a folder, as a wheel, and for pip,
+which builds with the functions at the end.
 
-    package.py FOLDER          puts the package and its .dist-info into FOLDER
-    package.py --wheel FOLDER  makes a wheel there
-    package.py --check         tells what is missing for that, with the status 1
-
-    --library=FILE  takes the archive libcvl.a that is there; else `bindings/archive.py` makes one
-
-It needs a C compiler, which CC names, the headers of Python and of numpy, and nothing else. pip builds with the functions at the
-end, for which nothing has to be fetched where numpy is installed. The compiler and the linker are given the words of CFLAGS and
-LDFLAGS.
+It needs a C compiler, which CC names, the headers of Python and of numpy, and nothing else, so that nothing has to be fetched where
+numpy is installed. The compiler and the linker are given the words of CFLAGS and LDFLAGS.
 """
 
 import base64
@@ -92,7 +85,7 @@ def check():
 
 def library(work):
     """The archive of the library."""
-    return run(sys.executable, TOP / "bindings/archive.py", work).strip().split("\n")[-1]
+    return run(sys.executable, TOP / "bindings/archive", work).strip().split("\n")[-1]
 
 
 def compiled(work, archive):
@@ -221,23 +214,3 @@ def get_requires_for_build_wheel(config_settings=None):
 
 def build_sdist(sdist_directory, config_settings=None):
     raise NotImplementedError("the library is built in a checkout; make a wheel there, by `pip wheel ./bindings/python`")
-
-
-def main(words):
-    archives = [word.partition("=")[2] for word in words if word.startswith("--library=")]
-    rest = [word for word in words if not word.startswith("--library=")]
-    try:
-        if rest == ["--check"]:
-            check()
-        elif len(rest) == 2 and rest[0] == "--wheel":
-            print(wheel(rest[1], *archives))
-        elif len(rest) == 1 and not rest[0].startswith("-"):
-            print(*put(rest[0], *archives), sep="\n")
-        else:
-            sys.exit(__doc__)
-    except Missing as missing:
-        sys.exit(f"package.py: {missing}")
-
-
-if __name__ == "__main__":
-    main(sys.argv[1:])

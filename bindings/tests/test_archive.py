@@ -1,9 +1,5 @@
-#!/usr/bin/env python3
 """When the archive is built again, where things are built, and which words compile and link it: on trees of files that are
-made for it, without the kit, in a second.
-
-    test_archive.py
-"""
+made for it, without the kit, in a second."""
 
 import os
 import pathlib
@@ -181,7 +177,3 @@ class Words(unittest.TestCase):
     def test_a_program_that_is_not_there_is_told(self):
         with self.assertRaisesRegex(SystemExit, "no-such-program cannot be run"):
             archive.run("no-such-program")
-
-
-if __name__ == "__main__":
-    unittest.main()

@@ -1,9 +1,5 @@
-#!/usr/bin/env python3
 """Whether the rows of `bindings/table.py` are held against the proved table of calls and against the exports: words of these are changed,
-one in each call or export at once, and each change has to be told. A second, without the kit.
-
-    test_generate.py
-"""
+one in each call or export at once, and each change has to be told. A second, without the kit."""
 
 import pathlib
 import sys
@@ -129,7 +125,3 @@ class Versions(unittest.TestCase):
     def test_another_first_number_begins_anew(self):
         found, told, _ = self.after(("1.0.0", "cvl_a cvl_b"), ("1.1.0", "cvl_a cvl_b cvl_c"), ("2.0.0", "cvl_a cvl_d"))
         self.assertEqual((found, told), ({"CVL_2.0": "cvl_a cvl_d"}, []))
-
-
-if __name__ == "__main__":
-    unittest.main()

@@ -1,9 +1,5 @@
-#!/usr/bin/env python3
 """What the command install looks at before the first proof, and what it puts, lists and removes, on trees of files that are
-made for it; and what the installed pages name. Without the kit, in some seconds.
-
-    test_install.py
-"""
+made for it; and what the installed pages name. Without the kit, in some seconds."""
 
 import importlib.machinery
 import importlib.util
@@ -349,7 +345,3 @@ class Pages(Tree):
         self.assertTrue(named)
         for name in named:
             self.assertIn(f"{pages.DOC}/{name}", self.files)
-
-
-if __name__ == "__main__":
-    unittest.main()

@@ -48,11 +48,11 @@ class Package(unittest.TestCase):
         self.assertNotEqual(subprocess.run([python, "-c", "import cvl"], capture_output=True, env=self.place).returncode, 0)
 
     def test_a_wheel_is_installed_elsewhere(self):
-        run(sys.executable, HERE.parent / "package.py", "--wheel", self.work, env=self.place)
+        run(sys.executable, HERE.parent / "package", "--wheel", self.work, env=self.place)
         (wheel,) = self.work.glob("*.whl")
         again = self.work / "again"
         again.mkdir()
-        run(sys.executable, HERE.parent / "package.py", "--wheel", again, env=self.place)
+        run(sys.executable, HERE.parent / "package", "--wheel", again, env=self.place)
         self.assertEqual((again / wheel.name).read_bytes(), wheel.read_bytes())
         self.look_at(wheel)
         python = self.environment("takes")
