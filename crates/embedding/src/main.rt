@@ -5,9 +5,9 @@ mod gates;
 mod kernels;
 mod memory;
 mod own_threads;
+mod parts;
 mod sessions;
 
-use calls_in_parts::cut_all;
 use cvl_base::Config;
 use std::io;
 use std::str::from_utf8;
@@ -32,5 +32,9 @@ fn main(rt: HostRuntime) -> io::Result<()> {
         println!(rt; "first of each sign: {first:?}")?;
     }
     println!(rt; "refused: {}", memory::is_refused(&rt, alloc, config))?;
-    cut_all(&mut rt.stdout(), alloc)
+    println!(rt;
+        "scan in parts: {:?}",
+        parts::scan_in_parts(alloc, &[3, 1, 7], &[0, 4])
+    )?;
+    Ok(())
 }
