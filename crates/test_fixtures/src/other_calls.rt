@@ -66,13 +66,14 @@ fn product<R: Threads + Sync, A: Memory>(
     sparse_matvec(rt, heap, config, lens, cols, vals, x)
 }
 
-/// Which places of a line of altitudes are visible, as numbers.
+/// Which places of a line of altitudes are visible, as numbers. The last of them is steeper by a third than the one before, which
+/// slopes that are cut short do not show.
 fn sight<R: Threads + Sync, A: Memory>(
     rt: &R,
     heap: A,
     config: Config,
 ) -> Result<Vec<i32, A>, Refused> {
-    let visible = line_of_sight(rt, heap, config, vec![in heap; 0, 1, 1, 6, 2]?)?;
+    let visible = line_of_sight(rt, heap, config, vec![in heap; 0, 2, 1, 7, 2]?)?;
     Ok(int_from_bool(rt, heap, config, &visible)?)
 }
 
