@@ -2,10 +2,10 @@
 
 ghost use Rattle.std.specs.Prelude.{◌≡◌, IfOk, length, vec_len};
 
-use crate::runs::written_in_runs;
 use crate::shared::rayon_threads;
 use cvl_base::{Memory, NoResources};
 use element_walks::Copied;
+use fresh::write_in_runs_by_rayon;
 use std::mem::size_of_val;
 use std::thread::Threads;
 
@@ -22,5 +22,6 @@ pub(crate) fn copied<X: Copy + Send + Sync, R: Threads + Sync, A: Memory>(
     if threads < 2 {
         return Ok(Vec::from_slice(alloc, a)?);
     }
-    written_in_runs(rt, alloc, &Copied { elements: a }, a.len(), threads)
+    let writer = Copied { elements: a };
+    Ok(write_in_runs_by_rayon(rt, alloc, threads, &writer, a.len())?)
 }

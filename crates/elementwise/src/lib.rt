@@ -16,7 +16,6 @@ mod looks;
 mod over;
 mod partials;
 mod races;
-mod runs;
 mod shared;
 mod sides;
 mod singles;

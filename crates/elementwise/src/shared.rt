@@ -2,9 +2,8 @@
 
 ghost use Rattle.std.specs.Prelude.{◌≡◌, ◌≤◌, IfOk, length, vec_len};
 
-use crate::runs::written_in_runs;
 use cvl_base::{Memory, NoResources};
-use fresh::{Writer, write_alone};
+use fresh::{Writer, write_in_runs_by_rayon};
 use rayon::current_num_threads;
 use sharing::{LEAST_SHARED, threads_among};
 use std::thread::Threads;
@@ -25,10 +24,7 @@ pub(crate) fn written_by_rayon<T: Send + Drop, R: Threads + Sync, A: Memory, W: 
     ensures as_long { IfOk result (λ v. vec_len v ≡ items) }
 {
     let threads = rayon_threads(rt, read);
-    if threads < 2 {
-        return Ok(write_alone(alloc, writer, items)?);
-    }
-    written_in_runs(rt, alloc, writer, items, threads)
+    Ok(write_in_runs_by_rayon(rt, alloc, threads, writer, items)?)
 }
 
 /// How many threads of `rayon` share a call that reads so many bytes: as many as there are processors at most, since such a call

@@ -7,8 +7,9 @@ ghost use Rattle.fresh.specs.Parts.{part};
 
 use crate::room::Room;
 use crate::run::Run;
-use crate::shares::{Share, extend_in_parts, write_in_parts};
-use sharing::{ThreadCount, share_of_first};
+use crate::shares::{Share, extend_in_parts, write_in_parts, write_whole};
+use crate::starts::Starts;
+use sharing::{ThreadCount, first_of_two, share_of_first};
 use std::alloc::{AllocError, Allocator};
 use std::thread::Threads;
 
@@ -83,7 +84,7 @@ impl<'a, T, W: Writer<T>> CheckedWriter<T> for Unchecked<'a, W> {
 #[derive(Drop)]
 struct Places<'a, W> {
     writer: &'a W,
-    threads: ThreadCount,
+    threads: usize,
 }
 
 impl<'a, T, W: CheckedWriter<T>> Share<T> for Places<'a, W> {
@@ -105,21 +106,21 @@ impl<'a, T, W: CheckedWriter<T>> Share<T> for Places<'a, W> {
     ghost long = { λ s first room within. length_part (W.whole s.writer.now) first room within };
 
     fn count(&self) -> usize {
-        self.threads.get()
+        self.threads
     }
 
     #[tactic(auto, using(crate::proofs::Halves::parts_both, crate::proofs::FirstWithout::found_in_both))]
     fn split(self, first: usize, room: usize) -> (Places<'a, W>, usize, Places<'a, W>) {
         let Places { writer, threads } = self;
-        let (fewer, others) = threads.split();
-        let middle = writer.share(first, room, fewer.get(), threads.get());
+        let few = first_of_two(threads);
+        let middle = writer.share(first, room, few, threads);
         let low = Places {
             writer,
-            threads: fewer,
+            threads: few,
         };
         let high = Places {
             writer,
-            threads: others,
+            threads: threads - few,
         };
         (low, middle, high)
     }
@@ -155,7 +156,7 @@ pub fn write_checked_in_runs<
 {
     let places = Places {
         writer,
-        threads: threads.at_most(items),
+        threads: threads.at_most(items).get(),
     };
     write_in_parts(rt, alloc, threads, places, items)
 }
@@ -175,15 +176,46 @@ pub fn write_in_runs<T: Send + Drop, R: Threads + Sync, A: Allocator, W: Writer<
     requires { items ≡ length (W.whole writer.now) }
     ensures { IfOk result (λ v. v.items ≡ W.whole writer.now) }
 {
-    if threads.get() < 2 {
+    let threads = threads.at_most(items).get();
+    write_runs(rt, alloc, Starts::ByStd, threads, writer, items)
+}
+
+/// The same by so many threads, all of which but the one that calls `rayon` starts.
+pub fn write_in_runs_by_rayon<T: Send + Drop, R: Threads + Sync, A: Allocator, W: Writer<T> + Sync>(
+    rt: &R,
+    alloc: A,
+    threads: usize,
+    writer: &W,
+    items: usize,
+) -> Result<Vec<T, A>, AllocError>
+    requires { items ≡ length (W.whole writer.now) }
+    ensures { IfOk result (λ v. v.items ≡ W.whole writer.now) }
+{
+    write_runs(rt, alloc, Starts::ByRayon, threads, writer, items)
+}
+
+/// The writer's items as a vector, in as many runs as there are threads.
+fn write_runs<T: Send + Drop, R: Threads + Sync, A: Allocator, W: Writer<T> + Sync>(
+    rt: &R,
+    alloc: A,
+    starts: Starts,
+    threads: usize,
+    writer: &W,
+    items: usize,
+) -> Result<Vec<T, A>, AllocError>
+    requires { items ≡ length (W.whole writer.now) }
+    ensures { IfOk result (λ v. v.items ≡ W.whole writer.now) }
+{
+    if threads < 2 {
         return write_alone(alloc, writer, items);
     }
     let places = Places {
         writer: &Unchecked { writer },
-        threads: threads.at_most(items),
+        threads,
     };
-    let (written, _) = write_in_parts(rt, alloc, threads, places, items)?;
-    Ok(written)
+    let (room, run) = Room::new(alloc, items)?;
+    let (run, _) = write_whole(rt, starts, places, run);
+    Ok(room.into_vec(run))
 }
 
 /// Writes the next places of a run behind the items that it has, each by the writer's item of its number, by at most `threads`
@@ -201,7 +233,7 @@ pub fn extend_in_runs<T: Send + Drop, R: Threads + Sync, W: Writer<T> + Sync>(
 {
     let places = Places {
         writer: &Unchecked { writer },
-        threads: threads.at_most(more),
+        threads: threads.at_most(more).get(),
     };
     let (run, _) = extend_in_parts(rt, threads, places, run, more);
     run

@@ -12,6 +12,7 @@ mod parts;
 mod room;
 mod run;
 mod shares;
+mod starts;
 
 // A crate can name a run in a contract only if the types of its fields are exported.
 #[doc(hidden)]
@@ -21,6 +22,7 @@ pub use cells::{Base, Cells};
 pub use copies::{Copies, extend_by_copies};
 pub use forks::{
     CheckedWriter, Writer, extend_in_runs, write_alone, write_checked_in_runs, write_in_runs,
+    write_in_runs_by_rayon,
 };
 pub use found::first_found;
 pub use over::{fill_slice, write_over};

@@ -8,9 +8,10 @@ ghost use denote.Param.Send.{IsSync, IsSend};
 
 use crate::room::Room;
 use crate::run::Run;
+use crate::starts::Starts;
 use sharing::ThreadCount;
 use std::alloc::{AllocError, Allocator};
-use std::thread::{Threads, join};
+use std::thread::Threads;
 
 /// What some neighbouring places are written from, in one or more parts.
 ///
@@ -62,8 +63,9 @@ pub trait Share<T>: Sized {
 /// Writes an empty run of the share's places, each part by a thread of its own; where none can be made the parts are written in
 /// turn.
 #[cycle(parts)]
-fn write_whole<T: Send + Drop, R: Threads + Sync, S: Share<T> + Send + Drop>(
+pub(crate) fn write_whole<T: Send + Drop, R: Threads + Sync, S: Share<T> + Send + Drop>(
     rt: &R,
+    starts: Starts,
     share: S,
     run: Run<T>,
 ) -> (Run<T>, Option<usize>)
@@ -77,7 +79,7 @@ fn write_whole<T: Send + Drop, R: Threads + Sync, S: Share<T> + Send + Drop>(
     }
     let (low, middle, high) = share.split(run.first(), run.room());
     let (front, back) = run.split_at(middle);
-    let (front, back) = write_both(rt, low, front, high, back);
+    let (front, back) = write_both(rt, starts, low, front, high, back);
     (front.0.joined(back.0), front.1.or(back.1))
 }
 
@@ -85,6 +87,7 @@ fn write_whole<T: Send + Drop, R: Threads + Sync, S: Share<T> + Send + Drop>(
 #[cycle(parts)]
 fn write_both<T: Send + Drop, R: Threads + Sync, S: Share<T> + Send + Drop>(
     rt: &R,
+    starts: Starts,
     low: S,
     front: Run<T>,
     high: S,
@@ -103,13 +106,13 @@ fn write_both<T: Send + Drop, R: Threads + Sync, S: Share<T> + Send + Drop>(
         requires { IsSync R.row × IsSend S.row × IsSend T.row × (front.items ≡ []) × S.IsOf low front.first front.room }
         ensures run { result.0 ≡ stretch front.block front.first (S.items low front.first front.room) 0 }
         ensures found { result.1 ≡ S.found low front.first front.room }
-    { write_whole(rt, low, front) };
+    { write_whole(rt, starts, low, front) };
     let write_back = move || -> (Run<T>, Option<usize>)
         requires { IsSync R.row × IsSend S.row × IsSend T.row × (back.items ≡ []) × S.IsOf high back.first back.room }
         ensures run { result.0 ≡ stretch back.block back.first (S.items high back.first back.room) 0 }
         ensures found { result.1 ≡ S.found high back.first back.room }
-    { write_whole(rt, high, back) };
-    join(rt, write_front, write_back)
+    { write_whole(rt, starts, high, back) };
+    starts.both(rt, write_front, write_back)
 }
 
 /// Writes the next places of a run, as many as the share has, behind the items that it has, each part of the share by a thread
@@ -130,7 +133,7 @@ pub fn extend_in_parts<T: Send + Drop, R: Threads + Sync, S: Share<T> + Send + D
     let written = run.len() - run.room();
     let (front, empty) = run.split_at(written);
     let (middle, back) = empty.split_at(room);
-    let (middle, found) = write_whole(rt, share, middle);
+    let (middle, found) = write_whole(rt, Starts::ByStd, share, middle);
     (front.joined(middle).joined(back), found)
 }
 
@@ -149,6 +152,6 @@ pub fn write_in_parts<T: Send + Drop, R: Threads + Sync, A: Allocator, S: Share<
     ensures found { IfOk result (λ r. r.1 ≡ S.found share 0 places) }
 {
     let (room, run) = Room::new(alloc, places)?;
-    let (run, found) = write_whole(rt, share, run);
+    let (run, found) = write_whole(rt, Starts::ByStd, share, run);
     Ok((room.into_vec(run), found))
 }
