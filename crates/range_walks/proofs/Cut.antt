@@ -9,7 +9,7 @@ use Rattle.cvl_base.specs.Folds.{fold_of, scan_of}
 use Rattle.cvl_base.specs.Monoid.{MonoidLaws}
 use Rattle.cvl_base.proofs.Lists.{sum-cons}
 use Rattle.segdes.specs.Starts.{start_of}
-use Rattle.range_walks.specs.Ranges.{continued, started, with_starts, range_between, range_scan_of, scans_of}
+use Rattle.range_walks.specs.Ranges.{continued, started, with_starts, range_scan_of, scans_of}
 use Rattle.cvl_base.proofs.FoldLaws.{scan_of-cons}
 
 module _ {Item : Type 0} where
@@ -114,8 +114,3 @@ module _ {Item : Type 0} {is_item : Item → Bool} {unit : Item} {join : Item �
   parts_scanned lengths before front others items =
       continued_scanned join unit before front (with_starts lengths others)
       ∙ ap (λ sums. scan_of join before front ++ sums) (segments_scanned lengths others (fold_of join before front) items)
-
-  -- the whole vector is a run
-  pub whole_scanned : (lengths : List ℕ) (xs : List Item) (before : Item) → AllPass is_item xs → range_scan_of join unit before (range_between lengths xs 0 (length xs)) ≡ scans_of join unit lengths xs
-  whole_scanned lengths xs before items =
-      ap (λ ys. range_scan_of join unit before (with_starts lengths ys)) (take_all (length xs) xs (omega arith)) ∙ segments_scanned lengths xs before items

@@ -8,21 +8,13 @@ use Rattle.cvl_base.proofs.Lists.{sum-cons}
 use Rattle.segdes.specs.Starts.{start_of}
 use Rattle.range_walks.specs.Ranges.{continued, range_between, range_scan_of, started, with_starts}
 use Rattle.range_walks.proofs.Cut.{begins_by, range_cut, starts_in_order}
-use Rattle.range_walks.proofs.LastStart.{length-with_starts, with_starts-none}
+use Rattle.range_walks.proofs.LastStart.{with_starts-none}
 use Rattle.range_walks.proofs.Segments.{range_sum}
 
 module _ {Item : Type 0} (join : Item → Item → Item) (unit : Item) where
   pub length-range_scan_of : (before : Item) (run : List (Bool × Item)) → length (range_scan_of join unit before run) ≡ length run
   length-range_scan_of before [] = refl
   length-range_scan_of before ((starts, x) ∷ run) = ap suc (length-range_scan_of (if starts then x else join before x) run)
-
-  -- the scan of a range is as long as the range
-  pub length-range_scan : (d : List ℕ) (xs : List Item) (from to : ℕ) (before : Item) → sum d ≡ length xs → from ≤ to → to ≤ length xs
-      → length (range_scan_of join unit before (range_between d xs from to)) ≡ to - from
-  length-range_scan d xs from to before total in_order within =
-      length-range_scan_of before (range_between d xs from to)
-      ∙ length-drop from (with_starts d (take to xs))
-      ∙ ap (λ n. n - from) (length-with_starts d (take to xs) (omega (arith, length-take to xs, total)) ∙ omega (arith, length-take to xs, within))
 
 -- the segments that start in the run have its elements from the first start on
 pub segments_cover : (d : List ℕ) (from to first next start j others : ℕ) → from ≤ to → to ≤ sum d → first ≤ length d

@@ -14,7 +14,5 @@ pub mod readings;
 
 pub use plain::{scan_into, scan_vec, sum_from};
 pub use range_parts::parts_of_range;
-pub use ranges::{
-    reduces_into, scan_range_into, scan_range_vec, scans_into, seg_reduces_into, sum_of_range,
-};
+pub use ranges::{reduces_into, scan_range_into, scans_into, seg_reduces_into, sum_of_range};
 pub use readings::{Itself, Reading};

@@ -3,8 +3,7 @@
 //! Segments may start in it anywhere, some of them empty, and it may begin or end inside a segment. Each walk goes from
 //! segment to segment, and has a plain loop over the elements of each.
 
-ghost use Rattle.std.specs.Prelude.{◌≡◌, false, ◌+◌, ◌-◌, ◌<◌, ◌≤◌, IsTrue, IfOk, length, map, slice_range, unsigned_abs, sum};
-ghost use Rattle.std.specs.Prelude.{vec_len};
+ghost use Rattle.std.specs.Prelude.{◌≡◌, false, ◌+◌, ◌-◌, ◌<◌, ◌≤◌, IsTrue, length, map, slice_range, unsigned_abs, sum};
 ghost use Rattle.std.specs.List.{AllPass};
 ghost use Rattle.cvl_base.specs.Descriptors.{AreLengthsWithin};
 ghost use Rattle.cvl_base.specs.Limits.{most_places};
@@ -15,10 +14,10 @@ ghost use Rattle.fresh.specs.Places.{with_items};
 
 use crate::plain::{scan_into, sum_from};
 use crate::range_parts::parts_of_range;
-use crate::readings::{Itself, Reading};
+use crate::readings::Reading;
+use cvl_base::Monoid;
 use cvl_base::monoid::know_laws;
-use cvl_base::{Monoid, NoResources};
-use fresh::{Room, Run};
+use fresh::Run;
 use segdes::SegDes;
 use std::alloc::Allocator;
 
@@ -172,30 +171,4 @@ pub fn scan_range_into<M: Monoid, X: Copy, E: Reading<X, M::Item>, A: Allocator>
     let (front, lengths, others) = parts_of_range(a, d, from, to);
     let run = scan_into::<M, X, E>(run, before, front);
     scans_into::<M, X, E>(run, lengths, others)
-}
-
-/// The scan of the range from place `from` to the one before place `to`: for each of its elements, what the elements
-/// before it in its segment join to.
-///
-/// `before` is what the elements of the first segment that stand before the range join to. It must be an item of the
-/// monoid, as all elements must. The result is as long as the range. Source: Blelloch's segmented scans.
-pub fn scan_range_vec<M: Monoid, A: Allocator, B: Allocator>(
-    alloc: B,
-    a: &[M::Item],
-    d: &SegDes<A>,
-    from: usize,
-    to: usize,
-    before: M::Item,
-) -> Result<Vec<M::Item, B>, NoResources>
-    requires total { sum d.now ≡ length a.now }
-    requires in_order { from ≤ to }
-    requires within { to ≤ length a.now }
-    requires before { IsTrue (M.is_item before) }
-    requires items { AllPass M.is_item a.now }
-    ensures values { IfOk result (λ sums. sums.items
-        ≡ range_scan_of M.join M.unit before (range_between d.now a.now from to)) }
-    ensures as_long { IfOk result (λ sums. vec_len sums ≡ to - from) }
-{
-    let (room, run) = Room::new(alloc, to - from)?;
-    Ok(room.into_vec(scan_range_into::<M, M::Item, Itself, A>(run, a, d, from, to, before)))
 }

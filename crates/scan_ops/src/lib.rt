@@ -16,7 +16,7 @@ pub use ints::{
     int_reduce, int_reduce_gated, int_scan, int_scan_gated, seg_int_reduce, seg_int_reduce_gated,
     seg_int_scan, seg_int_scan_gated,
 };
-pub use scan_walks::{Itself, Reading, readings, scan_range_vec, sum_of_range};
+pub use scan_walks::{Itself, Reading, readings, sum_of_range};
 pub use tile_scans::{
     reduce, reduce_gated, scan, scan_gated, scan_readings_gated, seg_reduce, seg_reduce_gated,
     seg_reduce_readings_gated, seg_scan, seg_scan_gated,

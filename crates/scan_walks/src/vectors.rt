@@ -8,7 +8,7 @@ ghost use Rattle.cvl_base.specs.SegmentedCalls.{seg_reduce_of, seg_scan_of};
 use cvl_base::monoid::know_laws;
 use cvl_base::{Monoid, Refused};
 use fresh::Room;
-use range_walks::{Reading, scan_range_vec, seg_reduces_into};
+use range_walks::{Itself, Reading, scans_into, seg_reduces_into};
 use segdes::{SegDes, check_total};
 use std::alloc::Allocator;
 
@@ -28,8 +28,10 @@ pub fn seg_scan_vec<M: Monoid, A: Allocator, B: Allocator>(
 {
     know_laws::<M>();
     check_total(a, d)?;
-    let sums = scan_range_vec::<M, A, B>(alloc, a, d, 0, a.len(), M::unit())?;
-    Ok(sums)
+    let segments = d.as_lengths();
+    let (room, run) = Room::new(alloc, a.len())?;
+    let run = scans_into::<M, M::Item, Itself>(run, segments.lengths(), a);
+    Ok(room.into_vec(run))
 }
 
 /// For each segment its elements joined from left to right, and the unit where it is empty, by the thread that calls, of
