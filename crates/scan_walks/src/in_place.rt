@@ -10,7 +10,7 @@ ghost use Rattle.cvl_base.specs.SegmentedCalls.{seg_scan_of};
 ghost use Rattle.range_walks.specs.Ranges.{scans_of};
 
 use crate::checked::{check_scan, check_seg_scan};
-use crate::whole_sums::know_numbers;
+use crate::numbers::know_numbers;
 use cvl_base::monoid::know_laws;
 use cvl_base::monoids::Add;
 use cvl_base::{Fault, Monoid};

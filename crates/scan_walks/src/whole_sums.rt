@@ -1,11 +1,9 @@
 //! Sums over whole numbers, which never wrap: those of as many integers as a vector has fit 63 bits.
 
-ghost use Rattle.std.specs.Prelude.{◌≡◌, ◌+ℤ◌, ◌≤◌, length, pos, sum, true};
-ghost use Rattle.std.specs.List.{AllPass};
+ghost use Rattle.std.specs.Prelude.{◌≡◌, ◌+ℤ◌, ◌≤◌, length, pos, sum};
 ghost use Rattle.cvl_base.specs.CheckedSums.{fitting};
 ghost use Rattle.cvl_base.specs.Exact.{total_of};
 ghost use Rattle.cvl_base.specs.Folds.{fold_of};
-ghost use Rattle.cvl_base.specs.ItemWords.{is_number};
 ghost use Rattle.cvl_base.specs.Limits.{most_places};
 ghost use Rattle.cvl_base.specs.SegmentMonoid.{seg_join, seg_unit};
 ghost use Rattle.range_walks.specs.Ranges.{range_between};
@@ -57,20 +55,4 @@ pub fn total_of_range<A: Allocator>(a: &[i32], d: &SegDes<A>, from: usize, to: u
         return (true, total(&a[start..to]));
     }
     (false, total(&a[from..to]))
-}
-
-/// Each integer of a vector fits 32 bits. The contract names the fact, which a proof has only of an integer that is read.
-/// The loop does nothing with what it reads, so that the compiler leaves it out.
-pub fn know_numbers(a: &[i32])
-    ensures { AllPass is_number a.now }
-{
-    for x in a {
-        know_number(x);
-    }
-}
-
-fn know_number(x: &i32)
-    ensures { is_number x.now ≡ true }
-{
-    let _value = *x;
 }
