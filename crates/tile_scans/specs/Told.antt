@@ -2,11 +2,7 @@
 -- Source: the decoupled look-back of Merrill and Garland, Single-pass Parallel Prefix Scan with Decoupled Look-back, 2016.
 use Rattle.std.specs.Prelude.{ℕ, ◌<◌, ◌≤◌}
 use Rattle.boards.specs.Boards.{ScanSeated}
-use Rattle.boards.specs.Passes.{WasTold, told_at}
-
--- the worker of this seat told the sum of tile t, or more of it
-abbrev pub HasToldSum : {Item : Type 0} → ScanSeated Item → ℕ → Type 0
-HasToldSum seat t = 1 ≤ told_at t seat.pass
+use Rattle.boards.specs.Passes.{WasTold}
 
 -- Its worker told the sum of tile t, then looked back from the tile, and then told the tile's prefix, which is what the tiles up
 -- to it join to. So nobody else has to add the tile up while it looks back, and a look-back of another ends at the tile.

@@ -11,22 +11,21 @@
 //! of elements that are read as items, and the scan that is written where that is known.
 #![tactic(auto)]
 
-mod befores;
-mod known;
-mod known_reduces;
-mod known_scans;
+mod known_befores;
 mod pace;
 mod race;
 mod readings;
 mod reduces;
+mod reduces_after_befores;
 mod scans;
+mod scans_after_befores;
 mod steps;
 mod tile_work;
 mod tiled;
 
-pub use befores::scan_after_befores;
 pub use pace::{reduce_pace, scan_pace};
 pub use race::race_for_befores;
 pub use readings::befores_of_readings;
 pub use reduces::{reduce, reduce_gated, seg_reduce, seg_reduce_gated, seg_reduce_readings_gated};
 pub use scans::{scan, scan_gated, scan_readings_gated, seg_scan, seg_scan_gated};
+pub use scans_after_befores::scan_after_befores;

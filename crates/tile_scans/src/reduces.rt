@@ -6,10 +6,10 @@ ghost use Rattle.cvl_base.specs.Folds.{fold_of};
 ghost use Rattle.cvl_base.specs.Gives.{Gives};
 ghost use Rattle.cvl_base.specs.SegmentedCalls.{seg_reduce_of};
 
-use crate::known::Known;
-use crate::known_reduces::reduces_known;
+use crate::known_befores::KnownBefores;
 use crate::pace::reduce_pace;
 use crate::race::race_for_befores;
+use crate::reduces_after_befores::reduces_known;
 use crate::tiled::Tiled;
 use crew::{Gate, OpenGate};
 use cvl_base::monoid::know_laws;
@@ -55,7 +55,7 @@ where
     };
     let vector = Tiled::<M, M::Item, Itself, A>::new(a, None, pace.tile());
     let before = race_for_befores(rt, alloc, pace, &vector, gate)?;
-    let known = Known {
+    let known = KnownBefores {
         vector: &vector,
         before: &before,
     };
@@ -133,7 +133,7 @@ where
     check_total(a, d)?;
     let vector = Tiled::<M, X, E, A>::new(a, Some(d), pace.tile());
     let before = race_for_befores(rt, alloc, pace, &vector, gate)?;
-    let known = Known {
+    let known = KnownBefores {
         vector: &vector,
         before: &before,
     };

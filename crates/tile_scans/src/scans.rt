@@ -6,10 +6,10 @@ ghost use Rattle.cvl_base.specs.Folds.{scan_of};
 ghost use Rattle.cvl_base.specs.Gives.{Gives};
 ghost use Rattle.cvl_base.specs.SegmentedCalls.{seg_scan_of};
 
-use crate::known::Known;
-use crate::known_scans::scan_known;
+use crate::known_befores::KnownBefores;
 use crate::pace::scan_pace;
 use crate::race::race_for_befores;
+use crate::scans_after_befores::scan_known;
 use crate::tiled::Tiled;
 use crew::{Gate, OpenGate};
 use cvl_base::monoid::know_laws;
@@ -83,7 +83,7 @@ where
     };
     let vector = Tiled::<M, X, E, A>::new(a, None, pace.tile());
     let before = race_for_befores(rt, alloc, pace, &vector, gate)?;
-    let known = Known {
+    let known = KnownBefores {
         vector: &vector,
         before: &before,
     };
@@ -134,7 +134,7 @@ where
     check_total(a, d)?;
     let vector = Tiled::<M, M::Item, Itself, A>::new(a, Some(d), pace.tile());
     let before = race_for_befores(rt, alloc, pace, &vector, gate)?;
-    let known = Known {
+    let known = KnownBefores {
         vector: &vector,
         before: &before,
     };

@@ -1,10 +1,8 @@
 //! What each worker does who races for the tiles of a vector.
 
-ghost use Rattle.std.specs.Prelude.{◌≡◌, ℕ, ◌<◌, ◌≤◌, [], length};
+ghost use Rattle.std.specs.Prelude.{◌≡◌, [], length};
 ghost use Rattle.boards.specs.Boards.{IsSeatOf};
-ghost use Rattle.boards.specs.Passes.{WasTold};
-ghost use Rattle.cvl_base.specs.TileSums.{before_tile};
-ghost use Rattle.tile_scans.specs.Told.{HasToldAround, HasToldSum};
+ghost use Rattle.tile_scans.specs.Told.{HasToldAround};
 
 use boards::{Claim, ScanBoard, ScanSeat, Tiles};
 use crew::{Gate, Point, Work};
@@ -37,28 +35,6 @@ impl<'a, T: Tiles> Tiles for Lent<'a, T> {
 pub(crate) struct TileWork<'a, T: Tiles, A: Allocator> {
     pub(crate) board: ScanBoard<Lent<'a, T>, A>,
     pub(crate) tiles: &'a T,
-}
-
-impl<'a, T: Tiles, A: Allocator> TileWork<'a, T, A> {
-    /// What the tiles before tile `t` join to, for a worker that has told the tile's own sum, so that nobody else has to add the
-    /// tile up while this worker looks back.
-    fn look_back_after_sum(
-        &self,
-        seat: &mut ScanSeat<T::M>,
-        t: u32,
-    ) -> (bool, <T::M as Monoid>::Item)
-        requires seat { IsSeatOf self.now.board seat.old }
-        requires tile { t < length self.now.board.sums }
-        requires summed { HasToldSum seat.old t }
-        ensures before { result ≡ before_tile T.M.join T.M.unit self.now.board.sums t }
-        ensures kept { (x rank when : ℕ) → WasTold x rank when seat.old.pass → WasTold x rank when seat.new.pass }
-        ensures looked { 1 ≤ t → seat.old.pass.looks < seat.new.pass.looks }
-        ensures hand { seat.new.pass.hand ≡ seat.old.pass.hand }
-        ensures done { seat.new.is_done ≡ seat.old.is_done }
-        ensures stays { IsSeatOf self.now.board seat.new }
-    {
-        self.board.look_back(seat, t).before
-    }
 }
 
 impl<'a, T: Tiles + Sync, A: Memory> Work for TileWork<'a, T, A>
@@ -97,7 +73,8 @@ where
         let sum = self.tiles.sum(t);
         self.board.tell_known_sum(seat, t, sum);
         gate.pass(worker, Point::Summed(t));
-        let before = self.look_back_after_sum(seat, t);
+        // the tile's sum is told, so that nobody else has to add the tile up meanwhile
+        let before = self.board.look_back(seat, t).before;
         gate.pass(worker, Point::Looked(t));
         self.board.tell_known_prefix(seat, t, before, sum);
         Ok(Vec::new(alloc))

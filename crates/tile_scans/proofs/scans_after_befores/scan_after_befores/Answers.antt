@@ -2,7 +2,7 @@ use Rattle.std.proofs.Common.{◌≡◌, length, map, sym, ap, ◌∙◌}
 use Rattle.std.proofs.lemmas.List.{map-id}
 use Rattle.tile_scans.specs.TiledSums.{flagged, sums_of}
 use Rattle.tile_scans.specs.Written.{befores_of}
-use Rattle.tile_scans.proofs.befores.scan_after_befores.Goals as goal
+use Rattle.tile_scans.proofs.scans_after_befores.scan_after_befores.Goals as goal
 
 pub invariant_of-known : goal.invariant_of-known
 invariant_of-known g c = record {

@@ -4,7 +4,7 @@ ghost use Rattle.std.specs.Prelude.{◌≡◌, ◌≤◌, IfOk, Some, length, ma
 ghost use Rattle.std.specs.Option.{option_copied};
 ghost use Rattle.scan_walks.specs.Ranges.{reduces_of};
 
-use crate::known::Known;
+use crate::known_befores::KnownBefores;
 use crate::steps::{InSteps, Steps};
 use cvl_base::monoid::know_laws;
 use cvl_base::{Memory, NoResources, Packed};
@@ -18,7 +18,7 @@ use std::thread::Threads;
 /// The reduces of the segments of a vector that is not empty, of which it is known what stands before each tile.
 #[derive(Drop)]
 struct KnownReduces<'a, M: Packed, X: Copy, E: Reading<X, M::Item>, A: Allocator> {
-    known: &'a Known<'a, M, X, E, A>,
+    known: &'a KnownBefores<'a, M, X, E, A>,
     segments: &'a SegDes<A>,
     ghost cut: { option_copied known.now.vector.now.segments ≡ Some segments.now },
     ghost filled: { 1 ≤ known.now.vector.now.plan.0 },
@@ -30,7 +30,7 @@ pub(crate) fn reduces_known<R, A, M, X, E>(
     rt: &R,
     alloc: A,
     pace: Pace,
-    known: &Known<M, X, E, A>,
+    known: &KnownBefores<M, X, E, A>,
     segments: &SegDes<A>,
 ) -> Result<Vec<M::Item, A>, NoResources>
 where

@@ -13,14 +13,14 @@ use std::alloc::Allocator;
 
 /// A vector in tiles, beside what stands before each tile.
 #[derive(Drop)]
-pub(crate) struct Known<'a, M: Packed, X: Copy, E: Reading<X, M::Item>, A: Allocator> {
+pub(crate) struct KnownBefores<'a, M: Packed, X: Copy, E: Reading<X, M::Item>, A: Allocator> {
     pub(crate) vector: &'a Tiled<'a, M, X, E, A>,
     pub(crate) before: &'a [M::Item],
     ghost known: { before.now ≡ befores_of M.join M.unit (sums_of M.join M.unit vector.now.plan.0 vector.now.plan.1
         (flagged (option_copied vector.now.segments) (map E.item vector.now.elements.now))) },
 }
 
-impl<'a, M: Packed, X: Copy, E: Reading<X, M::Item>, A: Allocator> Known<'a, M, X, E, A> {
+impl<'a, M: Packed, X: Copy, E: Reading<X, M::Item>, A: Allocator> KnownBefores<'a, M, X, E, A> {
     ghost use Rattle.std.specs.Prelude.{◌<◌, ◌≤◌, IsTrue, length, take};
     ghost use Rattle.cvl_base.specs.Folds.{fold_of};
     ghost use Rattle.cvl_base.specs.SegmentMonoid.{seg_join, seg_unit};

@@ -6,7 +6,7 @@ use Rattle.tile_plan.specs.Ranges.{range_of}
 use Rattle.tile_scans.specs.TiledSums.{flagged}
 use Rattle.tile_scans.proofs.Flagged.{tiled_read}
 use Rattle.tile_scans.proofs.SumsOfTiles.{front_is_item, known_at, length-known, since_known}
-use Rattle.tile_scans.proofs.known.Known.before_place.Goals as goal
+use Rattle.tile_scans.proofs.known_befores.KnownBefores.before_place.Goals as goal
 
 pub bounds-self-t : goal.bounds-self-t
 bounds-self-t g c =

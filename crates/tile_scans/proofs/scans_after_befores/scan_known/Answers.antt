@@ -1,7 +1,7 @@
 use Rattle.std.proofs.Common.{ap, arith, length, sym}
 use Rattle.std.specs.Option.{option_copied}
 use Rattle.tile_scans.proofs.Flagged.{length-scanned}
-use Rattle.tile_scans.proofs.known_scans.scan_known.Goals as goal
+use Rattle.tile_scans.proofs.scans_after_befores.scan_known.Goals as goal
 
 pub write_in_runs-requires-after_bounds : goal.write_in_runs-requires-after_bounds
 write_in_runs-requires-after_bounds g c κs within =

@@ -7,7 +7,7 @@ use Rattle.cvl_base.specs.SegmentMonoid.{seg_join, seg_unit}
 use Rattle.scan_walks.proofs.Segmented.{length-reduces_of}
 use Rattle.tile_scans.specs.TiledSums.{flagged}
 use Rattle.tile_scans.proofs.OpenSegments.{is_open}
-use Rattle.tile_scans.proofs.known_reduces.KnownReducesStepsItem.write_on.Goals as goal
+use Rattle.tile_scans.proofs.reduces_after_befores.KnownReducesStepsItem.write_on.Goals as goal
 
 pub start-start-requires : goal.start-start-requires
 start-start-requires g c =

@@ -6,7 +6,7 @@ use Rattle.scan_walks.specs.Ranges.{range_scan_of}
 use Rattle.tile_scans.specs.TiledSums.{flagged}
 use Rattle.tile_scans.proofs.Flagged.{length-scanned}
 use Rattle.tile_scans.proofs.RangeScans.{part_scanned}
-use Rattle.tile_scans.proofs.known_scans.KnownStepsItem.write_on.Goals as goal
+use Rattle.tile_scans.proofs.scans_after_befores.KnownBeforesStepsItem.write_on.Goals as goal
 
 pub overflow_cast-at : goal.overflow_cast-at
 overflow_cast-at g c =
