@@ -13,10 +13,10 @@ ghost use Rattle.cvl_base.specs.CheckedSums.{checked_reduce_of, checked_scan_of,
 ghost use Rattle.cvl_base.specs.Gives.{Gives};
 ghost use Rattle.cvl_base.specs.Limits.{most_elements};
 
-use crate::overflows::scan_or_overflow;
-use crate::segment_sums::{before_tiles, sums_known};
+use crate::segment_sums::sums_known;
 use crate::summed_tile::summed_tile;
 use crate::tile_totals::{Totals, race_for_totals};
+use crate::tiled_scans::scan_or_overflow;
 use crew::{Gate, OpenGate};
 use cvl_base::{Config, Fault, FaultNo, Memory, Refused};
 use scan_walks::{
@@ -178,7 +178,7 @@ pub fn checked_seg_reduce_gated<R: Threads + Sync, A: Memory, G: Gate>(
         return checked_seg_reduce_vec(alloc, a, &d.as_lengths());
     };
     let totals = Totals::new(a, Some(d), summed_tile(pace, d));
-    let before = before_tiles(rt, alloc, pace, &totals, gate)?;
+    let before = race_for_totals(rt, alloc, pace, &totals, gate)?;
     let threads = pace.threads_writing(a.len().max(d.count()));
     sums_known(rt, alloc, threads, &totals, d, &before)
 }

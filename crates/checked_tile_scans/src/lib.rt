@@ -11,6 +11,7 @@ mod overflows;
 mod segment_sums;
 mod summed_tile;
 mod tile_totals;
+mod tiled_scans;
 
 pub use checked::{
     checked_reduce, checked_reduce_gated, checked_scan, checked_scan_gated, checked_seg_reduce,

@@ -1,7 +1,7 @@
 //! The sums of segments, each found from the tile that holds the segment's last element. The first sum that does not fit 32 bits
 //! is found while they are written, so that nothing is added up a second time.
 
-ghost use Rattle.std.specs.Prelude.{◌≡◌, ◌∷◌, ◌≤◌, [], Some, pos, IfOk, length, map, vec_len};
+ghost use Rattle.std.specs.Prelude.{◌≡◌, Some, length, map, pos, IfOk, vec_len};
 ghost use Rattle.std.specs.Option.{option_copied};
 ghost use Rattle.cvl_base.specs.CheckedSums.{fitting};
 ghost use Rattle.cvl_base.specs.declared.fault.FaultNo.TheVariants as no;
@@ -10,14 +10,13 @@ ghost use Rattle.cvl_base.specs.Gives.{Gives};
 ghost use Rattle.tile_scans.specs.TiledSums.{flagged};
 ghost use Rattle.checked_tile_scans.specs.Checked.{segment_totals, totals_before};
 
-use crate::tile_totals::{Totals, race_for_totals};
-use crew::Gate;
+use crate::tile_totals::Totals;
 use cvl_base::monoids::Add;
-use cvl_base::{Fault, FaultNo, Memory, NoResources, Packed, Refused};
+use cvl_base::{Fault, FaultNo, Memory, Packed, Refused};
 use fresh::{CheckedWriter, Run, first_found, write_checked_in_runs};
 use scan_walks::fitting;
 use segdes::SegDes;
-use sharing::{LONG_TILE, Pace, ThreadCount};
+use sharing::ThreadCount;
 use std::alloc::Allocator;
 use std::thread::Threads;
 
@@ -30,33 +29,6 @@ struct SegmentSums<'a, A: Allocator> {
     ghost cut: { option_copied vector.now.segments ≡ Some segments.now },
     ghost known: { before.now
         ≡ totals_before vector.now.plan (flagged (option_copied vector.now.segments) vector.now.elements.now) },
-}
-
-/// What stands before the one tile of a vector.
-fn nothing_before<A: Memory>(alloc: A) -> Result<Vec<i64, A>, NoResources>
-    ensures { IfOk result (λ before. before.items ≡ pos 0 ∷ []) }
-{
-    let mut before = Vec::with_capacity(alloc, 1)?;
-    before.push_reserved(0);
-    Ok(before)
-}
-
-/// What stands before each tile. Workers race for it, and pass the gate; for one long tile no thread is started, no element is
-/// read, and nobody passes the gate.
-pub(crate) fn before_tiles<R: Threads + Sync, A: Memory, G: Gate>(
-    rt: &R,
-    alloc: A,
-    pace: Pace,
-    vector: &Totals<A>,
-    gate: &G,
-) -> Result<Vec<i64, A>, NoResources>
-    ensures { IfOk result (λ before. before.items
-        ≡ totals_before vector.now.plan (flagged (option_copied vector.now.segments) vector.now.elements.now)) }
-{
-    if pace.tile() >= LONG_TILE && vector.plan.count() == 1 {
-        return nothing_before(alloc);
-    }
-    race_for_totals(rt, alloc, pace, vector, gate)
 }
 
 /// The sums of the segments, where it is known what stands before each tile. At most so many threads write them. `Overflow` at

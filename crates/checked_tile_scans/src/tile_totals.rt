@@ -14,7 +14,7 @@ use cvl_base::monoids::Exact;
 use cvl_base::{Memory, NoResources};
 use scan_walks::{fitting_of_range, fitting_of_scan, know_numbers, total, total_of_range};
 use segdes::SegDes;
-use sharing::Pace;
+use sharing::{LONG_TILE, Pace};
 use std::alloc::Allocator;
 use std::thread::Threads;
 use tile_plan::Plan;
@@ -138,7 +138,8 @@ impl<'a, A: Allocator> Tiles for Totals<'a, A> {
 }
 
 /// What stands before each tile of a vector. Workers race for the tiles, tell their sums and their prefixes, and pass the gate at
-/// each of the four points of a tile. It keeps no memory but the answer's, which takes 8 bytes a tile.
+/// each of the four points of a tile; for one long tile no thread is started, no element is read, and nobody passes the gate. It
+/// keeps no memory but the answer's, which takes 8 bytes a tile.
 ///
 /// Source: Merrill and Garland's decoupled look-back.
 pub(crate) fn race_for_totals<R: Threads + Sync, A: Memory, G: Gate>(
@@ -151,6 +152,9 @@ pub(crate) fn race_for_totals<R: Threads + Sync, A: Memory, G: Gate>(
     ensures { IfOk result (λ before. before.items
         ≡ totals_before vector.now.plan (flagged (option_copied vector.now.segments) vector.now.elements.now)) }
 {
+    if pace.tile() >= LONG_TILE && vector.plan.count() == 1 {
+        return Ok(Vec::from_elem(alloc, 0, 1)?);
+    }
     let before = race_for_befores(rt, alloc, pace, vector, gate)?;
     Ok(before)
 }

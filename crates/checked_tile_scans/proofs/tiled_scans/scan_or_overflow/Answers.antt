@@ -3,7 +3,7 @@ use Rattle.checked_tile_scans.specs.Checked.{total_scan}
 use Rattle.checked_tile_scans.proofs.Outsides.{overflow_meant}
 use Rattle.checked_tile_scans.proofs.TileFronts.{scan_meant}
 use Rattle.checked_tile_scans.proofs.WholeSums.{wrapped_befores}
-use Rattle.checked_tile_scans.proofs.overflows.scan_or_overflow.Goals as goal
+use Rattle.checked_tile_scans.proofs.tiled_scans.scan_or_overflow.Goals as goal
 
 pub scan_after_befores-requires-clause-before : goal.scan_after_befores-requires-clause-before
 scan_after_befores-requires-clause-before g c κs within =
