@@ -1,7 +1,6 @@
 //! Scans and reduces of each segment. Segments come as their lengths.
 
 ghost use Rattle.std.specs.Prelude.{length};
-ghost use Rattle.std.specs.List.{AllPass};
 ghost use Rattle.cvl_base.specs.Rooms.{Overwrites};
 ghost use Rattle.cvl_base.specs.Scans.{bool_join_of, bool_unit_of, int_join_of, int_unit_of};
 ghost use Rattle.cvl_base.specs.SegmentedCalls.{seg_reduce_of, seg_scan_of};
@@ -13,29 +12,9 @@ ghost use Rattle.c_calls.specs.Told.{in_room};
 use crate::checks::segments;
 use crate::monoids::{by_bool_monoid, by_int_monoid};
 use crate::numbers::{bool_binary, int_monoid};
-use cvl_base::{Fault, Monoid};
+use cvl_base::Fault;
 use flag_calls::seg_bool_reduce_over;
 use scan_walks::{know_numbers, seg_reduce_over, seg_scan_over};
-
-/// For each element those before it in its segment, joined from left to right, and the unit where none is.
-fn scan<M: Monoid>(a: &[M::Item], lengths: &[i32], out: &mut [M::Item]) -> Result<(), Fault>
-    requires { AllPass M.is_item a.now }
-    ensures { Overwrites (in_room (length out.old) (by_segments lengths.now (seg_scan_of M.join M.unit a.now)))
-        result out.old out.new }
-{
-    let d = segments(lengths)?;
-    seg_scan_over::<M>(a, &d, out)
-}
-
-/// The elements of each segment, joined from left to right, and the unit where there are none.
-fn reduce<M: Monoid>(a: &[M::Item], lengths: &[i32], out: &mut [M::Item]) -> Result<(), Fault>
-    requires { AllPass M.is_item a.now }
-    ensures { Overwrites (in_room (length out.old) (by_segments lengths.now (seg_reduce_of M.join M.unit a.now)))
-        result out.old out.new }
-{
-    let d = segments(lengths)?;
-    seg_reduce_over::<M>(a, &d, out)
-}
 
 /// The scan of each segment of integers by the operator of a number.
 pub fn int_scan(op: u32, a: &[i32], lengths: &[i32], out: &mut [i32]) -> Result<(), Fault>
@@ -43,8 +22,9 @@ pub fn int_scan(op: u32, a: &[i32], lengths: &[i32], out: &mut [i32]) -> Result<
         (λ o. by_segments lengths.now (seg_scan_of (int_join_of o) (int_unit_of o) a.now)))) result out.old out.new }
 {
     let op = int_monoid(op)?;
+    let d = segments(lengths)?;
     know_numbers(a);
-    by_int_monoid!(op, scan(a, lengths, out))
+    by_int_monoid!(op, seg_scan_over(a, &d, out))
 }
 
 /// The reduce of each segment of integers by the operator of a number.
@@ -53,8 +33,9 @@ pub fn int_reduce(op: u32, a: &[i32], lengths: &[i32], out: &mut [i32]) -> Resul
         (λ o. by_segments lengths.now (seg_reduce_of (int_join_of o) (int_unit_of o) a.now)))) result out.old out.new }
 {
     let op = int_monoid(op)?;
+    let d = segments(lengths)?;
     know_numbers(a);
-    by_int_monoid!(op, reduce(a, lengths, out))
+    by_int_monoid!(op, seg_reduce_over(a, &d, out))
 }
 
 /// The scan of each segment of booleans by the operator of a number.
@@ -63,7 +44,8 @@ pub fn bool_scan(op: u32, a: &[bool], lengths: &[i32], out: &mut [bool]) -> Resu
         (λ o. by_segments lengths.now (seg_scan_of (bool_join_of o) (bool_unit_of o) a.now)))) result out.old out.new }
 {
     let op = bool_binary(op)?;
-    by_bool_monoid!(op, scan(a, lengths, out))
+    let d = segments(lengths)?;
+    by_bool_monoid!(op, seg_scan_over(a, &d, out))
 }
 
 /// The reduce of each segment of flags by the operator of a number.
