@@ -267,9 +267,18 @@ def known(family):
     numbers = sorted(found.number for found in table.OPERATORS if found.name in family.operators)
     if not numbers:
         return ""
-    assert numbers == list(range(numbers[0], numbers[-1] + 1))
-    least = f"op >= CVL_{name_of(numbers[0])} && " if numbers[0] else ""
-    return f"{least}op <= CVL_{name_of(numbers[-1])}"
+    firsts = [number for number in numbers if number - 1 not in numbers]
+    lasts = [number for number in numbers if number + 1 not in numbers]
+    runs = [_within(first, last) for first, last in zip(firsts, lasts)]
+    return runs[0] if len(runs) == 1 else f"({' || '.join(f'({run})' if '&&' in run else run for run in runs)})"
+
+
+def _within(first, last):
+    """Whether the operator has one of the numbers from the first to the last, as an expression."""
+    if first == last:
+        return f"op == CVL_{name_of(first)}"
+    least = f"op >= CVL_{name_of(first)} && " if first else ""
+    return f"{least}op <= CVL_{name_of(last)}"
 
 
 def name_of(number):

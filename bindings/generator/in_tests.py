@@ -153,14 +153,14 @@ def _argument(row, argument):
 def _reading_row(row, name, pool=""):
     numbers = [found.number for found in table.OPERATORS if found.name in row.family.operators]
     fixed = [found.number for found in table.OPERATORS if found.name == row.operator]
-    least, most = (fixed * 2) if fixed else (min(numbers), max(numbers)) if numbers else (-1, -1)
+    operators = sum(1 << number for number in fixed or numbers)
     limit = rows.limited(row.family)
     place = row.operands.index(limit) if limit is not None else -1
     may = "".join(str(k) for k, o in enumerate(row.operands) if any(o.name in names for names in row.family.in_place))
     one = any(len(names) > 1 for names in row.family.in_place) or len(may) < 2
     words = ", ".join([*([pool] if pool else []), *(_argument(row, argument) for argument in row.arguments)])
     is_call = "true" if row.call else "false"
-    text = f'ROW({name}, {_model(row.family.name)}, "{_spelled(row)}", "{may}{"" if one else "/"}", {least}, {most}, {place}, {is_call}, ({words}))'
+    text = f'ROW({name}, {_model(row.family.name)}, "{_spelled(row)}", "{may}{"" if one else "/"}", {operators:#x}, {place}, {is_call}, ({words}))'
     return text
 
 

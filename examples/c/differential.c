@@ -93,18 +93,18 @@ static CvlStatus cvl_segments_of_offsets(const int32_t *offsets, size_t offsets_
 }
 
 #define OTHERS(X)                                                                                                              \
-    X(cvl_segments_offsets_of, TELL_OFFSETS, "liaRie", "", -1, -1, -1, false, (lengths_of(g, 0), (int32_t *)g->at[1], g->len[1])) \
-    X(cvl_segments_numbers_of, TELL_NUMBERS, "liaRia", "", -1, -1, -1, false, (lengths_of(g, 0), (int32_t *)g->at[1], g->len[1])) \
-    X(cvl_segments_of_offsets, FROM_OFFSETS, "rieRis", "", -1, -1, -1, false,                                                  \
+    X(cvl_segments_offsets_of, TELL_OFFSETS, "liaRie", "", 0, -1, false, (lengths_of(g, 0), (int32_t *)g->at[1], g->len[1])) \
+    X(cvl_segments_numbers_of, TELL_NUMBERS, "liaRia", "", 0, -1, false, (lengths_of(g, 0), (int32_t *)g->at[1], g->len[1])) \
+    X(cvl_segments_of_offsets, FROM_OFFSETS, "rieRis", "", 0, -1, false,                                                  \
       ((const int32_t *)g->at[0], g->len[0], (int32_t *)g->at[1], g->len[1]))
 
-#define ROW(name, model, operands, in_place, least, most, limited, is_call, arguments)                                         \
+#define ROW(name, model, operands, in_place, operators, limited, is_call, arguments)                                         \
     static CvlStatus call_##name(const Given *g) { return name arguments; }
 OTHERS(ROW)
 #include "reading_rows.h"
 #undef ROW
-#define ROW(name, model, operands, in_place, least, most, limited, is_call, arguments)                                         \
-    {#name, model, operands, in_place, least, most, limited, is_call, call_##name},
+#define ROW(name, model, operands, in_place, operators, limited, is_call, arguments)                                         \
+    {#name, model, operands, in_place, operators, limited, is_call, call_##name},
 static const Row rows[] = {
     OTHERS(ROW)
 #include "reading_rows.h"
@@ -303,12 +303,19 @@ static void move_rooms(const Row *row, Given *g) {
     }
 }
 
+/* The first operator of the row from a number on, and round again; 0 where it takes none. */
+static uint32_t operator_for(const Row *row, uint32_t from) {
+    if (row->operators == 0) return 0;
+    while (!takes(row, from)) from = (from + 1) % 32;
+    return from;
+}
+
 static void make(const Row *row, Given *g) {
     const size_t n = chance(9) ? below(MOST_PLACES / 4) : below(14), m = chance(3) ? below(14) : n + below(5);
     const size_t segments = chance(9) ? 0 : 1 + below(5), count = count_of(row), marks = operand(row, "R", 'm');
     memset(g, 0, sizeof *g);
     fill_bytes();
-    g->op = chance(30) && !row->is_call ? (uint32_t)below(24) : row->least < 0 ? 0 : (uint32_t)row->least + (uint32_t)below((size_t)(row->most - row->least + 1));
+    g->op = chance(30) && !row->is_call ? (uint32_t)below(24) : operator_for(row, (uint32_t)below(32));
     fill_numbers(row, g, n);
     const int64_t times = operand(row, "c", 0) < count ? g->number[operand(row, "c", 0)] : 0;
     for (size_t k = 0; k < count; k++) {
@@ -455,7 +462,7 @@ static void too_long(const Row *row) {
     if (row->in_place[0] == '0' && strchr(row->in_place, '/') == NULL && lengths == count) {
         make_without_fault(row, &g);
         for (size_t k = 0; k < count; k++) g.at[k] = far_memory[0], g.len[k] = SIZE_MAX;
-        if (row->least >= 0) g.op = (uint32_t)row->least;
+        g.op = operator_for(row, 0);
         is_too_long(row, &g, "as long as can be");
     }
 }
