@@ -5,7 +5,14 @@ A family is one export, for one kind of elements; a call is a family with its op
 the operands of its family, in the order of a script.
 """
 
+import pathlib
+import sys
 from collections import namedtuple
+
+HERE = pathlib.Path(__file__).resolve().parent
+sys.path.append(str(HERE / "generator"))
+
+import call_table
 
 # What a call takes, or where it writes.
 #
@@ -86,34 +93,39 @@ BAD_COUNT = (
     Fault((13,), f"13 TooLong where it is above {MOST_ELEMENTS}", False),
 )
 
-# Operators on two integers, two booleans, one element, and the comparisons.
-OPERATORS = (
-    Operator("ADD", 0, "the sum, wrapped to 32 bits", None),
-    Operator("MUL", 1, "the product, wrapped to 32 bits", None),
-    Operator("MIN", 2, "the lesser", None),
-    Operator("MAX", 3, "the greater", None),
-    Operator("AND", 4, "and, bit by bit", None),
-    Operator("IOR", 5, "or, bit by bit", None),
-    Operator("XOR", 6, "exclusive or, bit by bit", None),
-    Operator("SUB", 7, "the difference, wrapped to 32 bits", None),
-    Operator("DIV", 8, "the quotient, truncated toward zero", Fault((8,), "8 DivideByZero at the first divisor that is 0", False)),
-    Operator("MOD", 9, "the remainder of that quotient, with the dividend's sign", Fault((8,), "8 DivideByZero at the first divisor that is 0", False)),
-    Operator("LSH", 10, "the first, shifted left by the second", Fault((9,), "9 ShiftOutOfRange at the first element of b outside 0 to 31", False)),
-    Operator("RSH", 11, "the first, shifted right by the second; the sign is copied", Fault((9,), "9 ShiftOutOfRange at the first element of b outside 0 to 31", False)),
-    Operator("GRT", 12, "whether the first is greater", None),
-    Operator("LES", 13, "whether it is less", None),
-    Operator("GEQ", 14, "whether it is at least the second", None),
-    Operator("LEQ", 15, "whether it is at most the second", None),
-    Operator("EQL", 16, "whether they are equal", None),
-    Operator("NEQ", 17, "whether they are not", None),
-    Operator("NOT", 18, "on one vector: each bit, or each boolean, inverted", None),
-    Operator("CPY", 19, "the same again", None),
+# What each operator does, and its fault.
+SAID = {
+    "ADD": ("the sum, wrapped to 32 bits", None),
+    "MUL": ("the product, wrapped to 32 bits", None),
+    "MIN": ("the lesser", None),
+    "MAX": ("the greater", None),
+    "AND": ("and, bit by bit", None),
+    "IOR": ("or, bit by bit", None),
+    "XOR": ("exclusive or, bit by bit", None),
+    "SUB": ("the difference, wrapped to 32 bits", None),
+    "DIV": ("the quotient, truncated toward zero", Fault((8,), "8 DivideByZero at the first divisor that is 0", False)),
+    "MOD": ("the remainder of that quotient, with the dividend's sign", Fault((8,), "8 DivideByZero at the first divisor that is 0", False)),
+    "LSH": ("the first, shifted left by the second", Fault((9,), "9 ShiftOutOfRange at the first element of b outside 0 to 31", False)),
+    "RSH": ("the first, shifted right by the second; the sign is copied", Fault((9,), "9 ShiftOutOfRange at the first element of b outside 0 to 31", False)),
+    "GRT": ("whether the first is greater", None),
+    "LES": ("whether it is less", None),
+    "GEQ": ("whether it is at least the second", None),
+    "LEQ": ("whether it is at most the second", None),
+    "EQL": ("whether they are equal", None),
+    "NEQ": ("whether they are not", None),
+    "NOT": ("on one vector: each bit, or each boolean, inverted", None),
+    "CPY": ("the same again", None),
+}
+
+# The operators of each family of the proved table of calls, and all of them by their numbers, which they have there.
+OF_TABLE = call_table.operators(HERE.parent)
+MONOIDS, BINARY, OF_FLAGS, COMPARISONS, UNARY = (
+    tuple(OF_TABLE[family]) for family in ("IntMonoid", "IntBinary", "BoolBinary", "Comparison", "Unary")
 )
-MONOIDS = ("ADD", "MUL", "MIN", "MAX", "AND", "IOR", "XOR")
-BINARY = MONOIDS + ("SUB", "DIV", "MOD", "LSH", "RSH")
-OF_FLAGS = ("AND", "IOR", "XOR")
-COMPARISONS = ("GRT", "LES", "GEQ", "LEQ", "EQL", "NEQ")
-UNARY = ("NOT", "CPY")
+NUMBERS = {name: number for family in OF_TABLE.values() for name, number in family.items()}
+if NUMBERS.keys() != SAID.keys():
+    sys.exit(f"of {', '.join(sorted(NUMBERS.keys() ^ SAID.keys()))} either what it does is not said here, or it is none of the table of calls")
+OPERATORS = tuple(Operator(name, NUMBERS[name], *SAID[name]) for name in sorted(NUMBERS, key=NUMBERS.get))
 
 # The numbers of a status, with their names.
 STATUSES = (

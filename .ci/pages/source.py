@@ -32,7 +32,7 @@ def defined(public):
     pub, found = "pub " if public else "(?:pub )?", set()
     for path in sorted(CRATES.glob("*/specs/*.antt")):
         for line in path.read_text().splitlines():
-            name = re.match(rf" *(?:abbrev|unfoldable) {pub}(\S+)| *{pub}(?:record|data) (\S+)", line)
+            name = re.match(rf" *(?:abbrev|unfoldable) {pub}(?!use )(\S+)| *{pub}(?:record|data) (\S+)", line)
             if name:
                 found.add((str(path.relative_to(CRATES)), name[1] or name[2]))
     return found

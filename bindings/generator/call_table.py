@@ -1,11 +1,20 @@
 """The table of calls, read from the definitions that the library is proved against: each name, and the kinds of what the call takes
-and gives, in the order of a script."""
+and gives, in the order of a script; and each operator with its number."""
 
 import itertools
 import pathlib
 import re
 
 TABLE = pathlib.Path("crates/call_table")
+
+# The families of operators, with the definitions of their labels.
+LABELS = {
+    "IntBinary": "int_binary_label", "IntMonoid": "int_monoid_label", "BoolBinary": "bool_binary_label", "Comparison": "comparison_label",
+    "Unary": "unary_label",
+}
+
+# The fields of a label, each with its place among what `label` is given.
+FIELDS = {"letters": 1, "number": 2}
 
 
 def _enums(text):
@@ -86,6 +95,9 @@ class _Definitions:
             return word.strip('"')
         if word == "[]":
             return []
+        name, _, field = word.partition(".")
+        if name in names and field in FIELDS:
+            return names[name][FIELDS[field]]
         return [word.split(".")[-1]] if word[0].isupper() or "." in word else word
 
     def _applied(self, name, arguments):
@@ -107,12 +119,26 @@ class _Definitions:
         )
 
 
+def _table(top):
+    """The enums of the table, and its definitions."""
+    sources, specs = top / TABLE / "src", top / TABLE / "specs"
+    enums = _enums((sources / "families.rt").read_text() + (sources / "operation.rt").read_text())
+    return enums, _Definitions([(specs / name).read_text() for name in ("Letters.antt", "Calls.antt")])
+
+
+def operators(top):
+    """The operators of each family, in its order: the name of each, with its number."""
+    enums, definitions = _table(top)
+    found = {}
+    for family, label in LABELS.items():
+        labels = [definitions.value([label, "operator"], {"operator": operator}) for operator in _values(enums, family)]
+        found[family] = {letters.upper(): int(number) for _, letters, number in labels}
+    return found
+
+
 def read(top):
     """Each call of the table: its name, the kinds that it takes, and those that it gives."""
-    sources = top / TABLE / "src"
-    enums = _enums((sources / "families.rt").read_text() + (sources / "operation.rt").read_text())
-    specs = top / TABLE / "specs"
-    definitions = _Definitions([(specs / name).read_text() for name in ("Letters.antt", "Calls.antt")])
+    enums, definitions = _table(top)
     found = {}
     for operation in _values(enums, "Op"):
         _, name, operands, results = definitions.value(["row_of", "operation"], {"operation": operation})

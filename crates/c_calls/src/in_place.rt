@@ -12,10 +12,9 @@ ghost use Rattle.c_calls.specs.Numbers.{bool_binary, int_monoid};
 ghost use Rattle.c_calls.specs.Tiles.{bool_scan_after, int_scan_after};
 
 use crate::checks::{check_limit, segments};
-use crate::monoids::{by_bool_monoid, by_int_monoid};
-use crate::numbers::{bool_binary, int_monoid};
+use crate::numbers::operator_of;
 use cvl_base::monoid::know_laws;
-use cvl_base::{BoolBinary, Fault, IntMonoid, Monoid};
+use cvl_base::{BoolBinary, Fault, IntMonoid, Monoid, by_bool_binary, by_int_monoid};
 use scan_walks::{know_numbers, scan_in, seg_scan_in};
 
 /// The scan from the unit on, over the elements.
@@ -42,9 +41,9 @@ fn seg_scan<M: Monoid>(a: &mut [M::Item], lengths: &[i32]) -> Result<(), Fault>
 pub fn int_scan(op: u32, a: &mut [i32]) -> Result<(), Fault>
     ensures { Overwrites (by_operator (int_monoid op) (λ o. in_limit a.old (Ok (int_scan_of o a.old)))) result a.old a.new }
 {
-    let op = int_monoid(op)?;
+    let op = operator_of::<IntMonoid>(op)?;
     know_numbers(a);
-    by_int_monoid!(op, scan(a))
+    by_int_monoid!(op, scan::<_>(a))
 }
 
 /// The scan of integers by an operator, after an integer, over the integers.
@@ -53,7 +52,7 @@ fn int_scan_after_by(op: IntMonoid, before: &i32, a: &mut [i32])
 {
     know_numbers(&[*before]);
     know_numbers(a);
-    by_int_monoid!(op, scan_in(*before, a))
+    by_int_monoid!(op, scan_in::<_>(*before, a))
 }
 
 /// The scan of integers by the operator of a number, after an integer, over the integers.
@@ -61,7 +60,7 @@ pub fn int_scan_from(op: u32, before: i32, a: &mut [i32]) -> Result<(), Fault>
     ensures { Overwrites (by_operator (int_monoid op) (λ o. in_limit a.old (Ok (int_scan_after o before a.old))))
         result a.old a.new }
 {
-    let op = int_monoid(op)?;
+    let op = operator_of::<IntMonoid>(op)?;
     check_limit(a)?;
     int_scan_after_by(op, &before, a);
     Ok(())
@@ -72,24 +71,24 @@ pub fn seg_int_scan(op: u32, a: &mut [i32], lengths: &[i32]) -> Result<(), Fault
     ensures { Overwrites (by_operator (int_monoid op)
         (λ o. by_segments lengths.now (seg_scan_of (int_join_of o) (int_unit_of o) a.old))) result a.old a.new }
 {
-    let op = int_monoid(op)?;
+    let op = operator_of::<IntMonoid>(op)?;
     know_numbers(a);
-    by_int_monoid!(op, seg_scan(a, lengths))
+    by_int_monoid!(op, seg_scan::<_>(a, lengths))
 }
 
 /// The scan of booleans by the operator of a number, over the booleans.
 pub fn bool_scan(op: u32, a: &mut [bool]) -> Result<(), Fault>
     ensures { Overwrites (by_operator (bool_binary op) (λ o. in_limit a.old (Ok (bool_scan_of o a.old)))) result a.old a.new }
 {
-    let op = bool_binary(op)?;
-    by_bool_monoid!(op, scan(a))
+    let op = operator_of::<BoolBinary>(op)?;
+    by_bool_binary!(op, scan::<_>(a))
 }
 
 /// The scan of booleans by an operator, after a boolean, over the booleans.
 fn bool_scan_after_by(op: BoolBinary, before: bool, a: &mut [bool])
     ensures { a.new ≡ bool_scan_after op before a.old }
 {
-    by_bool_monoid!(op, scan_in(before, a))
+    by_bool_binary!(op, scan_in::<_>(before, a))
 }
 
 /// The scan of booleans by the operator of a number, after a boolean, over the booleans.
@@ -97,7 +96,7 @@ pub fn bool_scan_from(op: u32, before: bool, a: &mut [bool]) -> Result<(), Fault
     ensures { Overwrites (by_operator (bool_binary op) (λ o. in_limit a.old (Ok (bool_scan_after o before a.old))))
         result a.old a.new }
 {
-    let op = bool_binary(op)?;
+    let op = operator_of::<BoolBinary>(op)?;
     check_limit(a)?;
     bool_scan_after_by(op, before, a);
     Ok(())
@@ -108,6 +107,6 @@ pub fn seg_bool_scan(op: u32, a: &mut [bool], lengths: &[i32]) -> Result<(), Fau
     ensures { Overwrites (by_operator (bool_binary op)
         (λ o. by_segments lengths.now (seg_scan_of (bool_join_of o) (bool_unit_of o) a.old))) result a.old a.new }
 {
-    let op = bool_binary(op)?;
-    by_bool_monoid!(op, seg_scan(a, lengths))
+    let op = operator_of::<BoolBinary>(op)?;
+    by_bool_binary!(op, seg_scan::<_>(a, lengths))
 }

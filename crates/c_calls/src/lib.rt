@@ -9,7 +9,6 @@ pub mod descriptors;
 pub mod elements;
 pub mod flat_permutes;
 pub mod in_place;
-mod monoids;
 pub mod numbers;
 pub mod packs;
 pub mod place_by_place;

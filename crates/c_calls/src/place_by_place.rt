@@ -9,8 +9,8 @@ ghost use Rattle.c_calls.specs.Numbers.{comparison, int_binary};
 ghost use Rattle.c_calls.specs.Told.{in_room};
 
 use crate::checks::check_limit;
-use crate::numbers::{comparison, int_binary};
-use cvl_base::Fault;
+use crate::numbers::operator_of;
+use cvl_base::{Comparison, Fault, IntBinary};
 use elementwise::{bool_from_int_over, compare_over, int2_over};
 use flag_calls::select_over;
 
@@ -19,7 +19,7 @@ pub fn int2(op: u32, a: &[i32], b: &[i32], out: &mut [i32]) -> Result<(), Fault>
     ensures { Overwrites (in_room (length out.old) (by_operator (int_binary op) (λ o. in_limit a.now (ints2_of o a.now b.now))))
         result out.old out.new }
 {
-    let op = int_binary(op)?;
+    let op = operator_of::<IntBinary>(op)?;
     check_limit(a)?;
     int2_over(op, a, b, out)
 }
@@ -29,7 +29,7 @@ pub fn compare(op: u32, a: &[i32], b: &[i32], out: &mut [bool]) -> Result<(), Fa
     ensures { Overwrites (in_room (length out.old) (by_operator (comparison op) (λ o. in_limit a.now (compare_of o a.now b.now))))
         result out.old out.new }
 {
-    let op = comparison(op)?;
+    let op = operator_of::<Comparison>(op)?;
     check_limit(a)?;
     compare_over(op, a, b, out)
 }

@@ -11,10 +11,9 @@ ghost use Rattle.c_calls.specs.Numbers.{bool_binary, int_monoid};
 ghost use Rattle.c_calls.specs.Told.{in_room};
 
 use crate::checks::check_limit;
-use crate::monoids::{by_bool_monoid, by_int_monoid};
-use crate::numbers::{bool_binary, int_monoid};
+use crate::numbers::operator_of;
 use cvl_base::monoid::know_laws;
-use cvl_base::{Fault, Monoid};
+use cvl_base::{BoolBinary, Fault, IntMonoid, Monoid, by_bool_binary, by_int_monoid};
 use scan_walks::{Itself, know_numbers, scan_over, sum_from};
 
 /// For each element those before it, joined from left to right, and the unit where none is.
@@ -42,18 +41,18 @@ pub fn int_scan(op: u32, a: &[i32], out: &mut [i32]) -> Result<(), Fault>
     ensures { Overwrites (in_room (length out.old) (by_operator (int_monoid op) (λ o. in_limit a.now (Ok (int_scan_of o a.now)))))
         result out.old out.new }
 {
-    let op = int_monoid(op)?;
+    let op = operator_of::<IntMonoid>(op)?;
     know_numbers(a);
-    by_int_monoid!(op, scan(a, out))
+    by_int_monoid!(op, scan::<_>(a, out))
 }
 
 /// The reduce of integers by the operator of a number.
 pub fn int_reduce(op: u32, a: &[i32]) -> Result<i32, Fault>
     ensures { result ≡ by_operator (int_monoid op) (λ o. in_limit a.now (Ok (int_reduce_of o a.now))) }
 {
-    let op = int_monoid(op)?;
+    let op = operator_of::<IntMonoid>(op)?;
     know_numbers(a);
-    by_int_monoid!(op, reduce(a))
+    by_int_monoid!(op, reduce::<_>(a))
 }
 
 /// The scan of booleans by the operator of a number.
@@ -61,15 +60,15 @@ pub fn bool_scan(op: u32, a: &[bool], out: &mut [bool]) -> Result<(), Fault>
     ensures { Overwrites (in_room (length out.old)
         (by_operator (bool_binary op) (λ o. in_limit a.now (Ok (bool_scan_of o a.now))))) result out.old out.new }
 {
-    let op = bool_binary(op)?;
-    by_bool_monoid!(op, scan(a, out))
+    let op = operator_of::<BoolBinary>(op)?;
+    by_bool_binary!(op, scan::<_>(a, out))
 }
 
 /// The reduce of flags by the operator of a number.
 pub fn bool_reduce(op: u32, a: &[u8]) -> Result<bool, Fault>
     ensures { result ≡ by_operator (bool_binary op) (λ o. in_limit a.now (Ok (bool_reduce_of o (flags_of a.now)))) }
 {
-    let op = bool_binary(op)?;
+    let op = operator_of::<BoolBinary>(op)?;
     check_limit(a)?;
     Ok(flag_calls::bool_reduce(op, a))
 }

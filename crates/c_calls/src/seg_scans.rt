@@ -10,9 +10,8 @@ ghost use Rattle.c_calls.specs.Numbers.{bool_binary, int_monoid};
 ghost use Rattle.c_calls.specs.Told.{in_room};
 
 use crate::checks::segments;
-use crate::monoids::{by_bool_monoid, by_int_monoid};
-use crate::numbers::{bool_binary, int_monoid};
-use cvl_base::Fault;
+use crate::numbers::operator_of;
+use cvl_base::{BoolBinary, Fault, IntMonoid, by_bool_binary, by_int_monoid};
 use flag_calls::seg_bool_reduce_over;
 use scan_walks::{know_numbers, seg_reduce_over, seg_scan_over};
 
@@ -21,10 +20,10 @@ pub fn int_scan(op: u32, a: &[i32], lengths: &[i32], out: &mut [i32]) -> Result<
     ensures { Overwrites (in_room (length out.old) (by_operator (int_monoid op)
         (λ o. by_segments lengths.now (seg_scan_of (int_join_of o) (int_unit_of o) a.now)))) result out.old out.new }
 {
-    let op = int_monoid(op)?;
+    let op = operator_of::<IntMonoid>(op)?;
     let d = segments(lengths)?;
     know_numbers(a);
-    by_int_monoid!(op, seg_scan_over(a, &d, out))
+    by_int_monoid!(op, seg_scan_over::<_>(a, &d, out))
 }
 
 /// The reduce of each segment of integers by the operator of a number.
@@ -32,10 +31,10 @@ pub fn int_reduce(op: u32, a: &[i32], lengths: &[i32], out: &mut [i32]) -> Resul
     ensures { Overwrites (in_room (length out.old) (by_operator (int_monoid op)
         (λ o. by_segments lengths.now (seg_reduce_of (int_join_of o) (int_unit_of o) a.now)))) result out.old out.new }
 {
-    let op = int_monoid(op)?;
+    let op = operator_of::<IntMonoid>(op)?;
     let d = segments(lengths)?;
     know_numbers(a);
-    by_int_monoid!(op, seg_reduce_over(a, &d, out))
+    by_int_monoid!(op, seg_reduce_over::<_>(a, &d, out))
 }
 
 /// The scan of each segment of booleans by the operator of a number.
@@ -43,9 +42,9 @@ pub fn bool_scan(op: u32, a: &[bool], lengths: &[i32], out: &mut [bool]) -> Resu
     ensures { Overwrites (in_room (length out.old) (by_operator (bool_binary op)
         (λ o. by_segments lengths.now (seg_scan_of (bool_join_of o) (bool_unit_of o) a.now)))) result out.old out.new }
 {
-    let op = bool_binary(op)?;
+    let op = operator_of::<BoolBinary>(op)?;
     let d = segments(lengths)?;
-    by_bool_monoid!(op, seg_scan_over(a, &d, out))
+    by_bool_binary!(op, seg_scan_over::<_>(a, &d, out))
 }
 
 /// The reduce of each segment of flags by the operator of a number.
@@ -54,7 +53,7 @@ pub fn bool_reduce(op: u32, a: &[u8], lengths: &[i32], out: &mut [bool]) -> Resu
         (λ o. by_segments lengths.now (seg_reduce_of (bool_join_of o) (bool_unit_of o) (flags_of a.now)))))
         result out.old out.new }
 {
-    let op = bool_binary(op)?;
+    let op = operator_of::<BoolBinary>(op)?;
     let d = segments(lengths)?;
     seg_bool_reduce_over(op, a, &d, out)
 }

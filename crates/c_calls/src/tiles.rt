@@ -10,9 +10,8 @@ ghost use Rattle.c_calls.specs.Told.{in_room};
 ghost use Rattle.c_calls.specs.Tiles.{bool_scan_after, int_scan_after};
 
 use crate::checks::check_limit;
-use crate::monoids::{by_bool_monoid, by_int_monoid};
-use crate::numbers::{bool_binary, int_monoid};
-use cvl_base::{Fault, Monoid};
+use crate::numbers::operator_of;
+use cvl_base::{BoolBinary, Fault, IntMonoid, Monoid, by_bool_binary, by_int_monoid};
 use scan_walks::{know_numbers, scan_over};
 
 /// For each element `before`, joined from left to right with those in front of it.
@@ -32,10 +31,10 @@ fn int_scan_after_ref(op: u32, before: &i32, a: &[i32], out: &mut [i32]) -> Resu
     ensures { Overwrites (in_room (length out.old)
         (by_operator (int_monoid op) (λ o. in_limit a.now (Ok (int_scan_after o before.now a.now))))) result out.old out.new }
 {
-    let op = int_monoid(op)?;
+    let op = operator_of::<IntMonoid>(op)?;
     know_numbers(&[*before]);
     know_numbers(a);
-    by_int_monoid!(op, scan_after(before, a, out))
+    by_int_monoid!(op, scan_after::<_>(before, a, out))
 }
 
 /// The scan of integers by the operator of a number, after an integer.
@@ -51,6 +50,6 @@ pub fn bool_scan_from(op: u32, before: bool, a: &[bool], out: &mut [bool]) -> Re
     ensures { Overwrites (in_room (length out.old)
         (by_operator (bool_binary op) (λ o. in_limit a.now (Ok (bool_scan_after o before a.now))))) result out.old out.new }
 {
-    let op = bool_binary(op)?;
-    by_bool_monoid!(op, scan_after(&before, a, out))
+    let op = operator_of::<BoolBinary>(op)?;
+    by_bool_binary!(op, scan_after::<_>(&before, a, out))
 }

@@ -5,7 +5,6 @@ use Rattle.call_table.specs.declared.families.IntBinary.TheVariants.{Div, Mod, L
 use Rattle.call_table.specs.declared.families.Comparison.{Comparison}
 use Rattle.call_table.specs.declared.families.Comparison.TheVariants.{Greater}
 use Rattle.call_table.specs.declared.families.BoolBinary.{BoolBinary}
-use Rattle.call_table.specs.declared.families.BoolBinary.TheVariants as truth
 use Rattle.cvl_base.specs.declared.fault.Fault.{Fault}
 use Rattle.cvl_base.specs.declared.fault.FaultNo.{FaultNo}
 use Rattle.cvl_base.specs.Elementwise.{on_pairs, on_pairs_or, ints2_of, compare_of, bools2_of}
@@ -49,5 +48,4 @@ compare-two comparison xs ys more others long also_long = pairs-two xs ys more o
 
 pub bools2-two : (operator : BoolBinary) (xs ys more others : List Bool) → length xs ≡ length ys → length more ≡ length others
     → bools2_of operator (xs ++ more) (ys ++ others) ≡ in_two (length xs) (bools2_of operator xs ys) (bools2_of operator more others)
-bools2-two truth.And xs ys more others long also_long = pairs-two xs ys more others long also_long _
 bools2-two operator xs ys more others long also_long = pairs-two xs ys more others long also_long _

@@ -1,3 +1,4 @@
 pub mod Joined
+pub mod Labelled
 pub mod Spelled
 pub mod SpelledLaws

@@ -18,7 +18,8 @@ use Rattle.call_table.specs.Spellings.{op_of, int_binaries, unaries, comparisons
 
 pub read_back : (op : Op) → is_write op ≡ false → op_of (spelling_of op) ≡ Some op
 unfolding op_of int_binaries unaries comparisons bool_binaries int_monoids forms elements
-read_back (Ints2 int.Add) h = refl
+read_back (Ints2 (int.Monoid monoid.Add)) h = refl
+read_back (Ints2 int.Sub) h = refl
 read_back (Ints1 Not) h = refl
 read_back (Compare Greater) h = refl
 read_back (Bools2 bool.And) h = refl

@@ -16,7 +16,7 @@ use Rattle.call_table.specs.declared.operation.Op.TheVariants.{Input, Nested, In
 use Rattle.call_table.specs.declared.operation.Op.TheVariants.{BoolFromInt, Scan, Reduce, BoolScan, BoolReduce, Permute, Length, Count}
 use Rattle.call_table.specs.declared.operation.Op.TheVariants.{Pack, PackedLengths, Distribute, Index, Extract, Replace}
 use Rattle.call_table.specs.declared.operation.Op.TheVariants.{MakeDescriptor, DescriptorLengths, CheckedScan, CheckedReduce, Write}
-use Rattle.call_table.specs.Letters.{int_binary_letters, unary_letters, comparison_letters, bool_binary_letters, int_monoid_letters}
+use Rattle.call_table.specs.Letters.{OperatorLabel, int_binary_label, unary_label, comparison_label, bool_binary_label, int_monoid_label}
 use Rattle.call_table.specs.Letters.{form_letters, call_name_of}
 
 -- a single value, and a vector of such values
@@ -82,24 +82,28 @@ row name operands results = record { name = name; operands = operands; results =
 abbrev call : List ℕ → List ℕ → Cut → Element → List Kind → Kind → Row
 call operator class cut element operands result = row (call_name_of operator class cut element) operands (result ∷ [])
 
+-- the row of a call whose name begins with the letters of an operator
+abbrev by : OperatorLabel → List ℕ → Cut → Element → List Kind → Kind → Row
+by label class cut element operands result = call label.letters class cut element operands result
+
 -- the table; `write` is no call, gives no value, and takes what `accepts_of` says
 abbrev pub row_of : Op → Row
 row_of Input = row (codes "input") (Integer ∷ []) (Integers ∷ [])
 row_of Nested = row (codes "nested") (Integer ∷ []) (Integers ∷ Descriptor ∷ [])
-row_of (Ints2 op) = call (int_binary_letters op) (codes "_w") Flat of.Integer (Integers ∷ Integers ∷ []) Integers
-row_of (Ints1 op) = call (unary_letters op) (codes "_w") Flat of.Integer (Integers ∷ []) Integers
-row_of (Compare op) = call (comparison_letters op) (codes "_w") Flat of.Integer (Integers ∷ Integers ∷ []) Booleans
-row_of (Bools2 op) = call (bool_binary_letters op) (codes "_w") Flat of.Boolean (Booleans ∷ Booleans ∷ []) Booleans
-row_of (Bools1 op) = call (unary_letters op) (codes "_w") Flat of.Boolean (Booleans ∷ []) Booleans
+row_of (Ints2 op) = by (int_binary_label op) (codes "_w") Flat of.Integer (Integers ∷ Integers ∷ []) Integers
+row_of (Ints1 op) = by (unary_label op) (codes "_w") Flat of.Integer (Integers ∷ []) Integers
+row_of (Compare op) = by (comparison_label op) (codes "_w") Flat of.Integer (Integers ∷ Integers ∷ []) Booleans
+row_of (Bools2 op) = by (bool_binary_label op) (codes "_w") Flat of.Boolean (Booleans ∷ Booleans ∷ []) Booleans
+row_of (Bools1 op) = by (unary_label op) (codes "_w") Flat of.Boolean (Booleans ∷ []) Booleans
 row_of (Choose element) = call (codes "sel") (codes "_w") Flat element (chosen_by element) (vector_of element)
 row_of IntFromBool = call (codes "int") (codes "_w") Flat of.Boolean (Booleans ∷ []) Integers
 row_of BoolFromInt = call (codes "boo") (codes "_w") Flat of.Integer (Integers ∷ []) Booleans
-row_of (Scan op cut) = call (int_monoid_letters op) (codes "_s") cut of.Integer (Integers ∷ cut_by cut) Integers
-row_of (Reduce op cut) = call (int_monoid_letters op) (codes "_r") cut of.Integer (Integers ∷ cut_by cut) (each_of cut of.Integer)
+row_of (Scan op cut) = by (int_monoid_label op) (codes "_s") cut of.Integer (Integers ∷ cut_by cut) Integers
+row_of (Reduce op cut) = by (int_monoid_label op) (codes "_r") cut of.Integer (Integers ∷ cut_by cut) (each_of cut of.Integer)
 row_of (CheckedScan cut) = call (codes "tot") (codes "_s") cut of.Integer (Integers ∷ cut_by cut) Integers
 row_of (CheckedReduce cut) = call (codes "tot") (codes "_r") cut of.Integer (Integers ∷ cut_by cut) (each_of cut of.Integer)
-row_of (BoolScan op cut) = call (bool_binary_letters op) (codes "_s") cut of.Boolean (Booleans ∷ cut_by cut) Booleans
-row_of (BoolReduce op cut) = call (bool_binary_letters op) (codes "_r") cut of.Boolean (Booleans ∷ cut_by cut) (each_of cut of.Boolean)
+row_of (BoolScan op cut) = by (bool_binary_label op) (codes "_s") cut of.Boolean (Booleans ∷ cut_by cut) Booleans
+row_of (BoolReduce op cut) = by (bool_binary_label op) (codes "_r") cut of.Boolean (Booleans ∷ cut_by cut) (each_of cut of.Boolean)
 row_of (Permute form cut element) = call (form_letters form) (codes "_p") cut element (permuted_by form cut element) (vector_of element)
 row_of (Length element) = call (codes "len") (codes "_l") Flat element (vector_of element ∷ []) Integer
 row_of (Count cut) = call (codes "cnt") (codes "_l") cut of.Boolean (Booleans ∷ cut_by cut) (each_of cut of.Integer)

@@ -1,16 +1,17 @@
--- The letters of the calls' names: an operator, a class, and how the vectors are cut and what they hold: `add_wuz`, for example.
--- Source: the naming of CVL's calls, in this library's profile.
+-- The letters of the calls' names: an operator, a class, and how the vectors are cut and what they hold: `add_wuz`, for example; and
+-- the numbers by which callers of other languages name operators.
+-- Source: the naming of CVL's calls, in this library's profile; the numbers are those of this library's header for C.
 use Rattle.std.specs.Prelude.{ℕ, List, ◌++◌, codes}
 use Rattle.call_table.specs.declared.families.IntBinary.{IntBinary}
-use Rattle.call_table.specs.declared.families.IntBinary.TheVariants as int
-use Rattle.call_table.specs.declared.families.Unary.{Unary}
-use Rattle.call_table.specs.declared.families.Unary.TheVariants.{Not, Copy}
+use Rattle.call_table.specs.declared.families.IntBinary.TheVariants.{Monoid, Sub, Div, Mod, Lsh, Rsh}
+use Rattle.call_table.specs.declared.families.IntMonoid.{IntMonoid}
+use Rattle.call_table.specs.declared.families.IntMonoid.TheVariants.{Add, Mul, Min, Max, And, Ior, Xor}
 use Rattle.call_table.specs.declared.families.Comparison.{Comparison}
 use Rattle.call_table.specs.declared.families.Comparison.TheVariants.{Greater, Less, AtLeast, AtMost, Equal, Unequal}
 use Rattle.call_table.specs.declared.families.BoolBinary.{BoolBinary}
-use Rattle.call_table.specs.declared.families.BoolBinary.TheVariants as bool
-use Rattle.call_table.specs.declared.families.IntMonoid.{IntMonoid}
-use Rattle.call_table.specs.declared.families.IntMonoid.TheVariants as monoid
+use Rattle.call_table.specs.declared.families.BoolBinary.TheVariants as truth
+use Rattle.call_table.specs.declared.families.Unary.{Unary}
+use Rattle.call_table.specs.declared.families.Unary.TheVariants.{Not, Copy}
 use Rattle.call_table.specs.declared.families.Form.{Form}
 use Rattle.call_table.specs.declared.families.Form.TheVariants.{Simple, Back, Select, Default}
 use Rattle.call_table.specs.declared.families.Cut.{Cut}
@@ -18,46 +19,48 @@ use Rattle.call_table.specs.declared.families.Cut.TheVariants.{Flat, Segmented}
 use Rattle.call_table.specs.declared.families.Element.{Element}
 use Rattle.call_table.specs.declared.families.Element.TheVariants.{Integer, Boolean}
 
--- the three letters of each operator
-abbrev pub int_binary_letters : IntBinary → List ℕ
-int_binary_letters int.Add = codes "add"
-int_binary_letters int.Sub = codes "sub"
-int_binary_letters int.Mul = codes "mul"
-int_binary_letters int.Div = codes "div"
-int_binary_letters int.Mod = codes "mod"
-int_binary_letters int.Min = codes "min"
-int_binary_letters int.Max = codes "max"
-int_binary_letters int.Lsh = codes "lsh"
-int_binary_letters int.Rsh = codes "rsh"
-int_binary_letters int.And = codes "and"
-int_binary_letters int.Ior = codes "ior"
-int_binary_letters int.Xor = codes "xor"
+-- how an operator is named: by three letters in scripts, and by a number, which it has for ever
+pub record OperatorLabel : Type 0 where
+  pub letters : List ℕ
+  pub number : ℕ
 
-abbrev pub unary_letters : Unary → List ℕ
-unary_letters Not = codes "not"
-unary_letters Copy = codes "cpy"
+abbrev label : List ℕ → ℕ → OperatorLabel
+label letters number = record { letters = letters; number = number }
 
-abbrev pub comparison_letters : Comparison → List ℕ
-comparison_letters Greater = codes "grt"
-comparison_letters Less = codes "les"
-comparison_letters AtLeast = codes "geq"
-comparison_letters AtMost = codes "leq"
-comparison_letters Equal = codes "eql"
-comparison_letters Unequal = codes "neq"
+abbrev pub int_monoid_label : IntMonoid → OperatorLabel
+int_monoid_label Add = label (codes "add") 0
+int_monoid_label Mul = label (codes "mul") 1
+int_monoid_label Min = label (codes "min") 2
+int_monoid_label Max = label (codes "max") 3
+int_monoid_label And = label (codes "and") 4
+int_monoid_label Ior = label (codes "ior") 5
+int_monoid_label Xor = label (codes "xor") 6
 
-abbrev pub bool_binary_letters : BoolBinary → List ℕ
-bool_binary_letters bool.And = codes "and"
-bool_binary_letters bool.Ior = codes "ior"
-bool_binary_letters bool.Xor = codes "xor"
+abbrev pub int_binary_label : IntBinary → OperatorLabel
+int_binary_label (Monoid operator) = int_monoid_label operator
+int_binary_label Sub = label (codes "sub") 7
+int_binary_label Div = label (codes "div") 8
+int_binary_label Mod = label (codes "mod") 9
+int_binary_label Lsh = label (codes "lsh") 10
+int_binary_label Rsh = label (codes "rsh") 11
 
-abbrev pub int_monoid_letters : IntMonoid → List ℕ
-int_monoid_letters monoid.Add = codes "add"
-int_monoid_letters monoid.Mul = codes "mul"
-int_monoid_letters monoid.Min = codes "min"
-int_monoid_letters monoid.Max = codes "max"
-int_monoid_letters monoid.And = codes "and"
-int_monoid_letters monoid.Ior = codes "ior"
-int_monoid_letters monoid.Xor = codes "xor"
+abbrev pub comparison_label : Comparison → OperatorLabel
+comparison_label Greater = label (codes "grt") 12
+comparison_label Less = label (codes "les") 13
+comparison_label AtLeast = label (codes "geq") 14
+comparison_label AtMost = label (codes "leq") 15
+comparison_label Equal = label (codes "eql") 16
+comparison_label Unequal = label (codes "neq") 17
+
+-- an operator on booleans is named as that on integers which does the same to each bit
+abbrev pub bool_binary_label : BoolBinary → OperatorLabel
+bool_binary_label truth.And = int_monoid_label And
+bool_binary_label truth.Ior = int_monoid_label Ior
+bool_binary_label truth.Xor = int_monoid_label Xor
+
+abbrev pub unary_label : Unary → OperatorLabel
+unary_label Not = label (codes "not") 18
+unary_label Copy = label (codes "cpy") 19
 
 abbrev pub form_letters : Form → List ℕ
 form_letters Simple = codes "smp"

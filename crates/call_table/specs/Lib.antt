@@ -1,3 +1,4 @@
 pub mod Calls
 pub mod Letters
+pub mod Operators
 pub mod Spellings

@@ -1,16 +1,6 @@
 -- The calls by their names: which call a word means.
 -- Source: the naming of CVL's calls, in this library's profile.
 use Rattle.std.specs.Prelude.{ℕ, Bool, List, [], ◌∷◌, ◌++◌, map, find, Option, bytes_eq}
-use Rattle.call_table.specs.declared.families.IntBinary.{IntBinary}
-use Rattle.call_table.specs.declared.families.IntBinary.TheVariants as int
-use Rattle.call_table.specs.declared.families.Unary.{Unary}
-use Rattle.call_table.specs.declared.families.Unary.TheVariants.{Not, Copy}
-use Rattle.call_table.specs.declared.families.Comparison.{Comparison}
-use Rattle.call_table.specs.declared.families.Comparison.TheVariants.{Greater, Less, AtLeast, AtMost, Equal, Unequal}
-use Rattle.call_table.specs.declared.families.BoolBinary.{BoolBinary}
-use Rattle.call_table.specs.declared.families.BoolBinary.TheVariants as bool
-use Rattle.call_table.specs.declared.families.IntMonoid.{IntMonoid}
-use Rattle.call_table.specs.declared.families.IntMonoid.TheVariants as monoid
 use Rattle.call_table.specs.declared.families.Form.{Form}
 use Rattle.call_table.specs.declared.families.Form.TheVariants.{Simple, Back, Select, Default}
 use Rattle.call_table.specs.declared.families.Cut.{Cut}
@@ -24,27 +14,13 @@ use Rattle.call_table.specs.declared.operation.Op.TheVariants.{Pack, PackedLengt
 use Rattle.call_table.specs.declared.operation.Op.TheVariants.{MakeDescriptor, DescriptorLengths, CheckedScan, CheckedReduce}
 use Rattle.call_table.specs.declared.spelling.Spelling.{Spelling}
 use Rattle.call_table.specs.Calls.{spelling_of}
+unfoldable pub use Rattle.call_table.specs.Operators.{bool_binaries, comparisons, int_binaries, int_monoids, unaries}
 
 -- the bytes that a spelling shows: its parts, one after the other
 abbrev pub bytes_of : Spelling → List ℕ
 bytes_of spelling = spelling.operator.now ++ (spelling.class.now ++ spelling.cut_and_element.now)
 
--- all operators, forms, cuts and elements, each once
-unfoldable pub int_binaries : List IntBinary
-int_binaries = int.Add ∷ int.Sub ∷ int.Mul ∷ int.Div ∷ int.Mod ∷ int.Min ∷ int.Max ∷ int.Lsh ∷ int.Rsh ∷ int.And ∷ int.Ior ∷ int.Xor ∷ []
-
-unfoldable pub unaries : List Unary
-unaries = Not ∷ Copy ∷ []
-
-unfoldable pub comparisons : List Comparison
-comparisons = Greater ∷ Less ∷ AtLeast ∷ AtMost ∷ Equal ∷ Unequal ∷ []
-
-unfoldable pub bool_binaries : List BoolBinary
-bool_binaries = bool.And ∷ bool.Ior ∷ bool.Xor ∷ []
-
-unfoldable pub int_monoids : List IntMonoid
-int_monoids = monoid.Add ∷ monoid.Mul ∷ monoid.Min ∷ monoid.Max ∷ monoid.And ∷ monoid.Ior ∷ monoid.Xor ∷ []
-
+-- all forms and elements, each once
 unfoldable pub forms : List Form
 forms = Simple ∷ Back ∷ Select ∷ Default ∷ []
 

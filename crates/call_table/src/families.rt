@@ -1,75 +1,47 @@
 //! In what the calls of one family differ: the operator, the form, the cut and the elements, with their letters in names.
 
 ghost use Rattle.std.specs.Prelude.{◌≡◌};
-ghost use Rattle.call_table.specs.Letters.{int_binary_letters, unary_letters, comparison_letters, bool_binary_letters};
-ghost use Rattle.call_table.specs.Letters.{int_monoid_letters, form_letters, cut_and_element_letters};
+ghost use Rattle.call_table.specs.Letters.{bool_binary_label, comparison_label, int_binary_label, int_monoid_label, unary_label};
+ghost use Rattle.call_table.specs.Letters.{cut_and_element_letters, form_letters};
+ghost use Rattle.call_table.specs.Operators.{bool_binaries, comparisons, int_binaries, int_monoids, unaries};
 
-/// The letters of an operator, of each that its enum has.
-macro_rules! letters {
-    ($operator:expr; $($name:ident $letters:literal),*) => {
-        match $operator {
-            $(Self::$name => $letters,)*
-        }
-    };
-}
+use crate::labels::{Family, Label};
 
 /// An operator on two integer vectors, element by element, whose result is an integer vector.
 #[derive(Clone, Copy, Debug, PartialEq, Eq)]
 pub enum IntBinary {
-    /// The sum, wrapped to 32 bits.
-    Add,
+    /// One that is associative and has a unit, so that it scans and reduces too.
+    Monoid(IntMonoid),
     /// The difference, wrapped to 32 bits.
     Sub,
-    /// The product, wrapped to 32 bits.
-    Mul,
     /// The quotient, truncated toward zero.
     Div,
     /// The remainder of that quotient, with the dividend's sign.
     Mod,
-    /// The lesser of the two.
-    Min,
-    /// The greater of the two.
-    Max,
     /// The first, shifted left by the second; high bits are dropped.
     Lsh,
     /// The first, shifted right by the second; the sign is copied.
     Rsh,
+}
+
+/// An associative operator on integers that has a unit, by which two vectors are joined place by place, and one is scanned or
+/// reduced.
+#[derive(Clone, Copy, Debug, PartialEq, Eq)]
+pub enum IntMonoid {
+    /// The sum, wrapped to 32 bits.
+    Add,
+    /// The product, wrapped to 32 bits.
+    Mul,
+    /// The lesser of the two.
+    Min,
+    /// The greater of the two.
+    Max,
     /// Bitwise and.
     And,
     /// Bitwise inclusive or.
     Ior,
     /// Bitwise exclusive or.
     Xor,
-}
-
-impl IntBinary {
-    /// The three letters with which a call of this operator begins.
-    pub(crate) fn letters(self) -> &'static str
-        ensures { result.now ≡ int_binary_letters self }
-    {
-        letters!(self;
-            Add "add", Sub "sub", Mul "mul", Div "div", Mod "mod", Min "min",
-            Max "max", Lsh "lsh", Rsh "rsh", And "and", Ior "ior", Xor "xor"
-        )
-    }
-}
-
-/// An operator on one vector, element by element.
-#[derive(Clone, Copy, Debug, PartialEq, Eq)]
-pub enum Unary {
-    /// Each bit, or each boolean, inverted.
-    Not,
-    /// The same vector again.
-    Copy,
-}
-
-impl Unary {
-    /// The three letters with which a call of this operator begins.
-    pub(crate) fn letters(self) -> &'static str
-        ensures { result.now ≡ unary_letters self }
-    {
-        letters!(self; Not "not", Copy "cpy")
-    }
 }
 
 /// A comparison of two integer vectors, element by element, on signed numbers.
@@ -89,19 +61,7 @@ pub enum Comparison {
     Unequal,
 }
 
-impl Comparison {
-    /// The three letters with which a call of this comparison begins.
-    pub(crate) fn letters(self) -> &'static str
-        ensures { result.now ≡ comparison_letters self }
-    {
-        letters!(self;
-            Greater "grt", Less "les", AtLeast "geq",
-            AtMost "leq", Equal "eql", Unequal "neq"
-        )
-    }
-}
-
-/// An operator on two booleans. All three are associative, so that they scan and reduce too.
+/// An operator on two booleans. All three are associative and have a unit, so that they scan and reduce too.
 #[derive(Clone, Copy, Debug, PartialEq, Eq)]
 pub enum BoolBinary {
     /// Both are true.
@@ -112,43 +72,147 @@ pub enum BoolBinary {
     Xor,
 }
 
-impl BoolBinary {
-    /// The three letters with which a call of this operator begins.
-    pub(crate) fn letters(self) -> &'static str
-        ensures { result.now ≡ bool_binary_letters self }
-    {
-        letters!(self; And "and", Ior "ior", Xor "xor")
+/// An operator on one vector, element by element.
+#[derive(Clone, Copy, Debug, PartialEq, Eq)]
+pub enum Unary {
+    /// Each bit, or each boolean, inverted.
+    Not,
+    /// The same vector again.
+    Copy,
+}
+
+/// The operators of each enum, each once, with its letters and its number where these are its own. They are handed to a macro, in
+/// brackets behind the enum's name and before what else the macro takes. Those of `IntBinary` are its own alone, without the
+/// monoids.
+macro_rules! operators_of {
+    (IntMonoid $then:ident $($more:tt)*) => {
+        $then!(
+            [IntMonoid (Add "add" 0) (Mul "mul" 1) (Min "min" 2) (Max "max" 3) (And "and" 4) (Ior "ior" 5) (Xor "xor" 6)]
+            $($more)*
+        )
+    };
+    (IntBinary $then:ident $($more:tt)*) => {
+        $then!(
+            [IntBinary (Sub "sub" 7) (Div "div" 8) (Mod "mod" 9) (Lsh "lsh" 10) (Rsh "rsh" 11)]
+            $($more)*
+        )
+    };
+    (Comparison $then:ident $($more:tt)*) => {
+        $then!(
+            [
+                Comparison (Greater "grt" 12) (Less "les" 13) (AtLeast "geq" 14) (AtMost "leq" 15) (Equal "eql" 16)
+                (Unequal "neq" 17)
+            ]
+            $($more)*
+        )
+    };
+    (BoolBinary $then:ident $($more:tt)*) => { $then!([BoolBinary (And) (Ior) (Xor)] $($more)*) };
+    (Unary $then:ident $($more:tt)*) => { $then!([Unary (Not "not" 18) (Copy "cpy" 19)] $($more)*) };
+    (Form $then:ident $($more:tt)*) => { $then!([Form (Simple) (Back) (Select) (Default)] $($more)*) };
+    (Element $then:ident $($more:tt)*) => { $then!([Element (Integer) (Boolean)] $($more)*) };
+}
+
+pub(crate) use operators_of;
+
+/// The label of an operator, told apart; arms for others come first.
+macro_rules! label {
+    ([$of:ident $(($name:ident $letters:literal $number:literal))*] $operator:ident $($arm:tt)*) => {
+        match $operator {
+            $($arm)*
+            $($of::$name => Label::new($letters, $number),)*
+        }
+    };
+}
+
+/// The operators of an enum as a slice.
+macro_rules! slice {
+    ([$of:ident $(($name:ident $($label:literal)*))*]) => { &[$($of::$name),*] };
+}
+
+/// The operators on two integers as a slice, from those that are monoids and the others.
+macro_rules! int_slice {
+    ([IntMonoid $(($name:ident $($label:literal)*))*]) => { operators_of!(IntBinary int_slice $($name)*) };
+    ([IntBinary $(($other:ident $($label:literal)*))*] $($monoid:ident)*) => {
+        &[$(IntBinary::Monoid(IntMonoid::$monoid),)* $(IntBinary::$other),*]
+    };
+}
+
+impl Family for IntBinary {
+    ghost label = { int_binary_label };
+
+    ghost all = { int_binaries };
+
+    fn label(self) -> Label {
+        operators_of!(IntBinary label self IntBinary::Monoid(operator) => operator.label(),)
+    }
+
+    #[tactic(auto, unfolding(crate::specs::Operators::int_binaries, crate::specs::Operators::int_monoids))]
+    fn all() -> &'static [IntBinary] {
+        operators_of!(IntMonoid int_slice)
     }
 }
 
-/// An associative operator on integers, by which a vector is scanned or reduced.
-#[derive(Clone, Copy, Debug, PartialEq, Eq)]
-pub enum IntMonoid {
-    /// The sum, wrapped to 32 bits.
-    Add,
-    /// The product, wrapped to 32 bits.
-    Mul,
-    /// The lesser of the two.
-    Min,
-    /// The greater of the two.
-    Max,
-    /// Bitwise and.
-    And,
-    /// Bitwise inclusive or.
-    Ior,
-    /// Bitwise exclusive or.
-    Xor,
+impl Family for IntMonoid {
+    ghost label = { int_monoid_label };
+
+    ghost all = { int_monoids };
+
+    fn label(self) -> Label {
+        operators_of!(IntMonoid label self)
+    }
+
+    #[tactic(auto, unfolding(crate::specs::Operators::int_monoids))]
+    fn all() -> &'static [IntMonoid] {
+        operators_of!(IntMonoid slice)
+    }
 }
 
-impl IntMonoid {
-    /// The three letters with which a call of this operator begins.
-    pub(crate) fn letters(self) -> &'static str
-        ensures { result.now ≡ int_monoid_letters self }
-    {
-        letters!(self;
-            Add "add", Mul "mul", Min "min", Max "max",
-            And "and", Ior "ior", Xor "xor"
-        )
+impl Family for Comparison {
+    ghost label = { comparison_label };
+
+    ghost all = { comparisons };
+
+    fn label(self) -> Label {
+        operators_of!(Comparison label self)
+    }
+
+    #[tactic(auto, unfolding(crate::specs::Operators::comparisons))]
+    fn all() -> &'static [Comparison] {
+        operators_of!(Comparison slice)
+    }
+}
+
+impl Family for BoolBinary {
+    ghost label = { bool_binary_label };
+
+    ghost all = { bool_binaries };
+
+    fn label(self) -> Label {
+        match self {
+            BoolBinary::And => IntMonoid::And.label(),
+            BoolBinary::Ior => IntMonoid::Ior.label(),
+            BoolBinary::Xor => IntMonoid::Xor.label(),
+        }
+    }
+
+    #[tactic(auto, unfolding(crate::specs::Operators::bool_binaries))]
+    fn all() -> &'static [BoolBinary] {
+        operators_of!(BoolBinary slice)
+    }
+}
+
+impl Family for Unary {
+    ghost label = { unary_label };
+
+    ghost all = { unaries };
+
+    fn label(self) -> Label {
+        operators_of!(Unary label self)
+    }
+
+    #[tactic(auto, unfolding(crate::specs::Operators::unaries))]
+    fn all() -> &'static [Unary] {
+        operators_of!(Unary slice)
     }
 }
 
@@ -170,7 +234,12 @@ impl Form {
     pub(crate) fn letters(self) -> &'static str
         ensures { result.now ≡ form_letters self }
     {
-        letters!(self; Simple "smp", Back "bck", Select "sel", Default "def")
+        match self {
+            Form::Simple => "smp",
+            Form::Back => "bck",
+            Form::Select => "sel",
+            Form::Default => "def",
+        }
     }
 }
 

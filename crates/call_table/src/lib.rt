@@ -4,6 +4,7 @@
 
 pub mod families;
 pub mod kind;
+pub mod labels;
 mod operands;
 pub mod operation;
 pub mod spelling;
@@ -11,5 +12,6 @@ mod table;
 
 pub use families::{BoolBinary, Comparison, Cut, Element, Form, IntBinary, IntMonoid, Unary};
 pub use kind::Kind;
+pub use labels::{Family, Label, know_labels, numbered};
 pub use operation::Op;
 pub use spelling::op_of;

@@ -8,6 +8,7 @@ ghost use Rattle.call_table.specs.Spellings.{bytes_of, is_spelled, elementwise_c
 
 use crate::families::{
     BoolBinary, Comparison, Cut, Element, Form, IntBinary, IntMonoid, Unary, cut_and_element,
+    operators_of,
 };
 use crate::operation::Op;
 use crate::table::row_of;
@@ -98,16 +99,21 @@ impl fmt::Debug for Op {
     }
 }
 
-/// The calls of families, family by family one for each operator of its enum, and then other calls.
+/// Calls in an array: of each family one for each operator of an enum, and then others.
 macro_rules! calls {
-    ($($family:ident $parts:tt by $of:ident: $($operator:ident)*),*; $($other:expr),*) => {
-        [$($(call!($family $of $operator $parts),)*)* $($other),*]
+    ([$($done:tt)*] $family:ident $parts:tt by $of:ident, $($rest:tt)*) => {
+        operators_of!($of calls [$($done)*] $family $parts $($rest)*)
     };
+    ([$of:ident $(($operator:ident $($label:literal)*))*] [$($done:tt)*] $family:ident $parts:tt $($rest:tt)*) => {
+        calls!([$($done)* $(call!($family $of $operator $parts),)*] $($rest)*)
+    };
+    ([$($done:tt)*] $($other:expr),*) => { [$($done)* $($other),*] };
 }
 
-/// A call of a family: the operator, and what else the family's calls differ in.
+/// A call of a family: the operator, as it is or as one of another enum, and what else the family's calls differ in.
 macro_rules! call {
     ($family:ident $of:ident $operator:ident ($($part:expr),*)) => { Op::$family($of::$operator $(, $part)*) };
+    ($family:ident $of:ident $operator:ident [$as:path]) => { Op::$family($as($of::$operator)) };
 }
 
 /// The first of these calls whose name is the word.
@@ -118,35 +124,27 @@ fn first_spelled(calls: &[Op], word: &[u8]) -> Option<Op>
 }
 
 /// The elementwise call with this name.
-#[tactic(auto, unfolding(crate::specs::Spellings::int_binaries, crate::specs::Spellings::unaries, crate::specs::Spellings::comparisons, crate::specs::Spellings::bool_binaries, crate::specs::Spellings::elements))]
+#[tactic(auto, unfolding(crate::specs::Operators::int_binaries, crate::specs::Operators::int_monoids, crate::specs::Operators::unaries, crate::specs::Operators::comparisons, crate::specs::Operators::bool_binaries, crate::specs::Spellings::elements))]
 fn elementwise_named(word: &[u8]) -> Option<Op>
     ensures { result ≡ find (is_spelled word.now) elementwise_calls }
 {
     let calls = calls![
-        Ints2() by IntBinary: Add Sub Mul Div Mod Min Max Lsh Rsh And Ior Xor,
-        Ints1() by Unary: Not Copy,
-        Compare() by Comparison: Greater Less AtLeast AtMost Equal Unequal,
-        Bools2() by BoolBinary: And Ior Xor,
-        Bools1() by Unary: Not Copy,
-        Choose() by Element: Integer Boolean;
+        [] Ints2[IntBinary::Monoid] by IntMonoid, Ints2() by IntBinary, Ints1() by Unary,
+        Compare() by Comparison, Bools2() by BoolBinary, Bools1() by Unary, Choose() by Element,
         Op::IntFromBool, Op::BoolFromInt
     ];
     first_spelled(&calls, word)
 }
 
 /// The call with this name of those that take their vectors whole, or of those that take them by segments.
-#[tactic(auto, unfolding(crate::specs::Spellings::int_monoids, crate::specs::Spellings::bool_binaries, crate::specs::Spellings::forms))]
+#[tactic(auto, unfolding(crate::specs::Operators::int_monoids, crate::specs::Operators::bool_binaries, crate::specs::Spellings::forms))]
 fn cut_call_named(cut: Cut, word: &[u8]) -> Option<Op>
     ensures { result ≡ find (is_spelled word.now) (cut_calls cut) }
 {
     let (integer, boolean) = (Element::Integer, Element::Boolean);
     let calls = calls![
-        Scan(cut) by IntMonoid: Add Mul Min Max And Ior Xor,
-        Reduce(cut) by IntMonoid: Add Mul Min Max And Ior Xor,
-        BoolScan(cut) by BoolBinary: And Ior Xor,
-        BoolReduce(cut) by BoolBinary: And Ior Xor,
-        Permute(cut, integer) by Form: Simple Back Select Default,
-        Permute(cut, boolean) by Form: Simple Back Select Default;
+        [] Scan(cut) by IntMonoid, Reduce(cut) by IntMonoid, BoolScan(cut) by BoolBinary,
+        BoolReduce(cut) by BoolBinary, Permute(cut, integer) by Form, Permute(cut, boolean) by Form,
         Op::Pack(cut, integer), Op::Distribute(cut, integer),
         Op::Extract(cut, integer), Op::Replace(cut, integer),
         Op::Pack(cut, boolean), Op::Distribute(cut, boolean),
@@ -162,7 +160,7 @@ fn other_call_named(word: &[u8]) -> Option<Op>
     ensures { result ≡ find (is_spelled word.now) other_calls }
 {
     let calls = calls![
-        Length() by Element: Integer Boolean;
+        [] Length() by Element,
         Op::Input, Op::Nested, Op::PackedLengths, Op::MakeDescriptor, Op::DescriptorLengths
     ];
     first_spelled(&calls, word)

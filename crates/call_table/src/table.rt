@@ -7,6 +7,7 @@ ghost use Rattle.call_table.specs.Spellings.{bytes_of};
 use crate::families::{Cut, Element};
 use crate::kind::Kind;
 use crate::kind::Kind::{Booleans, Descriptor, Integer, Integers};
+use crate::labels::Family;
 use crate::operands::{
     each, of_choose, of_distribute, of_extract, of_index, of_pack, of_permute, of_replace,
     of_vector, vector,
@@ -46,28 +47,28 @@ pub(crate) fn row_of(op: Op) -> Row
         Op::Input => row!("input", &[Integer] => &[Integers]),
         Op::Nested => row!("nested", &[Integer] => &[Integers, Descriptor]),
         Op::Ints2(by) =>
-            row!(by.letters(), "_w", flat, integer, &[Integers, Integers] => &[Integers]),
-        Op::Ints1(by) => row!(by.letters(), "_w", flat, integer, &[Integers] => &[Integers]),
+            row!(by.label().letters, "_w", flat, integer, &[Integers, Integers] => &[Integers]),
+        Op::Ints1(by) => row!(by.label().letters, "_w", flat, integer, &[Integers] => &[Integers]),
         Op::Compare(by) =>
-            row!(by.letters(), "_w", flat, integer, &[Integers, Integers] => &[Booleans]),
+            row!(by.label().letters, "_w", flat, integer, &[Integers, Integers] => &[Booleans]),
         Op::Bools2(by) =>
-            row!(by.letters(), "_w", flat, boolean, &[Booleans, Booleans] => &[Booleans]),
-        Op::Bools1(by) => row!(by.letters(), "_w", flat, boolean, &[Booleans] => &[Booleans]),
+            row!(by.label().letters, "_w", flat, boolean, &[Booleans, Booleans] => &[Booleans]),
+        Op::Bools1(by) => row!(by.label().letters, "_w", flat, boolean, &[Booleans] => &[Booleans]),
         Op::Choose(of) => row!("sel", "_w", flat, of, of_choose(of) => vector(of)),
         Op::IntFromBool => row!("int", "_w", flat, boolean, &[Booleans] => &[Integers]),
         Op::BoolFromInt => row!("boo", "_w", flat, integer, &[Integers] => &[Booleans]),
         Op::Scan(by, cut) =>
-            row!(by.letters(), "_s", cut, integer, of_vector(cut, integer) => &[Integers]),
+            row!(by.label().letters, "_s", cut, integer, of_vector(cut, integer) => &[Integers]),
         Op::Reduce(by, cut) =>
-            row!(by.letters(), "_r", cut, integer, of_vector(cut, integer) => each(cut, integer)),
+            row!(by.label().letters, "_r", cut, integer, of_vector(cut, integer) => each(cut, integer)),
         Op::CheckedScan(cut) =>
             row!("tot", "_s", cut, integer, of_vector(cut, integer) => &[Integers]),
         Op::CheckedReduce(cut) =>
             row!("tot", "_r", cut, integer, of_vector(cut, integer) => each(cut, integer)),
         Op::BoolScan(by, cut) =>
-            row!(by.letters(), "_s", cut, boolean, of_vector(cut, boolean) => &[Booleans]),
+            row!(by.label().letters, "_s", cut, boolean, of_vector(cut, boolean) => &[Booleans]),
         Op::BoolReduce(by, cut) =>
-            row!(by.letters(), "_r", cut, boolean, of_vector(cut, boolean) => each(cut, boolean)),
+            row!(by.label().letters, "_r", cut, boolean, of_vector(cut, boolean) => each(cut, boolean)),
         Op::Permute(by, cut, of) =>
             row!(by.letters(), "_p", cut, of, of_permute(by, cut, of) => vector(of)),
         Op::Length(of) => row!("len", "_l", flat, of, of_vector(flat, of) => &[Integer]),

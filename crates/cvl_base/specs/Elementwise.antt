@@ -8,20 +8,18 @@ use Rattle.cvl_base.specs.declared.fault.Fault.{Fault}
 use Rattle.cvl_base.specs.declared.fault.FaultNo.{FaultNo}
 use Rattle.cvl_base.specs.declared.fault.FaultNo.TheVariants.{LengthMismatch, DivideByZero, ShiftOutOfRange}
 use Rattle.call_table.specs.declared.families.IntBinary.{IntBinary}
-use Rattle.call_table.specs.declared.families.IntBinary.TheVariants.{Add, Sub, Mul, Div, Mod, Min, Max, Lsh, Rsh, And, Ior, Xor}
+use Rattle.call_table.specs.declared.families.IntBinary.TheVariants.{Monoid, Sub, Div, Mod, Lsh, Rsh}
 use Rattle.call_table.specs.declared.families.Unary.{Unary}
 use Rattle.call_table.specs.declared.families.Unary.TheVariants.{Not, Copy}
 use Rattle.call_table.specs.declared.families.Comparison.{Comparison}
 use Rattle.call_table.specs.declared.families.Comparison.TheVariants.{Greater, Less, AtLeast, AtMost, Equal, Unequal}
 use Rattle.call_table.specs.declared.families.BoolBinary.{BoolBinary}
-use Rattle.call_table.specs.declared.families.BoolBinary.TheVariants as truth
-use Rattle.operators.specs.Booleans.{both, either, differ}
 use Rattle.operators.specs.Conversions.{integer_of, boolean_of}
 use Rattle.cvl_base.specs.Faults.{fault, fault_at}
 use Rattle.cvl_base.specs.Gives.{◌>>=◌, fault_if}
-use Rattle.operators.specs.Integers.{sum_of, difference_of, product_of, quotient_of, remainder_of, lesser_of, greater_of, left_shift_of}
-use Rattle.operators.specs.Integers.{right_shift_of, and_of, ior_of, xor_of, not_of, is_greater, is_less, is_at_least, is_at_most, is_equal}
-use Rattle.operators.specs.Integers.{is_unequal}
+use Rattle.cvl_base.specs.Scans.{bool_join_of, int_join_of}
+use Rattle.operators.specs.Integers.{difference_of, quotient_of, remainder_of, left_shift_of, right_shift_of, not_of}
+use Rattle.operators.specs.Integers.{is_greater, is_less, is_at_least, is_at_most, is_equal, is_unequal}
 
 -- all the values, or the fault at the least place that has none, where the first stands at the place given
 abbrev pub values_from : {Y : Type 0} → FaultNo → ℕ → List (Option Y) → Result (List Y) Fault
@@ -41,18 +39,12 @@ abbrev pub on_pairs_or : {X Y Z : Type 0} → FaultNo → (X → Y → Option Z)
 on_pairs_or number operator xs ys = if_as_long xs ys (values_from number 0 (map (λ p. operator p.0 p.1) (zip xs ys)))
 
 abbrev pub ints2_of : IntBinary → List ℤ → List ℤ → Result (List ℤ) Fault
-ints2_of Add = on_pairs sum_of
+ints2_of (Monoid operator) = on_pairs (int_join_of operator)
 ints2_of Sub = on_pairs difference_of
-ints2_of Mul = on_pairs product_of
 ints2_of Div = on_pairs_or DivideByZero quotient_of
 ints2_of Mod = on_pairs_or DivideByZero remainder_of
-ints2_of Min = on_pairs lesser_of
-ints2_of Max = on_pairs greater_of
 ints2_of Lsh = on_pairs_or ShiftOutOfRange left_shift_of
 ints2_of Rsh = on_pairs_or ShiftOutOfRange right_shift_of
-ints2_of And = on_pairs and_of
-ints2_of Ior = on_pairs ior_of
-ints2_of Xor = on_pairs xor_of
 
 abbrev pub ints1_of : Unary → List ℤ → List ℤ
 ints1_of Not xs = map not_of xs
@@ -67,9 +59,7 @@ compare_of Equal = on_pairs is_equal
 compare_of Unequal = on_pairs is_unequal
 
 abbrev pub bools2_of : BoolBinary → List Bool → List Bool → Result (List Bool) Fault
-bools2_of truth.And = on_pairs both
-bools2_of truth.Ior = on_pairs either
-bools2_of truth.Xor = on_pairs differ
+bools2_of operator = on_pairs (bool_join_of operator)
 
 abbrev pub bools1_of : Unary → List Bool → List Bool
 bools1_of Not xs = map not xs

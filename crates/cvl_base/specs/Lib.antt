@@ -20,6 +20,7 @@ pub mod Values
 pub mod Words
 pub use Rattle.call_table.specs.Calls
 pub use Rattle.call_table.specs.Letters
+pub use Rattle.call_table.specs.Operators
 pub use Rattle.call_table.specs.Spellings
 pub use Rattle.operators.specs.Booleans
 pub use Rattle.operators.specs.Conversions

@@ -4,6 +4,7 @@
 //! handed on here under their names.
 #![tactic(auto)]
 
+pub mod by_operator;
 pub mod call;
 pub mod checks;
 pub mod config;
@@ -14,14 +15,15 @@ pub mod lengths;
 pub mod limits;
 pub mod memory;
 pub mod name;
+pub mod partials;
 pub mod places;
 pub mod refused;
 pub mod value;
 
 pub use call::{Arg, Args, Call, ResultNames};
 pub use call_table::{
-    BoolBinary, Comparison, Cut, Element, Form, IntBinary, IntMonoid, Kind, Op, Unary, families,
-    kind, op_of, operation, spelling,
+    BoolBinary, Comparison, Cut, Element, Family, Form, IntBinary, IntMonoid, Kind, Label, Op,
+    Unary, families, kind, labels, numbered, op_of, operation, spelling,
 };
 pub use checks::check_agree;
 pub use config::{BadConfig, Config};
@@ -32,8 +34,10 @@ pub use lengths::Lengths;
 pub use memory::Memory;
 pub use name::Name;
 pub use operators::{
-    Monoid, Packed, Seg, boolean, folds, integer, laws, monoid, monoids, seg, tile_sums,
+    Binary, Monoid, Packed, Seg, Single, comparisons, folds, integer, laws, monoid, monoids,
+    operator, seg, sides, singles, tile_sums,
 };
+pub use partials::PartialBinary;
 pub use places::place_among;
 pub use refused::{NoResources, Refused};
 pub use value::Value;

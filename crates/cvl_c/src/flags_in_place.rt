@@ -12,9 +12,10 @@ ghost use Rattle.c_calls.specs.Told.{Told};
 
 use c_calls::checks::check_limit;
 use c_calls::in_place::{bool_scan, bool_scan_from, seg_bool_scan};
-use c_calls::numbers::{bool_binary, unary};
+use c_calls::numbers::operator_of;
 use c_calls::or_tell;
 use c_calls::status::{CvlStatus, told_over};
+use cvl_base::{BoolBinary, Unary};
 use flag_calls::{
     bool1_in, bool2_in_both, bool2_in_first, bool2_in_second, select_flags_in_first,
     select_flags_in_second, select_in_first, select_in_second,
@@ -26,7 +27,7 @@ pub extern "C" fn cvl_bool2_in_first(op: u32, a: &mut [u8], b: &[u8]) -> CvlStat
     ensures { Told (as_bytes (by_operator (bool_binary op)
         (λ o. in_limit a.old (bools2_of o (flags_of a.old) (flags_of b.now))))) result a.old a.new }
 {
-    let op = or_tell!(bool_binary(op));
+    let op = or_tell!(operator_of::<BoolBinary>(op));
     or_tell!(check_limit(a));
     told_over::<u8>(bool2_in_first(op, a, b))
 }
@@ -37,7 +38,7 @@ pub extern "C" fn cvl_bool2_in_second(op: u32, a: &[u8], b: &mut [u8]) -> CvlSta
     ensures { Told (as_bytes (by_operator (bool_binary op)
         (λ o. in_limit a.now (bools2_of o (flags_of a.now) (flags_of b.old))))) result b.old b.new }
 {
-    let op = or_tell!(bool_binary(op));
+    let op = or_tell!(operator_of::<BoolBinary>(op));
     or_tell!(check_limit(a));
     told_over::<u8>(bool2_in_second(op, a, b))
 }
@@ -48,7 +49,7 @@ pub extern "C" fn cvl_bool2_in_both(op: u32, a: &mut [u8]) -> CvlStatus
     ensures { Told (as_bytes (by_operator (bool_binary op)
         (λ o. in_limit a.old (bools2_of o (flags_of a.old) (flags_of a.old))))) result a.old a.new }
 {
-    let op = or_tell!(bool_binary(op));
+    let op = or_tell!(operator_of::<BoolBinary>(op));
     or_tell!(check_limit(a));
     told_over::<u8>(bool2_in_both(op, a))
 }
@@ -59,7 +60,7 @@ pub extern "C" fn cvl_bool1_in(op: u32, a: &mut [u8]) -> CvlStatus
     ensures { Told (as_bytes (by_operator (unary op)
         (λ o. in_limit a.old (Ok (bools1_of o (flags_of a.old)))))) result a.old a.new }
 {
-    let op = or_tell!(unary(op));
+    let op = or_tell!(operator_of::<Unary>(op));
     or_tell!(check_limit(a));
     told_over::<u8>(bool1_in(op, a))
 }

@@ -12,9 +12,10 @@ ghost use Rattle.c_calls.specs.Told.{Told};
 
 use c_calls::checks::{check_limit, segments};
 use c_calls::in_place::{int_scan, int_scan_from, seg_int_scan};
-use c_calls::numbers::{int_binary, unary};
+use c_calls::numbers::operator_of;
 use c_calls::or_tell;
 use c_calls::status::{CvlStatus, done, told_over};
+use cvl_base::{IntBinary, Unary};
 use elementwise::{int1_in, int2_in_both, int2_in_first, int2_in_second};
 use scan_walks::{checked_scan_in, checked_seg_scan_in};
 
@@ -23,7 +24,7 @@ use scan_walks::{checked_scan_in, checked_seg_scan_in};
 pub extern "C" fn cvl_int2_in_first(op: u32, a: &mut [i32], b: &[i32]) -> CvlStatus
     ensures { Told (by_operator (int_binary op) (λ o. in_limit a.old (ints2_of o a.old b.now))) result a.old a.new }
 {
-    let op = or_tell!(int_binary(op));
+    let op = or_tell!(operator_of::<IntBinary>(op));
     or_tell!(check_limit(a));
     told_over::<i32>(int2_in_first(op, a, b))
 }
@@ -33,7 +34,7 @@ pub extern "C" fn cvl_int2_in_first(op: u32, a: &mut [i32], b: &[i32]) -> CvlSta
 pub extern "C" fn cvl_int2_in_second(op: u32, a: &[i32], b: &mut [i32]) -> CvlStatus
     ensures { Told (by_operator (int_binary op) (λ o. in_limit a.now (ints2_of o a.now b.old))) result b.old b.new }
 {
-    let op = or_tell!(int_binary(op));
+    let op = or_tell!(operator_of::<IntBinary>(op));
     or_tell!(check_limit(a));
     told_over::<i32>(int2_in_second(op, a, b))
 }
@@ -43,7 +44,7 @@ pub extern "C" fn cvl_int2_in_second(op: u32, a: &[i32], b: &mut [i32]) -> CvlSt
 pub extern "C" fn cvl_int2_in_both(op: u32, a: &mut [i32]) -> CvlStatus
     ensures { Told (by_operator (int_binary op) (λ o. in_limit a.old (ints2_of o a.old a.old))) result a.old a.new }
 {
-    let op = or_tell!(int_binary(op));
+    let op = or_tell!(operator_of::<IntBinary>(op));
     or_tell!(check_limit(a));
     told_over::<i32>(int2_in_both(op, a))
 }
@@ -53,7 +54,7 @@ pub extern "C" fn cvl_int2_in_both(op: u32, a: &mut [i32]) -> CvlStatus
 pub extern "C" fn cvl_int1_in(op: u32, a: &mut [i32]) -> CvlStatus
     ensures { Told (by_operator (unary op) (λ o. in_limit a.old (Ok (ints1_of o a.old)))) result a.old a.new }
 {
-    let op = or_tell!(unary(op));
+    let op = or_tell!(operator_of::<Unary>(op));
     or_tell!(check_limit(a));
     int1_in(op, a);
     done()

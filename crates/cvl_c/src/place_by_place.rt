@@ -9,10 +9,11 @@ ghost use Rattle.c_calls.specs.Numbers.{bool_binary, comparison, int_binary, una
 ghost use Rattle.c_calls.specs.Told.{Told, in_room};
 
 use c_calls::checks::check_limit;
-use c_calls::numbers::{bool_binary, unary};
+use c_calls::numbers::operator_of;
 use c_calls::or_tell;
 use c_calls::place_by_place::{bool_from_int, compare, int2, select_int};
 use c_calls::status::{CvlStatus, told_over};
+use cvl_base::{BoolBinary, Unary};
 use elementwise::int1_over;
 use flag_calls::{bool1_over, bool2_over, int_from_bool_over, select_flags_over};
 
@@ -31,7 +32,7 @@ pub extern "C" fn cvl_int1(op: u32, a: &[i32], out: &mut [i32]) -> CvlStatus
     ensures { Told (in_room (length out.old) (by_operator (unary op) (λ o. in_limit a.now (Ok (ints1_of o a.now)))))
         result out.old out.new }
 {
-    let op = or_tell!(unary(op));
+    let op = or_tell!(operator_of::<Unary>(op));
     or_tell!(check_limit(a));
     told_over::<i32>(int1_over(op, a, out))
 }
@@ -51,7 +52,7 @@ pub extern "C" fn cvl_bool2(op: u32, a: &[u8], b: &[u8], out: &mut [u8]) -> CvlS
     ensures { Told (in_room (length out.old) (as_bytes (by_operator (bool_binary op)
         (λ o. in_limit a.now (bools2_of o (flags_of a.now) (flags_of b.now)))))) result out.old out.new }
 {
-    let op = or_tell!(bool_binary(op));
+    let op = or_tell!(operator_of::<BoolBinary>(op));
     or_tell!(check_limit(a));
     told_over::<u8>(bool2_over(op, a, b, out))
 }
@@ -62,7 +63,7 @@ pub extern "C" fn cvl_bool1(op: u32, a: &[u8], out: &mut [u8]) -> CvlStatus
     ensures { Told (in_room (length out.old) (as_bytes (by_operator (unary op)
         (λ o. in_limit a.now (Ok (bools1_of o (flags_of a.now))))))) result out.old out.new }
 {
-    let op = or_tell!(unary(op));
+    let op = or_tell!(operator_of::<Unary>(op));
     or_tell!(check_limit(a));
     told_over::<u8>(bool1_over(op, a, out))
 }

@@ -10,6 +10,6 @@ pub mod or_zero;
 
 pub use choice::Chosen;
 pub use copies::Copied;
-pub use on_each::{OnEach, Single};
-pub use on_pairs::{Binary, OnPairs};
-pub use or_zero::{OrZero, PartialBinary};
+pub use on_each::OnEach;
+pub use on_pairs::OnPairs;
+pub use or_zero::OrZero;

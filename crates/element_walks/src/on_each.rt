@@ -1,19 +1,12 @@
-//! An operator on one element, and the vector of its values.
+//! The vector of the values of an operator on one element.
 
 ghost use Rattle.std.specs.Prelude.{◌≡◌, ◌+◌, ◌≤◌, [], length, map};
 ghost use Rattle.fresh.specs.Parts.{part};
 ghost use Rattle.fresh.specs.Places.{stretch};
 
+use cvl_base::Single;
 use fresh::{Run, Writer};
 use std::marker::PhantomData;
-
-/// An operator on one element.
-pub trait Single<X, Z> {
-    ghost value: { X → Z };
-
-    fn apply(a: X) -> Z
-        ensures { result ≡ value a };
-}
 
 /// Writes an operator's values on the elements of a vector.
 #[derive(Drop)]

@@ -1,20 +1,13 @@
-//! An operator with a value on each two elements, and the vector of its values.
+//! The vector of the values of an operator that has one on each two elements.
 
 ghost use Rattle.std.specs.Prelude.{◌≡◌, ◌+◌, ◌≤◌, [], length, map};
 ghost use Rattle.std.specs.List.{zip};
 ghost use Rattle.fresh.specs.Parts.{part};
 ghost use Rattle.fresh.specs.Places.{stretch};
 
+use cvl_base::Binary;
 use fresh::{Run, Writer};
 use std::marker::PhantomData;
-
-/// An operator with a value on each two elements.
-pub trait Binary<X, Z> {
-    ghost value: { X → X → Z };
-
-    fn apply(a: X, b: X) -> Z
-        ensures { result ≡ value a b };
-}
 
 /// Writes an operator's values on the pairs of elements of two vectors.
 #[derive(Drop)]

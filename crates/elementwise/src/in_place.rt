@@ -7,12 +7,13 @@ ghost use Rattle.cvl_base.specs.Elementwise.{ints1_of, ints2_of, on_pairs, on_pa
 ghost use Rattle.cvl_base.specs.Limits.{most_places};
 ghost use Rattle.cvl_base.specs.Rooms.{Overwrites};
 
-use crate::by_operator::by_int_binary;
 use crate::looks::check_values;
-use crate::sides::{Flipped, Twice};
-use crate::singles::NotInt;
-use cvl_base::{Fault, IntBinary, Unary, check_agree};
-use element_walks::{Binary, OrZero, PartialBinary, Single};
+use cvl_base::sides::{Flipped, Twice};
+use cvl_base::singles::NotInt;
+use cvl_base::{
+    Binary, Fault, IntBinary, PartialBinary, Single, Unary, by_int_binary, check_agree,
+};
+use element_walks::OrZero;
 
 /// Writes the operator's value over each element.
 pub fn on_each_in<O: Single<X, X>, X: Copy>(a: &mut [X])
@@ -94,8 +95,8 @@ pub fn int2_in_first(op: IntBinary, a: &mut [i32], b: &[i32]) -> Result<(), Faul
 {
     by_int_binary!(
         op,
-        on_pairs_in_first::<i32>(a, b),
-        on_pairs_or_in_first::<>(a, b)
+        on_pairs_in_first::<_, i32>(a, b),
+        on_pairs_or_in_first::<_>(a, b)
     )
 }
 
@@ -106,8 +107,8 @@ pub fn int2_in_second(op: IntBinary, a: &[i32], b: &mut [i32]) -> Result<(), Fau
 {
     by_int_binary!(
         op,
-        on_pairs_in_second::<i32>(a, b),
-        on_pairs_or_in_second::<>(a, b)
+        on_pairs_in_second::<_, i32>(a, b),
+        on_pairs_or_in_second::<_>(a, b)
     )
 }
 
@@ -116,7 +117,11 @@ pub fn int2_in_both(op: IntBinary, a: &mut [i32]) -> Result<(), Fault>
     requires { length a.old ≤ most_places }
     ensures { Overwrites (ints2_of op a.old a.old) result a.old a.new }
 {
-    by_int_binary!(op, on_pairs_in_both::<i32>(a), on_pairs_or_in_both::<>(a))
+    by_int_binary!(
+        op,
+        on_pairs_in_both::<_, i32>(a),
+        on_pairs_or_in_both::<_>(a)
+    )
 }
 
 /// The same as [`int1`](crate::int1), over the vector.

@@ -5,33 +5,24 @@
 //! quotients, remainders and shifts the workers of a configuration race for the least place without a value, and then write.
 #![tactic(auto)]
 
-mod bools;
-mod by_operator;
 mod choice;
-mod comparisons;
 mod copies;
 mod in_place;
-mod ints;
 mod looks;
 mod over;
-mod partials;
+mod pairs;
 mod races;
 mod shared;
-mod sides;
 mod singles;
-mod total_operators;
-mod truths;
 mod values;
 
-pub use bools::{bool_from_int, bool1, bool2, compare};
 pub use choice::select;
 pub use in_place::{
     int1_in, int2_in_both, int2_in_first, int2_in_second, on_each_in, on_pairs_in_both,
     on_pairs_in_first, on_pairs_in_second,
 };
-pub use ints::{int_from_bool, int1, int2, int2_gated};
 pub use over::{
     bool_from_int_over, compare_over, int1_over, int2_over, on_each_over, on_pairs_over,
 };
-pub use singles::NotBool;
-pub use truths::{Both, Differ, Either};
+pub use pairs::{bool2, compare, int2, int2_gated};
+pub use singles::{bool_from_int, bool1, int_from_bool, int1};

@@ -6,8 +6,7 @@ ghost use Rattle.cvl_base.specs.Elementwise.{on_pairs, on_pairs_or};
 ghost use Rattle.cvl_base.specs.Limits.{most_places};
 ghost use Rattle.elementwise.specs.Valueless.{least_without, slots_without};
 
-use cvl_base::{Fault, check_agree};
-use element_walks::PartialBinary;
+use cvl_base::{Fault, PartialBinary, check_agree};
 
 /// How many pairs are looked at before it is asked whether one of them has no value.
 const BLOCK: usize = 4096;

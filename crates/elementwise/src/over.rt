@@ -5,12 +5,13 @@ ghost use Rattle.cvl_base.specs.Elementwise.{bools_from_ints, compare_of, ints1_
 ghost use Rattle.cvl_base.specs.Limits.{most_places};
 ghost use Rattle.cvl_base.specs.Rooms.{Overwrites, in_room};
 
-use crate::by_operator::by_int_binary;
-use crate::comparisons::{AtLeast, AtMost, Equal, Greater, Less, Unequal};
 use crate::looks::check_values;
-use crate::singles::{BoolOfInt, NotInt};
-use cvl_base::{Comparison, Fault, IntBinary, Unary, check_agree};
-use element_walks::{Binary, Copied, OnEach, OnPairs, OrZero, PartialBinary, Single};
+use cvl_base::singles::{BoolOfInt, NotInt};
+use cvl_base::{
+    Binary, Comparison, Fault, IntBinary, PartialBinary, Single, Unary, by_comparison,
+    by_int_binary, check_agree,
+};
+use element_walks::{Copied, OnEach, OnPairs, OrZero};
 use fresh::write_over;
 
 /// Writes the operator's values on the pairs of elements of two vectors, or tells `LengthMismatch` where the vectors and the
@@ -66,8 +67,8 @@ pub fn int2_over(op: IntBinary, a: &[i32], b: &[i32], out: &mut [i32]) -> Result
 {
     by_int_binary!(
         op,
-        on_pairs_over::<i32, i32>(a, b, out),
-        on_pairs_or_over::<>(a, b, out)
+        on_pairs_over::<_, i32, i32>(a, b, out),
+        on_pairs_or_over::<_>(a, b, out)
     )
 }
 
@@ -87,14 +88,7 @@ pub fn compare_over(op: Comparison, a: &[i32], b: &[i32], out: &mut [bool]) -> R
     requires { length a.now ≤ most_places }
     ensures { Overwrites (in_room (length out.old) (compare_of op a.now b.now)) result out.old out.new }
 {
-    match op {
-        Comparison::Greater => on_pairs_over::<Greater, i32, bool>(a, b, out),
-        Comparison::Less => on_pairs_over::<Less, i32, bool>(a, b, out),
-        Comparison::AtLeast => on_pairs_over::<AtLeast, i32, bool>(a, b, out),
-        Comparison::AtMost => on_pairs_over::<AtMost, i32, bool>(a, b, out),
-        Comparison::Equal => on_pairs_over::<Equal, i32, bool>(a, b, out),
-        Comparison::Unequal => on_pairs_over::<Unequal, i32, bool>(a, b, out),
-    }
+    by_comparison!(op, on_pairs_over::<_, i32, bool>(a, b, out))
 }
 
 /// The same as [`bool_from_int`](crate::bool_from_int), over a room.

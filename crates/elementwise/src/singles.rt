@@ -1,52 +1,82 @@
-//! The operators on one element, conversions among them.
+//! The operators on each element, and the conversions.
 
-ghost use Rattle.std.specs.Prelude.{not};
-ghost use Rattle.cvl_base.specs.Conversions.{boolean_of, integer_of};
-ghost use Rattle.cvl_base.specs.Integers.{not_of};
+ghost use Rattle.std.specs.Prelude.{◌≡◌, IfOk, length, vec_len};
+ghost use Rattle.cvl_base.specs.Elementwise.{bools1_of, bools_from_ints, ints1_of, ints_from_bools};
 
-use cvl_base::{boolean, integer};
-use element_walks::Single;
+use crate::copies::copied;
+use crate::values::values_on_each;
+use cvl_base::singles::{BoolOfInt, IntOfBool, NotBool, NotInt};
+use cvl_base::{Config, Memory, NoResources, Unary};
+use std::thread::Threads;
 
-/// Each of the 32 bits inverted.
-pub(crate) struct NotInt;
-
-impl Single<i32, i32> for NotInt {
-    ghost value = { not_of };
-
-    fn apply(a: i32) -> i32 {
-        integer::not(a)
+/// The operator on each element: `not_wuz` and `cpy_wuz`.
+///
+/// The result is as long as `a`. There is no fault. Long vectors are shared among threads by `rayon`, whatever the number
+/// of workers. Source: CVL's elementwise calls.
+pub fn int1<R: Threads + Sync, A: Memory>(
+    rt: &R,
+    alloc: A,
+    _config: Config,
+    op: Unary,
+    a: &[i32],
+) -> Result<Vec<i32, A>, NoResources>
+    ensures values { IfOk result (λ v. v.items ≡ ints1_of op a.now) }
+    ensures as_long { IfOk result (λ v. vec_len v ≡ length a.now) }
+{
+    match op {
+        Unary::Not => values_on_each::<NotInt, i32, i32, R, A>(rt, alloc, a),
+        Unary::Copy => copied(rt, alloc, a),
     }
 }
 
-/// True where the boolean is false.
-pub struct NotBool;
-
-impl Single<bool, bool> for NotBool {
-    ghost value = { not };
-
-    fn apply(a: bool) -> bool {
-        boolean::not(a)
+/// The operator on each boolean: `not_wub` and `cpy_wub`.
+///
+/// The result is as long as `a`. There is no fault. Long vectors are shared among threads by `rayon`, whatever the number
+/// of workers. Source: CVL's elementwise calls.
+pub fn bool1<R: Threads + Sync, A: Memory>(
+    rt: &R,
+    alloc: A,
+    _config: Config,
+    op: Unary,
+    a: &[bool],
+) -> Result<Vec<bool, A>, NoResources>
+    ensures values { IfOk result (λ v. v.items ≡ bools1_of op a.now) }
+    ensures as_long { IfOk result (λ v. vec_len v ≡ length a.now) }
+{
+    match op {
+        Unary::Not => values_on_each::<NotBool, bool, bool, R, A>(rt, alloc, a),
+        Unary::Copy => copied(rt, alloc, a),
     }
 }
 
-/// 1 for true and 0 for false.
-pub(crate) struct IntOfBool;
-
-impl Single<bool, i32> for IntOfBool {
-    ghost value = { integer_of };
-
-    fn apply(a: bool) -> i32 {
-        integer::from_bool(a)
-    }
+/// 1 at each place where the boolean is true, and 0 where it is false: `int_wub`.
+///
+/// The result is as long as `a`. There is no fault. Long vectors are shared among threads by `rayon`, whatever the number
+/// of workers. Source: CVL's conversions.
+pub fn int_from_bool<R: Threads + Sync, A: Memory>(
+    rt: &R,
+    alloc: A,
+    _config: Config,
+    a: &[bool],
+) -> Result<Vec<i32, A>, NoResources>
+    ensures values { IfOk result (λ v. v.items ≡ ints_from_bools a.now) }
+    ensures as_long { IfOk result (λ v. vec_len v ≡ length a.now) }
+{
+    values_on_each::<IntOfBool, bool, i32, R, A>(rt, alloc, a)
 }
 
-/// True for each number but 0.
-pub(crate) struct BoolOfInt;
-
-impl Single<i32, bool> for BoolOfInt {
-    ghost value = { boolean_of };
-
-    fn apply(a: i32) -> bool {
-        boolean::from_integer(a)
-    }
+/// True at each place where the number isn't 0: `boo_wuz`.
+///
+/// The result is as long as `a`. There is no fault. Long vectors are shared among threads by `rayon`, whatever the number
+/// of workers. Source: CVL's conversions.
+pub fn bool_from_int<R: Threads + Sync, A: Memory>(
+    rt: &R,
+    alloc: A,
+    _config: Config,
+    a: &[i32],
+) -> Result<Vec<bool, A>, NoResources>
+    ensures values { IfOk result (λ v. v.items ≡ bools_from_ints a.now) }
+    ensures as_long { IfOk result (λ v. vec_len v ≡ length a.now) }
+{
+    values_on_each::<BoolOfInt, i32, bool, R, A>(rt, alloc, a)
 }

@@ -5,8 +5,8 @@ ghost use Rattle.cvl_base.specs.Elementwise.{on_pairs};
 ghost use Rattle.cvl_base.specs.Gives.{Gives};
 
 use crate::shared::written_by_rayon;
-use cvl_base::{Memory, NoResources, Refused, check_agree};
-use element_walks::{Binary, OnEach, OnPairs, Single};
+use cvl_base::{Binary, Memory, NoResources, Refused, Single, check_agree};
+use element_walks::{OnEach, OnPairs};
 use std::mem::size_of_val;
 use std::thread::Threads;
 

@@ -14,7 +14,7 @@ pub fn sums<R: Threads + Sync, A: Memory>(
 ) -> Result<Vec<i32, A>, Refused> {
     let a = [3, 1, 7, 0, 4];
     let b = [1, 1, 1, 1, 1];
-    int2(rt, alloc, config, IntBinary::Add, &a, &b)
+    int2(rt, alloc, config, IntBinary::Monoid(IntMonoid::Add), &a, &b)
 }
 
 /// The sum of each row of a ragged table, whose rows are segments.

@@ -7,11 +7,11 @@ ghost use Rattle.cvl_base.specs.Rooms.{Overwrites, in_room};
 ghost use Rattle.flag_calls.specs.Flags.{as_bytes, flags_of};
 
 use crate::flags::{OnBytes, OneForTrue, Same};
-use cvl_base::{BoolBinary, Fault, Unary};
-use element_walks::Binary;
+use cvl_base::singles::NotBool;
+use cvl_base::{Binary, BoolBinary, Fault, Unary, by_bool_binary};
 use elementwise::{
-    Both, Differ, Either, NotBool, on_each_in, on_each_over, on_pairs_in_both, on_pairs_in_first,
-    on_pairs_in_second, on_pairs_over,
+    on_each_in, on_each_over, on_pairs_in_both, on_pairs_in_first, on_pairs_in_second,
+    on_pairs_over,
 };
 
 /// Writes the operator's values on the pairs of flags, or tells `LengthMismatch` where the vectors and the room aren't equally
@@ -52,44 +52,28 @@ pub fn bool2_over(op: BoolBinary, a: &[u8], b: &[u8], out: &mut [u8]) -> Result<
     ensures { Overwrites (in_room (length out.old) (as_bytes (bools2_of op (flags_of a.now) (flags_of b.now))))
         result out.old out.new }
 {
-    match op {
-        BoolBinary::And => pairs_over::<Both>(a, b, out),
-        BoolBinary::Ior => pairs_over::<Either>(a, b, out),
-        BoolBinary::Xor => pairs_over::<Differ>(a, b, out),
-    }
+    by_bool_binary!(op, pairs_over::<_>(a, b, out))
 }
 
 /// The same as [`bool2_over`], over the first vector.
 pub fn bool2_in_first(op: BoolBinary, a: &mut [u8], b: &[u8]) -> Result<(), Fault>
     ensures { Overwrites (as_bytes (bools2_of op (flags_of a.old) (flags_of b.now))) result a.old a.new }
 {
-    match op {
-        BoolBinary::And => pairs_in_first::<Both>(a, b),
-        BoolBinary::Ior => pairs_in_first::<Either>(a, b),
-        BoolBinary::Xor => pairs_in_first::<Differ>(a, b),
-    }
+    by_bool_binary!(op, pairs_in_first::<_>(a, b))
 }
 
 /// The same as [`bool2_over`], over the second vector.
 pub fn bool2_in_second(op: BoolBinary, a: &[u8], b: &mut [u8]) -> Result<(), Fault>
     ensures { Overwrites (as_bytes (bools2_of op (flags_of a.now) (flags_of b.old))) result b.old b.new }
 {
-    match op {
-        BoolBinary::And => pairs_in_second::<Both>(a, b),
-        BoolBinary::Ior => pairs_in_second::<Either>(a, b),
-        BoolBinary::Xor => pairs_in_second::<Differ>(a, b),
-    }
+    by_bool_binary!(op, pairs_in_second::<_>(a, b))
 }
 
 /// The same as [`bool2_over`] of a vector and itself, over the vector.
 pub fn bool2_in_both(op: BoolBinary, a: &mut [u8]) -> Result<(), Fault>
     ensures { Overwrites (as_bytes (bools2_of op (flags_of a.old) (flags_of a.old))) result a.old a.new }
 {
-    match op {
-        BoolBinary::And => pairs_in_both::<Both>(a),
-        BoolBinary::Ior => pairs_in_both::<Either>(a),
-        BoolBinary::Xor => pairs_in_both::<Differ>(a),
-    }
+    by_bool_binary!(op, pairs_in_both::<_>(a))
 }
 
 /// The operator on each flag: `not_wub` and `cpy_wub`. `LengthMismatch`, without a place, where the room isn't as long.

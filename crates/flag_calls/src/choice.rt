@@ -10,8 +10,7 @@ ghost use Rattle.fresh.specs.Places.{stretch};
 ghost use Rattle.flag_calls.specs.Flags.{as_bytes, choose_by, flag_of, flags_of};
 
 use crate::flags::{FalseByte, OnBytes, Same, TrueByte, flag_of};
-use cvl_base::{Fault, check_agree};
-use element_walks::Single;
+use cvl_base::{Fault, Single, check_agree};
 use fresh::{Run, Writer, write_over};
 use std::marker::PhantomData;
 

@@ -5,8 +5,8 @@ ghost use Rattle.std.specs.List.{list_all};
 ghost use Rattle.cvl_base.specs.Conversions.{integer_of};
 ghost use Rattle.flag_calls.specs.Flags.{as_flag, byte_of, flag_of, is_flag};
 
-use cvl_base::integer;
-use element_walks::{Binary, Single};
+use cvl_base::singles::IntOfBool;
+use cvl_base::{Binary, Single};
 use elementwise::on_each_in;
 use scan_walks::Reading;
 use std::marker::PhantomData;
@@ -115,6 +115,6 @@ impl Single<u8, i32> for OneForTrue {
     ghost value = { λ a. integer_of (flag_of a) };
 
     fn apply(a: u8) -> i32 {
-        integer::from_bool(flag_of(a))
+        IntOfBool::apply(flag_of(a))
     }
 }

@@ -3,7 +3,7 @@
 use crate::timing::{Answer, Bench, Family, flags, ints, measure_cases};
 use crate::vectors::{Shape, Vectors};
 use cvl_base::limits::MOST_ELEMENTS;
-use cvl_base::{BoolBinary, Comparison, IntBinary, Unary};
+use cvl_base::{BoolBinary, Comparison, IntBinary, IntMonoid, Unary};
 use elementwise::{bool_from_int, bool1, bool2, compare, int_from_bool, int1, int2, select};
 use std::io;
 use std::rt::Clock;
@@ -32,7 +32,10 @@ pub fn call<R: Threads + Sync>(
         return None;
     }
     Some(match number {
-        0 => ints("sum", int2(rt, alloc, config, IntBinary::Add, a, b)),
+        0 => {
+            let add = IntBinary::Monoid(IntMonoid::Add);
+            ints("sum", int2(rt, alloc, config, add, a, b))
+        }
         1 => ints("quotient", int2(rt, alloc, config, IntBinary::Div, a, b)),
         2 => ints(
             "left shift",

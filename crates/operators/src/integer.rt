@@ -1,35 +1,21 @@
-//! The operators on 32-bit integers in two's complement, and an integer from a boolean.
+//! The operators on two 32-bit integers in two's complement that have no unit. Those that have no value on some pairs say so.
 
 ghost use Rattle.std.specs.Prelude.{◌≡◌};
-ghost use Rattle.operators.specs.Conversions.{integer_of};
-ghost use Rattle.operators.specs.Integers.{and_of, difference_of, greater_of, ior_of, is_at_least, is_at_most, is_equal};
-ghost use Rattle.operators.specs.Integers.{is_greater, is_less, is_unequal, left_shift_of, lesser_of, not_of, product_of};
-ghost use Rattle.operators.specs.Integers.{quotient_of, remainder_of, right_shift_of, sum_of, xor_of};
+ghost use Rattle.operators.specs.Integers.{difference_of, left_shift_of, quotient_of, remainder_of, right_shift_of};
 
-/// The sum, wrapped to 32 bits.
-#[inline]
-#[tactic(auto, using(std::proofs::lemmas::Int::wraps))]
-pub fn add(a: i32, b: i32) -> i32
-    ensures { result ≡ sum_of a b }
-{
-    a.wrapping_add(b)
-}
+use crate::operator::Binary;
 
-/// `a` less `b`, wrapped to 32 bits.
-#[inline]
-#[tactic(auto, using(std::proofs::lemmas::Int::wraps))]
-pub fn sub(a: i32, b: i32) -> i32
-    ensures { result ≡ difference_of a b }
-{
-    a.wrapping_sub(b)
-}
+/// The wrapped difference of two integers.
+pub struct Sub;
 
-/// The product, wrapped to 32 bits.
-#[inline]
-pub fn mul(a: i32, b: i32) -> i32
-    ensures { result ≡ product_of a b }
-{
-    a.wrapping_mul(b)
+impl Binary<i32, i32> for Sub {
+    ghost value = { difference_of };
+
+    #[inline]
+    #[tactic(auto, using(std::proofs::lemmas::Int::wraps))]
+    fn apply(a: i32, b: i32) -> i32 {
+        a.wrapping_sub(b)
+    }
 }
 
 /// The quotient of `a` by `b`, truncated toward zero; -2147483648 by -1 wraps to -2147483648.
@@ -61,22 +47,6 @@ pub fn modulo(a: i32, b: i32) -> Option<i32>
     }
 }
 
-/// The lesser of `a` and `b`.
-#[inline]
-pub fn min(a: i32, b: i32) -> i32
-    ensures { result ≡ lesser_of a b }
-{
-    a.min(b)
-}
-
-/// The greater of `a` and `b`.
-#[inline]
-pub fn max(a: i32, b: i32) -> i32
-    ensures { result ≡ greater_of a b }
-{
-    a.max(b)
-}
-
 /// The bits of `a` moved up by `places`: `a * 2^places`, wrapped to 32 bits.
 ///
 /// None where `places` is not in 0..=31.
@@ -98,92 +68,4 @@ pub fn rsh(a: i32, places: i32) -> Option<i32>
 {
     let places = u32::try_from(places).ok()?;
     a.checked_shr(places)
-}
-
-/// The bits that are 1 in both `a` and `b`.
-#[inline]
-pub fn and(a: i32, b: i32) -> i32
-    ensures { result ≡ and_of a b }
-{
-    a & b
-}
-
-/// The bits that are 1 in `a` or in `b`.
-#[inline]
-pub fn ior(a: i32, b: i32) -> i32
-    ensures { result ≡ ior_of a b }
-{
-    a | b
-}
-
-/// The bits in which `a` and `b` differ.
-#[inline]
-pub fn xor(a: i32, b: i32) -> i32
-    ensures { result ≡ xor_of a b }
-{
-    a ^ b
-}
-
-/// The 32 bits of `a`, each inverted.
-#[inline]
-pub fn not(a: i32) -> i32
-    ensures { result ≡ not_of a }
-{
-    !a
-}
-
-/// Whether `a` is greater than `b`.
-#[inline]
-pub fn grt(a: i32, b: i32) -> bool
-    ensures { result ≡ is_greater a b }
-{
-    a > b
-}
-
-/// Whether `a` is less than `b`.
-#[inline]
-pub fn les(a: i32, b: i32) -> bool
-    ensures { result ≡ is_less a b }
-{
-    a < b
-}
-
-/// Whether `a` is at least `b`.
-#[inline]
-pub fn geq(a: i32, b: i32) -> bool
-    ensures { result ≡ is_at_least a b }
-{
-    a >= b
-}
-
-/// Whether `a` is at most `b`.
-#[inline]
-pub fn leq(a: i32, b: i32) -> bool
-    ensures { result ≡ is_at_most a b }
-{
-    a <= b
-}
-
-/// Whether `a` equals `b`.
-#[inline]
-pub fn eql(a: i32, b: i32) -> bool
-    ensures { result ≡ is_equal a b }
-{
-    a == b
-}
-
-/// Whether `a` differs from `b`.
-#[inline]
-pub fn neq(a: i32, b: i32) -> bool
-    ensures { result ≡ is_unequal a b }
-{
-    a != b
-}
-
-/// 1 where `a` is true, and 0 where it is false.
-#[inline]
-pub fn from_bool(a: bool) -> i32
-    ensures { result ≡ integer_of a }
-{
-    i32::from(a)
 }

@@ -1,4 +1,4 @@
-//! What scans and reduces are taken over: ten operators, seven on integers and three on booleans, and the exact sum.
+//! What scans and reduces are taken over: the operators on integers and on booleans that have a unit, and the exact sum.
 
 mod booleans;
 mod exact;

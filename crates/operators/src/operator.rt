@@ -1,11 +1,27 @@
-//! Operators by what is their own: a unit, and what two values join to. Their monoids, and the words of their items, are said
-//! once, for each of them.
+//! Operators by what is their own: their values, and those of a monoid their unit. Their monoids, and the words of their items,
+//! are said once, for each of them.
 
 ghost use Rattle.std.specs.Prelude.{◌≡◌, Bool, IsTrue, ℤ};
 ghost use Rattle.operators.specs.ItemWords.{WordLaws};
 ghost use Rattle.operators.specs.Monoid.{MonoidLaws};
 
 use crate::monoid::{Monoid, Packed};
+
+/// An operator on one element.
+pub trait Single<X, Z> {
+    ghost value: { X → Z };
+
+    fn apply(a: X) -> Z
+        ensures { result ≡ value a };
+}
+
+/// An operator with a value on each two elements.
+pub trait Binary<X, Z> {
+    ghost value: { X → X → Z };
+
+    fn apply(a: X, b: X) -> Z
+        ensures { result ≡ value a b };
+}
 
 /// A type of which some or all values are items, each of which can be kept as a word: a number from -2^53 to 2^53 - 1.
 pub trait Packable: Copy {
@@ -32,24 +48,16 @@ pub trait Packable: Copy {
 }
 
 /// An associative operator with a unit, over the items of a type.
-pub trait Operator {
+pub trait Operator: Binary<Self::Value, Self::Value> {
     /// The values, of which some or all are items.
     type Value: Packable;
 
     ghost UNIT: { Self.Value };
 
-    ghost combined: { Self.Value → Self.Value → Self.Value };
-
     /// The item that changes no other when it is joined to it.
     const UNIT: Self::Value;
 
-    /// `a` and `b` joined, in this order. Both must be items.
-    fn combine(a: Self::Value, b: Self::Value) -> Self::Value
-        requires first { IsTrue (Self.Value.is_item a) }
-        requires second { IsTrue (Self.Value.is_item b) }
-        ensures { result ≡ combined a b };
-
-    ghost associates: { MonoidLaws Self.Value.is_item UNIT combined };
+    ghost associates: { MonoidLaws Self.Value.is_item UNIT Self.value };
 }
 
 impl<O: Operator> Monoid for O {
@@ -59,7 +67,7 @@ impl<O: Operator> Monoid for O {
 
     ghost unit = { O.UNIT };
 
-    ghost join = { O.combined };
+    ghost join = { O.value };
 
     ghost laws = { O.associates };
 
@@ -72,7 +80,7 @@ impl<O: Operator> Monoid for O {
     }
 
     fn join(a: O::Value, b: O::Value) -> O::Value {
-        O::combine(a, b)
+        O::apply(a, b)
     }
 }
 

@@ -6,7 +6,8 @@ use Rattle.std.proofs.lemmas.Bool.Decides.{eqb_tells}
 use Rattle.std.proofs.lemmas.List.{length-map}
 use Rattle.cvl_base.specs.declared.fault.Fault.{Fault}
 use Rattle.cvl_base.specs.declared.fault.FaultNo.TheVariants as no
-use Rattle.cvl_base.specs.declared.families.IntBinary.TheVariants.{Mul}
+use Rattle.cvl_base.specs.declared.families.IntBinary.TheVariants.{Monoid}
+use Rattle.cvl_base.specs.declared.families.IntMonoid.TheVariants.{Mul}
 use Rattle.cvl_base.specs.declared.refused.Refused.{Refused}
 use Rattle.cvl_base.specs.declared.refused.Refused.TheVariants as refused
 use Rattle.cvl_base.specs.declared.value.Value.{Value}
@@ -68,7 +69,7 @@ module _ (A : Type 0) (lens cols vals x : List ℤ) where
                 ∙ sym (ap (λ r. as_bound (r >>= λ rows. Ok (map (row_product x) rows))) (not_the_total (length x) sizes cols vals inside as_many t.1))
           ]
 
-      multiplied : after_gather gathered (ints2_of Mul vals gathered) ≡ as_bound (rows_product sizes cols vals x)
+      multiplied : after_gather gathered (ints2_of (Monoid Mul) vals gathered) ≡ as_bound (rows_product sizes cols vals x)
       multiplied =
           elim (eqb_tells (length vals) (length cols)) [
             | inl t ↦ ap (after_gather gathered) (terms_made x cols vals t.1) ∙ summed t.1

@@ -38,7 +38,7 @@ module _ {A : Type 0} where
   from_sum = binds (codes "y") (op.Reduce monoid.Add Segmented) (on_names (codes "p" ∷ codes "d" ∷ [])) ∷ from_write
 
   abbrev pub from_product : List (Call A)
-  from_product = binds (codes "p") (op.Ints2 int.Mul) (on_names (codes "vals" ∷ codes "g" ∷ [])) ∷ from_sum
+  from_product = binds (codes "p") (op.Ints2 (int.Monoid monoid.Mul)) (on_names (codes "vals" ∷ codes "g" ∷ [])) ∷ from_sum
 
   abbrev pub from_permute : List (Call A)
   from_permute = binds (codes "g") (op.Permute form.Back Flat of.Integer) (on_names (codes "x" ∷ codes "cols" ∷ [])) ∷ from_product
@@ -85,7 +85,7 @@ module _ {A : Type 0} where
     binds_integers names is =
         let d = went_on (descriptor_of lens) (λ d. value.Descriptor d) (bind with_inputs (codes "d")) inputs from_permute names (sym run ∙ is) in
         let g = went_on (back_of x cols) (λ g. value.Integers g) (bind (with_rows d.0) (codes "g")) inputs from_product names d.2 in
-        let p = went_on (ints2_of int.Mul vals g.0) (λ p. value.Integers p) (bind (with_gathered d.0 g.0) (codes "p")) inputs from_sum names g.2 in
+        let p = went_on (ints2_of (int.Monoid monoid.Mul) vals g.0) (λ p. value.Integers p) (bind (with_gathered d.0 g.0) (codes "p")) inputs from_sum names g.2 in
         let y = went_on (seg_reduce_of sum_of (pos 0) p.0 d.0) (λ y. value.Integers y) (bind (with_products d.0 g.0 p.0) (codes "y")) inputs from_write names p.2 in
         let all = one_value (bind (with_products d.0 g.0 p.0) (codes "y") (value.Integers y.0)) names y.2 in
         (y.0, sym (ap (λ ns. value_at ns (codes "y")) all))

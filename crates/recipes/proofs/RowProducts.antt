@@ -9,7 +9,8 @@ use Rattle.std.proofs.lemmas.List.{length-map, take-map, drop-map}
 use Rattle.std.proofs.lemmas.Option.{slice_get-get_or, unwrap_or-slice_get}
 use Rattle.std.proofs.lemmas.Slice.Zip.{length-zip}
 use Rattle.cvl_base.specs.declared.fault.FaultNo.TheVariants as no
-use Rattle.cvl_base.specs.declared.families.IntBinary.TheVariants.{Mul}
+use Rattle.cvl_base.specs.declared.families.IntBinary.TheVariants.{Monoid}
+use Rattle.cvl_base.specs.declared.families.IntMonoid.TheVariants.{Mul}
 use Rattle.cvl_base.specs.Descriptors.{descriptor_of}
 use Rattle.cvl_base.specs.Elementwise.{ints2_of}
 use Rattle.cvl_base.specs.Extracts.{element_at}
@@ -58,7 +59,7 @@ each_term x [] (v ∷ values) = refl
 each_term x (c ∷ columns) [] = refl
 each_term x (c ∷ columns) (v ∷ values) = ap (λ others. wrapped_term x (c, v) ∷ others) (each_term x columns values)
 
-pub terms_made : (x columns values : List ℤ) → length values ≡ length columns → ints2_of Mul values (map (at_column x) columns) ≡ Ok (map (wrapped_term x) (zip columns values))
+pub terms_made : (x columns values : List ℤ) → length values ≡ length columns → ints2_of (Monoid Mul) values (map (at_column x) columns) ≡ Ok (map (wrapped_term x) (zip columns values))
 terms_made x columns values as_many =
     if_as_long-fits values (map (at_column x) columns) (Ok (map (λ p. product_of p.0 p.1) (zip values (map (at_column x) columns)))) (as_many ∙ sym (length-map columns (at_column x)))
     ∙ ap Ok (each_term x columns values)

@@ -6,22 +6,10 @@ ghost use Rattle.cvl_base.specs.Scans.{bool_join_of, bool_reduce_of, bool_scan_o
 ghost use Rattle.cvl_base.specs.SegmentedCalls.{seg_reduce_of, seg_scan_of};
 
 use crew::{Gate, OpenGate};
-use cvl_base::monoids::{BoolAnd, BoolIor, BoolXor};
-use cvl_base::{BoolBinary, Config, Memory, NoResources, Refused};
+use cvl_base::{BoolBinary, Config, Memory, NoResources, Refused, by_bool_binary};
 use segdes::SegDes;
 use std::thread::Threads;
 use tile_scans::{reduce_gated, scan_gated, seg_reduce_gated, seg_scan_gated};
-
-/// What a call gives at the monoid of an operator of the table.
-macro_rules! at_bool_monoid {
-    ($op:expr, $call:ident($($arg:expr),*)) => {
-        match $op {
-            BoolBinary::And => $call::<R, A, BoolAnd, G>($($arg),*),
-            BoolBinary::Ior => $call::<R, A, BoolIor, G>($($arg),*),
-            BoolBinary::Xor => $call::<R, A, BoolXor, G>($($arg),*),
-        }
-    };
-}
 
 /// The exclusive scan by an operator of the table: `and_sub` and its like.
 ///
@@ -51,7 +39,7 @@ pub fn bool_scan_gated<R: Threads + Sync, A: Memory, G: Gate>(
     ensures values { IfOk result (λ sums. sums.items ≡ bool_scan_of op a.now) }
     ensures as_long { IfOk result (λ sums. vec_len sums ≡ length a.now) }
 {
-    at_bool_monoid!(op, scan_gated(rt, alloc, config, a, gate))
+    by_bool_binary!(op, scan_gated::<R, A, _, G>(rt, alloc, config, a, gate))
 }
 
 /// The elements joined by an operator of the table, and its identity where there are none.
@@ -80,7 +68,7 @@ pub fn bool_reduce_gated<R: Threads + Sync, A: Memory, G: Gate>(
 ) -> Result<bool, NoResources>
     ensures { IfOk result (λ sum. sum ≡ bool_reduce_of op a.now) }
 {
-    at_bool_monoid!(op, reduce_gated(rt, alloc, config, a, gate))
+    by_bool_binary!(op, reduce_gated::<R, A, _, G>(rt, alloc, config, a, gate))
 }
 
 /// The exclusive scan of each segment by an operator of the table.
@@ -116,7 +104,10 @@ pub fn seg_bool_scan_gated<R: Threads + Sync, A: Memory, G: Gate>(
         (seg_scan_of (bool_join_of op) (bool_unit_of op) a.now d.now) }
     ensures as_long { IfOk result (λ sums. vec_len sums ≡ length a.now) }
 {
-    at_bool_monoid!(op, seg_scan_gated(rt, alloc, config, a, d, gate))
+    by_bool_binary!(
+        op,
+        seg_scan_gated::<R, A, _, G>(rt, alloc, config, a, d, gate)
+    )
 }
 
 /// For each segment its elements joined by an operator of the table, and the operator's identity where it is empty.
@@ -152,5 +143,8 @@ pub fn seg_bool_reduce_gated<R: Threads + Sync, A: Memory, G: Gate>(
         (seg_reduce_of (bool_join_of op) (bool_unit_of op) a.now d.now) }
     ensures one_each { IfOk result (λ sums. vec_len sums ≡ length d.now) }
 {
-    at_bool_monoid!(op, seg_reduce_gated(rt, alloc, config, a, d, gate))
+    by_bool_binary!(
+        op,
+        seg_reduce_gated::<R, A, _, G>(rt, alloc, config, a, d, gate)
+    )
 }

@@ -6,27 +6,11 @@ ghost use Rattle.cvl_base.specs.Scans.{int_join_of, int_reduce_of, int_scan_of, 
 ghost use Rattle.cvl_base.specs.SegmentedCalls.{seg_reduce_of, seg_scan_of};
 
 use crew::{Gate, OpenGate};
-use cvl_base::monoids::{Add, And, Ior, Max, Min, Mul, Xor};
-use cvl_base::{Config, IntMonoid, Memory, NoResources, Refused};
+use cvl_base::{Config, IntMonoid, Memory, NoResources, Refused, by_int_monoid};
 use scan_walks::know_numbers;
 use segdes::SegDes;
 use std::thread::Threads;
 use tile_scans::{reduce_gated, scan_gated, seg_reduce_gated, seg_scan_gated};
-
-/// What a call gives at the monoid of an operator of the table.
-macro_rules! at_int_monoid {
-    ($op:expr, $call:ident($($arg:expr),*)) => {
-        match $op {
-            IntMonoid::Add => $call::<R, A, Add, G>($($arg),*),
-            IntMonoid::Mul => $call::<R, A, Mul, G>($($arg),*),
-            IntMonoid::Min => $call::<R, A, Min, G>($($arg),*),
-            IntMonoid::Max => $call::<R, A, Max, G>($($arg),*),
-            IntMonoid::And => $call::<R, A, And, G>($($arg),*),
-            IntMonoid::Ior => $call::<R, A, Ior, G>($($arg),*),
-            IntMonoid::Xor => $call::<R, A, Xor, G>($($arg),*),
-        }
-    };
-}
 
 /// The exclusive scan by an operator of the table: `add_suz` and its like.
 ///
@@ -57,7 +41,7 @@ pub fn int_scan_gated<R: Threads + Sync, A: Memory, G: Gate>(
     ensures as_long { IfOk result (λ sums. vec_len sums ≡ length a.now) }
 {
     know_numbers(a);
-    at_int_monoid!(op, scan_gated(rt, alloc, config, a, gate))
+    by_int_monoid!(op, scan_gated::<R, A, _, G>(rt, alloc, config, a, gate))
 }
 
 /// The elements joined by an operator of the table, and its identity where there are none.
@@ -87,7 +71,7 @@ pub fn int_reduce_gated<R: Threads + Sync, A: Memory, G: Gate>(
     ensures { IfOk result (λ sum. sum ≡ int_reduce_of op a.now) }
 {
     know_numbers(a);
-    at_int_monoid!(op, reduce_gated(rt, alloc, config, a, gate))
+    by_int_monoid!(op, reduce_gated::<R, A, _, G>(rt, alloc, config, a, gate))
 }
 
 /// The exclusive scan of each segment by an operator of the table.
@@ -124,7 +108,10 @@ pub fn seg_int_scan_gated<R: Threads + Sync, A: Memory, G: Gate>(
     ensures as_long { IfOk result (λ sums. vec_len sums ≡ length a.now) }
 {
     know_numbers(a);
-    at_int_monoid!(op, seg_scan_gated(rt, alloc, config, a, d, gate))
+    by_int_monoid!(
+        op,
+        seg_scan_gated::<R, A, _, G>(rt, alloc, config, a, d, gate)
+    )
 }
 
 /// For each segment its elements joined by an operator of the table, and the operator's identity where it is empty.
@@ -161,5 +148,8 @@ pub fn seg_int_reduce_gated<R: Threads + Sync, A: Memory, G: Gate>(
     ensures one_each { IfOk result (λ sums. vec_len sums ≡ length d.now) }
 {
     know_numbers(a);
-    at_int_monoid!(op, seg_reduce_gated(rt, alloc, config, a, d, gate))
+    by_int_monoid!(
+        op,
+        seg_reduce_gated::<R, A, _, G>(rt, alloc, config, a, d, gate)
+    )
 }

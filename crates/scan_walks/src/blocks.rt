@@ -7,7 +7,8 @@ ghost use Rattle.cvl_base.specs.ItemWords.{is_number};
 ghost use Rattle.scan_walks.specs.Fronts.{IsWalked, most_of_block};
 
 use crate::whole_sums::{fitting, plus};
-use operators::integer::{add, max, min};
+use operators::Binary;
+use operators::monoids::{Add, Max, Min};
 
 /// The most elements of a block.
 pub(crate) const BLOCK: usize = 512;
@@ -32,9 +33,9 @@ pub(crate) fn look_at(before: &i32, block: &[i32]) -> Look
 {
     let (mut least, mut greatest, mut sum) = (0, 0, *before);
     for x in block {
-        least = min(least, *x);
-        greatest = max(greatest, *x);
-        sum = add(sum, *x);
+        least = Min::apply(least, *x);
+        greatest = Max::apply(greatest, *x);
+        sum = Add::apply(sum, *x);
     }
     Look {
         least,

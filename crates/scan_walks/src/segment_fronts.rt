@@ -11,7 +11,8 @@ ghost use Rattle.scan_walks.specs.Fronts.{fitting_front};
 
 use crate::blocks::look_at;
 use crate::fronts::{SHORT, fitting_of_scan};
-use operators::integer::max;
+use operators::Binary;
+use operators::monoids::Max;
 
 /// How many segments are looked at together, so that what a look costs is shared by them. The elements of so many short segments
 /// stay in the nearest cache until each segment is looked at by itself, where it has to be.
@@ -50,7 +51,7 @@ fn extent_of(lengths: &[i32]) -> (usize, i32)
     let (mut total, mut longest) = (0, 0);
     for length in lengths {
         total += *length as usize;
-        longest = max(longest, *length);
+        longest = Max::apply(longest, *length);
     }
     (total, longest)
 }

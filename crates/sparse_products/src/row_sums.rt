@@ -8,8 +8,8 @@ ghost use Rattle.cvl_base.specs.Integers.{wrap};
 ghost use Rattle.cvl_base.specs.Limits.{most_places};
 ghost use Rattle.sparse_products.specs.Rows.{row_value, wrapping};
 
-use cvl_base::integer::{add, mul};
-use cvl_base::place_among;
+use cvl_base::monoids::{Add, Mul};
+use cvl_base::{Binary, place_among};
 
 /// A rule by which the sum of a row has a value.
 pub(crate) trait RowSum {
@@ -62,7 +62,7 @@ fn element_of(x: &[i32], column: &i32) -> Option<i32>
 fn with_product(sum: &i32, value: &i32, element: &i32) -> i32
     ensures { result ≡ wrap (sum.now +ℤ wrap (value.now *ℤ element.now)) }
 {
-    add(*sum, mul(*value, *element))
+    Add::apply(*sum, Mul::apply(*value, *element))
 }
 
 /// The product of two integers, which never wraps.

@@ -3,7 +3,8 @@
 ghost use Rattle.std.specs.Prelude.{◌≡◌, codes, Ok, Err, [], ◌∷◌, pos, None};
 ghost use Rattle.cvl_base.specs.declared.call.Arg.TheVariants as arg;
 ghost use Rattle.cvl_base.specs.declared.call.ResultNames.TheVariants as results;
-ghost use Rattle.cvl_base.specs.declared.families.IntBinary.TheVariants.{Add};
+ghost use Rattle.cvl_base.specs.declared.families.IntBinary.TheVariants.{Monoid};
+ghost use Rattle.cvl_base.specs.declared.families.IntMonoid.TheVariants.{Add};
 ghost use Rattle.cvl_base.specs.declared.fault.FaultNo.TheVariants.{BadLine, UnknownCall, WrongArgumentCount, BadNumber};
 ghost use Rattle.cvl_base.specs.declared.operation.Op.TheVariants.{Input, Ints2, Write};
 ghost use Rattle.cvl_base.specs.Faults.{fault};
@@ -20,7 +21,7 @@ pub fn know_lines()
     ensures reads_zeros { call_in "a = input 007" ≡ the_call (results.One (codes "a")) Input (arg.Integer (pos 7) ∷ []) }
     ensures reads_minus_zero { call_in "a = input -0" ≡ the_call (results.One (codes "a")) Input (arg.Integer (pos 0) ∷ []) }
     ensures reads_names { call_in "c = add_wuz q 1"
-        ≡ the_call (results.One (codes "c")) (Ints2 Add) (arg.Name (codes "q") ∷ arg.Integer (pos 1) ∷ []) }
+        ≡ the_call (results.One (codes "c")) (Ints2 (Monoid Add)) (arg.Name (codes "q") ∷ arg.Integer (pos 1) ∷ []) }
     ensures reads_write { call_in "write v d" ≡ the_call results.None Write (arg.Name (codes "v") ∷ arg.Name (codes "d") ∷ []) }
     ensures no_call { call_in "l =" ≡ Err (fault BadLine) }
     ensures bound_write { call_in "write = input 1" ≡ Err (fault BadLine) }

@@ -3,8 +3,8 @@
 ghost use Rattle.std.specs.Prelude.{◌≡◌, ℤ, []};
 ghost use Rattle.cvl_base.specs.declared.families.BoolBinary.TheVariants as truth;
 ghost use Rattle.cvl_base.specs.declared.families.Comparison.TheVariants.{Greater, Less, AtLeast, AtMost, Equal, Unequal};
-ghost use Rattle.cvl_base.specs.declared.families.IntBinary.TheVariants.{Add, Sub, Mul, Div, Mod, Min, Max, Lsh, Rsh, And, Ior};
-ghost use Rattle.cvl_base.specs.declared.families.IntBinary.TheVariants.{Xor};
+ghost use Rattle.cvl_base.specs.declared.families.IntBinary.TheVariants.{Monoid, Sub, Div, Mod, Lsh, Rsh};
+ghost use Rattle.cvl_base.specs.declared.families.IntMonoid.TheVariants.{Add, Mul, Min, Max, And, Ior, Xor};
 ghost use Rattle.cvl_base.specs.declared.families.Unary.TheVariants.{Not, Copy};
 ghost use Rattle.cvl_base.specs.declared.fault.FaultNo.TheVariants as no;
 ghost use Rattle.cvl_base.specs.Elementwise.{bools1_of, bools2_of, bools_from_ints, choose_of, compare_of, ints1_of, ints2_of};
@@ -16,19 +16,19 @@ ghost use Rattle.worked_values.specs.Written.{bools, ints, length_mismatch};
 /// least place with a divisor of 0 or a shift out of range is at fault, but vectors that aren't equally long are so
 /// before it.
 pub fn ints2()
-    ensures sums { ints2_of Add (ints "3 1 2147483647") (ints "1 -2 1") ≡ Ok (ints "4 -1 -2147483648") }
+    ensures sums { ints2_of (Monoid Add) (ints "3 1 2147483647") (ints "1 -2 1") ≡ Ok (ints "4 -1 -2147483648") }
     ensures differences { ints2_of Sub (ints "3 -2147483648") (ints "5 1") ≡ Ok (ints "-2 2147483647") }
-    ensures products { ints2_of Mul (ints "65536 -3") (ints "65536 5") ≡ Ok (ints "0 -15") }
+    ensures products { ints2_of (Monoid Mul) (ints "65536 -3") (ints "65536 5") ≡ Ok (ints "0 -15") }
     ensures quotients { ints2_of Div (ints "-7 -2147483648") (ints "2 -1") ≡ Ok (ints "-3 -2147483648") }
     ensures remainders { ints2_of Mod (ints "-7 -2147483648") (ints "2 -1") ≡ Ok (ints "-1 0") }
     ensures remainders_with_the_sign_of_the_dividend { ints2_of Mod (ints "7 -7") (ints "-2 -2") ≡ Ok (ints "1 -1") }
-    ensures lesser { ints2_of Min (ints "3 -5") (ints "2 1") ≡ Ok (ints "2 -5") }
-    ensures greater { ints2_of Max (ints "3 -5") (ints "2 1") ≡ Ok (ints "3 1") }
+    ensures lesser { ints2_of (Monoid Min) (ints "3 -5") (ints "2 1") ≡ Ok (ints "2 -5") }
+    ensures greater { ints2_of (Monoid Max) (ints "3 -5") (ints "2 1") ≡ Ok (ints "3 1") }
     ensures left_shifts_drop_high_bits { ints2_of Lsh (ints "1 3 -1") (ints "31 31 1") ≡ Ok (ints "-2147483648 -2147483648 -2") }
     ensures right_shifts_copy_the_sign { ints2_of Rsh (ints "-7 7") (ints "1 1") ≡ Ok (ints "-4 3") }
-    ensures common_bits { ints2_of And (ints "-4") (ints "6") ≡ Ok (ints "4") }
-    ensures bits_of_either { ints2_of Ior (ints "-4") (ints "6") ≡ Ok (ints "-2") }
-    ensures bits_of_one { ints2_of Xor (ints "-4") (ints "6") ≡ Ok (ints "-6") }
+    ensures common_bits { ints2_of (Monoid And) (ints "-4") (ints "6") ≡ Ok (ints "4") }
+    ensures bits_of_either { ints2_of (Monoid Ior) (ints "-4") (ints "6") ≡ Ok (ints "-2") }
+    ensures bits_of_one { ints2_of (Monoid Xor) (ints "-4") (ints "6") ≡ Ok (ints "-6") }
     ensures first_zero_divisor { ints2_of Div (ints "8 6 4 2") (ints "2 0 0 1") ≡ Err (fault_at no.DivideByZero 1) }
     ensures first_zero_modulus { ints2_of Mod (ints "8 6 4") (ints "3 5 0") ≡ Err (fault_at no.DivideByZero 2) }
     ensures left_shift_by_32 { ints2_of Lsh (ints "1 1") (ints "0 32") ≡ Err (fault_at no.ShiftOutOfRange 1) }
@@ -39,16 +39,16 @@ pub fn ints2()
     ensures lengths_before_moduli { ints2_of Mod (ints "1") (ints "0 0") ≡ Err length_mismatch }
     ensures lengths_before_left_shifts { ints2_of Lsh (ints "1 2") (ints "32") ≡ Err length_mismatch }
     ensures lengths_before_right_shifts { ints2_of Rsh (ints "1 2") (ints "32") ≡ Err length_mismatch }
-    ensures sums_mismatched { ints2_of Add (ints "1 2") (ints "1") ≡ Err length_mismatch }
+    ensures sums_mismatched { ints2_of (Monoid Add) (ints "1 2") (ints "1") ≡ Err length_mismatch }
     ensures differences_mismatched { ints2_of Sub (ints "1") (ints "1 2") ≡ Err length_mismatch }
-    ensures products_mismatched { ints2_of Mul (ints "1 2") [] ≡ Err length_mismatch }
-    ensures lesser_mismatched { ints2_of Min (ints "1 2") (ints "1") ≡ Err length_mismatch }
-    ensures greater_mismatched { ints2_of Max (ints "1") (ints "1 2") ≡ Err length_mismatch }
-    ensures common_bits_mismatched { ints2_of And (ints "1 2") (ints "1") ≡ Err length_mismatch }
-    ensures bits_of_either_mismatched { ints2_of Ior (ints "1") (ints "1 2") ≡ Err length_mismatch }
-    ensures bits_of_one_mismatched { ints2_of Xor [] (ints "1") ≡ Err length_mismatch }
-    ensures sums_past_the_bottom { ints2_of Add (ints "-2147483648") (ints "-1") ≡ Ok (ints "2147483647") }
-    ensures opposite_of_the_least { ints2_of Mul (ints "-2147483648") (ints "-1") ≡ Ok (ints "-2147483648") }
+    ensures products_mismatched { ints2_of (Monoid Mul) (ints "1 2") [] ≡ Err length_mismatch }
+    ensures lesser_mismatched { ints2_of (Monoid Min) (ints "1 2") (ints "1") ≡ Err length_mismatch }
+    ensures greater_mismatched { ints2_of (Monoid Max) (ints "1") (ints "1 2") ≡ Err length_mismatch }
+    ensures common_bits_mismatched { ints2_of (Monoid And) (ints "1 2") (ints "1") ≡ Err length_mismatch }
+    ensures bits_of_either_mismatched { ints2_of (Monoid Ior) (ints "1") (ints "1 2") ≡ Err length_mismatch }
+    ensures bits_of_one_mismatched { ints2_of (Monoid Xor) [] (ints "1") ≡ Err length_mismatch }
+    ensures sums_past_the_bottom { ints2_of (Monoid Add) (ints "-2147483648") (ints "-1") ≡ Ok (ints "2147483647") }
+    ensures opposite_of_the_least { ints2_of (Monoid Mul) (ints "-2147483648") (ints "-1") ≡ Ok (ints "-2147483648") }
     ensures quotients_toward_zero { ints2_of Div (ints "-7 7 -7 -1 7") (ints "2 -2 -2 2 2") ≡ Ok (ints "-3 -3 3 0 3") }
     ensures remainders_of_either_sign { ints2_of Mod (ints "-7 7 -7 -1 7") (ints "2 -2 -2 2 2") ≡ Ok (ints "-1 1 -1 -1 1") }
     ensures right_shifts_round_down { ints2_of Rsh (ints "-8 -7 -1 -1") (ints "1 2 1 31") ≡ Ok (ints "-4 -2 -1 -1") }
@@ -56,7 +56,7 @@ pub fn ints2()
         ≡ Ok (ints "-1 -1073741824 0") }
     ensures left_shifts_by_no_place { ints2_of Lsh (ints "-7 7") (ints "0 0") ≡ Ok (ints "-7 7") }
     ensures right_shifts_by_no_place { ints2_of Rsh (ints "-7 7") (ints "0 0") ≡ Ok (ints "-7 7") }
-    ensures sums_of_nothing { ints2_of Add [] [] ≡ Ok [] }
+    ensures sums_of_nothing { ints2_of (Monoid Add) [] [] ≡ Ok [] }
     ensures quotients_of_nothing { ints2_of Div [] [] ≡ Ok [] }
 {}
 

@@ -6,8 +6,7 @@ ghost use Rattle.operators.specs.Conversions.{boolean_of, integer_of};
 ghost use Rattle.operators.specs.ItemWords.{is_truth_value};
 ghost use Rattle.operators.specs.TruthLaws.{both_laws, either_laws, differ_laws, truth_words};
 
-use crate::boolean;
-use crate::operator::{Operator, Packable};
+use crate::operator::{Binary, Operator, Packable};
 
 impl Packable for bool {
     ghost is_item = { is_truth_value };
@@ -34,18 +33,21 @@ impl Packable for bool {
 /// Whether both of two booleans are true; its unit is true.
 pub struct BoolAnd;
 
+impl Binary<bool, bool> for BoolAnd {
+    ghost value = { both };
+
+    #[inline]
+    fn apply(a: bool, b: bool) -> bool {
+        a & b
+    }
+}
+
 impl Operator for BoolAnd {
     type Value = bool;
 
     ghost UNIT = { true };
 
-    ghost combined = { both };
-
     const UNIT: bool = true; // of no booleans none is false
-
-    fn combine(a: bool, b: bool) -> bool {
-        boolean::and(a, b)
-    }
 
     ghost associates = { both_laws };
 }
@@ -53,18 +55,21 @@ impl Operator for BoolAnd {
 /// Whether one of two booleans or both are true; its unit is false.
 pub struct BoolIor;
 
+impl Binary<bool, bool> for BoolIor {
+    ghost value = { either };
+
+    #[inline]
+    fn apply(a: bool, b: bool) -> bool {
+        a | b
+    }
+}
+
 impl Operator for BoolIor {
     type Value = bool;
 
     ghost UNIT = { false };
 
-    ghost combined = { either };
-
     const UNIT: bool = false;
-
-    fn combine(a: bool, b: bool) -> bool {
-        boolean::ior(a, b)
-    }
 
     ghost associates = { either_laws };
 }
@@ -72,18 +77,21 @@ impl Operator for BoolIor {
 /// Whether exactly one of two booleans is true; its unit is false.
 pub struct BoolXor;
 
+impl Binary<bool, bool> for BoolXor {
+    ghost value = { differ };
+
+    #[inline]
+    fn apply(a: bool, b: bool) -> bool {
+        a ^ b
+    }
+}
+
 impl Operator for BoolXor {
     type Value = bool;
 
     ghost UNIT = { false };
 
-    ghost combined = { differ };
-
     const UNIT: bool = false;
-
-    fn combine(a: bool, b: bool) -> bool {
-        boolean::xor(a, b)
-    }
 
     ghost associates = { differ_laws };
 }

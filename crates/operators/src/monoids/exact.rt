@@ -5,7 +5,7 @@ ghost use Rattle.operators.specs.Exact.{exact_sum_of};
 ghost use Rattle.operators.specs.ExactLaws.{exact_laws, exact_words};
 ghost use Rattle.operators.specs.ItemWords.{is_word, same_word};
 
-use crate::operator::{Operator, Packable};
+use crate::monoid::{Monoid, Packed};
 
 /// The greatest item.
 const GREATEST: i64 = 0x1F_FFFF_FFFF_FFFF;
@@ -22,37 +22,39 @@ const ITEMS: i64 = 0x40_0000_0000_0000;
 /// `exact_fold_law` says. Each item is its own word.
 pub struct Exact;
 
-impl Operator for Exact {
-    type Value = i64;
+impl Monoid for Exact {
+    type Item = i64;
 
-    ghost UNIT = { pos 0 };
-
-    ghost combined = { exact_sum_of };
-
-    const UNIT: i64 = 0;
-
-    fn combine(a: i64, b: i64) -> i64 {
-        exact_sum(a, b)
-    }
-
-    ghost associates = { exact_laws };
-}
-
-impl Packable for i64 {
     ghost is_item = { is_word };
 
+    ghost unit = { pos 0 };
+
+    ghost join = { exact_sum_of };
+
+    ghost laws = { exact_laws };
+
+    fn is_item(x: i64) -> bool {
+        (LEAST..=GREATEST).contains(&x)
+    }
+
+    fn unit() -> i64 {
+        0
+    }
+
+    fn join(a: i64, b: i64) -> i64 {
+        exact_sum(a, b)
+    }
+}
+
+impl Packed for Exact {
     ghost to_word = { same_word };
 
     ghost from_word = { same_word };
 
     ghost words = { exact_words };
 
-    fn is_item(self) -> bool {
-        (LEAST..=GREATEST).contains(&self)
-    }
-
-    fn to_word(self) -> i64 {
-        self
+    fn to_word(x: i64) -> i64 {
+        x
     }
 
     fn from_word(word: i64) -> i64 {

@@ -1,4 +1,5 @@
-//! The seven operators on integers. Each number of 32 bits is an item, and is its own word.
+//! The operators on two integers by which vectors are scanned and reduced, too. Each number of 32 bits is an item, and is its own
+//! word.
 
 ghost use Rattle.std.specs.Prelude.{◌≡◌, pos, negsuc};
 ghost use Rattle.operators.specs.Integers.{sum_of, product_of, lesser_of, greater_of, and_of, ior_of, xor_of, wrap};
@@ -6,8 +7,7 @@ ghost use Rattle.operators.specs.ItemWords.{is_number, same_word};
 ghost use Rattle.operators.specs.NumberLaws.{sum_laws, product_laws, lesser_laws, greater_laws, and_laws, ior_laws, xor_laws};
 ghost use Rattle.operators.specs.NumberLaws.{number_words};
 
-use crate::integer;
-use crate::operator::{Operator, Packable};
+use crate::operator::{Binary, Operator, Packable};
 
 /// How many numbers 32 bits hold.
 const NUMBERS: u64 = 0x1_0000_0000;
@@ -45,18 +45,22 @@ fn number_of(word: i64) -> i32
 /// The wrapped sum of two integers; its unit is 0.
 pub struct Add;
 
+impl Binary<i32, i32> for Add {
+    ghost value = { sum_of };
+
+    #[inline]
+    #[tactic(auto, using(std::proofs::lemmas::Int::wraps))]
+    fn apply(a: i32, b: i32) -> i32 {
+        a.wrapping_add(b)
+    }
+}
+
 impl Operator for Add {
     type Value = i32;
 
     ghost UNIT = { pos 0 };
 
-    ghost combined = { sum_of };
-
     const UNIT: i32 = 0;
-
-    fn combine(a: i32, b: i32) -> i32 {
-        integer::add(a, b)
-    }
 
     ghost associates = { sum_laws };
 }
@@ -64,18 +68,21 @@ impl Operator for Add {
 /// The wrapped product of two integers; its unit is 1.
 pub struct Mul;
 
+impl Binary<i32, i32> for Mul {
+    ghost value = { product_of };
+
+    #[inline]
+    fn apply(a: i32, b: i32) -> i32 {
+        a.wrapping_mul(b)
+    }
+}
+
 impl Operator for Mul {
     type Value = i32;
 
     ghost UNIT = { pos 1 };
 
-    ghost combined = { product_of };
-
     const UNIT: i32 = 1;
-
-    fn combine(a: i32, b: i32) -> i32 {
-        integer::mul(a, b)
-    }
 
     ghost associates = { product_laws };
 }
@@ -83,18 +90,21 @@ impl Operator for Mul {
 /// The lesser of two integers; its unit is 2147483647.
 pub struct Min;
 
+impl Binary<i32, i32> for Min {
+    ghost value = { lesser_of };
+
+    #[inline]
+    fn apply(a: i32, b: i32) -> i32 {
+        a.min(b)
+    }
+}
+
 impl Operator for Min {
     type Value = i32;
 
     ghost UNIT = { pos 2147483647 };
 
-    ghost combined = { lesser_of };
-
     const UNIT: i32 = i32::MAX;
-
-    fn combine(a: i32, b: i32) -> i32 {
-        integer::min(a, b)
-    }
 
     ghost associates = { lesser_laws };
 }
@@ -102,18 +112,21 @@ impl Operator for Min {
 /// The greater of two integers; its unit is -2147483648.
 pub struct Max;
 
+impl Binary<i32, i32> for Max {
+    ghost value = { greater_of };
+
+    #[inline]
+    fn apply(a: i32, b: i32) -> i32 {
+        a.max(b)
+    }
+}
+
 impl Operator for Max {
     type Value = i32;
 
     ghost UNIT = { negsuc 2147483647 };
 
-    ghost combined = { greater_of };
-
     const UNIT: i32 = i32::MIN;
-
-    fn combine(a: i32, b: i32) -> i32 {
-        integer::max(a, b)
-    }
 
     ghost associates = { greater_laws };
 }
@@ -121,18 +134,21 @@ impl Operator for Max {
 /// Bitwise and on the 32 bits of two integers; its unit is -1.
 pub struct And;
 
+impl Binary<i32, i32> for And {
+    ghost value = { and_of };
+
+    #[inline]
+    fn apply(a: i32, b: i32) -> i32 {
+        a & b
+    }
+}
+
 impl Operator for And {
     type Value = i32;
 
     ghost UNIT = { negsuc 0 };
 
-    ghost combined = { and_of };
-
     const UNIT: i32 = -1;
-
-    fn combine(a: i32, b: i32) -> i32 {
-        integer::and(a, b)
-    }
 
     ghost associates = { and_laws };
 }
@@ -140,18 +156,21 @@ impl Operator for And {
 /// Bitwise inclusive or on the 32 bits of two integers; its unit is 0.
 pub struct Ior;
 
+impl Binary<i32, i32> for Ior {
+    ghost value = { ior_of };
+
+    #[inline]
+    fn apply(a: i32, b: i32) -> i32 {
+        a | b
+    }
+}
+
 impl Operator for Ior {
     type Value = i32;
 
     ghost UNIT = { pos 0 };
 
-    ghost combined = { ior_of };
-
     const UNIT: i32 = 0;
-
-    fn combine(a: i32, b: i32) -> i32 {
-        integer::ior(a, b)
-    }
 
     ghost associates = { ior_laws };
 }
@@ -159,18 +178,21 @@ impl Operator for Ior {
 /// Bitwise exclusive or on the 32 bits of two integers; its unit is 0.
 pub struct Xor;
 
+impl Binary<i32, i32> for Xor {
+    ghost value = { xor_of };
+
+    #[inline]
+    fn apply(a: i32, b: i32) -> i32 {
+        a ^ b
+    }
+}
+
 impl Operator for Xor {
     type Value = i32;
 
     ghost UNIT = { pos 0 };
 
-    ghost combined = { xor_of };
-
     const UNIT: i32 = 0;
-
-    fn combine(a: i32, b: i32) -> i32 {
-        integer::xor(a, b)
-    }
 
     ghost associates = { xor_laws };
 }

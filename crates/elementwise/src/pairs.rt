@@ -1,17 +1,17 @@
-//! The calls whose result is an integer vector, but `select`.
+//! The operators on each two elements at the same place: those on integers and on booleans, and the comparisons.
 
 ghost use Rattle.std.specs.Prelude.{◌≡◌, ◌≤◌, IfOk, length, vec_len};
-ghost use Rattle.cvl_base.specs.Elementwise.{ints_from_bools, ints1_of, ints2_of};
+ghost use Rattle.cvl_base.specs.Elementwise.{bools2_of, compare_of, ints2_of};
 ghost use Rattle.cvl_base.specs.Gives.{Gives};
 ghost use Rattle.cvl_base.specs.Limits.{most_elements};
 
-use crate::by_operator::by_int_binary;
-use crate::copies::copied;
 use crate::races::values_or_fault;
-use crate::singles::{IntOfBool, NotInt};
-use crate::values::{values_on_each, values_on_pairs};
+use crate::values::values_on_pairs;
 use crew::{Gate, OpenGate};
-use cvl_base::{Config, IntBinary, Memory, NoResources, Refused, Unary};
+use cvl_base::{
+    BoolBinary, Comparison, Config, IntBinary, Memory, Refused, by_bool_binary, by_comparison,
+    by_int_binary,
+};
 use std::thread::Threads;
 
 /// The operator on each two elements at the same place: `add_wuz` and its like.
@@ -52,43 +52,43 @@ pub fn int2_gated<R: Threads + Sync, A: Memory, G: Gate>(
 {
     by_int_binary!(
         op,
-        values_on_pairs::<i32, i32, R, A>(rt, alloc, a, b),
-        values_or_fault::<R, A, G>(rt, alloc, config, a, b, gate)
+        values_on_pairs::<_, i32, i32, R, A>(rt, alloc, a, b),
+        values_or_fault::<_, R, A, G>(rt, alloc, config, a, b, gate)
     )
 }
 
-/// The operator on each element: `not_wuz` and `cpy_wuz`.
+/// The operator on each two booleans at the same place: `and_wub` and its like.
 ///
-/// The result is as long as `a`. There is no fault. Long vectors are shared among threads by `rayon`, whatever the number
-/// of workers. Source: CVL's elementwise calls.
-pub fn int1<R: Threads + Sync, A: Memory>(
+/// The result is as long as the vectors. The one fault is `LengthMismatch`, without a place, where one is longer. Long
+/// vectors are shared among threads by `rayon`, whatever the number of workers. Source: CVL's elementwise calls.
+pub fn bool2<R: Threads + Sync, A: Memory>(
     rt: &R,
     alloc: A,
     _config: Config,
-    op: Unary,
-    a: &[i32],
-) -> Result<Vec<i32, A>, NoResources>
-    ensures values { IfOk result (λ v. v.items ≡ ints1_of op a.now) }
+    op: BoolBinary,
+    a: &[bool],
+    b: &[bool],
+) -> Result<Vec<bool, A>, Refused>
+    ensures values { Gives (λ v. v.items) result (bools2_of op a.now b.now) }
     ensures as_long { IfOk result (λ v. vec_len v ≡ length a.now) }
 {
-    match op {
-        Unary::Not => values_on_each::<NotInt, i32, i32, R, A>(rt, alloc, a),
-        Unary::Copy => copied(rt, alloc, a),
-    }
+    by_bool_binary!(op, values_on_pairs::<_, bool, bool, R, A>(rt, alloc, a, b))
 }
 
-/// 1 at each place where the boolean is true, and 0 where it is false: `int_wub`.
+/// The comparison of each two elements at the same place, on signed numbers: `grt_wuz` and its like.
 ///
-/// The result is as long as `a`. There is no fault. Long vectors are shared among threads by `rayon`, whatever the number
-/// of workers. Source: CVL's conversions.
-pub fn int_from_bool<R: Threads + Sync, A: Memory>(
+/// The result is as long as the vectors. The one fault is `LengthMismatch`, without a place, where one is longer. Long
+/// vectors are shared among threads by `rayon`, whatever the number of workers. Source: CVL's elementwise calls.
+pub fn compare<R: Threads + Sync, A: Memory>(
     rt: &R,
     alloc: A,
     _config: Config,
-    a: &[bool],
-) -> Result<Vec<i32, A>, NoResources>
-    ensures values { IfOk result (λ v. v.items ≡ ints_from_bools a.now) }
+    op: Comparison,
+    a: &[i32],
+    b: &[i32],
+) -> Result<Vec<bool, A>, Refused>
+    ensures values { Gives (λ v. v.items) result (compare_of op a.now b.now) }
     ensures as_long { IfOk result (λ v. vec_len v ≡ length a.now) }
 {
-    values_on_each::<IntOfBool, bool, i32, R, A>(rt, alloc, a)
+    by_comparison!(op, values_on_pairs::<_, i32, bool, R, A>(rt, alloc, a, b))
 }

@@ -1,13 +1,34 @@
 //! The operators that have no value on some pairs of integers, each with the fault of such a pair.
 
+ghost use Rattle.std.specs.Prelude.{◌≡◌, ℤ, Option};
+ghost use Rattle.std.specs.Option.{is_some};
 ghost use Rattle.cvl_base.specs.Integers.{quotient_of, remainder_of, left_shift_of, right_shift_of};
+ghost use Rattle.cvl_base.specs.declared.fault.FaultNo.{FaultNo};
 ghost use Rattle.cvl_base.specs.declared.fault.FaultNo.TheVariants as no;
 
-use cvl_base::{FaultNo, integer};
-use element_walks::PartialBinary;
+use crate::fault::FaultNo;
+use operators::integer;
+
+/// An operator that has no value on some pairs of integers.
+pub trait PartialBinary {
+    ghost value: { ℤ → ℤ → Option ℤ };
+
+    ghost fault: { FaultNo };
+
+    fn apply(a: &i32, b: &i32) -> Option<i32>
+        ensures { result ≡ value a.now b.now };
+
+    /// Whether the operator has a value on the pair.
+    fn has_value(a: &i32, b: &i32) -> bool
+        ensures { result ≡ is_some (value a.now b.now) };
+
+    /// The fault of a pair without a value.
+    fn fault() -> FaultNo
+        ensures { result ≡ fault };
+}
 
 /// The quotient, truncated toward zero; none where the divisor is 0.
-pub(crate) struct Div;
+pub struct Div;
 
 impl PartialBinary for Div {
     ghost value = { quotient_of };
@@ -28,7 +49,7 @@ impl PartialBinary for Div {
 }
 
 /// The remainder of that quotient; none where the divisor is 0.
-pub(crate) struct Mod;
+pub struct Mod;
 
 impl PartialBinary for Mod {
     ghost value = { remainder_of };
@@ -49,7 +70,7 @@ impl PartialBinary for Mod {
 }
 
 /// The shift to the left; none where the places aren't in 0 to 31.
-pub(crate) struct Lsh;
+pub struct Lsh;
 
 impl PartialBinary for Lsh {
     ghost value = { left_shift_of };
@@ -70,7 +91,7 @@ impl PartialBinary for Lsh {
 }
 
 /// The shift to the right; none where the places aren't in 0 to 31.
-pub(crate) struct Rsh;
+pub struct Rsh;
 
 impl PartialBinary for Rsh {
     ghost value = { right_shift_of };

@@ -1,57 +1,60 @@
 //! The comparisons of two integers, on signed numbers.
 
-ghost use Rattle.cvl_base.specs.Integers.{is_greater, is_at_least, is_equal, is_unequal};
+ghost use Rattle.operators.specs.Integers.{is_greater, is_at_least, is_equal, is_unequal};
 
+use crate::operator::Binary;
 use crate::sides::Flipped;
-use cvl_base::integer;
-use element_walks::Binary;
 
 /// The first is greater.
-pub(crate) struct Greater;
+pub struct Greater;
 
 impl Binary<i32, bool> for Greater {
     ghost value = { is_greater };
 
+    #[inline]
     fn apply(a: i32, b: i32) -> bool {
-        integer::grt(a, b)
+        a > b
     }
 }
 
 /// The first is less, so the second is greater.
-pub(crate) type Less = Flipped<Greater>;
+pub type Less = Flipped<Greater>;
 
 /// The first is greater, or they are equal.
-pub(crate) struct AtLeast;
+pub struct AtLeast;
 
 impl Binary<i32, bool> for AtLeast {
     ghost value = { is_at_least };
 
+    #[inline]
     fn apply(a: i32, b: i32) -> bool {
-        integer::geq(a, b)
+        a >= b
     }
 }
 
 /// The first is less, or they are equal.
-pub(crate) type AtMost = Flipped<AtLeast>;
+pub type AtMost = Flipped<AtLeast>;
 
 /// They are equal.
-pub(crate) struct Equal;
+pub struct Equal;
 
 impl Binary<i32, bool> for Equal {
     ghost value = { is_equal };
 
+    #[inline]
     fn apply(a: i32, b: i32) -> bool {
-        integer::eql(a, b)
+        a == b
     }
 }
 
 /// They aren't equal.
-pub(crate) struct Unequal;
+pub struct Unequal;
 
 impl Binary<i32, bool> for Unequal {
     ghost value = { is_unequal };
 
+    #[inline]
     fn apply(a: i32, b: i32) -> bool {
-        integer::neq(a, b)
+        a != b
     }
 }
