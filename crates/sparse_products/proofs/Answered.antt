@@ -1,5 +1,5 @@
 -- What a product answers, from what was found while its rows were written.
-use Rattle.std.proofs.Common.{◌≡◌, ◌≢◌, ℕ, ◌+◌, Bool, true, false, ℤ, pos, List, [], ◌∷◌, length, map, refl, sym, subst, ap, ◌∙◌, arith, Option, Some, None, Result, Ok, Err}
+use Rattle.std.proofs.Common.{◌≡◌, ◌≢◌, ℕ, ◌+◌, Bool, true, false, ℤ, pos, List, [], ◌∷◌, ◌++◌, length, map, refl, sym, subst, ap, ◌∙◌, arith, Option, Some, None, Result, Ok, Err}
 use Rattle.std.specs.Prelude.{◌<◌, ◌≤◌, ◌&&◌, if◌then◌else◌, IfSome, sum, unwrap_or}
 use Rattle.std.specs.List.{list_all, zip}
 use Rattle.std.specs.Option.{ok_or, option_or}
@@ -16,6 +16,7 @@ use Rattle.cvl_base.specs.Nests.{cut_of, nest}
 use Rattle.cvl_base.proofs.Elementwise.{if_as_long-fits, if_as_long-misfits}
 use Rattle.cvl_base.proofs.Nests.{nest-fits, nest-misfits}
 use Rattle.fresh.specs.Found.{first_without}
+use Rattle.fresh.proofs.FirstWithout.{first_of_both}
 use Rattle.permute_walks.specs.Indices.{first_outside}
 use Rattle.sparse_products.specs.Answers.{rows_product, rows_within}
 use Rattle.sparse_products.specs.Products.{row_product, row_total}
@@ -40,6 +41,15 @@ pub found_more : {X : Type 0} (found now : Option ℕ) (place next : ℕ) (v : O
 found_more (Some w) now place next v vs all is after so_far = ap (λ o. option_or o (first_without next vs)) is ∙ so_far
 found_more None now place next None vs all is after so_far = ap (λ o. option_or o (first_without next vs)) is ∙ so_far
 found_more None now place next (Some x) vs all is after so_far = ap (λ o. option_or o (first_without next vs)) is ∙ ap (λ p. first_without p vs) after ∙ so_far
+
+-- the step of one that looks at several
+pub found_both : {X : Type 0} (found now here : Option ℕ) (place next : ℕ) (vs ws left : List (Option X)) (all : Option ℕ) → now ≡ option_or found here → here ≡ first_without place vs
+    → next ≡ place + length vs → left ≡ vs ++ ws → option_or found (first_without place left) ≡ all → option_or now (first_without next ws) ≡ all
+found_both (Some w) now here place next vs ws left all is is_here after both so_far = ap (λ o. option_or o (first_without next ws)) is ∙ so_far
+found_both None now here place next vs ws left all is is_here after both so_far =
+    ap (λ o. option_or o (first_without next ws)) (is ∙ is_here)
+    ∙ ap (λ p. option_or (first_without place vs) (first_without p ws)) after
+    ∙ sym (ap (first_without place) both ∙ first_of_both place vs ws) ∙ so_far
 
 fails_first : (n p : ℕ) (vs : List (Option ℤ)) → first_without n vs ≡ Some p → values_from no.Overflow n vs ≡ Err (fault_at no.Overflow p)
 fails_first n p [] is = absurd (none-some p is)

@@ -1,8 +1,9 @@
 -- Rows that stand one after another among all of them, and what is written of them.
 -- Source: what the definitions of Nests and of Places imply.
 use Rattle.std.proofs.Common.{◌≡◌, ℕ, zero, suc, ◌+◌, ◌-◌, ◌≤◌, List, [], ◌∷◌, ◌++◌, length, map, take, drop, refl, sym, ap, ◌∙◌, arith}
+use Rattle.std.specs.Prelude.{sum}
 use Rattle.std.specs.List.{zip}
-use Rattle.std.proofs.lemmas.List.{drop_at, length-map, length-take-le}
+use Rattle.std.proofs.lemmas.List.{drop-drop, drop_at, length-map, length-take-le}
 use Rattle.cvl_base.specs.Nests.{cut_of}
 use Rattle.cvl_base.proofs.Nests.{length-cut}
 use Rattle.fresh.specs.Parts.{length_part, part}
@@ -32,6 +33,16 @@ module _ {X : Type 0} where
       ∙ ap (λ p. map f (cut_of (part lengths first n) (drop p xs))) begins
       ∙ ap (map f) (cut_part lengths xs first n le)
       ∙ part_read f n first (cut_of lengths xs)
+
+  -- n entries are those of a group of rows, and the others those of the rows behind it
+  pub cut_group : (lengths group : List ℕ) (s k n next : ℕ) (xs front others : List X) → group ≡ take k (drop s lengths) → n ≡ sum group → next ≡ s + k → front ≡ take n xs → others ≡ drop n xs
+      → cut_of (drop s lengths) xs ≡ cut_of group front ++ cut_of (drop next lengths) others
+  cut_group lengths group s k n next xs front others is_group is_n is_next is_front is_others =
+      let begins : start_of (drop s lengths) k ≡ n = ap sum (sym is_group) ∙ sym is_n in
+      let later : drop k (drop s lengths) ≡ drop next lengths = drop-drop k s lengths ∙ ap (λ j. drop j lengths) (sym is_next) in
+      cut_parted k (drop s lengths) xs
+      ∙ (λ i. cut_of (sym is_group i) (take (begins i) xs) ++ cut_of (later i) (drop (begins i) xs))
+      ∙ (λ i. cut_of group (sym is_front i) ++ cut_of (drop next lengths) (sym is_others i))
 
   -- a run that was empty holds a part of a list
   pub part_written : (run out : Stretch X) (whole items : List X) → run.items ≡ [] → run.first + run.room ≤ length whole → items ≡ part whole run.first run.room

@@ -27,7 +27,7 @@ value_from add finish x sum (entry ∷ row) = with_element (element_at x entry.0
 
 -- ---- what it is
 
-there : (x : List ℤ) (column : ℤ) → element_at x column ≡ (if is_place (length x) column then Some (at_column x column) else None)
+pub there : (x : List ℤ) (column : ℤ) → element_at x column ≡ (if is_place (length x) column then Some (at_column x column) else None)
 there x (pos k) =
     elim ((slice_get_cases x k).1) [
       | inl t ↦ let is : element_at x (pos k) ≡ Some t.0 = t.2 in

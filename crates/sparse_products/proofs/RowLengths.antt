@@ -1,5 +1,5 @@
 -- Lengths between offsets, of which the first few are known.
-use Rattle.std.proofs.Common.{◌≡◌, ℕ, ◌+◌, ◌<◌, ◌≤◌, true, false, ℤ, pos, ◌-ℤ◌, List, [], ◌∷◌, ◌++◌, length, get_or, refl, sym, ap, ◌∙◌, arith, Some, None, Ok, Err, inl}
+use Rattle.std.proofs.Common.{◌≡◌, ℕ, ◌+◌, ◌<◌, ◌≤◌, true, false, ℤ, pos, ◌-ℤ◌, List, [], ◌∷◌, ◌++◌, length, get_or, sym, ap, ◌∙◌, arith, Some, None, Ok, Err, inl}
 use Rattle.std.proofs.Common.{inr, append-nil, append_assoc, drop, length-append}
 use Rattle.std.specs.Prelude.{◌<ℤ◌, ◌≤ℤ◌, cond, nat_lt, option_map, position}
 use Rattle.std.specs.Int.{is_negative}

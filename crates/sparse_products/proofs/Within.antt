@@ -1,5 +1,5 @@
 -- Entries whose columns are places of a vector: of all rows, and of the columns alone.
-use Rattle.std.proofs.Common.{◌≡◌, ℕ, zero, suc, ◌+◌, Bool, true, false, ℤ, List, [], ◌∷◌, ◌++◌, length, take, drop, map, refl, sym, ap, ◌∙◌, arith, Option, Some, None}
+use Rattle.std.proofs.Common.{◌≡◌, ℕ, ◌+◌, Bool, true, false, ℤ, List, [], ◌∷◌, ◌++◌, length, take, drop, map, refl, sym, ap, ◌∙◌, arith, Option, Some, None}
 use Rattle.std.specs.Prelude.{◌&&◌, if◌then◌else◌, sum}
 use Rattle.std.specs.List.{list_all, zip}
 use Rattle.std.proofs.lemmas.Bool.{false≢true}
@@ -58,6 +58,13 @@ halves : (places n : ℕ) (row : List (ℤ × ℤ)) → are_within places row �
 halves places n row =
     ap (are_within places) (sym (take-append-drop n row)) ∙ list_all-append (λ (entry : ℤ × ℤ). is_place places entry.0) (take n row) (drop n row)
 
+pub within_both : (places : ℕ) (row others all : List (ℤ × ℤ)) → all ≡ row ++ others → are_within places row ≡ true → are_within places others ≡ true → are_within places all ≡ true
+within_both places row others all is inside too =
+    ap (are_within places) is ∙ list_all-append (λ (entry : ℤ × ℤ). is_place places entry.0) row others ∙ each (are_within places row) (are_within places others) inside too
+
+pub halves_within : (places n : ℕ) (row : List (ℤ × ℤ)) → are_within places row ≡ true → (are_within places (take n row) ≡ true) × (are_within places (drop n row) ≡ true)
+halves_within places n row inside = both (are_within places (take n row)) (are_within places (drop n row)) (sym (halves places n row) ∙ inside)
+
 pub rows_inside : (places : ℕ) (lengths : List ℕ) (entries : List (ℤ × ℤ)) → sum lengths ≡ length entries → list_all (are_within places) (cut_of lengths entries) ≡ true
     → are_within places entries ≡ true
 rows_inside places [] entries adds_up inside = ap (are_within places) (nil_from_length entries (sym adds_up))
@@ -72,5 +79,5 @@ pub by_rule : (rule : ℤ → Option ℤ) (x : List ℤ) (lengths : List ℕ) (e
 by_rule rule x [] entries inside = refl
 by_rule rule x (n ∷ lengths) entries inside =
     let row = take n entries in
-    let parts = both (are_within (length x) row) (are_within (length x) (drop n entries)) (sym (halves (length x) n entries) ∙ inside) in
+    let parts = halves_within (length x) n entries inside in
     λ i. (if (parts.0 i) then rule (row_total x row) else None) ∷ by_rule rule x lengths (drop n entries) parts.1 i

@@ -1,7 +1,7 @@
 -- What the product of a sparse matrix with a vector answers: the product, or the first fault.
 -- Source: the product by four calls of CVL, whose faults come in their order: a descriptor is made of the lengths, the elements at the
 -- columns are gathered, the values are multiplied with them, and each segment is added up. Offsets are those of compressed sparse rows.
-use Rattle.std.specs.Prelude.{ℕ, ℤ, pos, ◌-ℤ◌, not, List, [], ◌∷◌, map, option_map, position, Option, Result, Ok, Err, length}
+use Rattle.std.specs.Prelude.{ℕ, ℤ, pos, ◌-ℤ◌, not, List, [], ◌∷◌, map, option_map, position, Result, Ok, Err, length}
 use Rattle.std.specs.Int.{is_negative}
 use Rattle.std.specs.List.{zip}
 use Rattle.std.specs.Ordering.{int_eq}

@@ -1,4 +1,5 @@
 pub mod Answers
+pub mod EntrySums
 pub mod Products
 pub mod Rows
 pub use Rattle.cvl_base.specs.Descriptors

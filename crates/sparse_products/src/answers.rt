@@ -9,7 +9,7 @@ ghost use Rattle.fresh.specs.Found.{first_without};
 ghost use Rattle.sparse_products.specs.Answers.{rows_within};
 ghost use Rattle.sparse_products.specs.Rows.{product_by, row_item, row_value};
 
-use crate::row_sums::RowSum;
+use crate::row_walks::RowWalk;
 use cvl_base::{Fault, FaultNo, Refused};
 use permute_walks::check_places_alone;
 use std::alloc::Allocator;
@@ -35,7 +35,7 @@ pub(crate) fn check_entries(
 
 /// The product that was written, or where a row has no value the reason: `IndexOutOfRange` at the first column that is none of so
 /// many places, or else `Overflow` at the row.
-pub(crate) fn product_or_fault<S: RowSum, A: Allocator>(
+pub(crate) fn product_or_fault<S: RowWalk, A: Allocator>(
     columns: &[i32],
     places: usize,
     written: Vec<i32, A>,

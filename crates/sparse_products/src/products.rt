@@ -8,8 +8,8 @@ ghost use Rattle.sparse_products.specs.Rows.{product_by};
 
 use crate::answers::{check_entries, product_or_fault};
 use crate::offsets::row_lengths;
-use crate::row_sums::{Checked, RowSum, Wrapping};
-use crate::row_walks::RowValues;
+use crate::row_sums::{Checked, Wrapping};
+use crate::row_walks::{RowValues, RowWalk};
 use cvl_base::{Config, Memory, Refused};
 use fresh::write_checked_in_runs;
 use segdes::SegDes;
@@ -18,7 +18,7 @@ use std::marker::PhantomData;
 use std::thread::Threads;
 
 /// The product by a rule.
-fn product_in_runs<S: RowSum + Send + Sync, R: Threads + Sync, A: Memory>(
+fn product_in_runs<S: RowWalk + Send + Sync, R: Threads + Sync, A: Memory>(
     rt: &R,
     alloc: A,
     config: Config,

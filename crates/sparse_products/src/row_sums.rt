@@ -50,7 +50,7 @@ impl RowSum for Checked {
 
 /// The element of `x` at a column, if the column is one of its places.
 #[inline(always)]
-fn element_of(x: &[i32], column: &i32) -> Option<i32>
+pub(crate) fn element_of(x: &[i32], column: &i32) -> Option<i32>
     ensures { result ≡ element_at x.now column.now }
 {
     let place = place_among(x.len(), column)?;
@@ -59,7 +59,7 @@ fn element_of(x: &[i32], column: &i32) -> Option<i32>
 
 /// The sum with one product more, wrapped to 32 bits.
 #[inline(always)]
-fn with_product(sum: &i32, value: &i32, element: &i32) -> i32
+pub(crate) fn with_product(sum: &i32, value: &i32, element: &i32) -> i32
     ensures { result ≡ wrap (sum.now +ℤ wrap (value.now *ℤ element.now)) }
 {
     Add::apply(*sum, Mul::apply(*value, *element))

@@ -9,7 +9,7 @@ ghost use Rattle.fresh.specs.Found.{first_without};
 ghost use Rattle.fresh.specs.Places.{with_items};
 ghost use Rattle.sparse_products.specs.Rows.{row_item, row_value};
 
-use crate::row_sums::RowSum;
+use crate::row_sums::{Checked, RowSum};
 use fresh::{CheckedWriter, Run, first_found};
 use segdes::SegDes;
 use std::alloc::Allocator;
@@ -49,6 +49,54 @@ pub(crate) fn rows_into<S: RowSum>(
     (run, found)
 }
 
+/// A rule for the sum of a row, with the walk over rows that is fastest by it.
+pub(crate) trait RowWalk {
+    ghost use Rattle.std.specs.Prelude.{◌≡◌, ◌+◌, ◌≤◌, ℤ, Option, length, map, sum, unsigned_abs};
+    ghost use Rattle.std.specs.List.{zip};
+    ghost use Rattle.cvl_base.specs.Descriptors.{AreLengthsWithin};
+    ghost use Rattle.cvl_base.specs.Limits.{most_places};
+    ghost use Rattle.cvl_base.specs.Nests.{cut_of};
+    ghost use Rattle.fresh.specs.Found.{first_without};
+    ghost use Rattle.fresh.specs.Places.{with_items};
+    ghost use Rattle.sparse_products.specs.Rows.{row_item, row_value};
+
+    ghost rule: { ℤ → Option ℤ };
+
+    /// Writes the values of rows, as [`rows_into`] does.
+    fn walk(
+        run: Run<i32>,
+        lengths: &[i32],
+        columns: &[i32],
+        values: &[i32],
+        x: &[i32],
+    ) -> (Run<i32>, Option<usize>)
+        requires lengths { AreLengthsWithin most_places lengths.now }
+        requires as_many { length values.now ≡ length columns.now }
+        requires covered { sum (map unsigned_abs lengths.now) ≤ length columns.now }
+        requires room { length lengths.now ≤ run.room }
+        ensures run { result.0 ≡ with_items run (map (row_item rule x.now)
+            (cut_of (map unsigned_abs lengths.now) (zip columns.now values.now))) }
+        ensures found { result.1 ≡ first_without (run.first + length run.items) (map (row_value rule x.now)
+            (cut_of (map unsigned_abs lengths.now) (zip columns.now values.now))) };
+}
+
+/// Each row is added up by itself.
+impl RowWalk for Checked {
+    ghost use Rattle.cvl_base.specs.CheckedSums.{fitting};
+
+    ghost rule = { fitting };
+
+    fn walk(
+        run: Run<i32>,
+        lengths: &[i32],
+        columns: &[i32],
+        values: &[i32],
+        x: &[i32],
+    ) -> (Run<i32>, Option<usize>) {
+        rows_into::<Checked>(run, lengths, columns, values, x)
+    }
+}
+
 /// Writes the values of the rows of a matrix.
 #[derive(Drop)]
 pub(crate) struct RowValues<'a, S, A: Allocator> {
@@ -61,7 +109,7 @@ pub(crate) struct RowValues<'a, S, A: Allocator> {
     ghost covered: { sum rows.now ≡ length columns.now },
 }
 
-impl<'a, S: RowSum, A: Allocator> CheckedWriter<i32> for RowValues<'a, S, A> {
+impl<'a, S: RowWalk, A: Allocator> CheckedWriter<i32> for RowValues<'a, S, A> {
     ghost use Rattle.std.specs.Prelude.{◌≡◌, ◌+◌, ◌≤◌, [], length, map};
     ghost use Rattle.std.specs.List.{zip};
     ghost use Rattle.cvl_base.specs.Nests.{cut_of};
@@ -93,7 +141,7 @@ impl<'a, S: RowSum, A: Allocator> CheckedWriter<i32> for RowValues<'a, S, A> {
         let (_, values) = self.values.split_at(start);
         let (_, lengths) = self.rows.lengths().split_at(first);
         let (lengths, _) = lengths.split_at(count);
-        rows_into::<S>(run, lengths, columns, values, self.x)
+        S::walk(run, lengths, columns, values, self.x)
     }
 
     /// Rows with about as many entries for each thread.

@@ -7,15 +7,15 @@ ghost use Rattle.sparse_products.specs.Answers.{checked_rows_product, rows_produ
 ghost use Rattle.sparse_products.specs.Rows.{product_by};
 
 use crate::answers::{check_entries, product_or_fault};
-use crate::row_sums::{Checked, RowSum, Wrapping};
-use crate::row_walks::rows_into;
+use crate::row_sums::{Checked, Wrapping};
+use crate::row_walks::RowWalk;
 use cvl_base::Refused;
 use fresh::Room;
 use segdes::SegLengths;
 use std::alloc::Allocator;
 
 /// The product by a rule.
-fn product_alone<S: RowSum, A: Allocator>(
+fn product_alone<S: RowWalk, A: Allocator>(
     alloc: A,
     rows: &SegLengths,
     columns: &[i32],
@@ -27,7 +27,7 @@ fn product_alone<S: RowSum, A: Allocator>(
 {
     check_entries(columns, values, x.len(), rows.total())?;
     let (room, run) = Room::new(alloc, rows.count())?;
-    let (run, found) = rows_into::<S>(run, rows.lengths(), columns, values, x);
+    let (run, found) = S::walk(run, rows.lengths(), columns, values, x);
     product_or_fault::<S, A>(columns, x.len(), room.into_vec(run), found)
 }
 

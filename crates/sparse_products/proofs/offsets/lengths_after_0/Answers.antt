@@ -1,4 +1,4 @@
-use Rattle.std.proofs.Common.{◌≡◌, ◌+◌, ◌++◌, ◌∙◌, ap, arith, drop, subst, get_or, length, of_z, pos, sym, to_z, w32, Err, Ok}
+use Rattle.std.proofs.Common.{◌≡◌, ◌+◌, ◌++◌, ◌∙◌, ap, arith, drop, subst, get_or, of_z, pos, sym, to_z, w32, Err}
 use Rattle.std.proofs.lemmas.Int.{ints, to_z-of_z}
 use Rattle.std.specs.Prelude.{◌≤ℤ◌}
 use Rattle.sparse_products.specs.Answers.{lengths_after}

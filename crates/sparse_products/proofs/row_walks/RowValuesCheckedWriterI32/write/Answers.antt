@@ -1,4 +1,4 @@
-use Rattle.std.proofs.Common.{◌≡◌, ◌+◌, ◌≤◌, length, drop, map, pos, take, unsigned_abs, sym, subst, ap, ◌∙◌, arith, List, ℤ}
+use Rattle.std.proofs.Common.{◌≡◌, ◌+◌, ◌≤◌, length, drop, map, pos, take, unsigned_abs, sym, subst, ap, ◌∙◌, arith}
 use Rattle.std.specs.Prelude.{sum}
 use Rattle.std.specs.List.{zip}
 use Rattle.std.proofs.lemmas.List.{length-map}
@@ -25,7 +25,7 @@ split_at-requires-3 g c =
       ap length c.requires.empty,
       ap length c.lengths.ensures.value,
       length-map m.rows.now pos,
-      length-map rows (row_item g.S.RowSum.rule m.x.now),
+      length-map rows (row_item g.S.RowWalk.rule m.x.now),
       length-cut m.rows.now (zip m.columns.now m.values.now),
     )
 
@@ -42,19 +42,19 @@ split_at-requires-4 g c =
       ap length c.requires.empty,
       ap length c.lengths.ensures.value,
       length-map m.rows.now pos,
-      length-map rows (row_item g.S.RowSum.rule m.x.now),
+      length-map rows (row_item g.S.RowWalk.rule m.x.now),
       length-cut m.rows.now (zip m.columns.now m.values.now),
     )
 
-pub rows_into-requires-clause-lengths : goal.rows_into-requires-clause-lengths
-rows_into-requires-clause-lengths g c =
+pub walk-requires-clause-lengths : goal.walk-requires-clause-lengths
+walk-requires-clause-lengths g c =
     let first = c.next_place-first.result in
     let count = c.room-count.result in
     let are : c.split_at-4.result.0.now ≡ take count (drop first c.lengths.result.now) = c.split_at-4.ensures.front ∙ ap (take count) c.split_at-3.ensures.back in
     subst (AreLengthsWithin most_places) (sym are) (range_lengths c.lengths.result.now c.args.self.now.rows.now first count c.lengths.ensures.value c.lengths.ensures.lengths)
 
-pub rows_into-requires-clause-covered : goal.rows_into-requires-clause-covered
-rows_into-requires-clause-covered g c =
+pub walk-requires-clause-covered : goal.walk-requires-clause-covered
+walk-requires-clause-covered g c =
     let d = c.args.self.now.rows.now in
     let first = c.next_place-first.result in
     let count = c.room-count.result in
@@ -75,7 +75,7 @@ returns-clause-run g c =
     let m = c.args.self.now in
     let run = c.args.run in
     let d = m.rows.now in
-    let f = row_item g.S.RowSum.rule m.x.now in
+    let f = row_item g.S.RowWalk.rule m.x.now in
     let entries = zip m.columns.now m.values.now in
     let first = c.next_place-first.result in
     let count = c.room-count.result in
@@ -87,15 +87,15 @@ returns-clause-run g c =
     let le : first ≤ length d = omega (arith, at, c.requires.within, length-map (cut_of d entries) f, length-cut d entries) in
     let same = rows_shared f d (map unsigned_abs c.split_at-4.result.0.now) entries (zip c.split_at.result.1.now c.split_at-2.result.1.now) first count c.start_or_total-start.result
     le read c.start_or_total-start.ensures own in
-    part_written run c.rows_into.result.0 (map f (cut_of d entries)) _ c.requires.empty c.requires.within
-    (same ∙ (λ i. part (map f (cut_of d entries)) (at i) (c.room-count.ensures i))) c.rows_into.ensures.run
+    part_written run c.walk.result.0 (map f (cut_of d entries)) _ c.requires.empty c.requires.within
+    (same ∙ (λ i. part (map f (cut_of d entries)) (at i) (c.room-count.ensures i))) c.walk.ensures.run
 
 pub returns-clause-found : goal.returns-clause-found
 returns-clause-found g c =
     let m = c.args.self.now in
     let run = c.args.run in
     let d = m.rows.now in
-    let f = row_value g.S.RowSum.rule m.x.now in
+    let f = row_value g.S.RowWalk.rule m.x.now in
     let entries = zip m.columns.now m.values.now in
     let first = c.next_place-first.result in
     let count = c.room-count.result in
@@ -105,8 +105,8 @@ returns-clause-found g c =
     (λ i. zip (c.split_at.ensures.back i) (c.split_at-2.ensures.back i)) ∙ zip-drop m.columns.now m.values.now c.start_or_total-start.result in
     let at : first ≡ run.first = omega (arith, c.next_place-first.ensures.place, ap length c.requires.empty) in
     let le : first ≤ length d =
-    omega (arith, at, c.requires.within, length-map (cut_of d entries) (row_item g.S.RowSum.rule m.x.now), length-cut d entries) in
+    omega (arith, at, c.requires.within, length-map (cut_of d entries) (row_item g.S.RowWalk.rule m.x.now), length-cut d entries) in
     let same = rows_shared f d (map unsigned_abs c.split_at-4.result.0.now) entries (zip c.split_at.result.1.now c.split_at-2.result.1.now) first count c.start_or_total-start.result
     le read c.start_or_total-start.ensures own in
     let place : run.first + length run.items ≡ run.first = omega (arith, ap length c.requires.empty) in
-    c.rows_into.ensures.found ∙ (λ i. first_without (place i) ((same ∙ (λ j. part (map f (cut_of d entries)) (at j) (c.room-count.ensures j))) i))
+    c.walk.ensures.found ∙ (λ i. first_without (place i) ((same ∙ (λ j. part (map f (cut_of d entries)) (at j) (c.room-count.ensures j))) i))

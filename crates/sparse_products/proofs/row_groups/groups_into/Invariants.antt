@@ -1,0 +1,29 @@
+use Rattle.std.proofs.Common.{◌≡◌, ◌+◌, ◌-◌, ◌≤◌, length, drop, map, unsigned_abs}
+use Rattle.std.specs.Prelude.{sum}
+use Rattle.std.specs.List.{zip}
+use Rattle.std.specs.Option.{option_or}
+use Rattle.cvl_base.specs.Nests.{cut_of}
+use Rattle.fresh.specs.Found.{first_without}
+use Rattle.fresh.specs.Places.{with_items}
+use Rattle.sparse_products.specs.Rows.{row_item, row_value, wrapping}
+use Rattle.sparse_products.proofs.row_groups.groups_into.Given as goal
+
+-- what is written and found with the rows that are left is what the whole has
+abbrev pub invariant-loop-first : goal.invariant-loop-first
+invariant-loop-first l =
+    let lengths = map unsigned_abs l.lengths in
+    let all = cut_of lengths (zip l.columns l.values) in
+    let left = cut_of (drop l.first lengths) (zip l.columns_left l.values_left) in
+    record {
+      whole : with_items l.run (map (row_item wrapping l.x) left) ≡ with_items l.fn.run (map (row_item wrapping l.x) all);
+      found : option_or l.found (first_without (l.run.first + length l.run.items) (map (row_value wrapping l.x) left))
+          ≡ first_without (l.fn.run.first + length l.fn.run.items) (map (row_value wrapping l.x) all);
+      as_many : length l.values_left ≡ length l.columns_left;
+      covered : sum (drop l.first lengths) ≤ length l.columns_left;
+      room : length l.lengths - l.first ≤ l.run.room;
+      within : l.first ≤ length l.lengths;
+    }
+
+-- how many rows are left
+abbrev pub decreases-loop-first : goal.decreases-loop-first
+decreases-loop-first l = length l.lengths - l.first

@@ -1,0 +1,13 @@
+use Rattle.std.proofs.Common.{◌≡◌, ℕ, ◌≤◌, get_or, length, pos, take, true}
+use Rattle.std.specs.List.{zip}
+use Rattle.cvl_base.specs.Integers.{wrap}
+use Rattle.sparse_products.specs.Products.{row_total}
+use Rattle.sparse_products.specs.Rows.{are_within}
+use Rattle.sparse_products.proofs.row_groups.sums_into.Given as goal
+
+abbrev pub invariant-loop-k : goal.invariant-loop-k
+invariant-loop-k l = let entries = zip l.columns l.values in record {
+  within : are_within (length l.x) (take l.k entries) ≡ true;
+  each : (j : ℕ) → j ≤ l.k → get_or l.sums j (pos 0) ≡ wrap (row_total l.x (take j entries));
+  last : l.sum ≡ wrap (row_total l.x (take l.k entries));
+}

@@ -1,0 +1,164 @@
+//! The walk over the rows where sums are wrapped: the entries of some rows together are added up one after another, and each row is
+//! the sum at its end, less the one at its start. So no branch hangs on how long a short row is, which no processor foresees.
+
+ghost use Rattle.std.specs.Prelude.{◌≡◌, ◌+◌, ◌≤◌, ◌<◌, ◌-ℤ◌, length, map, sum, unsigned_abs, IsTrue};
+ghost use Rattle.std.specs.List.{zip};
+ghost use Rattle.cvl_base.specs.Descriptors.{AreLengthsWithin};
+ghost use Rattle.cvl_base.specs.Integers.{wrap};
+ghost use Rattle.cvl_base.specs.Limits.{most_places};
+ghost use Rattle.cvl_base.specs.Nests.{cut_of};
+ghost use Rattle.fresh.specs.Found.{first_without};
+ghost use Rattle.fresh.specs.Places.{with_items};
+ghost use Rattle.sparse_products.specs.EntrySums.{AreSums, between};
+ghost use Rattle.sparse_products.specs.Rows.{row_item, row_value, wrapping};
+
+use crate::row_sums::{Wrapping, element_of, with_product};
+use crate::row_walks::{RowWalk, rows_into};
+use cvl_base::integer::sub;
+use fresh::Run;
+
+/// How many rows are taken together.
+const GROUP: usize = 64;
+
+/// The sums of the entries of a group, with the one before the first entry. Where rows have more entries, each is added up by
+/// itself, since the branch at its end is then rare.
+const SUMS: usize = 2049;
+
+/// From how many entries on groups pay, whose sums are cleared first.
+const LEAST: usize = 1024;
+
+/// Writes the sum of the first entries for each number of them, and tells whether each column is a place of `x`.
+fn sums_into(sums: &mut [i32], columns: &[i32], values: &[i32], x: &[i32]) -> bool
+    requires as_many { length values.now ≡ length columns.now }
+    requires room { length columns.now < length sums.old }
+    ensures { IsTrue result → AreSums x.now (zip columns.now values.now) sums.new }
+{
+    let mut sum = 0;
+    sums[0] = 0;
+    for k in 0..columns.len() {
+        match element_of(x, &columns[k]) {
+            None => return false,
+            Some(element) => {
+                sum = with_product(&sum, &values[k], &element);
+                sums[k + 1] = sum;
+            }
+        }
+    }
+    true
+}
+
+/// A sum less another, wrapped to 32 bits.
+#[inline(always)]
+fn difference(sum: &i32, before: &i32) -> i32
+    ensures { result ≡ wrap (sum.now -ℤ before.now) }
+{
+    sub(*sum, *before)
+}
+
+/// Writes the sums of the rows with these lengths, by those of the first entries.
+fn differences_into(run: Run<i32>, lengths: &[i32], sums: &[i32]) -> Run<i32>
+    requires lengths { AreLengthsWithin most_places lengths.now }
+    requires covered { sum (map unsigned_abs lengths.now) < length sums.now }
+    requires room { length lengths.now ≤ run.room }
+    ensures { result ≡ with_items run (between sums.now 0 (map unsigned_abs lengths.now)) }
+{
+    let (mut run, mut start) = (run, 0);
+    for length in lengths {
+        let end = start + *length as usize;
+        run.push(difference(&sums[end], &sums[start]));
+        start = end;
+    }
+    run
+}
+
+/// Writes the values of a group of rows, as [`rows_into`] does.
+fn group_into(
+    run: Run<i32>,
+    sums: &mut [i32],
+    lengths: &[i32],
+    columns: &[i32],
+    values: &[i32],
+    x: &[i32],
+) -> (Run<i32>, Option<usize>)
+    requires lengths { AreLengthsWithin most_places lengths.now }
+    requires as_many { length values.now ≡ length columns.now }
+    requires covered { sum (map unsigned_abs lengths.now) ≡ length columns.now }
+    requires room { length lengths.now ≤ run.room }
+    ensures run { result.0 ≡ with_items run (map (row_item wrapping x.now)
+        (cut_of (map unsigned_abs lengths.now) (zip columns.now values.now))) }
+    ensures found { result.1 ≡ first_without (run.first + length run.items) (map (row_value wrapping x.now)
+        (cut_of (map unsigned_abs lengths.now) (zip columns.now values.now))) }
+{
+    if columns.len() < sums.len() && sums_into(sums, columns, values, x) {
+        return (differences_into(run, lengths, sums), None);
+    }
+    rows_into::<Wrapping>(run, lengths, columns, values, x)
+}
+
+/// How many entries the rows with these lengths have.
+fn entries_of(lengths: &[i32]) -> usize
+    requires { AreLengthsWithin most_places lengths.now }
+    ensures { result ≡ sum (map unsigned_abs lengths.now) }
+{
+    let mut entries = 0;
+    for length in lengths {
+        entries += *length as usize;
+    }
+    entries
+}
+
+/// Writes the values of the rows with these lengths, as [`rows_into`] does.
+fn groups_into(
+    run: Run<i32>,
+    lengths: &[i32],
+    columns: &[i32],
+    values: &[i32],
+    x: &[i32],
+) -> (Run<i32>, Option<usize>)
+    requires lengths { AreLengthsWithin most_places lengths.now }
+    requires as_many { length values.now ≡ length columns.now }
+    requires covered { sum (map unsigned_abs lengths.now) ≤ length columns.now }
+    requires room { length lengths.now ≤ run.room }
+    ensures run { result.0 ≡ with_items run (map (row_item wrapping x.now)
+        (cut_of (map unsigned_abs lengths.now) (zip columns.now values.now))) }
+    ensures found { result.1 ≡ first_without (run.first + length run.items) (map (row_value wrapping x.now)
+        (cut_of (map unsigned_abs lengths.now) (zip columns.now values.now))) }
+{
+    let mut sums = [0; SUMS];
+    let (mut run, mut found, mut first) = (run, None, 0);
+    let (mut columns_left, mut values_left) = (columns, values);
+    while first < lengths.len() {
+        let next = (first + GROUP).min(lengths.len());
+        let group = &lengths[first..next];
+        let entries = entries_of(group);
+        let (group_columns, later_columns) = columns_left.split_at(entries);
+        let (group_values, later_values) = values_left.split_at(entries);
+        let (written, missing) = group_into(run, &mut sums, group, group_columns, group_values, x);
+        run = written;
+        found = found.or(missing);
+        columns_left = later_columns;
+        values_left = later_values;
+        first = next;
+    }
+    (run, found)
+}
+
+/// Rows are added up group by group, but for a few entries.
+impl RowWalk for Wrapping {
+    ghost use Rattle.sparse_products.specs.Rows.{wrapping};
+
+    ghost rule = { wrapping };
+
+    fn walk(
+        run: Run<i32>,
+        lengths: &[i32],
+        columns: &[i32],
+        values: &[i32],
+        x: &[i32],
+    ) -> (Run<i32>, Option<usize>) {
+        if columns.len() < LEAST {
+            return rows_into::<Wrapping>(run, lengths, columns, values, x);
+        }
+        groups_into(run, lengths, columns, values, x)
+    }
+}
