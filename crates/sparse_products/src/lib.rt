@@ -9,6 +9,7 @@ mod answers;
 pub mod laws;
 pub mod offsets;
 pub mod products;
+mod row_counts;
 mod row_groups;
 mod row_sums;
 mod row_walks;

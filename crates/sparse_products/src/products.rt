@@ -8,11 +8,12 @@ ghost use Rattle.sparse_products.specs.Rows.{product_by};
 
 use crate::answers::{check_entries, product_or_fault};
 use crate::offsets::row_lengths;
+use crate::row_counts::rows_of;
 use crate::row_sums::{Checked, Wrapping};
 use crate::row_walks::{RowValues, RowWalk};
 use cvl_base::{Config, Memory, Refused};
 use fresh::write_checked_in_runs;
-use segdes::SegDes;
+use segdes::SegLengths;
 use sharing::threads_writing;
 use std::marker::PhantomData;
 use std::thread::Threads;
@@ -22,7 +23,7 @@ fn product_in_runs<S: RowWalk + Send + Sync, R: Threads + Sync, A: Memory>(
     rt: &R,
     alloc: A,
     config: Config,
-    rows: &SegDes<A>,
+    rows: &SegLengths,
     columns: &[i32],
     values: &[i32],
     x: &[i32],
@@ -31,7 +32,7 @@ fn product_in_runs<S: RowWalk + Send + Sync, R: Threads + Sync, A: Memory>(
     ensures { Gives (λ y. y.items) result (product_by S.rule rows.now columns.now values.now x.now) }
 {
     check_entries(columns, values, x.len(), rows.total())?;
-    let matrix: RowValues<'_, S, A> = RowValues {
+    let matrix: RowValues<'_, S> = RowValues {
         rows,
         columns,
         values,
@@ -67,7 +68,7 @@ pub fn sparse_product<R: Threads + Sync, A: Memory>(
     requires columns { length columns.now ≤ most_elements }
     ensures { Gives (λ y. y.items) result (sparse_product_of lengths.now columns.now values.now x.now) }
 {
-    let rows = SegDes::from_lengths(alloc, lengths)?;
+    let rows = rows_of(lengths)?;
     product_in_runs::<Wrapping, R, A>(rt, alloc, config, &rows, columns, values, x)
 }
 
@@ -85,7 +86,7 @@ pub fn checked_sparse_product<R: Threads + Sync, A: Memory>(
     requires columns { length columns.now ≤ most_elements }
     ensures { Gives (λ y. y.items) result (checked_sparse_product_of lengths.now columns.now values.now x.now) }
 {
-    let rows = SegDes::from_lengths(alloc, lengths)?;
+    let rows = rows_of(lengths)?;
     product_in_runs::<Checked, R, A>(rt, alloc, config, &rows, columns, values, x)
 }
 

@@ -12,6 +12,7 @@ ghost use Rattle.fresh.specs.Places.{with_items};
 ghost use Rattle.sparse_products.specs.EntrySums.{AreSums, between};
 ghost use Rattle.sparse_products.specs.Rows.{row_item, row_value, wrapping};
 
+use crate::row_counts::entries_of;
 use crate::row_sums::{Wrapping, element_of, with_product};
 use crate::row_walks::{RowWalk, rows_into};
 use cvl_base::integer::sub;
@@ -93,18 +94,6 @@ fn group_into(
         return (differences_into(run, lengths, sums), None);
     }
     rows_into::<Wrapping>(run, lengths, columns, values, x)
-}
-
-/// How many entries the rows with these lengths have.
-fn entries_of(lengths: &[i32]) -> usize
-    requires { AreLengthsWithin most_places lengths.now }
-    ensures { result ≡ sum (map unsigned_abs lengths.now) }
-{
-    let mut entries = 0;
-    for length in lengths {
-        entries += *length as usize;
-    }
-    entries
 }
 
 /// Writes the values of the rows with these lengths, as [`rows_into`] does.

@@ -9,10 +9,10 @@ ghost use Rattle.fresh.specs.Found.{first_without};
 ghost use Rattle.fresh.specs.Places.{with_items};
 ghost use Rattle.sparse_products.specs.Rows.{row_item, row_value};
 
+use crate::row_counts::{entries_of, rows_of_share};
 use crate::row_sums::{Checked, RowSum};
 use fresh::{CheckedWriter, Run, first_found};
-use segdes::SegDes;
-use std::alloc::Allocator;
+use segdes::SegLengths;
 use std::marker::PhantomData;
 
 /// Writes the values of the rows with these lengths, 0 for a row that has none, and tells the place of the first of these.
@@ -99,8 +99,8 @@ impl RowWalk for Checked {
 
 /// Writes the values of the rows of a matrix.
 #[derive(Drop)]
-pub(crate) struct RowValues<'a, S, A: Allocator> {
-    pub(crate) rows: &'a SegDes<A>,
+pub(crate) struct RowValues<'a, S> {
+    pub(crate) rows: &'a SegLengths<'a>,
     pub(crate) columns: &'a [i32],
     pub(crate) values: &'a [i32],
     pub(crate) x: &'a [i32],
@@ -109,7 +109,7 @@ pub(crate) struct RowValues<'a, S, A: Allocator> {
     ghost covered: { sum rows.now ≡ length columns.now },
 }
 
-impl<'a, S: RowWalk, A: Allocator> CheckedWriter<i32> for RowValues<'a, S, A> {
+impl<'a, S: RowWalk> CheckedWriter<i32> for RowValues<'a, S> {
     ghost use Rattle.std.specs.Prelude.{◌≡◌, ◌+◌, ◌≤◌, [], length, map};
     ghost use Rattle.std.specs.List.{zip};
     ghost use Rattle.cvl_base.specs.Nests.{cut_of};
@@ -123,8 +123,7 @@ impl<'a, S: RowWalk, A: Allocator> CheckedWriter<i32> for RowValues<'a, S, A> {
 
     ghost values = { λ m. map (row_value S.rule m.x.now) (cut_of m.rows.now (zip m.columns.now m.values.now)) };
 
-    ghost IsShare = { λ m first room few threads places.
-        IsShareEnd m.rows.now first (first + room) few threads (first + places) };
+    ghost IsShare = { λ m first room few threads places. IsShareEnd (part m.rows.now first room) 0 room few threads places };
 
     fn write(&self, run: Run<i32>) -> (Run<i32>, Option<usize>)
         requires empty { run.items ≡ [] }
@@ -136,19 +135,20 @@ impl<'a, S: RowWalk, A: Allocator> CheckedWriter<i32> for RowValues<'a, S, A> {
             (cut_of self.now.rows.now (zip self.now.columns.now self.now.values.now))) run.first run.room) }
     {
         let (first, count) = (run.next_place(), run.room());
-        let start = self.rows.start_or_total(first);
+        let (before, lengths) = self.rows.lengths().split_at(first);
+        let (lengths, _) = lengths.split_at(count);
+        let start = entries_of(before);
         let (_, columns) = self.columns.split_at(start);
         let (_, values) = self.values.split_at(start);
-        let (_, lengths) = self.rows.lengths().split_at(first);
-        let (lengths, _) = lengths.split_at(count);
         S::walk(run, lengths, columns, values, self.x)
     }
 
     /// Rows with about as many entries for each thread.
-    #[tactic(auto, using(crate::proofs::Cuts::rows_long))]
     fn share(&self, first: usize, room: usize, few: usize, threads: usize) -> usize {
         // its contract bounds the number of rows
         let _count = self.rows.count();
-        self.rows.share_end(first, first + room, few, threads) - first
+        let (_, lengths) = self.rows.lengths().split_at(first);
+        let (lengths, _) = lengths.split_at(room);
+        rows_of_share(lengths, few, threads)
     }
 }

@@ -1,7 +1,7 @@
 use Rattle.std.proofs.Common.{arith, map, unsigned_abs}
 use Rattle.std.proofs.lemmas.List.Sums.{sum_by_more}
 use Rattle.range_walks.proofs.Segments.{length_fits, segment_read}
-use Rattle.sparse_products.proofs.row_groups.entries_of.Goals as goal
+use Rattle.sparse_products.proofs.row_counts.entries_of.Goals as goal
 
 pub overflow_cast-entries : goal.overflow_cast-entries
 overflow_cast-entries c =
