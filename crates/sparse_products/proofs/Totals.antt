@@ -1,5 +1,6 @@
 -- Sums of the first entries of some rows: one entry more, and the rows that they give.
-use Rattle.std.proofs.Common.{◌≡◌, ℕ, ◌+◌, ◌<◌, ◌≤◌, Bool, true, false, ℤ, pos, ◌+ℤ◌, ◌*ℤ◌, List, [], ◌∷◌, ◌++◌, length, take, drop, map, get_or, refl, sym, ap, ◌∙◌, arith, Some, None, take-add, inl, inr, get_or-set_other}
+use Rattle.std.proofs.Common.{◌≡◌, ℕ, ◌+◌, ◌<◌, ◌≤◌, Bool, true, false, ℤ, pos, ◌+ℤ◌, ◌*ℤ◌, List, [], ◌∷◌, ◌++◌, length, take, drop, map, get_or, refl, sym, ap, ◌∙◌, arith, Some, None}
+use Rattle.std.proofs.Common.{take-add, inl, inr, get_or-set_other}
 use Rattle.std.specs.Prelude.{◌-ℤ◌, ◌&&◌, if◌then◌else◌, sum, unwrap_or}
 use Rattle.std.specs.Int.{w32}
 use Rattle.std.specs.List.{fold, zip}
@@ -120,7 +121,10 @@ module _ (x sums : List ℤ) (lengths : List ℕ) (entries : List (ℤ × ℤ)) 
   pub rows_are : sum lengths ≤ length entries → between sums 0 lengths ≡ map (row_item wrapping x) (cut_of lengths entries)
   rows_are covered =
       rows_from x sums lengths 0 entries (pos 0) are.within covered (are.each 0 (omega arith))
-      (λ k le. ap (λ j. get_or sums j (pos 0)) (let same : 0 + k ≡ k = omega arith in same) ∙ are.each k le ∙ ap wrap (let same : row_total x (take k entries) ≡ pos 0 +ℤ row_total x (take k entries) = omega (arith, ints) in same))
+      (λ k le.
+        let at : 0 + k ≡ k = omega arith in
+        let total : row_total x (take k entries) ≡ pos 0 +ℤ row_total x (take k entries) = omega (arith, ints) in
+        ap (λ j. get_or sums j (pos 0)) at ∙ are.each k le ∙ ap wrap total)
 
   -- each of them has a value
   pub none_missing : (place : ℕ) → None ≡ first_without place (map (row_value wrapping x) (cut_of lengths entries))

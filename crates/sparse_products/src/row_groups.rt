@@ -1,5 +1,5 @@
-//! The walk over the rows where sums are wrapped: the entries of some rows together are added up one after another, and each row is
-//! the sum at its end, less the one at its start. So no branch hangs on how long a short row is, which no processor foresees.
+//! The walk over the rows where sums are wrapped: the entries of some rows together are added up one after another, and each row
+//! is the sum at its end, less the one at its start. So no branch hangs on how long a short row is, which no processor foresees.
 
 ghost use Rattle.std.specs.Prelude.{◌≡◌, ◌+◌, ◌≤◌, ◌<◌, ◌-ℤ◌, length, map, sum, unsigned_abs, IsTrue};
 ghost use Rattle.std.specs.List.{zip};

@@ -1,4 +1,4 @@
-use Rattle.std.proofs.Common.{◌≡◌, ◌∙◌, ◌≤◌, ap, arith, length, pos, sym, take, of_z, to_z, w32, Some}
+use Rattle.std.proofs.Common.{◌<◌, ◌+◌, ◌≡◌, ◌∙◌, ◌≤◌, ap, arith, length, pos, sym, take, of_z, to_z, w32, Some}
 use Rattle.std.proofs.Math.ListN.{length-set}
 use Rattle.std.specs.List.{zip}
 use Rattle.std.proofs.lemmas.Int.{to_z-of_z}
@@ -21,9 +21,10 @@ loop-k-preserved c =
     let narrow : now ≡ c.with_product-sum.result = grind (arith, to_z-of_z) in
     let summed = entry_summed x columns values c.requires.as_many k (to_z w32 (of_z w32 c.in-Some.element)) (to_z w32 c.loop-k.sum-bits) now c.loop-k-test.true
     (sym c.element_of.ensures ∙ c.in-Some.is ∙ ap Some (sym element)) c.loop-k.invariant.within c.loop-k.invariant.last (narrow ∙ c.with_product-sum.ensures) in
+    let room : k + 1 < length c.loop-k.sums = omega (arith, c.loop-k-test.true, c.requires.room, c.loop-k.auto.sums, length-set c.args.sums.now 0 (pos 0)) in
     record {
       within = summed.0;
-      each = sums_more c.loop-k.sums k now (λ j. wrap (row_total x (take j (zip columns values)))) (omega (arith, c.loop-k-test.true, c.requires.room, c.loop-k.auto.sums, length-set c.args.sums.now 0 (pos 0))) c.loop-k.invariant.each summed.1;
+      each = sums_more c.loop-k.sums k now (λ j. wrap (row_total x (take j (zip columns values)))) room c.loop-k.invariant.each summed.1;
       last = summed.1;
     }
 
