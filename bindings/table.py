@@ -20,7 +20,8 @@ import call_table
 #           "single", one value that is written; "told", a number that is told beside the room
 #   kind    of an array: "ints", "flags", "text", "marks"; of one value: "int", "flag", "sum" (64 bits) or "size"
 #   extent  how many elements an array has, and what lengths add up to: "n", "m"; "segments", one for each segment; "count", the operand;
-#           "trues", how many flags are true; "total", what the lengths add up to; "room", what the caller says
+#           "trues", how many flags are true; "total", what the lengths add up to; "room", what the caller says; "offsets", one more than
+#           segments
 #   copied  whether flags that are neither 0 nor 1 are copied, since the export takes no others
 Operand = namedtuple("Operand", "name role kind extent copied")
 
@@ -72,6 +73,7 @@ CUTS = {
     "seg_copies": "cut inside segments",
     "seg_numbers": "cut inside segments",
     "segments": "cut between segments",
+    "rows": "cut between rows, whose lengths are kept meanwhile",
     "write": "cut at places; the parts' texts are put one after another",
     "seg_write": "cut between segments; the parts' texts are put one after another",
     "read": "cut at white space",
@@ -175,8 +177,9 @@ OF_FAMILIES = {
     "sparse products": (
         "A sparse matrix comes by its rows: how many entries each row has, and the column and the value of each entry, row after row. Each row is one "
         "walk, so that no vector stands between, as it does where cvl_bck_puz, cvl_mul_wuz and cvl_add_rez are called in turn. Faults by the lengths come "
-        "first, as at the calls on segments. Of rows that come by their offsets, as those of a matrix of compressed rows do, cvl_segments_from_offsets "
-        "writes the lengths, for any number of products.",
+        "first, as at the calls on segments. Rows may come by their offsets, too, as those of a matrix of compressed rows do: one more than rows, row r has "
+        "the entries from the one at offset r to the one before offset r + 1. For many products of one matrix cvl_segments_from_offsets writes the lengths "
+        "once.",
     ),
     "calls in parts": (
         "A caller with threads or machines of its own makes a call in parts, each a range of the vector. Most calls need nothing more than "
@@ -221,6 +224,10 @@ def text(name, extent="n"):
 
 def lengths(name="lengths", extent="n"):
     return Operand(name, "lengths", "ints", extent, False)
+
+
+def offsets(name="offsets"):
+    return Operand(name, "reads", "ints", "offsets", False)
 
 
 def value(name, kind="int"):
@@ -313,6 +320,11 @@ OVERFLOW_AT_PLACE = Fault((18,), "18 Overflow at the first place whose sum does 
 OVERFLOW_AT_0 = Fault((18,), "18 Overflow at 0 where it does not fit 32 bits", False)
 BAD_COLUMN = Fault((10,), "10 IndexOutOfRange at the first column below 0, or m or more", False)
 SUM_OF_ENTRIES = Fault((7,), "7 LengthMismatch where columns and values are not equally many, or the lengths do not add up to n", False)
+TOO_MANY = Fault((13,), f"13 TooLong, also where there are more than {MOST_ELEMENTS + 1} offsets", False)
+BAD_OFFSETS = Fault(
+    (7, 12), "7 LengthMismatch where there is no offset or the first is not 0, else 12 NegativeLength at the first row whose offset is above the next one",
+    False)
+LAST_OFFSET = Fault((7,), "7 LengthMismatch where columns and values are not equally many, or the last offset is not n", False)
 OVERFLOW_AT_ROW = Fault((18,), "18 Overflow at the first row whose sum does not fit 32 bits", False)
 OVERFLOW_AT_SEGMENT = Fault((18,), "18 Overflow at the first segment whose sum does not fit 32 bits", False)
 RANGE_FAULTS = (
@@ -702,6 +714,20 @@ FAMILIES = (
         faults=(TOO_LONG, SUM_OF_ENTRIES, BAD_COLUMN, OVERFLOW_AT_ROW), asks=True, cut=("segments", "n"),
         shape="lengths, columns, values, x and out are those of cvl_sparse_product.",
         example={"lengths": "2 1", "columns": "0 1 0", "values": "2147483647 -1 3", "x": "2 2147483647", "out": "2147483647 6"},
+    ),
+    family(
+        "sparse_product_by_offsets", "sparse products", (offsets(), ints("columns"), ints("values"), ints("x", "m"), room("ints", "segments")),
+        "cvl_sparse_product of rows that come by their offsets.",
+        faults=(TOO_MANY, BAD_OFFSETS, LAST_OFFSET, BAD_COLUMN), asks=True, cut=("rows", "n"),
+        shape="offsets are one more than rows, the first is 0 and the last n; columns, values, x and out are those of cvl_sparse_product.",
+        example={"offsets": "0 2 2 4", "columns": "0 2 1 2", "values": "2 1 3 4", "x": "1 2 3", "out": "5 0 18"},
+    ),
+    family(
+        "checked_sparse_product_by_offsets", "sparse products", (offsets(), ints("columns"), ints("values"), ints("x", "m"), room("ints", "segments")),
+        "cvl_checked_sparse_product of rows that come by their offsets.",
+        faults=(TOO_MANY, BAD_OFFSETS, LAST_OFFSET, BAD_COLUMN, OVERFLOW_AT_ROW), asks=True, cut=("rows", "n"),
+        shape="offsets, columns, values, x and out are those of cvl_sparse_product_by_offsets.",
+        example={"offsets": "0 2 3", "columns": "0 1 0", "values": "2147483647 -1 3", "x": "2 2147483647", "out": "2147483647 6"},
     ),
 )
 

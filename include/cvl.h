@@ -667,8 +667,9 @@ CVL_CHECKED CvlStatus cvl_read_ints_after(size_t before, const char *text, size_
 /*
  * A sparse matrix comes by its rows: how many entries each row has, and the column and the value of each entry, row after row.
  * Each row is one walk, so that no vector stands between, as it does where cvl_bck_puz, cvl_mul_wuz and cvl_add_rez are called
- * in turn. Faults by the lengths come first, as at the calls on segments. Of rows that come by their offsets, as those of a
- * matrix of compressed rows do, cvl_segments_from_offsets writes the lengths, for any number of products.
+ * in turn. Faults by the lengths come first, as at the calls on segments. Rows may come by their offsets, too, as those of a
+ * matrix of compressed rows do: one more than rows, row r has the entries from the one at offset r to the one before offset r +
+ * 1. For many products of one matrix cvl_segments_from_offsets writes the lengths once.
  */
 
 /*
@@ -689,6 +690,27 @@ CVL_CHECKED CvlStatus cvl_sparse_product(CvlLengths lengths, const int32_t *colu
  */
 CVL_CHECKED CvlStatus cvl_checked_sparse_product(CvlLengths lengths, const int32_t *columns, size_t columns_len,
     const int32_t *values, size_t values_len, const int32_t *x, size_t x_len, int32_t *out, size_t out_len);
+
+/*
+ * cvl_sparse_product_by_offsets: cvl_sparse_product of rows that come by their offsets.
+ * Faults: 13 TooLong, also where there are more than 2147483648 offsets; 7 LengthMismatch where there is no offset or the first
+ * is not 0, else 12 NegativeLength at the first row whose offset is above the next one; 7 LengthMismatch where columns and
+ * values are not equally many, or the last offset is not n; 10 IndexOutOfRange at the first column below 0, or m or more.
+ * offsets = 0 2 2 4, columns = 0 2 1 2, values = 2 1 3 4, x = 1 2 3: out = 5 0 18
+ */
+CVL_CHECKED CvlStatus cvl_sparse_product_by_offsets(const int32_t *offsets, size_t offsets_len, const int32_t *columns,
+    size_t columns_len, const int32_t *values, size_t values_len, const int32_t *x, size_t x_len, int32_t *out, size_t out_len);
+
+/*
+ * cvl_checked_sparse_product_by_offsets: cvl_checked_sparse_product of rows that come by their offsets.
+ * Faults: 13 TooLong, also where there are more than 2147483648 offsets; 7 LengthMismatch where there is no offset or the first
+ * is not 0, else 12 NegativeLength at the first row whose offset is above the next one; 7 LengthMismatch where columns and
+ * values are not equally many, or the last offset is not n; 10 IndexOutOfRange at the first column below 0, or m or more; 18
+ * Overflow at the first row whose sum does not fit 32 bits.
+ * offsets = 0 2 3, columns = 0 1 0, values = 2147483647 -1 3, x = 2 2147483647: out = 2147483647 6
+ */
+CVL_CHECKED CvlStatus cvl_checked_sparse_product_by_offsets(const int32_t *offsets, size_t offsets_len, const int32_t *columns,
+    size_t columns_len, const int32_t *values, size_t values_len, const int32_t *x, size_t x_len, int32_t *out, size_t out_len);
 
 /* ---- booleans that are neither 0 nor 1 ---- */
 

@@ -349,6 +349,16 @@ CVL_CHECKED CvlStatus cvl_sparse_product_on(const CvlPool *pool, CvlLengths leng
 CVL_CHECKED CvlStatus cvl_checked_sparse_product_on(const CvlPool *pool, CvlLengths lengths, const int32_t *columns,
     size_t columns_len, const int32_t *values, size_t values_len, const int32_t *x, size_t x_len, int32_t *out, size_t out_len);
 
+/* cvl_sparse_product_by_offsets in parts: cut between rows, whose lengths are kept meanwhile. */
+CVL_CHECKED CvlStatus cvl_sparse_product_by_offsets_on(const CvlPool *pool, const int32_t *offsets, size_t offsets_len,
+    const int32_t *columns, size_t columns_len, const int32_t *values, size_t values_len, const int32_t *x, size_t x_len,
+    int32_t *out, size_t out_len);
+
+/* cvl_checked_sparse_product_by_offsets in parts: cut between rows, whose lengths are kept meanwhile. */
+CVL_CHECKED CvlStatus cvl_checked_sparse_product_by_offsets_on(const CvlPool *pool, const int32_t *offsets, size_t offsets_len,
+    const int32_t *columns, size_t columns_len, const int32_t *values, size_t values_len, const int32_t *x, size_t x_len,
+    int32_t *out, size_t out_len);
+
 /* ---- the calls of the table in parts ---- */
 
 /* cvl_add_wuz in parts: cut at places. */

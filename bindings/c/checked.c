@@ -2149,6 +2149,85 @@ CvlStatus cvl_checked_sparse_product(CvlLengths lengths, const int32_t *columns,
     return cvl_checked_sparse_product_shared(lengths, columns, columns_len, values, values_len, x, x_len, out, out_len);
 }
 
+static CvlStatus sparse_product_by_offsets_asked(const int32_t *offsets, size_t offsets_len, size_t columns_len,
+    size_t values_len, size_t out_len) {
+    CvlAsked asked;
+    memset(&asked, 0, sizeof asked);
+    asked.known = 1;
+    asked.agree = cvl_sparse_product_by_offsets_agrees(offsets_len, columns_len, values_len, out_len);
+    asked.most = CVL_MOST_ELEMENTS;
+    asked.limited = columns_len;
+    asked.by_offsets = 1, asked.offsets = offsets, asked.offsets_len = offsets_len, asked.totals[0] = columns_len;
+    return cvl_asked(&asked);
+}
+
+CvlStatus cvl_sparse_product_by_offsets_alone(const int32_t *offsets, size_t offsets_len, const int32_t *columns,
+    size_t columns_len, const int32_t *values, size_t values_len, const int32_t *x, size_t x_len, int32_t *out,
+    size_t out_len) {
+    if (cvl_sparse_product_by_offsets_meets(offsets, offsets_len, columns, columns_len, values, values_len, x, x_len, out,
+        out_len)) {
+        return cvl_overlap();
+    }
+    if (!cvl_sparse_product_by_offsets_agrees(offsets_len, columns_len, values_len, out_len)) {
+        return sparse_product_by_offsets_asked(offsets, offsets_len, columns_len, values_len, out_len);
+    }
+    const CvlStatus status = cvl_proved_sparse_product_by_offsets(offsets, offsets_len, columns, columns_len, values, values_len,
+        x, x_len, out, out_len);
+    if (!cvl_is_late(status)) return status;
+    const CvlStatus before = sparse_product_by_offsets_asked(offsets, offsets_len, columns_len, values_len, out_len);
+    return before.number == CVL_DONE ? status : before;
+}
+
+CvlStatus cvl_sparse_product_by_offsets(const int32_t *offsets, size_t offsets_len, const int32_t *columns, size_t columns_len,
+    const int32_t *values, size_t values_len, const int32_t *x, size_t x_len, int32_t *out, size_t out_len) {
+    if (columns_len < CVL_LEAST_SHARED) {
+        return cvl_sparse_product_by_offsets_alone(offsets, offsets_len, columns, columns_len, values, values_len, x, x_len, out,
+            out_len);
+    }
+    return cvl_sparse_product_by_offsets_shared(offsets, offsets_len, columns, columns_len, values, values_len, x, x_len, out,
+        out_len);
+}
+
+static CvlStatus checked_sparse_product_by_offsets_asked(const int32_t *offsets, size_t offsets_len, size_t columns_len,
+    size_t values_len, size_t out_len) {
+    CvlAsked asked;
+    memset(&asked, 0, sizeof asked);
+    asked.known = 1;
+    asked.agree = cvl_checked_sparse_product_by_offsets_agrees(offsets_len, columns_len, values_len, out_len);
+    asked.most = CVL_MOST_ELEMENTS;
+    asked.limited = columns_len;
+    asked.by_offsets = 1, asked.offsets = offsets, asked.offsets_len = offsets_len, asked.totals[0] = columns_len;
+    return cvl_asked(&asked);
+}
+
+CvlStatus cvl_checked_sparse_product_by_offsets_alone(const int32_t *offsets, size_t offsets_len, const int32_t *columns,
+    size_t columns_len, const int32_t *values, size_t values_len, const int32_t *x, size_t x_len, int32_t *out,
+    size_t out_len) {
+    if (cvl_checked_sparse_product_by_offsets_meets(offsets, offsets_len, columns, columns_len, values, values_len, x, x_len, out,
+        out_len)) {
+        return cvl_overlap();
+    }
+    if (!cvl_checked_sparse_product_by_offsets_agrees(offsets_len, columns_len, values_len, out_len)) {
+        return checked_sparse_product_by_offsets_asked(offsets, offsets_len, columns_len, values_len, out_len);
+    }
+    const CvlStatus status = cvl_proved_checked_sparse_product_by_offsets(offsets, offsets_len, columns, columns_len,
+        values, values_len, x, x_len, out, out_len);
+    if (!cvl_is_late(status)) return status;
+    const CvlStatus before = checked_sparse_product_by_offsets_asked(offsets, offsets_len, columns_len, values_len, out_len);
+    return before.number == CVL_DONE ? status : before;
+}
+
+CvlStatus cvl_checked_sparse_product_by_offsets(const int32_t *offsets, size_t offsets_len, const int32_t *columns,
+    size_t columns_len, const int32_t *values, size_t values_len, const int32_t *x, size_t x_len, int32_t *out,
+    size_t out_len) {
+    if (columns_len < CVL_LEAST_SHARED) {
+        return cvl_checked_sparse_product_by_offsets_alone(offsets, offsets_len, columns, columns_len, values, values_len, x, x_len,
+            out, out_len);
+    }
+    return cvl_checked_sparse_product_by_offsets_shared(offsets, offsets_len, columns, columns_len, values, values_len, x, x_len,
+        out, out_len);
+}
+
 CvlStatus cvl_add_wuz(const int32_t *a, const int32_t *b, int32_t *out, size_t n) {
     if (n < CVL_LEAST_SHARED) return cvl_int2_alone(CVL_ADD, a, n, b, n, out, n);
     return cvl_int2_shared(CVL_ADD, a, n, b, n, out, n);

@@ -1,5 +1,6 @@
 /* What is asked of a call before memory is, where that takes a walk: lengths, flags, and the lengths of texts. */
 #include "families.h"
+#include "segments.h"
 
 /* The fault of lengths that are none of segments, and what they add up to. */
 static CvlStatus lengths_told(const CvlLengths *lengths, size_t most, size_t *total) {
@@ -92,6 +93,11 @@ CvlStatus cvl_asked(const CvlAsked *asked) {
         const CvlStatus told = lengths_told(asked->lengths[k], asked->most, &total);
         if (told.number != CVL_DONE) return told;
         if (total != asked->totals[k]) agree = 0;
+    }
+    if (asked->by_offsets) {
+        const CvlStatus told = cvl_offsets_told(asked->offsets, asked->offsets_len);
+        if (told.number != CVL_DONE) return told;
+        if ((size_t)asked->offsets[asked->offsets_len - 1] != asked->totals[0]) agree = 0;
     }
     if (asked->limited > asked->most) return cvl_status(CVL_TOO_LONG, -1);
     return agree ? room_told(asked) : cvl_status(CVL_LENGTH_MISMATCH, -1);

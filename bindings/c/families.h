@@ -35,6 +35,9 @@ CVL_HIDDEN CvlStatus cvl_proved_checked_scan_after(int64_t before, const int32_t
 CVL_HIDDEN CvlStatus cvl_proved_checked_scan_in(int32_t *a, size_t a_len);
 CVL_HIDDEN CvlStatus cvl_proved_checked_sparse_product(const int32_t *lengths, size_t lengths_len, const int32_t *columns,
     size_t columns_len, const int32_t *values, size_t values_len, const int32_t *x, size_t x_len, int32_t *out, size_t out_len);
+CVL_HIDDEN CvlStatus cvl_proved_checked_sparse_product_by_offsets(const int32_t *offsets, size_t offsets_len,
+    const int32_t *columns, size_t columns_len, const int32_t *values, size_t values_len, const int32_t *x, size_t x_len,
+    int32_t *out, size_t out_len);
 CVL_HIDDEN CvlStatus cvl_proved_compare(uint32_t op, const int32_t *a, size_t a_len, const int32_t *b, size_t b_len, bool *out,
     size_t out_len);
 CVL_HIDDEN CvlStatus cvl_proved_count(const bool *flags, size_t flags_len, int32_t *out);
@@ -186,6 +189,8 @@ CVL_HIDDEN CvlStatus cvl_proved_select_permute_int_range(const int32_t *source, 
     size_t index_len, const bool *flags, size_t flags_len, size_t lowest, int32_t *out, size_t out_len, uint32_t *marks,
     size_t marks_len, size_t *written);
 CVL_HIDDEN CvlStatus cvl_proved_sparse_product(const int32_t *lengths, size_t lengths_len, const int32_t *columns,
+    size_t columns_len, const int32_t *values, size_t values_len, const int32_t *x, size_t x_len, int32_t *out, size_t out_len);
+CVL_HIDDEN CvlStatus cvl_proved_sparse_product_by_offsets(const int32_t *offsets, size_t offsets_len, const int32_t *columns,
     size_t columns_len, const int32_t *values, size_t values_len, const int32_t *x, size_t x_len, int32_t *out, size_t out_len);
 CVL_HIDDEN CvlStatus cvl_proved_write_bools(const bool *a, size_t a_len, bool *out, size_t out_len, size_t *count);
 CVL_HIDDEN CvlStatus cvl_proved_write_ints(const int32_t *a, size_t a_len, bool *out, size_t out_len, size_t *count);
@@ -427,6 +432,16 @@ CVL_HIDDEN CvlStatus cvl_checked_sparse_product_alone(CvlLengths lengths, const 
     const int32_t *values, size_t values_len, const int32_t *x, size_t x_len, int32_t *out, size_t out_len);
 CVL_HIDDEN CvlStatus cvl_checked_sparse_product_shared(CvlLengths lengths, const int32_t *columns, size_t columns_len,
     const int32_t *values, size_t values_len, const int32_t *x, size_t x_len, int32_t *out, size_t out_len);
+CVL_HIDDEN CvlStatus cvl_sparse_product_by_offsets_alone(const int32_t *offsets, size_t offsets_len, const int32_t *columns,
+    size_t columns_len, const int32_t *values, size_t values_len, const int32_t *x, size_t x_len, int32_t *out, size_t out_len);
+CVL_HIDDEN CvlStatus cvl_sparse_product_by_offsets_shared(const int32_t *offsets, size_t offsets_len, const int32_t *columns,
+    size_t columns_len, const int32_t *values, size_t values_len, const int32_t *x, size_t x_len, int32_t *out, size_t out_len);
+CVL_HIDDEN CvlStatus cvl_checked_sparse_product_by_offsets_alone(const int32_t *offsets, size_t offsets_len,
+    const int32_t *columns, size_t columns_len, const int32_t *values, size_t values_len, const int32_t *x, size_t x_len,
+    int32_t *out, size_t out_len);
+CVL_HIDDEN CvlStatus cvl_checked_sparse_product_by_offsets_shared(const int32_t *offsets, size_t offsets_len,
+    const int32_t *columns, size_t columns_len, const int32_t *values, size_t values_len, const int32_t *x, size_t x_len,
+    int32_t *out, size_t out_len);
 
 static inline bool cvl_int2_meets(const int32_t *a, size_t a_len, const int32_t *b, size_t b_len, int32_t *out,
     size_t out_len) {
@@ -1279,6 +1294,32 @@ static inline bool cvl_checked_sparse_product_agrees(CvlLengths lengths, size_t 
     size_t out_len) {
     return columns_len <= CVL_MOST_ELEMENTS && lengths.segments <= CVL_MOST_ELEMENTS && values_len == columns_len && out_len ==
         lengths.segments;
+}
+
+static inline bool cvl_sparse_product_by_offsets_meets(const int32_t *offsets, size_t offsets_len, const int32_t *columns,
+    size_t columns_len, const int32_t *values, size_t values_len, const int32_t *x, size_t x_len, int32_t *out,
+    size_t out_len) {
+    return CVL_MEET(out, out_len, offsets, offsets_len) || CVL_MEET(out, out_len, columns, columns_len) || CVL_MEET(out, out_len,
+        values, values_len) || CVL_MEET(out, out_len, x, x_len);
+}
+
+static inline bool cvl_sparse_product_by_offsets_agrees(size_t offsets_len, size_t columns_len, size_t values_len,
+    size_t out_len) {
+    return columns_len <= CVL_MOST_ELEMENTS && values_len == columns_len && offsets_len >= 1 && offsets_len - 1 <= CVL_MOST_ELEMENTS
+        && offsets_len - 1 == out_len;
+}
+
+static inline bool cvl_checked_sparse_product_by_offsets_meets(const int32_t *offsets, size_t offsets_len,
+    const int32_t *columns, size_t columns_len, const int32_t *values, size_t values_len, const int32_t *x, size_t x_len,
+    int32_t *out, size_t out_len) {
+    return CVL_MEET(out, out_len, offsets, offsets_len) || CVL_MEET(out, out_len, columns, columns_len) || CVL_MEET(out, out_len,
+        values, values_len) || CVL_MEET(out, out_len, x, x_len);
+}
+
+static inline bool cvl_checked_sparse_product_by_offsets_agrees(size_t offsets_len, size_t columns_len, size_t values_len,
+    size_t out_len) {
+    return columns_len <= CVL_MOST_ELEMENTS && values_len == columns_len && offsets_len >= 1 && offsets_len - 1 <= CVL_MOST_ELEMENTS
+        && offsets_len - 1 == out_len;
 }
 
 #endif

@@ -73,7 +73,10 @@ typedef struct CvlAsked {
     size_t most;    /* the most elements of a vector, and the most that lengths add up to */
     size_t limited; /* how many elements the vector has that may be too long */
     const CvlLengths *lengths[2];
-    size_t totals[2]; /* what the lengths have to add up to */
+    size_t totals[2]; /* what the lengths have to add up to, or the last offset has to be */
+    bool by_offsets;  /* whether rows come by their offsets */
+    const int32_t *offsets;
+    size_t offsets_len;
     /* what the room has to be as long as, where no number says it: as many as flags are true */
     bool by_flags;
     const bool *flags;

@@ -4,6 +4,7 @@
  * Written by the generator of the repository from its table of calls; edit the table and not this file.
  */
 #include "parts.h"
+#include "segments.h"
 
 static CvlStatus int2_part(CvlWork *w, size_t k) {
     return cvl_int2_placed(w->op, CVL_INTS(w->a, w->from[k]), w->from[k + 1] - w->from[k],
@@ -1966,6 +1967,63 @@ CvlStatus cvl_checked_sparse_product_shared(CvlLengths lengths, const int32_t *c
     }
     return cvl_give_threads(cvl_checked_sparse_product_on(pool, lengths, columns, columns_len, values, values_len, x, x_len, out,
         out_len));
+}
+
+CvlStatus cvl_sparse_product_by_offsets_on(const CvlPool *pool, const int32_t *offsets, size_t offsets_len,
+    const int32_t *columns, size_t columns_len, const int32_t *values, size_t values_len, const int32_t *x, size_t x_len,
+    int32_t *out, size_t out_len) {
+    int32_t *const lengths = !cvl_sparse_product_by_offsets_meets(offsets, offsets_len, columns, columns_len, values, values_len, x,
+        x_len, out, out_len) && cvl_sparse_product_by_offsets_agrees(offsets_len, columns_len, values_len, out_len) ?
+        cvl_lengths_between(offsets, offsets_len) : NULL;
+    if (lengths == NULL) {
+        return cvl_sparse_product_by_offsets_alone(offsets, offsets_len, columns, columns_len, values, values_len, x, x_len, out,
+            out_len);
+    }
+    const CvlLengths cut = {lengths, offsets_len - 1};
+    const CvlStatus status = cvl_sparse_product_on(pool, cut, columns, columns_len, values, values_len, x, x_len, out, out_len);
+    free(lengths);
+    return status;
+}
+
+CvlStatus cvl_sparse_product_by_offsets_shared(const int32_t *offsets, size_t offsets_len, const int32_t *columns,
+    size_t columns_len, const int32_t *values, size_t values_len, const int32_t *x, size_t x_len, int32_t *out,
+    size_t out_len) {
+    const CvlPool *const pool = cvl_take_threads();
+    if (pool == NULL) {
+        return cvl_sparse_product_by_offsets_alone(offsets, offsets_len, columns, columns_len, values, values_len, x, x_len, out,
+            out_len);
+    }
+    return cvl_give_threads(cvl_sparse_product_by_offsets_on(pool, offsets, offsets_len, columns, columns_len, values, values_len,
+        x, x_len, out, out_len));
+}
+
+CvlStatus cvl_checked_sparse_product_by_offsets_on(const CvlPool *pool, const int32_t *offsets, size_t offsets_len,
+    const int32_t *columns, size_t columns_len, const int32_t *values, size_t values_len, const int32_t *x, size_t x_len,
+    int32_t *out, size_t out_len) {
+    int32_t *const lengths = !cvl_checked_sparse_product_by_offsets_meets(offsets, offsets_len, columns, columns_len, values,
+        values_len, x, x_len, out, out_len) && cvl_checked_sparse_product_by_offsets_agrees(offsets_len, columns_len, values_len,
+        out_len) ? cvl_lengths_between(offsets, offsets_len) : NULL;
+    if (lengths == NULL) {
+        return cvl_checked_sparse_product_by_offsets_alone(offsets, offsets_len, columns, columns_len, values, values_len, x, x_len,
+            out, out_len);
+    }
+    const CvlLengths cut = {lengths, offsets_len - 1};
+    const CvlStatus status = cvl_checked_sparse_product_on(pool, cut, columns, columns_len, values, values_len, x, x_len, out,
+        out_len);
+    free(lengths);
+    return status;
+}
+
+CvlStatus cvl_checked_sparse_product_by_offsets_shared(const int32_t *offsets, size_t offsets_len, const int32_t *columns,
+    size_t columns_len, const int32_t *values, size_t values_len, const int32_t *x, size_t x_len, int32_t *out,
+    size_t out_len) {
+    const CvlPool *const pool = cvl_take_threads();
+    if (pool == NULL) {
+        return cvl_checked_sparse_product_by_offsets_alone(offsets, offsets_len, columns, columns_len, values, values_len, x, x_len,
+            out, out_len);
+    }
+    return cvl_give_threads(cvl_checked_sparse_product_by_offsets_on(pool, offsets, offsets_len, columns, columns_len, values,
+        values_len, x, x_len, out, out_len));
 }
 
 CvlStatus cvl_add_wuz_on(const CvlPool *pool, const int32_t *a, const int32_t *b, int32_t *out, size_t n) {

@@ -1,4 +1,5 @@
 /* Descriptors are made, told of and let go, and the version is told. */
+#include "families.h"
 #include "segments.h"
 
 const char *cvl_version(void) { return CVL_VERSION; }
@@ -27,12 +28,21 @@ CvlStatus cvl_segments_new(CvlLengths lengths, CvlSegments *segments) {
     return status;
 }
 
-/* The first fault of offsets: they are as many as there may be, none is less than the one before it, and the first is 0. */
+/* Whether there are offsets, of which the first is 0. */
 /*@ requires \valid_read(offsets + (0 .. offsets_len - 1));
     assigns \nothing;
-    ensures \result.number == CVL_DONE <==> are_offsets(offsets, offsets_len);
+    ensures \result.number == CVL_DONE <==> 0 < offsets_len && offsets[0] == 0;
+    ensures \result.number != CVL_NEGATIVE_LENGTH; */
+static CvlStatus begins_at_0(const int32_t *offsets, size_t offsets_len) {
+    return offsets_len == 0 || offsets[0] != 0 ? cvl_status(CVL_LENGTH_MISMATCH, -1) : cvl_done();
+}
+
+/* The first fault of offsets that begin as they do: they are as many as there may be, and none is less than the one before it. */
+/*@ requires \valid_read(offsets + (0 .. offsets_len - 1));
+    assigns \nothing;
+    ensures \result.number == CVL_DONE <==> offsets_len <= INT32_MAX + 1 && ascends(offsets, offsets_len);
     ensures \result.number == CVL_NEGATIVE_LENGTH ==> first_fall(offsets, offsets_len, \result.place); */
-static CvlStatus offsets_told(const int32_t *offsets, size_t offsets_len) {
+static CvlStatus falls(const int32_t *offsets, size_t offsets_len) {
     if (offsets_len > (size_t)CVL_MOST_ELEMENTS + 1) return cvl_status(CVL_TOO_LONG, -1);
     /*@ loop invariant 1 <= s <= offsets_len + 1 && (s <= offsets_len || s == 1) && ascends(offsets, s);
         loop assigns s;
@@ -40,7 +50,27 @@ static CvlStatus offsets_told(const int32_t *offsets, size_t offsets_len) {
     for (size_t s = 1; s < offsets_len; s++) {
         if (offsets[s] < offsets[s - 1]) return cvl_status(CVL_NEGATIVE_LENGTH, (int64_t)s - 1);
     }
-    return offsets_len == 0 || offsets[0] != 0 ? cvl_status(CVL_LENGTH_MISMATCH, -1) : cvl_done();
+    return cvl_done();
+}
+
+/*@ requires \valid_read(offsets + (0 .. offsets_len - 1));
+    assigns \nothing;
+    ensures \result.number == CVL_DONE <==> are_offsets(offsets, offsets_len);
+    ensures \result.number == CVL_NEGATIVE_LENGTH ==> first_fall(offsets, offsets_len, \result.place); */
+CvlStatus cvl_offsets_told(const int32_t *offsets, size_t offsets_len) {
+    if (offsets_len > (size_t)CVL_MOST_ELEMENTS + 1) return cvl_status(CVL_TOO_LONG, -1);
+    const CvlStatus begins = begins_at_0(offsets, offsets_len);
+    return begins.number == CVL_DONE ? falls(offsets, offsets_len) : begins;
+}
+
+int32_t *cvl_lengths_between(const int32_t *offsets, size_t offsets_len) {
+    if (cvl_offsets_told(offsets, offsets_len).number != CVL_DONE) return NULL;
+    const size_t rows = offsets_len - 1;
+    int32_t *lengths = malloc((rows == 0 ? 1 : rows) * sizeof *lengths);
+    if (lengths == NULL) return NULL;
+    if (cvl_proved_int2(CVL_SUB, offsets + 1, rows, offsets, rows, lengths, rows).number == CVL_DONE) return lengths;
+    free(lengths);
+    return NULL;
 }
 
 /* Each length is the difference of two offsets from 0 on that don't fall, and so fits 32 bits. */
@@ -51,7 +81,8 @@ CvlStatus cvl_segments_from_offsets(const int32_t *offsets, size_t offsets_len, 
     if (segments != NULL && (CVL_MEET(segments, 1, offsets, offsets_len) || CVL_MEET(segments, 1, lengths, lengths_len))) {
         return cvl_overlap();
     }
-    CvlStatus status = offsets_told(offsets, offsets_len);
+    CvlStatus status = falls(offsets, offsets_len);
+    if (status.number == CVL_DONE) status = begins_at_0(offsets, offsets_len);
     if (status.number == CVL_DONE && lengths_len != offsets_len - 1) status = cvl_status(CVL_LENGTH_MISMATCH, -1);
     if (segments == NULL) return status.number == CVL_DONE ? cvl_status(CVL_NO_DESCRIPTOR, -1) : status;
     if (status.number == CVL_DONE) {

@@ -269,6 +269,8 @@ module cvl
     public :: cvl_read_after
     public :: cvl_sparse_product
     public :: cvl_checked_sparse_product
+    public :: cvl_sparse_product_by_offsets
+    public :: cvl_checked_sparse_product_by_offsets
 
     interface cvl_ext_vuz
         module procedure ext_vuz_of_64, ext_vuz_of_32
@@ -466,6 +468,14 @@ module cvl
     interface cvl_checked_sparse_product
         module procedure checked_sparse_product
     end interface cvl_checked_sparse_product
+
+    interface cvl_sparse_product_by_offsets
+        module procedure sparse_product_by_offsets
+    end interface cvl_sparse_product_by_offsets
+
+    interface cvl_checked_sparse_product_by_offsets
+        module procedure checked_sparse_product_by_offsets
+    end interface cvl_checked_sparse_product_by_offsets
 
     ! How a call ended.
     type, public, bind(c) :: cvl_status
@@ -1450,6 +1460,38 @@ module cvl
             integer(c_size_t), value :: out_len
             type(cvl_status) :: answer
         end function c_checked_sparse_product
+
+        function c_sparse_product_by_offsets(offsets, offsets_len, columns, columns_len, values, values_len, x, x_len, out, &
+            out_len) result(answer) bind(c, name="cvl_sparse_product_by_offsets")
+            import :: c_bool, c_char, c_int32_t, c_int64_t, c_ptr, c_size_t, cvl_status, lengths_of
+            type(c_ptr), value :: offsets
+            integer(c_size_t), value :: offsets_len
+            type(c_ptr), value :: columns
+            integer(c_size_t), value :: columns_len
+            type(c_ptr), value :: values
+            integer(c_size_t), value :: values_len
+            type(c_ptr), value :: x
+            integer(c_size_t), value :: x_len
+            type(c_ptr), value :: out
+            integer(c_size_t), value :: out_len
+            type(cvl_status) :: answer
+        end function c_sparse_product_by_offsets
+
+        function c_checked_sparse_product_by_offsets(offsets, offsets_len, columns, columns_len, values, values_len, x, x_len, &
+            out, out_len) result(answer) bind(c, name="cvl_checked_sparse_product_by_offsets")
+            import :: c_bool, c_char, c_int32_t, c_int64_t, c_ptr, c_size_t, cvl_status, lengths_of
+            type(c_ptr), value :: offsets
+            integer(c_size_t), value :: offsets_len
+            type(c_ptr), value :: columns
+            integer(c_size_t), value :: columns_len
+            type(c_ptr), value :: values
+            integer(c_size_t), value :: values_len
+            type(c_ptr), value :: x
+            integer(c_size_t), value :: x_len
+            type(c_ptr), value :: out
+            integer(c_size_t), value :: out_len
+            type(cvl_status) :: answer
+        end function c_checked_sparse_product_by_offsets
 
         function c_version() result(text) bind(c, name="cvl_version")
             import :: c_ptr
@@ -4536,6 +4578,38 @@ contains
             kind=c_size_t), at(values), size(values, kind=c_size_t), at(x), size(x, kind=c_size_t), at(out), size(out, &
             kind=c_size_t)), status)
     end subroutine checked_sparse_product
+
+    ! cvl_sparse_product_by_offsets: cvl_sparse_product of rows that come by their offsets. offsets are one more than rows, the
+    ! first is 0 and the last n; columns, values, x and out are those of cvl_sparse_product.
+    ! Faults: 13 TooLong, also where there are more than 2147483648 offsets; 7 LengthMismatch where there is no offset or the
+    ! first is not 0, else 12 NegativeLength at the first row whose offset is above the next one; 7 LengthMismatch where columns
+    ! and values are not equally many, or the last offset is not n; 10 IndexOutOfRange at the first column below 0, or m or
+    ! more.
+    subroutine sparse_product_by_offsets(offsets, columns, values, x, out, status)
+        integer(c_int32_t), intent(in), target, contiguous :: offsets(:), columns(:), values(:), x(:)
+        integer(c_int32_t), intent(inout), target, contiguous :: out(:)
+        type(cvl_status), intent(out), optional :: status
+
+        call tell("cvl_sparse_product_by_offsets", c_sparse_product_by_offsets(at(offsets), size(offsets, kind=c_size_t), &
+            at(columns), size(columns, kind=c_size_t), at(values), size(values, kind=c_size_t), at(x), size(x, kind=c_size_t), &
+            at(out), size(out, kind=c_size_t)), status)
+    end subroutine sparse_product_by_offsets
+
+    ! cvl_checked_sparse_product_by_offsets: cvl_checked_sparse_product of rows that come by their offsets. offsets, columns,
+    ! values, x and out are those of cvl_sparse_product_by_offsets.
+    ! Faults: 13 TooLong, also where there are more than 2147483648 offsets; 7 LengthMismatch where there is no offset or the
+    ! first is not 0, else 12 NegativeLength at the first row whose offset is above the next one; 7 LengthMismatch where columns
+    ! and values are not equally many, or the last offset is not n; 10 IndexOutOfRange at the first column below 0, or m or
+    ! more; 18 Overflow at the first row whose sum does not fit 32 bits.
+    subroutine checked_sparse_product_by_offsets(offsets, columns, values, x, out, status)
+        integer(c_int32_t), intent(in), target, contiguous :: offsets(:), columns(:), values(:), x(:)
+        integer(c_int32_t), intent(inout), target, contiguous :: out(:)
+        type(cvl_status), intent(out), optional :: status
+
+        call tell("cvl_checked_sparse_product_by_offsets", c_checked_sparse_product_by_offsets(at(offsets), size(offsets, &
+            kind=c_size_t), at(columns), size(columns, kind=c_size_t), at(values), size(values, kind=c_size_t), at(x), size(x, &
+            kind=c_size_t), at(out), size(out, kind=c_size_t)), status)
+    end subroutine checked_sparse_product_by_offsets
     ! The version of the library, as "1.0.0".
     function cvl_version() result(version)
         character(:), allocatable :: version

@@ -309,6 +309,8 @@ def agrees(family):
             first[operand.extent] = f"{operand.name}_len"
             if any(o.extent == operand.extent for o in lengths):
                 found.append(f"{operand.name}_len <= {most(family)}")
+    for operand in (o for o in family.operands if o.extent == "offsets"):
+        found.append(f"{operand.name}_len >= 1 && {operand.name}_len - 1 <= {most(family)} && {operand.name}_len - 1 == {first['segments']}")
     if any(operand.extent == "count" for operand in family.operands):
         found.append("count >= 0 && count <= CVL_MOST_ELEMENTS && (size_t)count == out_len")
     if any(operand.extent == "range" for operand in family.operands):
@@ -496,6 +498,8 @@ def asked_body(found):
     for k, operand in enumerate(o for o in family.operands if o.role == "lengths"):
         summed = next(o for o in family.operands if rows.is_array(o) and o.extent == operand.extent)
         lines.append(f"asked.lengths[{k}] = &{operand.name}, asked.totals[{k}] = {summed.name}_len;")
+    for operand in (o for o in family.operands if o.extent == "offsets"):
+        lines.append(f"asked.by_offsets = 1, asked.offsets = {operand.name}, asked.offsets_len = {operand.name}_len, asked.totals[0] = {limit.name}_len;")
     room = next((o for o in family.operands if o.role == "room"), None)
     if room is not None and room.extent in ("trues", "room"):
         lines.append(f"asked.room = {room.name}_len;")

@@ -481,7 +481,8 @@ def _example(procedure, example):
     written = [place] if place else row.written
     operator = [f"CVL_{example.operator}"] if "op" in procedure.words else []
     arguments = ", ".join([*operator, *(_words_of(row, operand, place) for operand in procedure.operands), "status"])
-    name = f"test_{row.name}{'_in' if place else ''}" if procedure.row.call else f"test_{procedure.public[4:]}_{example.name}"
+    own = f"{row.name}{'_in' if place else ''}" if procedure.row.call or procedure.public[4:] == example.name else f"{procedure.public[4:]}_{example.name}"
+    name = f"test_{own}"
     lines = [f"    subroutine {name}()"]
     for operand in written:
         kept = place and f"{_type(operand)} :: {operand.name}({len(row.example[operand.name].split())})"

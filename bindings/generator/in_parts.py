@@ -133,6 +133,21 @@ def cutting(found):
     return f"cvl_cut{by}(pool, &w, {found.cut_length}{least})"
 
 
+def by_lengths(found):
+    """The body of a family whose rows come by offsets: it is made by their lengths."""
+    words = given([argument for argument in found.arguments if argument.operand.extent != "offsets"])
+    offsets = next(operand.name for operand in found.family.operands if operand.extent == "offsets")
+    tests = " && ".join([*([f"!{found.meets}"] if found.meets else []), found.agrees])
+    return [
+        statement(f"int32_t *const lengths = {tests} ? cvl_lengths_between({offsets}, {offsets}_len) : NULL;"),
+        in_c.guarded("lengths == NULL", f"{found.alone}({given(found.arguments)})"),
+        statement(f"const CvlLengths cut = {{lengths, {offsets}_len - 1}};"),
+        statement(f"const CvlStatus status = cvl_{found.name.removesuffix('_by_offsets')}_on(pool, cut, {words});"),
+        "    free(lengths);",
+        "    return status;",
+    ]
+
+
 # The function that runs the parts, where it has not the name of the cut.
 RUNS = {"seg_pack": "pack", "seg_write": "write"}
 
@@ -146,6 +161,8 @@ def in_parts(row):
     head = wrapped(f"CvlStatus cvl_{row.name}_on({POOL}, {parameters(found.arguments)}){kept(' {')}")
     if cut == "whole":
         return "\n".join([head, "    (void)pool;", statement(f"return {plain};"), "}"])
+    if cut == "rows":
+        return "\n\n".join(["\n".join([head, *by_lengths(found), "}"]), shared(found)])
     texts, lines = [], filled(found)
     if cut in ("places", "segments"):
         texts.append(part_function(family, f"{row.name}_part", True))
@@ -194,7 +211,7 @@ def parts_file():
     head = in_c.comment(
         "The functions of cvl_parallel.h: each family in parts, and by the threads of the process, and each call of the table by its family.", rows.NOTE)
     blocks = [*(in_parts(row) for row in families()), *(called(row) for row in rows.CALLS)]
-    return "\n\n".join([f'{head}\n#include "parts.h"', *blocks]) + "\n"
+    return "\n\n".join([f'{head}\n#include "parts.h"\n#include "segments.h"', *blocks]) + "\n"
 
 
 def declaration(row):

@@ -178,7 +178,7 @@ KINDS = {
     ("value", "size"): "SIZE", ("place", "int"): "WIDE", ("count", "int"): "WIDE", ("room", "ints"): "ROOM_INTS",
     ("room", "flags"): "ROOM_FLAGS", ("room", "marks"): "ROOM_MARKS",
 }  # fmt: skip
-EXTENTS = ("n", "m", "segments", "count", "trues", "total")
+EXTENTS = ("n", "m", "segments", "count", "trues", "total", "offsets")
 TYPES = {"ints": "int32_t", "flags": "bool", "text": "char", "marks": "uint32_t"}
 SINGLES = {"int": "&frame->single.number", "flag": "(bool *)&frame->single.flag", "sum": "&frame->single.sum"}
 
@@ -225,6 +225,8 @@ def _room_extent(call):
         return "count"
     if call.result.extent in rows.said_by_lengths(call.row):
         return "total"
+    if call.result.extent == "segments" and call.alike("offsets"):
+        return "offsets"
     return "trues" if call.result.extent == "room" and call.counts else call.result.extent
 
 
@@ -251,7 +253,7 @@ def _spreads(call):
 
 def _most(call):
     extent = _room_extent(call)
-    return "CVL_MOST_ELEMENTS" if extent and (extent in ("count", "trues", "total") or call.is_bounded(extent)) else "SIZE_MAX"
+    return "CVL_MOST_ELEMENTS" if extent and (extent in ("count", "trues", "total", "offsets") or call.is_bounded(extent)) else "SIZE_MAX"
 
 
 def _argument(call, operand):

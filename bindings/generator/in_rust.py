@@ -189,6 +189,9 @@ def _limit(function):
 
 def _checks(function):
     """The lines that tell a length that is too great, and then those that do not agree, before memory is asked for."""
+    if function.alike("offsets"):
+        # the library tells the faults of offsets first
+        return
     if function.limited:
         yield f"{_limit(function)}({function.limited.name}.len())?;"
     elif function.cuts and _limit(function) != "limit":
@@ -201,6 +204,8 @@ def _checks(function):
 
 def _extent(function):
     """How long the result is."""
+    if function.alike("offsets"):
+        return f"{function.alike('offsets')[0].name}.len().saturating_sub(1)"
     by = function.measure()
     if by:
         return f"{name_of(by)}.total()" if by.role == "lengths" else f"true_flags({by.name})"

@@ -8,7 +8,7 @@ from in_c import held, on_segments, segments_name
 
 # The letters of arrays in examples/c/careless.c, by kind and how long they are.
 READ = {
-    ("ints", "n"): "i", ("ints", "m"): "i", ("ints", "segments"): "s", ("flags", "n"): "f", ("flags", "m"): "f", ("flags", "segments"): "g",
+    ("ints", "n"): "i", ("ints", "m"): "i", ("ints", "segments"): "s", ("ints", "offsets"): "b", ("flags", "n"): "f", ("flags", "m"): "f", ("flags", "segments"): "g",
     ("text", "n"): "t",
 }
 WRITTEN = {
@@ -28,6 +28,8 @@ def _extent(row, operand):
     """How many elements an array of the test has: n, one for each segment, or one for each true flag."""
     if operand.extent == "trues" or (operand.extent in ("range", "marks") and _selects(row)):
         return "trues"
+    if operand.extent == "offsets":
+        return "segments + 1"
     return "segments" if operand.extent in ("segments", "lengths_room") else "n"
 
 
@@ -116,7 +118,7 @@ def careless():
 ROLES = {"reads": "r", "lengths": "l", "value": "v", "place": "p", "count": "c", "room": "R", "single": "S", "told": "T"}
 KINDS = {"ints": "i", "flags": "f", "text": "t", "marks": "m", "int": "i", "flag": "f", "sum": "q", "size": "z"}
 EXTENTS = {
-    "n": "n", "m": "m", "segments": "s", "count": "c", "trues": "t", "total": "a", "room": "r", "range": "g", "marks": "k", "lengths_room": "r", None: "-",
+    "n": "n", "m": "m", "segments": "s", "count": "c", "trues": "t", "total": "a", "room": "r", "range": "g", "marks": "k", "lengths_room": "r", "offsets": "e", None: "-",
 }
 TYPES = {"i": "int32_t", "f": "bool", "t": "char", "m": "uint32_t", "q": "int64_t", "z": "size_t"}
 

@@ -242,7 +242,8 @@ def extent_differences():
             if operand.name not in row.example:
                 yield f"the example of {row.name} has no {operand.name}"
             elif is_array(operand) and operand.kind != "text":
-                lengths[operand.extent].add(len(row.example[operand.name].split()))
+                count = len(row.example[operand.name].split())
+                lengths["segments" if operand.extent == "offsets" else operand.extent].add(count - (operand.extent == "offsets"))
             elif operand.role == "lengths":
                 words = row.example[operand.name].split()
                 lengths["segments"].add(len(words))

@@ -199,6 +199,17 @@ static void fill_offsets(int32_t *offsets, size_t count) {
     for (size_t other = chance(3) ? below(3) : 0; other > 0 && count > 0; other--) offsets[below(count)] = any_int();
 }
 
+/* Offsets of rows that have so many entries in all; then sometimes with some that are not. */
+static void fill_row_offsets(int32_t *offsets, size_t count, size_t entries) {
+    for (size_t k = 0; k < count; k++) {
+        const size_t start = k == 0 ? 0 : (size_t)offsets[k - 1] + below(6);
+        offsets[k] = (int32_t)(k > 0 && (k + 1 == count || start > entries) ? entries : start);
+    }
+    for (size_t other = chance(4) ? 1 + below(2) : 0; other > 0 && count > 0; other--) {
+        offsets[chance(3) ? 0 : below(count)] = chance(2) ? (int32_t)below(entries + 2) - 1 : any_int();
+    }
+}
+
 /* The indices of first senders, most times each a place of its segment of the result; those whose flag is false are no places. */
 static void fill_senders(const Row *row, Given *g) {
     const bool selects = kind_of(row, 1) == 'f';
@@ -255,6 +266,7 @@ static void fill(const Row *row, Given *g, size_t k, size_t n, size_t m) {
     for (size_t j = 0; j < g->len[k] && kind_of(row, k) == 'f'; j++) bytes[j] = chance(2) ? 0 : plain || chance(2) ? 1 : (unsigned char)below(256);
     if (kind_of(row, k) == 't') fill_text(row, (char *)g->at[k], g->len[k]);
     if (row->model == FROM_OFFSETS) fill_offsets(ints, g->len[k]);
+    if (extent_of(row, k) == 'e' && is_by_offsets(row)) fill_row_offsets(ints, g->len[k], n);
     if (row->model == PAIRS && k == 1 && g->op >= CVL_DIV && kind_of(row, k) == 'i') {
         for (size_t j = 0; j < g->len[k]; j++) ints[j] = g->op >= CVL_LSH ? (int32_t)below(32) : ints[j] == 0 ? 7 : ints[j];
         /* several, so that the first is told from the others */
@@ -333,7 +345,7 @@ static void make(const Row *row, Given *g) {
     if (row->model >= PERMUTE && row->model <= SEG_BACK_PERMUTE) fill_indices(row, g, n, m);
     if (row->model == SEG_EXTRACT || row->model == SEG_REPLACE || row->model == PERMUTE_RANGE || row->model == SELECT_PERMUTE_RANGE) fill_indices(row, g, n, n);
     if (row->model >= FIRST_SENDERS && row->model <= SELECT_FIRST_SENDERS_RANGE) fill_senders(row, g);
-    if (row->model == SPARSE_PRODUCT || row->model == CHECKED_SPARSE_PRODUCT) fill_columns(g);
+    if (row->model >= SPARSE_PRODUCT && row->model <= CHECKED_SPARSE_PRODUCT_BY_OFFSETS) fill_columns(g);
     move_rooms(row, g);
     for (size_t k = 0; k < count; k++) {
         if (is_array(row, k) && g->len[k] == 0 && chance(3)) g->at[k] = NULL;

@@ -381,7 +381,7 @@ static const char *const calls_of_exports[][2] = {
     {"checked_scan_after", "tot_suz"}, {"exact_sum", "tot_ruz"}, {"read_ints", "cpy_wuz"},
     {"read_ints_after", "cpy_wuz"}, {"write_ints", "cpy_wuz"}, {"write_bools", "cpy_wub"}, {"new", "mke_fov"},
     {"free", "mke_fov"}, {"from_offsets", "len_fov"}, {"offsets", "off_fov"}, {"numbers", "num_fov"}, {"sparse_product", "prd_rez"},
-    {"checked_sparse_product", "prd_rez"},
+    {"checked_sparse_product", "prd_rez"}, {"sparse_product_by_offsets", "prd_rez"}, {"checked_sparse_product_by_offsets", "prd_rez"},
 };
 
 /* The call that a function makes, into `call`: a call of the table has three letters, a stroke, and three more. */

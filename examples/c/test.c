@@ -470,6 +470,25 @@ static void sparse_products(void) {
     FAULT(cvl_sparse_product(S(lengths, 3), too_many_ints, (size_t)CVL_MOST_ELEMENTS + 1, values, 4, x, 3, ints, 3), CVL_TOO_LONG, -1);
 }
 
+static void sparse_products_by_offsets(void) {
+    const int32_t *offsets = I(0, 2, 2, 4), *columns = I(0, 2, 1, 2), *values = I(2, 1, 3, 4), *x = I(1, 2, 3);
+    INTS(cvl_sparse_product_by_offsets(offsets, 4, columns, 4, values, 4, x, 3, ints, 3), 5, 0, 18);
+    INTS(cvl_checked_sparse_product_by_offsets(offsets, 4, columns, 4, values, 4, x, 3, ints, 3), 5, 0, 18);
+    INTS(cvl_sparse_product_by_offsets(I(0, 2), 2, I(0, 0), 2, I(2147483647, 1), 2, I(1), 1, ints, 1), INT32_MIN);
+    FAULT(cvl_checked_sparse_product_by_offsets(I(0, 0, 2), 3, I(0, 0), 2, I(2147483647, 1), 2, I(1), 1, ints, 2), CVL_OVERFLOW, 1);
+    FAULT(cvl_sparse_product_by_offsets(I(0), 1, columns, 0, values, 0, x, 3, ints, 0), CVL_DONE, -1);
+    FAULT(cvl_sparse_product_by_offsets(offsets, 0, columns, 0, values, 0, x, 3, ints, 0), CVL_LENGTH_MISMATCH, -1);
+    FAULT(cvl_sparse_product_by_offsets(I(1, 0, 4), 3, columns, 4, values, 4, x, 3, ints, 2), CVL_LENGTH_MISMATCH, -1);
+    FAULT(cvl_sparse_product_by_offsets(I(0, 3, 2, 4), 4, columns, 4, values, 4, x, 3, ints, 3), CVL_NEGATIVE_LENGTH, 1);
+    /* what is told of offsets comes before what does not agree, and both before columns */
+    FAULT(cvl_sparse_product_by_offsets(I(0, 3, 2, 4), 4, columns, 4, values, 3, x, 3, ints, 1), CVL_NEGATIVE_LENGTH, 1);
+    FAULT(cvl_sparse_product_by_offsets(I(0, 2, 3), 3, I(0, 9, 1, 2), 4, values, 4, x, 3, ints, 2), CVL_LENGTH_MISMATCH, -1);
+    FAULT(cvl_sparse_product_by_offsets(offsets, 4, columns, 4, values, 4, x, 3, ints, 4), CVL_LENGTH_MISMATCH, -1);
+    FAULT(cvl_sparse_product_by_offsets(offsets, 4, columns, 4, values, 4, x, 2, ints, 3), CVL_INDEX_OUT_OF_RANGE, 1);
+    FAULT(cvl_sparse_product_by_offsets(too_many_ints, (size_t)CVL_MOST_ELEMENTS + 2, columns, 4, values, 4, x, 3, ints, 3), CVL_TOO_LONG, -1);
+    FAULT(cvl_sparse_product_by_offsets(offsets, 4, too_many_ints, (size_t)CVL_MOST_ELEMENTS + 1, values, 4, x, 3, ints, 3), CVL_TOO_LONG, -1);
+}
+
 static void elements(void) {
     const bool *f = B(true, true, true);
     INTS(cnt_lub(B(false, true, true, false, true), 5, ints), 3);
@@ -1486,6 +1505,7 @@ int main(void) {
     pieces_of_texts();
     checked_sums();
     sparse_products();
+    sparse_products_by_offsets();
     elements();
     descriptors();
     segments();

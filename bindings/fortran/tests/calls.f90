@@ -315,8 +315,8 @@ program calls
     call test_back_permute_bck_pez()
     call test_bck_peb()
     call test_back_permute_bck_peb()
-    call test_first_senders_first_senders()
-    call test_select_first_senders_select_first_senders()
+    call test_first_senders()
+    call test_select_first_senders()
     call test_first_senders_seg_first_senders()
     call test_select_first_senders_seg_select_first_senders()
     call test_read_read_ints()
@@ -325,19 +325,21 @@ program calls
     call test_read_seg_read_ints()
     call test_write_seg_write_ints()
     call test_write_seg_write_bools()
-    call test_exact_sum_exact_sum()
-    call test_checked_scan_after_checked_scan_after()
+    call test_exact_sum()
+    call test_checked_scan_after()
     call test_permute_range_permute_int_range()
     call test_permute_range_permute_bool_range()
     call test_select_permute_range_select_permute_int_range()
     call test_select_permute_range_select_permute_bool_range()
-    call test_first_senders_range_first_senders_range()
-    call test_select_first_senders_range_select_first_senders_range()
+    call test_first_senders_range()
+    call test_select_first_senders_range()
     call test_read_after_read_ints_after()
-    call test_sparse_product_sparse_product()
-    call test_checked_sparse_product_checked_sparse_product()
+    call test_sparse_product()
+    call test_checked_sparse_product()
+    call test_sparse_product_by_offsets()
+    call test_checked_sparse_product_by_offsets()
     if (count_of_wrong > 0) error stop 1
-    print "(a)", "329 examples"
+    print "(a)", "331 examples"
 contains
     subroutine test_add_wuz()
         integer(c_int32_t) :: out(3)
@@ -2910,22 +2912,22 @@ contains
             .true.])))
     end subroutine test_back_permute_bck_peb
 
-    subroutine test_first_senders_first_senders()
+    subroutine test_first_senders()
         integer(c_int32_t) :: out(4)
 
         out = 77
         call cvl_first_senders([integer(c_int32_t) :: 2, 0, 2, 3], out, status)
-        call same("first_senders_first_senders", status, all(out == [integer(c_int32_t) :: 1, -1, 0, 3]))
-    end subroutine test_first_senders_first_senders
+        call same("first_senders", status, all(out == [integer(c_int32_t) :: 1, -1, 0, 3]))
+    end subroutine test_first_senders
 
-    subroutine test_select_first_senders_select_first_senders()
+    subroutine test_select_first_senders()
         integer(c_int32_t) :: out(3)
 
         out = 77
         call cvl_select_first_senders([integer(c_int32_t) :: 2, 0, 2, 9], [logical(c_bool) :: .false., .true., .true., &
             .false.], out, status)
-        call same("select_first_senders_select_first_senders", status, all(out == [integer(c_int32_t) :: 1, -1, 2]))
-    end subroutine test_select_first_senders_select_first_senders
+        call same("select_first_senders", status, all(out == [integer(c_int32_t) :: 1, -1, 2]))
+    end subroutine test_select_first_senders
 
     subroutine test_first_senders_seg_first_senders()
         integer(c_int32_t) :: out(7)
@@ -3018,21 +3020,21 @@ contains
         call same("write_seg_write_bools", status, count == 9_c_size_t)
     end subroutine test_write_seg_write_bools
 
-    subroutine test_exact_sum_exact_sum()
+    subroutine test_exact_sum()
         integer(c_int64_t) :: out
 
         out = 77
         call cvl_exact_sum([integer(c_int32_t) :: 2147483647, 1], out, status)
-        call same("exact_sum_exact_sum", status, out == 2147483648_c_int64_t)
-    end subroutine test_exact_sum_exact_sum
+        call same("exact_sum", status, out == 2147483648_c_int64_t)
+    end subroutine test_exact_sum
 
-    subroutine test_checked_scan_after_checked_scan_after()
+    subroutine test_checked_scan_after()
         integer(c_int32_t) :: out(3)
 
         out = 77
         call cvl_checked_scan_after(10_c_int64_t, [integer(c_int32_t) :: 3, 1, 4], out, status)
-        call same("checked_scan_after_checked_scan_after", status, all(out == [integer(c_int32_t) :: 10, 13, 14]))
-    end subroutine test_checked_scan_after_checked_scan_after
+        call same("checked_scan_after", status, all(out == [integer(c_int32_t) :: 10, 13, 14]))
+    end subroutine test_checked_scan_after
 
     subroutine test_permute_range_permute_int_range()
         integer(c_int32_t) :: out(2)
@@ -3095,18 +3097,18 @@ contains
         call same("select_permute_range_select_permute_bool_range", status, written == 1_c_size_t)
     end subroutine test_select_permute_range_select_permute_bool_range
 
-    subroutine test_first_senders_range_first_senders_range()
+    subroutine test_first_senders_range()
         integer(c_int32_t) :: out(2)
         integer(c_size_t) :: named
 
         out = 77
         named = 77
         call cvl_first_senders_range([integer(c_int32_t) :: 2, 0, 2, 3], 1_c_size_t, out, named, status)
-        call same("first_senders_range_first_senders_range", status, all(out == [integer(c_int32_t) :: -1, 0]))
-        call same("first_senders_range_first_senders_range", status, named == 2_c_size_t)
-    end subroutine test_first_senders_range_first_senders_range
+        call same("first_senders_range", status, all(out == [integer(c_int32_t) :: -1, 0]))
+        call same("first_senders_range", status, named == 2_c_size_t)
+    end subroutine test_first_senders_range
 
-    subroutine test_select_first_senders_range_select_first_senders_range()
+    subroutine test_select_first_senders_range()
         integer(c_int32_t) :: out(2)
         integer(c_size_t) :: named
 
@@ -3114,9 +3116,9 @@ contains
         named = 77
         call cvl_select_first_senders_range([integer(c_int32_t) :: 2, 0, 2, 9], [logical(c_bool) :: .false., .true., .true., &
             .false.], 1_c_size_t, out, named, status)
-        call same("select_first_senders_range_select_first_senders_range", status, all(out == [integer(c_int32_t) :: -1, 2]))
-        call same("select_first_senders_range_select_first_senders_range", status, named == 1_c_size_t)
-    end subroutine test_select_first_senders_range_select_first_senders_range
+        call same("select_first_senders_range", status, all(out == [integer(c_int32_t) :: -1, 2]))
+        call same("select_first_senders_range", status, named == 1_c_size_t)
+    end subroutine test_select_first_senders_range
 
     subroutine test_read_after_read_ints_after()
         integer(c_int32_t) :: out(2)
@@ -3129,23 +3131,41 @@ contains
         call same("read_after_read_ints_after", status, count == 2_c_size_t)
     end subroutine test_read_after_read_ints_after
 
-    subroutine test_sparse_product_sparse_product()
+    subroutine test_sparse_product()
         integer(c_int32_t) :: out(3)
 
         out = 77
         call cvl_sparse_product([integer(c_int32_t) :: 2, 0, 2], [integer(c_int32_t) :: 0, 2, 1, 2], [integer(c_int32_t) :: 2, &
             1, 3, 4], [integer(c_int32_t) :: 1, 2, 3], out, status)
-        call same("sparse_product_sparse_product", status, all(out == [integer(c_int32_t) :: 5, 0, 18]))
-    end subroutine test_sparse_product_sparse_product
+        call same("sparse_product", status, all(out == [integer(c_int32_t) :: 5, 0, 18]))
+    end subroutine test_sparse_product
 
-    subroutine test_checked_sparse_product_checked_sparse_product()
+    subroutine test_checked_sparse_product()
         integer(c_int32_t) :: out(2)
 
         out = 77
         call cvl_checked_sparse_product([integer(c_int32_t) :: 2, 1], [integer(c_int32_t) :: 0, 1, 0], [integer(c_int32_t) :: &
             2147483647, -1, 3], [integer(c_int32_t) :: 2, 2147483647], out, status)
-        call same("checked_sparse_product_checked_sparse_product", status, all(out == [integer(c_int32_t) :: 2147483647, 6]))
-    end subroutine test_checked_sparse_product_checked_sparse_product
+        call same("checked_sparse_product", status, all(out == [integer(c_int32_t) :: 2147483647, 6]))
+    end subroutine test_checked_sparse_product
+
+    subroutine test_sparse_product_by_offsets()
+        integer(c_int32_t) :: out(3)
+
+        out = 77
+        call cvl_sparse_product_by_offsets([integer(c_int32_t) :: 0, 2, 2, 4], [integer(c_int32_t) :: 0, 2, 1, 2], &
+            [integer(c_int32_t) :: 2, 1, 3, 4], [integer(c_int32_t) :: 1, 2, 3], out, status)
+        call same("sparse_product_by_offsets", status, all(out == [integer(c_int32_t) :: 5, 0, 18]))
+    end subroutine test_sparse_product_by_offsets
+
+    subroutine test_checked_sparse_product_by_offsets()
+        integer(c_int32_t) :: out(2)
+
+        out = 77
+        call cvl_checked_sparse_product_by_offsets([integer(c_int32_t) :: 0, 2, 3], [integer(c_int32_t) :: 0, 1, 0], &
+            [integer(c_int32_t) :: 2147483647, -1, 3], [integer(c_int32_t) :: 2, 2147483647], out, status)
+        call same("checked_sparse_product_by_offsets", status, all(out == [integer(c_int32_t) :: 2147483647, 6]))
+    end subroutine test_checked_sparse_product_by_offsets
 
     subroutine same(name, status, agrees)
         character(*), intent(in) :: name

@@ -14,7 +14,8 @@ from cvl._calls import (
     seg_select_first_senders, read_ints, write_ints, write_bools, seg_read_ints, seg_write_ints, seg_write_bools,
     int_scan_after, bool_scan_after, exact_sum, checked_scan_after, permute_int_range, permute_bool_range,
     select_permute_int_range, select_permute_bool_range, first_senders_range, select_first_senders_range,
-    read_ints_after, sparse_product, checked_sparse_product,
+    read_ints_after, sparse_product, checked_sparse_product, sparse_product_by_offsets,
+    checked_sparse_product_by_offsets,
 )
 
 __all__ = [
@@ -34,4 +35,5 @@ __all__ = [
     "seg_write_bools", "int_scan_after", "bool_scan_after", "exact_sum", "checked_scan_after", "permute_int_range",
     "permute_bool_range", "select_permute_int_range", "select_permute_bool_range", "first_senders_range",
     "select_first_senders_range", "read_ints_after", "sparse_product", "checked_sparse_product",
+    "sparse_product_by_offsets", "checked_sparse_product_by_offsets",
 ]

@@ -352,6 +352,16 @@ static CvlStatus make_checked_sparse_product(Frame *frame) {
         frame->room));
 }
 
+static CvlStatus make_sparse_product_by_offsets(Frame *frame) {
+    return cvl_sparse_product_by_offsets(READ(int32_t, 0), READ(int32_t, 1), READ(int32_t, 2), READ(int32_t, 3),
+        WRITE(int32_t, frame->room));
+}
+
+static CvlStatus make_checked_sparse_product_by_offsets(Frame *frame) {
+    return cvl_checked_sparse_product_by_offsets(READ(int32_t, 0), READ(int32_t, 1), READ(int32_t, 2), READ(int32_t,
+        3), WRITE(int32_t, frame->room));
+}
+
 static CvlStatus make_length(Frame *frame) {
     (void)frame;
     return (CvlStatus){CVL_DONE, -1};
@@ -378,7 +388,8 @@ enum {
     FAMILY_BOOL_SCAN_AFTER, FAMILY_EXACT_SUM, FAMILY_CHECKED_SCAN_AFTER, FAMILY_PERMUTE_INT_RANGE,
     FAMILY_PERMUTE_BOOL_RANGE, FAMILY_SELECT_PERMUTE_INT_RANGE, FAMILY_SELECT_PERMUTE_BOOL_RANGE,
     FAMILY_FIRST_SENDERS_RANGE, FAMILY_SELECT_FIRST_SENDERS_RANGE, FAMILY_READ_INTS_AFTER, FAMILY_SPARSE_PRODUCT,
-    FAMILY_CHECKED_SPARSE_PRODUCT, FAMILY_LEN_LUZ, FAMILY_LEN_LUB, FAMILY_LEN_FOS
+    FAMILY_CHECKED_SPARSE_PRODUCT, FAMILY_SPARSE_PRODUCT_BY_OFFSETS, FAMILY_CHECKED_SPARSE_PRODUCT_BY_OFFSETS,
+    FAMILY_LEN_LUZ, FAMILY_LEN_LUB, FAMILY_LEN_FOS
 };
 
 Family cvl_families[] = {
@@ -577,6 +588,12 @@ Family cvl_families[] = {
     [FAMILY_CHECKED_SPARSE_PRODUCT] = {4, {{"segments", KIND_LENGTHS, EXTENT_N, NULL}, {"columns", KIND_INTS,
         EXTENT_N, NULL}, {"values", KIND_INTS, EXTENT_N, NULL}, {"x", KIND_INTS, EXTENT_M, NULL}}, GIVES_INTS,
         EXTENT_SEGMENTS, 0, 0, CVL_MOST_ELEMENTS, make_checked_sparse_product},
+    [FAMILY_SPARSE_PRODUCT_BY_OFFSETS] = {4, {{"offsets", KIND_INTS, EXTENT_OFFSETS, NULL}, {"columns", KIND_INTS,
+        EXTENT_N, NULL}, {"values", KIND_INTS, EXTENT_N, NULL}, {"x", KIND_INTS, EXTENT_M, NULL}}, GIVES_INTS,
+        EXTENT_OFFSETS, 0, 0, CVL_MOST_ELEMENTS, make_sparse_product_by_offsets},
+    [FAMILY_CHECKED_SPARSE_PRODUCT_BY_OFFSETS] = {4, {{"offsets", KIND_INTS, EXTENT_OFFSETS, NULL}, {"columns",
+        KIND_INTS, EXTENT_N, NULL}, {"values", KIND_INTS, EXTENT_N, NULL}, {"x", KIND_INTS, EXTENT_M, NULL}},
+        GIVES_INTS, EXTENT_OFFSETS, 0, 0, CVL_MOST_ELEMENTS, make_checked_sparse_product_by_offsets},
     [FAMILY_LEN_LUZ] = {1, {{"a", KIND_INTS, EXTENT_N, NULL}}, GIVES_LENGTH, EXTENT_NONE, 0, 0, SIZE_MAX,
         make_length},
     [FAMILY_LEN_LUB] = {1, {{"a", KIND_FLAGS, EXTENT_N, NULL}}, GIVES_LENGTH, EXTENT_NONE, 0, 0, SIZE_MAX,
@@ -728,6 +745,8 @@ FUNCTION(select_first_senders_range, FAMILY_SELECT_FIRST_SENDERS_RANGE, 0)
 FUNCTION(read_ints_after, FAMILY_READ_INTS_AFTER, 0)
 FUNCTION(sparse_product, FAMILY_SPARSE_PRODUCT, 0)
 FUNCTION(checked_sparse_product, FAMILY_CHECKED_SPARSE_PRODUCT, 0)
+FUNCTION(sparse_product_by_offsets, FAMILY_SPARSE_PRODUCT_BY_OFFSETS, 0)
+FUNCTION(checked_sparse_product_by_offsets, FAMILY_CHECKED_SPARSE_PRODUCT_BY_OFFSETS, 0)
 FUNCTION(len_luz, FAMILY_LEN_LUZ, 0)
 FUNCTION(len_lub, FAMILY_LEN_LUB, 0)
 FUNCTION(len_fos, FAMILY_LEN_FOS, 0)
@@ -2836,6 +2855,46 @@ PyDoc_STRVAR(doc_checked_sparse_product,
     ">>> cvl.checked_sparse_product(segments, columns, values, x).tolist()\n"
     "[2147483647, 6]");
 
+PyDoc_STRVAR(doc_sparse_product_by_offsets,
+    "sparse_product_by_offsets($module, /, offsets, columns, values, x, *, out=None)\n"
+    "--\n"
+    "\n"
+    "sparse_product of rows that come by their offsets. offsets are one more than rows, the first is 0 and the last n;\n"
+    "columns, values, x and out are those of sparse_product.\n"
+    "\n"
+    "Faults: 13 TooLong, also where there are more than 2147483648 offsets; 7 LengthMismatch where there is no offset\n"
+    "or the first is not 0, else 12 NegativeLength at the first row whose offset is above the next one; 7\n"
+    "LengthMismatch where columns and values are not equally many, or the last offset is not n; 10 IndexOutOfRange at\n"
+    "the first column below 0, or m or more.\n"
+    "\n"
+    ">>> import cvl, numpy\n"
+    ">>> offsets = numpy.array([0, 2, 2, 4], dtype=numpy.int32)\n"
+    ">>> columns = numpy.array([0, 2, 1, 2], dtype=numpy.int32)\n"
+    ">>> values = numpy.array([2, 1, 3, 4], dtype=numpy.int32)\n"
+    ">>> x = numpy.array([1, 2, 3], dtype=numpy.int32)\n"
+    ">>> cvl.sparse_product_by_offsets(offsets, columns, values, x).tolist()\n"
+    "[5, 0, 18]");
+
+PyDoc_STRVAR(doc_checked_sparse_product_by_offsets,
+    "checked_sparse_product_by_offsets($module, /, offsets, columns, values, x, *, out=None)\n"
+    "--\n"
+    "\n"
+    "checked_sparse_product of rows that come by their offsets. offsets, columns, values, x and out are those of\n"
+    "sparse_product_by_offsets.\n"
+    "\n"
+    "Faults: 13 TooLong, also where there are more than 2147483648 offsets; 7 LengthMismatch where there is no offset\n"
+    "or the first is not 0, else 12 NegativeLength at the first row whose offset is above the next one; 7\n"
+    "LengthMismatch where columns and values are not equally many, or the last offset is not n; 10 IndexOutOfRange at\n"
+    "the first column below 0, or m or more; 18 Overflow at the first row whose sum does not fit 32 bits.\n"
+    "\n"
+    ">>> import cvl, numpy\n"
+    ">>> offsets = numpy.array([0, 2, 3], dtype=numpy.int32)\n"
+    ">>> columns = numpy.array([0, 1, 0], dtype=numpy.int32)\n"
+    ">>> values = numpy.array([2147483647, -1, 3], dtype=numpy.int32)\n"
+    ">>> x = numpy.array([2, 2147483647], dtype=numpy.int32)\n"
+    ">>> cvl.checked_sparse_product_by_offsets(offsets, columns, values, x).tolist()\n"
+    "[2147483647, 6]");
+
 PyDoc_STRVAR(doc_len_luz,
     "len_luz($module, /, a)\n"
     "--\n"
@@ -3006,6 +3065,8 @@ PyMethodDef cvl_methods[] = {
     METHOD(read_ints_after),
     METHOD(sparse_product),
     METHOD(checked_sparse_product),
+    METHOD(sparse_product_by_offsets),
+    METHOD(checked_sparse_product_by_offsets),
     METHOD(len_luz),
     METHOD(len_lub),
     METHOD(len_fos),

@@ -23,6 +23,7 @@ static int measure_by(const Given *given, Extent extent, size_t most, size_t *ne
         if (given->number < 0 || (uint64_t)given->number > most) return 0;
         *needed = (size_t)given->number;
         return 1;
+    case EXTENT_OFFSETS: *needed = given->count == 0 ? 0 : given->count - 1; return 1;
     default: *needed = given->count; return 1;
     }
 }
@@ -66,6 +67,17 @@ static PyObject *total_differs(const Frame *frame, int k) {
     return NULL;
 }
 
+/* The same of offsets: the first has to be 0, and the last is as much as the next argument has elements. */
+static PyObject *offsets_differ(const Frame *frame, int k) {
+    const Operand *operands = frame->row->family->operands;
+    const Given *given = &frame->given[k];
+    const int32_t *offsets = given->at;
+    if (given->count == 0) return PyUnicode_FromFormat("len(%s) is 0", operands[k].name);
+    if (offsets[0] != 0) return PyUnicode_FromFormat("the first of %s is %d, and has to be 0", operands[k].name, (int)offsets[0]);
+    const size_t last = (size_t)offsets[given->count - 1];
+    return differ("the last of %s is %zd, and len(%s) is %zd", operands[k].name, last, operands[k + 1].name, frame->given[k + 1].count);
+}
+
 /* The first two arguments that are not as long as they have to be, or nothing; then an exception may be set. */
 static PyObject *arguments_differ(const Frame *frame) {
     const Family *family = frame->row->family;
@@ -78,6 +90,7 @@ static PyObject *arguments_differ(const Frame *frame) {
         const int j = alike(family, k, cuts ? EXTENT_SEGMENTS : operand->extent);
         if (j >= 0) said = differ(form, operand->name, frame->given[k].count, family->operands[j].name, frame->given[j].count);
         if (said == NULL && cuts && !PyErr_Occurred()) said = total_differs(frame, k);
+        if (said == NULL && operand->extent == EXTENT_OFFSETS && !PyErr_Occurred()) said = offsets_differ(frame, k);
     }
     return said;
 }

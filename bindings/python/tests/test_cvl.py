@@ -417,6 +417,31 @@ class Cut(unittest.TestCase):
         with self.assertRaisesRegex(cvl.Fault, "segments add up to 2, and len.a. is 3"):
             cvl.add_rez(ints(1, 1, 1), cvl.Segments.from_offsets([0, 2]))
 
+    def test_products_by_offsets(self):
+        columns, values, x = ints(0, 2, 1, 2), ints(2, 1, 3, 4), ints(1, 2, 3)
+        for product in (cvl.sparse_product_by_offsets, cvl.checked_sparse_product_by_offsets):
+            self.assertEqual(product(ints(0, 2, 2, 4), columns, values, x).tolist(), [5, 0, 18])
+            room = ints(9, 9, 9)
+            self.assertIs(product(ints(0, 2, 2, 4), columns, values, x, out=room), room)
+            self.assertEqual(product(ints(0), ints(), ints(), x).tolist(), [])
+            given = (
+                (ints(), columns, 7, None), (ints(1, 0, 4), columns, 7, None), (ints(0, 3, 2, 4), columns, 12, 1), (ints(0, 3, 2, 4), ints(0), 12, 1),
+                (ints(0, 2, 3), columns, 7, None), (ints(0, 4), ints(0, 1, 2), 7, None), (ints(0, 4), ints(0, 1, 3, -1), 10, 2),
+            )  # fmt: skip
+            for offsets, found, number, place in given:
+                with self.assertRaises(cvl.Fault) as caught:
+                    product(offsets, found, values, x)
+                self.assertEqual((caught.exception.number, caught.exception.place), (number, place), offsets)
+            for offsets, said in (
+                ((0, 4), "len.out. is 3, and has to be 1"), ((0, 2, 3, 5), "the last of offsets is 5, and len.columns. is 4"),
+                ((1, 2, 3, 4), "the first of offsets is 1, and has to be 0"), ((), "len.offsets. is 0"),
+            ):  # fmt: skip
+                with self.assertRaisesRegex(cvl.Fault, said):
+                    product(ints(*offsets), columns, values, x, out=room)
+        with self.assertRaises(cvl.Fault) as caught:
+            cvl.checked_sparse_product_by_offsets(ints(0, 0, 2), ints(0, 0), ints(MOST, 1), ints(1))
+        self.assertEqual((caught.exception.number, caught.exception.place), (18, 1))
+
     def test_offsets_and_the_segment_of_each_place(self):
         for lengths in ([], [0], [3], [0, 0, 2], [2, 0, 3, 0], numpy.arange(2000) % 7):
             rows = cvl.Segments(lengths)

@@ -524,3 +524,61 @@ pub fn checked_sparse_product_into(
     call!(cvl_checked_sparse_product | cvl_checked_sparse_product_on: segments.given(), columns.as_ptr(), columns.len(),
         values.as_ptr(), values.len(), x.as_ptr(), x.len(), out.as_mut_ptr(), out.len())
 }
+
+/// sparse_product of rows that come by their offsets. offsets are one more than rows, the first is 0 and the last n; columns,
+/// values, x and out are those of sparse_product.
+///
+/// Faults: 13 TooLong, also where there are more than 2147483648 offsets; 7 LengthMismatch where there is no offset or the
+/// first is not 0, else 12 NegativeLength at the first row whose offset is above the next one; 7 LengthMismatch where columns
+/// and values are not equally many, or the last offset is not n; 10 IndexOutOfRange at the first column below 0, or m or
+/// more.
+///
+/// ```
+/// assert_eq!(cvl::sparse_product_by_offsets(&[0, 2, 2, 4], &[0, 2, 1, 2], &[2, 1, 3, 4], &[1, 2, 3])?, [5, 0, 18]);
+/// # Ok::<(), cvl::Fault>(())
+/// ```
+pub fn sparse_product_by_offsets(offsets: &[i32], columns: &[i32], values: &[i32], x: &[i32]) -> Result<Vec<i32>, Fault> {
+    let mut out = zeros(offsets.len().saturating_sub(1))?;
+    sparse_product_by_offsets_into(offsets, columns, values, x, &mut out)?;
+    Ok(out)
+}
+
+/// [`sparse_product_by_offsets`] into a room that is as long as the result; a fault leaves the room as it was.
+pub fn sparse_product_by_offsets_into(
+    offsets: &[i32], columns: &[i32], values: &[i32], x: &[i32], out: &mut [i32],
+) -> Result<(), Fault> {
+    call!(cvl_sparse_product_by_offsets | cvl_sparse_product_by_offsets_on: offsets.as_ptr(), offsets.len(),
+        columns.as_ptr(), columns.len(), values.as_ptr(), values.len(), x.as_ptr(), x.len(), out.as_mut_ptr(), out.len())
+}
+
+/// checked_sparse_product of rows that come by their offsets. offsets, columns, values, x and out are those of
+/// sparse_product_by_offsets.
+///
+/// Faults: 13 TooLong, also where there are more than 2147483648 offsets; 7 LengthMismatch where there is no offset or the
+/// first is not 0, else 12 NegativeLength at the first row whose offset is above the next one; 7 LengthMismatch where columns
+/// and values are not equally many, or the last offset is not n; 10 IndexOutOfRange at the first column below 0, or m or
+/// more; 18 Overflow at the first row whose sum does not fit 32 bits.
+///
+/// ```
+/// assert_eq!(
+///     cvl::checked_sparse_product_by_offsets(&[0, 2, 3], &[0, 1, 0], &[2147483647, -1, 3], &[2, 2147483647])?,
+///     [2147483647, 6]
+/// );
+/// # Ok::<(), cvl::Fault>(())
+/// ```
+pub fn checked_sparse_product_by_offsets(
+    offsets: &[i32], columns: &[i32], values: &[i32], x: &[i32],
+) -> Result<Vec<i32>, Fault> {
+    let mut out = zeros(offsets.len().saturating_sub(1))?;
+    checked_sparse_product_by_offsets_into(offsets, columns, values, x, &mut out)?;
+    Ok(out)
+}
+
+/// [`checked_sparse_product_by_offsets`] into a room that is as long as the result; a fault leaves the room as it was.
+pub fn checked_sparse_product_by_offsets_into(
+    offsets: &[i32], columns: &[i32], values: &[i32], x: &[i32], out: &mut [i32],
+) -> Result<(), Fault> {
+    call!(cvl_checked_sparse_product_by_offsets | cvl_checked_sparse_product_by_offsets_on: offsets.as_ptr(),
+        offsets.len(), columns.as_ptr(), columns.len(), values.as_ptr(), values.len(), x.as_ptr(), x.len(),
+        out.as_mut_ptr(), out.len())
+}

@@ -1,12 +1,13 @@
 -- What a call means where its caller may get anything wrong: checks come first, and then the call's own definition.
 -- Source: this library's profile of CVL's calls, for callers of another language.
-use Rattle.std.specs.Prelude.{ℕ, ℤ, List, length, nat_lt, sum, Result, Ok}
+use Rattle.std.specs.Prelude.{ℕ, ◌+◌, ℤ, List, length, nat_lt, sum, Result, Ok}
 use Rattle.cvl_base.specs.declared.fault.Fault.{Fault}
 use Rattle.cvl_base.specs.declared.fault.FaultNo.TheVariants as no
 use Rattle.cvl_base.specs.Descriptors.{descriptor_within}
 use Rattle.cvl_base.specs.Faults.{fault}
 use Rattle.cvl_base.specs.Gives.{◌>>=◌, fault_if}
 use Rattle.cvl_base.specs.Limits.{most_elements, most_places}
+use Rattle.sparse_products.specs.Answers.{row_lengths_of}
 pub use Rattle.pack_dist.specs.Counts.{counts_of}
 
 -- the call where the vector has at most 2,147,483,647 elements
@@ -28,6 +29,11 @@ lengths_of lengths = in_limit lengths (descriptor_within most_places lengths)
 -- the call on segments with these lengths
 abbrev pub by_segments : {Y : Type 0} → List ℤ → (List ℕ → Result Y Fault) → Result Y Fault
 by_segments lengths call = lengths_of lengths >>= call
+
+-- the call on the lengths of rows that come by their offsets, of which there are at most 2,147,483,648
+abbrev pub by_row_offsets : {Y : Type 0} → List ℤ → (List ℤ → Result Y Fault) → Result Y Fault
+by_row_offsets offsets call =
+    fault_if (nat_lt (most_places + 1) (length offsets)) (fault no.TooLong) (row_lengths_of offsets >>= call)
 
 -- the descriptor of segments whose text is written: there are at most 4,194,304, with as many elements in all
 abbrev pub text_lengths_of : List ℤ → Result (List ℕ) Fault

@@ -1,12 +1,14 @@
-//! Products of sparse matrices with vectors. The rows come as their lengths.
+//! Products of sparse matrices with vectors. The rows come as their lengths, or by their offsets.
 
+ghost use Rattle.std.specs.Prelude.{◌≡◌, Ok};
 ghost use Rattle.cvl_base.specs.Gives.{Gives};
-ghost use Rattle.c_calls.specs.Calls.{by_segments, in_limit};
+ghost use Rattle.c_calls.specs.Calls.{by_row_offsets, by_segments, in_limit};
 ghost use Rattle.sparse_products.specs.Answers.{checked_rows_product, rows_product};
 
 use crate::checks::{check_limit, segments};
-use cvl_base::Refused;
-use sparse_products::{checked_rows_product, rows_product};
+use cvl_base::limits::MOST_PLACES;
+use cvl_base::{Fault, FaultNo, Refused};
+use sparse_products::{checked_rows_product, row_lengths, rows_product};
 use std::alloc::Global;
 
 /// The product, whose sums and products are wrapped to 32 bits.
@@ -39,4 +41,45 @@ pub fn checked_product(
     let rows = segments(lengths)?;
     check_limit(columns)?;
     checked_rows_product(alloc, &rows, columns, values, x)
+}
+
+/// The lengths of the rows between offsets, of which there is one more than rows: TooLong, without a place, where there are more
+/// than 2,147,483,648, and then the faults of [`row_lengths`].
+fn lengths_between(alloc: Global, offsets: &[i32]) -> Result<Vec<i32, Global>, Refused>
+    ensures { Gives (λ v. v.items) result (by_row_offsets offsets.now (λ lengths. Ok lengths)) }
+{
+    if offsets.len() > MOST_PLACES + 1 {
+        return Err(Refused::Fault(Fault::new(FaultNo::TooLong)));
+    }
+    row_lengths(alloc, offsets)
+}
+
+/// [`product`] of rows that come by their offsets.
+pub fn product_by_offsets(
+    alloc: Global,
+    offsets: &[i32],
+    columns: &[i32],
+    values: &[i32],
+    x: &[i32],
+) -> Result<Vec<i32, Global>, Refused>
+    ensures { Gives (λ v. v.items) result (by_row_offsets offsets.now (λ lengths. by_segments lengths
+        (λ rows. in_limit columns.now (rows_product rows columns.now values.now x.now)))) }
+{
+    let lengths = lengths_between(alloc, offsets)?;
+    product(alloc, &lengths, columns, values, x)
+}
+
+/// [`checked_product`] of rows that come by their offsets.
+pub fn checked_product_by_offsets(
+    alloc: Global,
+    offsets: &[i32],
+    columns: &[i32],
+    values: &[i32],
+    x: &[i32],
+) -> Result<Vec<i32, Global>, Refused>
+    ensures { Gives (λ v. v.items) result (by_row_offsets offsets.now (λ lengths. by_segments lengths
+        (λ rows. in_limit columns.now (checked_rows_product rows columns.now values.now x.now)))) }
+{
+    let lengths = lengths_between(alloc, offsets)?;
+    checked_product(alloc, &lengths, columns, values, x)
 }

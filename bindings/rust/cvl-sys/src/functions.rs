@@ -634,6 +634,30 @@ extern "C" {
         x_len: usize, out: *mut i32, out_len: usize,
     ) -> CvlStatus;
 
+    /// cvl_sparse_product of rows that come by their offsets. offsets are one more than rows, the first is 0 and the last n;
+    /// columns, values, x and out are those of cvl_sparse_product.
+    ///
+    /// Faults: 13 TooLong, also where there are more than 2147483648 offsets; 7 LengthMismatch where there is no offset or
+    /// the first is not 0, else 12 NegativeLength at the first row whose offset is above the next one; 7 LengthMismatch where
+    /// columns and values are not equally many, or the last offset is not n; 10 IndexOutOfRange at the first column below 0,
+    /// or m or more.
+    pub fn cvl_sparse_product_by_offsets(
+        offsets: *const i32, offsets_len: usize, columns: *const i32, columns_len: usize, values: *const i32, values_len:
+        usize, x: *const i32, x_len: usize, out: *mut i32, out_len: usize,
+    ) -> CvlStatus;
+
+    /// cvl_checked_sparse_product of rows that come by their offsets. offsets, columns, values, x and out are those of
+    /// cvl_sparse_product_by_offsets.
+    ///
+    /// Faults: 13 TooLong, also where there are more than 2147483648 offsets; 7 LengthMismatch where there is no offset or
+    /// the first is not 0, else 12 NegativeLength at the first row whose offset is above the next one; 7 LengthMismatch where
+    /// columns and values are not equally many, or the last offset is not n; 10 IndexOutOfRange at the first column below 0,
+    /// or m or more; 18 Overflow at the first row whose sum does not fit 32 bits.
+    pub fn cvl_checked_sparse_product_by_offsets(
+        offsets: *const i32, offsets_len: usize, columns: *const i32, columns_len: usize, values: *const i32, values_len:
+        usize, x: *const i32, x_len: usize, out: *mut i32, out_len: usize,
+    ) -> CvlStatus;
+
     /// The wrapped sums. a, b and out have n elements.
     ///
     /// Faults: 13 TooLong.
@@ -1653,6 +1677,18 @@ extern "C" {
     pub fn cvl_checked_sparse_product_on(
         pool: *const CvlPool, lengths: CvlLengths, columns: *const i32, columns_len: usize, values: *const i32, values_len:
         usize, x: *const i32, x_len: usize, out: *mut i32, out_len: usize,
+    ) -> CvlStatus;
+
+    /// [`cvl_sparse_product_by_offsets`] in parts: cut between rows, whose lengths are kept meanwhile.
+    pub fn cvl_sparse_product_by_offsets_on(
+        pool: *const CvlPool, offsets: *const i32, offsets_len: usize, columns: *const i32, columns_len: usize, values: *const
+        i32, values_len: usize, x: *const i32, x_len: usize, out: *mut i32, out_len: usize,
+    ) -> CvlStatus;
+
+    /// [`cvl_checked_sparse_product_by_offsets`] in parts: cut between rows, whose lengths are kept meanwhile.
+    pub fn cvl_checked_sparse_product_by_offsets_on(
+        pool: *const CvlPool, offsets: *const i32, offsets_len: usize, columns: *const i32, columns_len: usize, values: *const
+        i32, values_len: usize, x: *const i32, x_len: usize, out: *mut i32, out_len: usize,
     ) -> CvlStatus;
 
     /// [`cvl_add_wuz`] in parts: cut at places.

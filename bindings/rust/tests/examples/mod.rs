@@ -1903,3 +1903,40 @@ fn checked_sparse_product() -> Result<(), cvl::Fault> {
     assert_eq!(room, [2147483647, 6]);
     Ok(())
 }
+
+#[test]
+fn sparse_product_by_offsets() -> Result<(), cvl::Fault> {
+    assert_eq!(cvl::sparse_product_by_offsets(&[0, 2, 2, 4], &[0, 2, 1, 2], &[2, 1, 3, 4], &[1, 2, 3])?, [5, 0, 18]);
+    let mut room = [7, 7, 7];
+    cvl::sparse_product_by_offsets_into(&[0, 2, 2, 4], &[0, 2, 1, 2], &[2, 1, 3, 4], &[1, 2, 3], &mut room)?;
+    refuses(
+        &[room.len() - 1, room.len() + 1], |room| cvl::sparse_product_by_offsets_into(&[0, 2, 2, 4], &[0, 2, 1, 2], &[2, 1, 3, 4],
+        &[1, 2, 3], room).map(|_| ()), room[0],
+    );
+    differ(cvl::sparse_product_by_offsets_into(&[0, 2, 2, 4], &[0, 2, 1], &[2, 1, 3, 4], &[1, 2, 3], &mut room));
+    differ(cvl::sparse_product_by_offsets(&[0, 2, 2, 4], &[0, 2, 1], &[2, 1, 3, 4], &[1, 2, 3]));
+    differ(cvl::sparse_product_by_offsets_into(&[0, 2, 2, 4], &[0, 2, 1, 2], &[2, 1, 3], &[1, 2, 3], &mut room));
+    differ(cvl::sparse_product_by_offsets(&[0, 2, 2, 4], &[0, 2, 1, 2], &[2, 1, 3], &[1, 2, 3]));
+    assert_eq!(room, [5, 0, 18]);
+    Ok(())
+}
+
+#[test]
+fn checked_sparse_product_by_offsets() -> Result<(), cvl::Fault> {
+    assert_eq!(
+        cvl::checked_sparse_product_by_offsets(&[0, 2, 3], &[0, 1, 0], &[2147483647, -1, 3], &[2, 2147483647])?,
+        [2147483647, 6]
+    );
+    let mut room = [7, 7];
+    cvl::checked_sparse_product_by_offsets_into(&[0, 2, 3], &[0, 1, 0], &[2147483647, -1, 3], &[2, 2147483647], &mut room)?;
+    refuses(
+        &[room.len() - 1, room.len() + 1], |room| cvl::checked_sparse_product_by_offsets_into(&[0, 2, 3], &[0, 1, 0],
+        &[2147483647, -1, 3], &[2, 2147483647], room).map(|_| ()), room[0],
+    );
+    differ(cvl::checked_sparse_product_by_offsets_into(&[0, 2, 3], &[0, 1], &[2147483647, -1, 3], &[2, 2147483647], &mut room));
+    differ(cvl::checked_sparse_product_by_offsets(&[0, 2, 3], &[0, 1], &[2147483647, -1, 3], &[2, 2147483647]));
+    differ(cvl::checked_sparse_product_by_offsets_into(&[0, 2, 3], &[0, 1, 0], &[2147483647, -1], &[2, 2147483647], &mut room));
+    differ(cvl::checked_sparse_product_by_offsets(&[0, 2, 3], &[0, 1, 0], &[2147483647, -1], &[2, 2147483647]));
+    assert_eq!(room, [2147483647, 6]);
+    Ok(())
+}

@@ -72,9 +72,28 @@ static void descriptors(void) {
     (void)cvl_version();
 }
 
+/* Offsets of any numbers: as rows of a matrix, as a descriptor, and as what a call asks. */
+static void rows_by_offsets(void) {
+    int32_t offsets[3] = {Frama_C_interval(-1, 1), any_int(), any_int()};
+    CvlSegments made = CVL_NO_SEGMENTS;
+    CvlAsked by = {0};
+    by.known = by.agree = 1, by.most = CVL_MOST_ELEMENTS, by.by_offsets = 1, by.offsets = offsets;
+    by.totals[0] = Frama_C_unsigned_int_interval(0, UINT32_MAX);
+    for (by.offsets_len = 0; by.offsets_len <= 3; by.offsets_len++) {
+        for (refused = -1; refused < 1; refused++) {
+            asked = 0;
+            free(cvl_lengths_between(offsets, by.offsets_len));
+        }
+        refused = -1;
+        if (by.offsets_len > 0) (void)cvl_segments_from_offsets(offsets, by.offsets_len, length, by.offsets_len - 1, &made);
+        (void)cvl_asked(&by);
+    }
+}
+
 void checks(void) {
     lengths_of_any();
     rooms_of_any();
     copies();
     descriptors();
+    rows_by_offsets();
 }

@@ -1867,3 +1867,39 @@ fn checked_sparse_product() {
         ),
     );
 }
+
+#[test]
+fn sparse_product_by_offsets() {
+    let offsets = [0, 2, 2, 4];
+    let columns = [0, 2, 1, 2];
+    let values = [2, 1, 3, 4];
+    let x = [1, 2, 3];
+    each!(out => [99; 3] => [5, 0, 18];
+        cvl_sparse_product_by_offsets(
+            offsets.as_ptr(), offsets.len(), columns.as_ptr(), columns.len(), values.as_ptr(), values.len(), x.as_ptr(),
+            x.len(), out.as_mut_ptr(), out.len(),
+        ),
+        cvl_sparse_product_by_offsets_on(
+            &cvl_pool_alone(3), offsets.as_ptr(), offsets.len(), columns.as_ptr(), columns.len(), values.as_ptr(),
+            values.len(), x.as_ptr(), x.len(), out.as_mut_ptr(), out.len(),
+        ),
+    );
+}
+
+#[test]
+fn checked_sparse_product_by_offsets() {
+    let offsets = [0, 2, 3];
+    let columns = [0, 1, 0];
+    let values = [2147483647, -1, 3];
+    let x = [2, 2147483647];
+    each!(out => [99; 2] => [2147483647, 6];
+        cvl_checked_sparse_product_by_offsets(
+            offsets.as_ptr(), offsets.len(), columns.as_ptr(), columns.len(), values.as_ptr(), values.len(), x.as_ptr(),
+            x.len(), out.as_mut_ptr(), out.len(),
+        ),
+        cvl_checked_sparse_product_by_offsets_on(
+            &cvl_pool_alone(3), offsets.as_ptr(), offsets.len(), columns.as_ptr(), columns.len(), values.as_ptr(),
+            values.len(), x.as_ptr(), x.len(), out.as_mut_ptr(), out.len(),
+        ),
+    );
+}
