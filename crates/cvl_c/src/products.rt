@@ -70,5 +70,8 @@ pub extern "C" fn cvl_checked_sparse_product_by_offsets(
     ensures { ToldOr (in_room (length out.old) (by_row_offsets offsets.now (λ lengths. by_segments lengths
         (λ rows. in_limit columns.now (checked_rows_product rows columns.now values.now x.now))))) result out.old out.new }
 {
-    told(checked_product_by_offsets(alloc, offsets, columns, values, x), out)
+    told(
+        checked_product_by_offsets(alloc, offsets, columns, values, x),
+        out,
+    )
 }

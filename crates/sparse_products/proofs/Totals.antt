@@ -122,9 +122,9 @@ module _ (x sums : List ℤ) (lengths : List ℕ) (entries : List (ℤ × ℤ)) 
   rows_are covered =
       rows_from x sums lengths 0 entries (pos 0) are.within covered (are.each 0 (omega arith))
       (λ k le.
-        let at : 0 + k ≡ k = omega arith in
-        let total : row_total x (take k entries) ≡ pos 0 +ℤ row_total x (take k entries) = omega (arith, ints) in
-        ap (λ j. get_or sums j (pos 0)) at ∙ are.each k le ∙ ap wrap total)
+      let at : 0 + k ≡ k = omega arith in
+      let total : row_total x (take k entries) ≡ pos 0 +ℤ row_total x (take k entries) = omega (arith, ints) in
+      ap (λ j. get_or sums j (pos 0)) at ∙ are.each k le ∙ ap wrap total)
 
   -- each of them has a value
   pub none_missing : (place : ℕ) → None ≡ first_without place (map (row_value wrapping x) (cut_of lengths entries))
