@@ -1,6 +1,6 @@
 //! Products of sparse matrices with vectors. The rows come as their lengths, or by their offsets.
 
-ghost use Rattle.std.specs.Prelude.{◌≡◌, Ok};
+ghost use Rattle.std.specs.Prelude.{Ok};
 ghost use Rattle.cvl_base.specs.Gives.{Gives};
 ghost use Rattle.c_calls.specs.Calls.{by_row_offsets, by_segments, in_limit};
 ghost use Rattle.sparse_products.specs.Answers.{checked_rows_product, rows_product};
