@@ -5,5 +5,6 @@ pub mod MarkWords
 pub mod Outside
 pub mod Scattered
 pub mod Taken
+pub mod TakenOr
 pub mod Written
 pub use Rattle.sent_places.proofs.Sent

@@ -1,6 +1,6 @@
 -- The walks of a back permute: which index is the first outside, and what the definition gives where none is.
 use Rattle.std.proofs.Common.{◌≡◌, ◌∙◌, ℕ, ◌+◌, ◌<◌, ◌≤◌, Bool, true, false, not, if◌then◌else◌, cond, List, [], ◌∷◌, length, map, drop, get_or, refl, sym, ap, arith}
-use Rattle.std.proofs.Common.{◌-◌, ◌++◌, take, length-drop, ℤ, pos, negsuc, is_some, unsigned_abs, nat_abs, to_z, of_z, w32, w64, Fits, FitsSigned, T, inl, inr, Option, Some, None, Result, Ok}
+use Rattle.std.proofs.Common.{◌-◌, ◌++◌, take, length-drop, ℤ, pos, negsuc, is_some, option_map, unsigned_abs, nat_abs, to_z, of_z, w32, w64, Fits, FitsSigned, T, inl, inr, Option, Some, None, Result, Ok}
 use Rattle.std.specs.List.{cons_option}
 use Rattle.std.specs.Option.{ok_or}
 use Rattle.std.proofs.lemmas.Bool.{lt-ltb, le-ltb, ltb-true, false≢true}
@@ -10,6 +10,7 @@ use Rattle.std.proofs.lemmas.List.{at_drop_more, drop_at, length-take-le, take-a
 use Rattle.std.proofs.lemmas.List.Elements.{All-cons, All-drop, All-head, All-nil, All-tail, All-take, filter_map-append}
 use Rattle.std.proofs.lemmas.List.Sums.{sum_by-cons}
 use Rattle.std.proofs.lemmas.Option.{cond_some, none-some, slice_get_cases, slice_get_read}
+use Rattle.fresh.specs.Found.{first_without}
 use Rattle.fresh.specs.Parts.{part}
 use Rattle.fresh.specs.Places.{Stretch, stretch}
 use Rattle.cvl_base.specs.declared.fault.Fault.{Fault}
@@ -20,7 +21,7 @@ use Rattle.cvl_base.specs.Extracts.{element_at}
 use Rattle.cvl_base.specs.Faults.{fault_at}
 use Rattle.cvl_base.specs.Gives.{◌>>=◌, unless}
 use Rattle.cvl_base.specs.Permutes.{first_fault, is_place, place_among}
-use Rattle.permute_walks.specs.Indices.{AreInside, count_outside, elements_at, first_outside}
+use Rattle.permute_walks.specs.Indices.{AreInside, count_outside, elements_at, first_outside, outside}
 
 -- ---- the first of some indices, and whether it is inside
 
@@ -73,6 +74,20 @@ tells source (pos k) =
       | inr t ↦ ap is_some t.1 ∙ sym (le-ltb k (length source) t.0)
     ]
 tells source (negsuc k) = refl
+
+-- the first index outside is the first that takes nothing
+pub outside_told : {X : Type 0} (place : ℕ) (source : List X) (index : List ℤ)
+    → first_outside place (length source) index ≡ option_map (λ p. fault_at IndexOutOfRange p) (first_without place (map (element_at source) index))
+outside_told place source [] = refl
+outside_told {X = X} place source (i ∷ index) = on (element_at source i) (is_place (length source) i) (tells source i) (outside_told (place + 1) source index)
+  where
+    on : (v : Option X) (is_inside : Bool) → is_some v ≡ is_inside
+        → first_outside (place + 1) (length source) index ≡ option_map (λ p. fault_at IndexOutOfRange p) (first_without (place + 1) (map (element_at source) index))
+        → first_of place (map (outside (length source)) index) is_inside ≡ option_map (λ p. fault_at IndexOutOfRange p) (first_without place (v ∷ map (element_at source) index))
+    on (Some x) true is rest = rest
+    on (Some x) false is rest = absurd (false≢true (sym is))
+    on None true is rest = absurd (false≢true is)
+    on None false is rest = refl
 
 cons_unless : {X : Type 0} (x : X) (o : Option Fault) (xs : List X) → (unless o (Ok xs) >>= λ ys. Ok (x ∷ ys)) ≡ unless o (Ok (x ∷ xs))
 cons_unless x None xs = refl

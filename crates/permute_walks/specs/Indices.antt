@@ -1,6 +1,6 @@
 -- Indices of a back permute: each names the place of a source whose element goes to the index's own place.
 -- Source: CVL's back permute, d[k] = s[i[k]].
-use Rattle.std.specs.Prelude.{◌≡◌, ℕ, ℤ, true, not, if◌then◌else◌, List, count_by, filter_map, map, Option, Some, None}
+use Rattle.std.specs.Prelude.{◌≡◌, ℕ, ℤ, true, not, if◌then◌else◌, List, count_by, filter_map, map, Option, Some, None, unwrap_or}
 use Rattle.std.specs.List.{All}
 use Rattle.cvl_base.specs.declared.fault.Fault.{Fault}
 use Rattle.cvl_base.specs.declared.fault.FaultNo.{FaultNo}
@@ -27,3 +27,7 @@ AreInside places index = All (λ i. is_place places i ≡ true) index
 -- the element at each index that is a place of the source
 abbrev pub elements_at : {X : Type 0} → List X → List ℤ → List X
 elements_at source index = filter_map (element_at source) index
+
+-- each value, or another where there is none
+abbrev pub each_or : {X : Type 0} → X → List (Option X) → List X
+each_or other values = map (λ v. unwrap_or v other) values

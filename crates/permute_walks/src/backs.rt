@@ -1,5 +1,5 @@
-//! The two walks of a back permute, each of which several threads may make. The first looks at all indices, so that the second
-//! has an element for each.
+//! The two walks of a back permute over a room, which is written only where no index is outside. The first looks at all indices,
+//! so that the second has an element for each.
 
 ghost use Rattle.std.specs.Prelude.{◌≡◌, ◌+◌, ◌-◌, ◌≤◌, ◌++◌, [], length};
 ghost use Rattle.fresh.specs.Parts.{part};
@@ -8,17 +8,15 @@ ghost use Rattle.cvl_base.specs.Limits.{most_places};
 ghost use Rattle.permute_walks.specs.Indices.{AreInside, elements_at, first_outside};
 ghost use Rattle.permute_walks.specs.Senders.{fault_told};
 
-use crate::index_counts::{count_alone, count_outside};
-use cvl_base::{Config, Fault, FaultNo, place_among};
+use crate::index_counts::count_outside;
+use cvl_base::{Fault, FaultNo, place_among};
 use fresh::{Run, Writer};
-use sharing::threads_searching;
-use std::thread::Threads;
 
 /// From how many indices on they are counted before they are looked at in turn.
 const LONG: usize = 32;
 
 /// `IndexOutOfRange` at the first place whose index is none of so many places. The first index stands at place `first`.
-#[inline(never)]
+#[inline]
 fn check_each(index: &[i32], places: usize, first: usize) -> Result<(), Fault>
     requires { first + length index.now ≤ most_places }
     ensures { fault_told result ≡ first_outside first places index.now }
@@ -31,36 +29,16 @@ fn check_each(index: &[i32], places: usize, first: usize) -> Result<(), Fault>
     Ok(())
 }
 
-/// The first walk, by as many threads as pay: `IndexOutOfRange` at the first place whose index is none of so many places of the
-/// source. The first index stands at place `first`.
-#[tactic(auto, using(crate::proofs::Outside::none_outside))]
-pub fn check_places<R: Threads + Sync>(
-    rt: &R,
-    config: Config,
-    index: &[i32],
-    places: usize,
-    first: usize,
-) -> Result<(), Fault>
-    requires { first + length index.now ≤ most_places }
-    ensures { fault_told result ≡ first_outside first places index.now }
-{
-    let threads = threads_searching(config, index.len());
-    if threads.get() < 2 {
-        return check_places_alone(index, places, first);
-    }
-    if count_outside(rt, threads, index, places) == 0 {
-        return Ok(());
-    }
-    check_each(index, places, first)
-}
-
-/// The same as [`check_places`], by the thread that calls.
+/// The first walk: `IndexOutOfRange` at the first place whose index is none of so many places of the source. The first index
+/// stands at place `first`.
+// Inlined for a short segment, in which each index is looked at here.
+#[inline]
 #[tactic(auto, using(crate::proofs::Outside::none_outside))]
 pub fn check_places_alone(index: &[i32], places: usize, first: usize) -> Result<(), Fault>
     requires { first + length index.now ≤ most_places }
     ensures { fault_told result ≡ first_outside first places index.now }
 {
-    if index.len() >= LONG && count_alone(index, places) == 0 {
+    if index.len() >= LONG && count_outside(index, places) == 0 {
         return Ok(());
     }
     check_each(index, places, first)

@@ -1,8 +1,8 @@
 //! The walks of a permute over one range. The first, which finds the sender of each place of the result, is that of
 //! `sent_places`, which is handed on. `elements` has the second, which writes the elements of the senders. `owners` has both in
 //! one, by threads each of which owns a range of the result, with `ranges` for one range and `marks` for the places that are
-//! written. `backs` has the walks of a back permute, the first of which counts indices by `index_counts`, and `scatters` those
-//! of a simple permute straight into a room.
+//! written. `takes` has the walk of a back permute; over a room it has the two of `backs`, the first of which counts indices by
+//! `index_counts`. `scatters` has those of a simple permute straight into a room.
 #![tactic(auto)]
 
 pub mod backs;
@@ -12,11 +12,13 @@ pub mod marks;
 mod owners;
 mod ranges;
 mod scatters;
+pub mod takes;
 
-pub use backs::{ElementsAt, check_places, check_places_alone, write_elements_at};
+pub use backs::{ElementsAt, check_places_alone, write_elements_at};
 pub use elements::{ElementsOr, element_of, elements_of, elements_of_over};
 pub use marks::{count_marks, words_for};
 pub use owners::permuted_shared;
 pub use ranges::write_range;
 pub use scatters::{is_permutation, is_permutation_by, scatter_over};
 pub use sent_places::{AllDestinations, Destinations, FlaggedDestinations, NOBODY, send_places};
+pub use takes::{ElementsTaken, push_elements_at, take_in_runs, take_nothing, write_taken_over};

@@ -14,7 +14,7 @@ ghost use Rattle.sharing.specs.Shares.{share_of_first};
 use crate::marks::{WORD_BITS, count_marks, words_for};
 use crate::ranges::write_range;
 use cvl_base::{Memory, NoResources};
-use fresh::{Copies, Writer, write_in_runs};
+use fresh::{Writer, write_in_runs};
 use sent_places::Destinations;
 use sharing::{ThreadCount, share_of_first};
 use std::thread::{Threads, join_mut};
@@ -177,12 +177,8 @@ where
         ≡ is_some (first_fault 0 (wrongs places (D.destinations destinations.now)))) }
 {
     let mut out = write_in_runs(rt, alloc, threads, before, places)?;
-    let words = words_for(places);
-    let unmarked = Copies {
-        item: 0,
-        count: words,
-    };
-    let mut marks = write_in_runs(rt, alloc, threads, &unmarked, words)?;
+    // A bit a place is cleared sooner than threads are started for it.
+    let mut marks = vec![in alloc; 0; words_for(places)]?;
     let owner = Sends {
         source,
         destinations,

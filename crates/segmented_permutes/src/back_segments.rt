@@ -1,29 +1,29 @@
-//! The two walks of a segmented back permute. The first looks at all indices, those of a long segment by several threads, so
-//! that the second, which several threads may make, has an element for each.
+//! The walk of a segmented back permute, which several threads may share: each looks at indices and writes the elements there at
+//! once, segment by segment. Over a room all indices are looked at before.
 
-ghost use Rattle.std.specs.Prelude.{◌≡◌, ◌+◌, ◌-◌, ◌<◌, ◌≤◌, ◌++◌, [], length, map, slice_index_or, sum};
+ghost use Rattle.std.specs.Prelude.{◌≡◌, ◌+◌, ◌-◌, ◌<◌, ◌≤◌, [], length, min, sum};
+ghost use Rattle.fresh.specs.Found.{first_without};
 ghost use Rattle.fresh.specs.Parts.{part};
-ghost use Rattle.fresh.specs.Places.{stretch};
+ghost use Rattle.fresh.specs.Places.{stretch, with_items};
 ghost use Rattle.cvl_base.specs.Limits.{most_places};
+ghost use Rattle.permute_walks.specs.Indices.{each_or};
 ghost use Rattle.permute_walks.specs.Senders.{fault_told};
-ghost use Rattle.segmented_permutes.specs.Backs.{IsSegmentedBack, lists_at, outside_from};
+ghost use Rattle.segdes.specs.Starts.{start_of};
+ghost use Rattle.segmented_permutes.specs.Backs.{IsSegmentedBack, outside_from, values_at};
 
-use crate::looks::Look;
 use cvl_base::Fault;
-use fresh::Run;
-use permute_walks::write_elements_at;
-use segdes::{SegDes, Segments};
-use std::alloc::{AllocError, Allocator};
+use fresh::{CheckedWriter, Run};
+use permute_walks::{check_places_alone, push_elements_at};
+use segdes::SegDes;
+use sharing::share_of_first;
+use std::alloc::Allocator;
 
-/// The first walk, which looks at one segment after another: `IndexOutOfRange` at the first place whose index is no place of its
-/// segment of the source.
-pub(crate) fn check_segments<L: Look, A: Allocator>(
-    looker: &L,
+/// Looks at one segment after another: `IndexOutOfRange` at the first place whose index is no place of its segment of the source.
+pub(crate) fn check_segments<A: Allocator>(
     index: &[i32],
     source_d: &SegDes<A>,
     index_d: &SegDes<A>,
 ) -> Result<(), Fault>
-    requires allowed { L.MayLook looker.now }
     requires total { sum index_d.now ≡ length index.now }
     requires count { length source_d.now ≡ length index_d.now }
     requires in_limit { length index.now ≤ most_places }
@@ -32,67 +32,84 @@ pub(crate) fn check_segments<L: Look, A: Allocator>(
     for s in 0..index_d.count() {
         let first = index_d.start(s);
         let segment = &index[first..first + index_d.length(s)];
-        looker.look(segment, source_d.length(s), first)?;
+        check_places_alone(segment, source_d.length(s), first)?;
     }
     Ok(())
 }
 
-/// The element at each index, segment by segment, which the second walk writes.
-pub(crate) struct SegmentsAt<'a, T, A: Allocator> {
+/// Takes the element at each index, segment by segment.
+#[derive(Drop)]
+pub(crate) struct SegmentsTaken<'a, T, A: Allocator> {
     pub(crate) source: &'a [T],
     pub(crate) index: &'a [i32],
     pub(crate) source_d: &'a SegDes<A>,
     pub(crate) index_d: &'a SegDes<A>,
+    /// Taken where an index is no place of its segment of the source.
+    pub(crate) other: T,
     ghost fits: { IsSegmentedBack source_d.now source.now index_d.now index.now },
 }
 
-impl<'a, T, A: Allocator> Clone for SegmentsAt<'a, T, A> {
-    ghost use Rattle.std.specs.Prelude.{⊤};
-
-    ghost is_clone = { λ x y. y ≡ x };
-
-    ghost is_infallible = { λ _. ⊤ };
-
-    fn clone(&self) -> Result<SegmentsAt<'a, T, A>, AllocError> {
-        Ok(*self)
+impl<'a, T: Copy, A: Allocator> SegmentsTaken<'a, T, A> {
+    /// Takes what is left of segment `s`, in which the run goes on, or as much as there is room for. Tells the first place whose
+    /// index takes nothing.
+    #[inline(always)]
+    fn take_segment(&self, run: Run<T>, s: usize) -> (Run<T>, Option<usize>)
+        requires segment { s < length self.now.index_d.now }
+        requires begins { start_of self.now.index_d.now s ≤ run.first + length run.items }
+        requires ends { run.first + length run.items ≤ start_of self.now.index_d.now (s + 1) }
+        ensures run { result.0 ≡ with_items run (each_or self.now.other
+            (part (values_at self.now.source_d.now self.now.source.now self.now.index_d.now self.now.index.now)
+            (run.first + length run.items)
+            (min (start_of self.now.index_d.now (s + 1) - (run.first + length run.items)) run.room))) }
+        ensures found { result.1 ≡ first_without (run.first + length run.items)
+            (part (values_at self.now.source_d.now self.now.source.now self.now.index_d.now self.now.index.now)
+            (run.first + length run.items)
+            (min (start_of self.now.index_d.now (s + 1) - (run.first + length run.items)) run.room)) }
+    {
+        let first = run.next_place();
+        let last = self.index_d.start(s) + self.index_d.length(s);
+        let count = (last - first).min(run.room());
+        let start = self.source_d.start(s);
+        let source = &self.source[start..start + self.source_d.length(s)];
+        push_elements_at(run, source, &self.index[first..first + count], self.other)
     }
 }
 
-impl<'a, T, A: Allocator> Copy for SegmentsAt<'a, T, A> {}
+impl<'a, T: Copy, A: Allocator> CheckedWriter<T> for SegmentsTaken<'a, T, A> {
+    ghost use Rattle.std.specs.Prelude.{◌≡◌};
+    ghost use Rattle.permute_walks.specs.Indices.{each_or};
+    ghost use Rattle.segmented_permutes.specs.Backs.{values_at};
+    ghost use Rattle.sharing.specs.Shares.{share_of_first};
 
-impl<'a, T: Copy, A: Allocator> Segments for SegmentsAt<'a, T, A> {
-    ghost use Rattle.segmented_permutes.specs.Backs.{lists_at};
+    ghost whole = { λ w. each_or w.other (values_at w.source_d.now w.source.now w.index_d.now w.index.now) };
 
-    type Item = T;
+    ghost values = { λ w. values_at w.source_d.now w.source.now w.index_d.now w.index.now };
 
-    type A = A;
+    ghost IsShare = { λ w first room few threads places. places ≡ share_of_first few threads room };
 
-    ghost lists = { λ w. lists_at w.source_d.now w.source.now w.index_d.now w.index.now };
-
-    #[tactic(auto, using(crate::proofs::Listed::lengths_are))]
-    fn descriptor(&self) -> &SegDes<A>
-        ensures { result.now ≡ map length (lists_at self.now.source_d.now self.now.source.now self.now.index_d.now
-            self.now.index.now) }
+    fn write(&self, run: Run<T>) -> (Run<T>, Option<usize>)
+        requires empty { run.items ≡ [] }
+        requires within { run.first + run.room ≤ length (each_or self.now.other
+            (values_at self.now.source_d.now self.now.source.now self.now.index_d.now self.now.index.now)) }
+        ensures run { result.0 ≡ stretch run.block run.first (part (each_or self.now.other
+            (values_at self.now.source_d.now self.now.source.now self.now.index_d.now self.now.index.now)) run.first run.room) 0 }
+        ensures found { result.1 ≡ first_without run.first
+            (part (values_at self.now.source_d.now self.now.source.now self.now.index_d.now self.now.index.now)
+            run.first run.room) }
     {
-        self.index_d
+        let first = run.next_place();
+        let begin = self.index_d.starts_before(first + 1).saturating_sub(1);
+        let last = self.index_d.starts_before(first + run.room());
+        let (mut run, mut found) = (run, None);
+        for s in begin..last {
+            let (next, here) = self.take_segment(run, s);
+            run = next;
+            found = found.or(here);
+        }
+        (run, found)
     }
 
-    fn push_part(&self, run: Run<T>, s: usize, from: usize, count: usize) -> Run<T>
-        requires segment { s < length (lists_at self.now.source_d.now self.now.source.now self.now.index_d.now
-            self.now.index.now) }
-        requires within { from + count
-            ≤ length (slice_index_or (lists_at self.now.source_d.now self.now.source.now self.now.index_d.now self.now.index.now)
-            s []) }
-        requires room { count ≤ run.room }
-        ensures { result ≡ stretch run.block run.first
-            (run.items ++ part
-            (slice_index_or (lists_at self.now.source_d.now self.now.source.now self.now.index_d.now self.now.index.now) s [])
-            from count)
-            (run.room - count) }
-    {
-        let start = self.source_d.start(s);
-        let source = &self.source[start..start + self.source_d.length(s)];
-        let first = self.index_d.start(s) + from;
-        write_elements_at(run, source, &self.index[first..first + count])
+    fn share(&self, _first: usize, room: usize, few: usize, threads: usize) -> usize {
+        share_of_first(few, threads, room)
     }
 }

@@ -6,24 +6,23 @@ ghost use Rattle.cvl_base.specs.Limits.{most_elements};
 ghost use Rattle.cvl_base.specs.SegmentedCalls.{seg_back_of};
 ghost use Rattle.segmented_permutes.specs.Backs.{outside_from};
 
-use crate::back_segments::{SegmentsAt, check_segments};
+use crate::back_segments::SegmentsTaken;
 use crate::flat_indices::flat_indices;
-use crate::looks::ByThreads;
 use crew::{Gate, OpenGate};
 use cvl_base::{Config, Memory, Refused, check_agree};
-use fresh::write_in_runs;
 use permute_races::{check_indices_raced, permute_pace};
-use segdes::{EndToEnd, SegDes, check_total};
+use permute_walks::{take_in_runs, take_nothing};
+use segdes::{SegDes, check_total};
 use segment_sends::AllParts;
-use sharing::threads_writing;
+use sharing::{Pace, threads_writing};
 use std::thread::Threads;
 
 /// `IndexOutOfRange` at the first place whose index is no place of its segment of the source, for which workers race at flat
-/// indices, or one or several threads look.
-fn check_segment_indices<R: Threads + Sync, A: Memory, G: Gate>(
+/// indices.
+fn check_indices_raced_by_segments<R: Threads + Sync, A: Memory, G: Gate>(
     rt: &R,
     alloc: A,
-    config: Config,
+    pace: Pace,
     index: &[i32],
     source_d: &SegDes<A>,
     index_d: &SegDes<A>,
@@ -35,18 +34,13 @@ fn check_segment_indices<R: Threads + Sync, A: Memory, G: Gate>(
     ensures { Gives (λ u. u) result (unless (outside_from 0 source_d.now index_d.now index.now) (Ok tt)) }
 {
     let places = source_d.total();
-    match permute_pace(config, index.len(), places) {
-        Some(pace) => {
-            let parts = AllParts {
-                index,
-                d: index_d,
-                result_d: source_d,
-            };
-            let flat = flat_indices(alloc, &parts, index)?;
-            check_indices_raced(rt, alloc, pace, &flat, places, gate)
-        }
-        None => Ok(check_segments(&ByThreads { rt, config }, index, source_d, index_d)?),
-    }
+    let parts = AllParts {
+        index,
+        d: index_d,
+        result_d: source_d,
+    };
+    let flat = flat_indices(alloc, &parts, index)?;
+    check_indices_raced(rt, alloc, pace, &flat, places, gate)
 }
 
 /// The back permute of each segment: `bck_pez` and `bck_peb`.
@@ -94,13 +88,19 @@ pub fn seg_back_gated<T: Copy + Send + Sync, R: Threads + Sync, A: Memory, G: Ga
     check_total(source, source_d)?;
     check_total(index, index_d)?;
     check_agree(source_d.count(), index_d.count())?;
-    check_segment_indices(rt, alloc, config, index, source_d, index_d, gate)?;
-    let threads = threads_writing(config, index.len());
-    let segments = SegmentsAt {
+    if let Some(pace) = permute_pace(config, index.len(), source.len()) {
+        check_indices_raced_by_segments(rt, alloc, pace, index, source_d, index_d, gate)?;
+    }
+    let Some(other) = source.first() else {
+        return take_nothing(alloc, index.len());
+    };
+    let segments = SegmentsTaken {
         source,
         index,
         source_d,
         index_d,
+        other: *other,
     };
-    Ok(write_in_runs(rt, alloc, threads, &EndToEnd { segments }, index.len())?)
+    let threads = threads_writing(config, index.len());
+    take_in_runs(rt, alloc, threads, &segments, index.len())
 }

@@ -3,8 +3,8 @@
 //!
 //! A simple, select or default permute is one walk of `segment_sends`: each thread, or the only one, takes whole segments, and a
 //! buffer holds the senders of one segment at a time. Where a place is bad, or one segment is longer than a thread's share, the
-//! senders of the whole result are found first. `sent` says which of these a call does. A back permute looks at all indices,
-//! those of a long segment by several threads, and then takes the elements.
+//! senders of the whole result are found first. `sent` says which of these a call does. A back permute is one walk, too: each
+//! thread has as many indices, looks at each and takes its element at once, and a fault drops what was written.
 //!
 //! Each call has a gated form with the same contract for every gate. Workers race for the first walk where short tiles are asked
 //! for: the race is that of a flat permute, whose indices are counted from the start of the whole result first.
@@ -18,7 +18,6 @@ mod back_segments;
 mod backs;
 mod defaults;
 mod flat_indices;
-mod looks;
 mod over;
 mod selects;
 mod sent;

@@ -9,12 +9,11 @@ ghost use Rattle.cvl_base.specs.Limits.{most_places};
 ghost use Rattle.cvl_base.specs.Rooms.{Overwrites, OverwritesOr, in_room};
 ghost use Rattle.cvl_base.specs.SegmentedCalls.{seg_back_of, seg_default_of, seg_select_of, seg_simple_of};
 
-use crate::back_segments::{SegmentsAt, check_segments};
-use crate::looks::ByCaller;
+use crate::back_segments::{SegmentsTaken, check_segments};
 use cvl_base::{Fault, Memory, Refused, check_agree, true_count};
-use fresh::write_over;
+use permute_walks::write_taken_over;
 use permutes::{take_or_default_over, take_over};
-use segdes::{EndToEnd, SegDes, check_total};
+use segdes::{SegDes, check_total};
 use segment_sends::{
     AllParts, FlaggedParts, are_permutations, scatter_segments_over, segment_senders_alone,
 };
@@ -112,14 +111,18 @@ pub fn seg_back_over<T: Copy, A: Allocator>(
     check_total(source, source_d)?;
     check_total(index, index_d)?;
     check_agree(source_d.count(), index_d.count())?;
-    check_segments(&ByCaller, index, source_d, index_d)?;
+    check_segments(index, source_d, index_d)?;
     check_agree(index.len(), out.len())?;
-    let segments = SegmentsAt {
-        source,
-        index,
-        source_d,
-        index_d,
-    };
-    write_over(out, &EndToEnd { segments });
+    // Without an element there is no index.
+    if let Some(other) = source.first() {
+        let segments = SegmentsTaken {
+            source,
+            index,
+            source_d,
+            index_d,
+            other: *other,
+        };
+        write_taken_over(out, &segments);
+    }
     Ok(())
 }

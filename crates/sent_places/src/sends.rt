@@ -38,7 +38,7 @@ fn send_one(senders: &mut [u32], index: &i32, place: u32) -> Result<(), Fault>
 }
 
 /// Sends each place of a segment in turn, and stops at the first bad one. The clauses are those of `send_places`.
-#[inline(never)]
+#[inline]
 fn send_each<T: Destinations>(
     senders: &mut [u32],
     first: usize,
@@ -63,6 +63,8 @@ fn send_each<T: Destinations>(
 /// Sends the places of a segment that take part, the first of which stands at place `first`. The senders are those of the
 /// segment's part of the result, nobody to begin with. The fault is that of the first bad place; an index of a place that
 /// does not take part is never bad.
+// Inlined for a short segment, whose places are then sent in turn without a call.
+#[inline]
 pub fn send_places<T: Destinations>(
     senders: &mut [u32],
     first: usize,

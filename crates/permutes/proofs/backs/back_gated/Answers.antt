@@ -1,26 +1,33 @@
-use Rattle.std.proofs.Common.{Vec, ap, arith, length, sym}
+use Rattle.std.proofs.Common.{◌≡◌, ◌∙◌, List, Vec, [], ◌∷◌, ap, length, map, refl, slice_get, subst, sym, Option, None}
+use Rattle.std.specs.Option.{option_copied}
+use Rattle.std.proofs.lemmas.List.{length-map}
+use Rattle.std.proofs.lemmas.Option.{none-some}
 use Rattle.std.proofs.lemmas.Result.{err_from_is_err_and}
-use Rattle.permute_walks.proofs.Outside.{all_inside, length-elements_at}
+use Rattle.cvl_base.specs.declared.fault.FaultNo.TheVariants.{IndexOutOfRange}
+use Rattle.cvl_base.specs.Elementwise.{values_from}
+use Rattle.cvl_base.specs.Extracts.{element_at}
+use Rattle.cvl_base.specs.Gives.{Gives}
+use Rattle.permute_walks.proofs.TakenOr.{nothing_at}
 use Rattle.permutes.proofs.Flat.{back_told}
-use Rattle.permutes.proofs.Told.{none_told, told_ok, told_refused}
+use Rattle.permutes.proofs.Told.{told_refused}
 use Rattle.permutes.proofs.backs.back_gated.Goals as goal
 
-pub returns-in_err-check_indices-clause-values : goal.returns-in_err-check_indices-clause-values
-returns-in_err-check_indices-clause-values g c =
+no_first : {X : Type 0} (xs : List X) (first : Option X) → first ≡ slice_get xs 0 → first ≡ None → xs ≡ []
+no_first [] first is none = refl
+no_first (x ∷ xs) first is none = absurd (none-some x (sym none ∙ is))
+
+pub returns-in_err-check_indices_raced-clause-values : goal.returns-in_err-check_indices_raced-clause-values
+returns-in_err-check_indices_raced-clause-values g c =
     let p = err_from_is_err_and c.from_residual.result c.from_residual.ensures.1 in
-    rw (p.1, p.2) (told_refused (back_told c.args.source.now c.args.index.now) (λ (v : Vec g.row.T.Denot g.row.A.Denot). v.items) c.in_err-check_indices.field-0.0 c.in_err-check_indices.ensures)
+    rw (p.1, p.2)
+    (told_refused (back_told c.args.source.now c.args.index.now) (λ (v : Vec g.row.T.Denot g.row.A.Denot). v.items) c.in_err-check_indices_raced.field-0.0 c.in_err-check_indices_raced.ensures)
 
-pub invariant_of-elements : goal.invariant_of-elements
-invariant_of-elements g c = record { inside = all_inside 0 (length c.args.source.now) c.args.index.now (none_told _ c.in_ok-check_indices.ensures) }
+pub returns-in_default-first-clause-values : goal.returns-in_default-first-clause-values
+returns-in_default-first-clause-values g c =
+    let index = c.args.index.now in
+    let none = no_first c.args.source.now (option_copied c.first.result) c.first.ensures.value (ap option_copied c.in_default-first.is) in
+    subst (λ source. Gives (λ (v : Vec g.row.T.Denot g.row.A.Denot). v.items) c.take_nothing.result (values_from IndexOutOfRange 0 (map (element_at source) index))) (sym none)
+    (c.take_nothing.ensures.values (map (element_at []) index) (length-map index (element_at [])) (nothing_at index))
 
-pub write_in_runs-requires-after_bounds : goal.write_in_runs-requires-after_bounds
-write_in_runs-requires-after_bounds g c κs within =
-    sym (length-elements_at c.args.source.now c.args.index.now (all_inside 0 (length c.args.source.now) c.args.index.now (none_told _ c.in_ok-check_indices.ensures)))
-
-pub returns-clause-values : goal.returns-clause-values
-returns-clause-values g c = told_ok (back_told c.args.source.now c.args.index.now) (none_told _ c.in_ok-check_indices.ensures) _ c.in_ok-write_in_runs.ensures
-
-pub returns-clause-as_long : goal.returns-clause-as_long
-returns-clause-as_long g c =
-    let call = back_told c.args.source.now c.args.index.now in
-    omega (arith, c.in_ok-write_in_runs.field-0.ok.0, ap length c.in_ok-write_in_runs.ensures, call.long (none_told _ c.in_ok-check_indices.ensures))
+pub take_in_runs-requires-clause-written : goal.take_in_runs-requires-clause-written
+take_in_runs-requires-clause-written g c κs within = (c.in-Some-first.other.now, refl)

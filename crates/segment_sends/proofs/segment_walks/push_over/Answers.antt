@@ -1,9 +1,10 @@
-use Rattle.std.proofs.Common.{rules, ◌≡◌, ◌∙◌, ℕ, zero, suc, ◌+◌, ◌<◌, List, [], ◌∷◌, ◌++◌, length, take, get_or, sym, ap, arith, slice_get, unwrap_or}
-use Rattle.std.proofs.lemmas.List.{length-take-le, take_all}
+use Rattle.std.proofs.Common.{rules, ◌≡◌, ◌∙◌, ℕ, zero, suc, ◌+◌, ◌<◌, List, [], ◌∷◌, ◌++◌, length, replicate, take, get_or, refl, sym, ap, arith, slice_get, unwrap_or}
+use Rattle.std.proofs.lemmas.Grind.{drop_more_same}
+use Rattle.std.proofs.lemmas.List.{drop-set-lt, get_or-drop, length-take-le, replicate_more, take_all, take_more_set}
 use Rattle.fresh.specs.Parts.{part}
 use Rattle.fresh.specs.Places.{Stretch, with_items}
 use Rattle.fresh.proofs.Written.{nothing_written, one_written}
-use Rattle.permute_walks.specs.Senders.{written_over}
+use Rattle.permute_walks.specs.Senders.{nobody, written_over}
 use Rattle.permute_walks.proofs.Taken.{length-over}
 use Rattle.segment_sends.proofs.segment_walks.push_over.Goals as goal
 
@@ -18,7 +19,7 @@ written_more source (s ∷ senders) (v ∷ values) (suc k) x y lt within reads i
     ap (λ rest. unwrap_or (slice_get source s) v ∷ rest) (written_more source senders values k x y (omega arith) (omega arith) reads is)
 
 pub loop-k-init : goal.loop-k-init
-loop-k-init g c = sym (nothing_written c.args.run)
+loop-k-init g c = record { pushed = sym (nothing_written c.args.run); cleared = refl; left = refl }
 
 pub push-requires : goal.push-requires
 push-requires g c =
@@ -28,25 +29,35 @@ push-requires g c =
     let values_long : length values ≡ length senders = search rules in
     let front : length (take k senders) ≡ k = length-take-le k senders (omega (arith, c.loop-k-test.true)) in
     let back : length (take k values) ≡ k = length-take-le k values (omega (arith, c.loop-k-test.true, values_long)) in
-    omega (arith, ap (λ (r : Stretch _). r.room) c.loop-k.invariant, length-over c.args.source.now (take k senders) (take k values) (front ∙ sym back), back, c.requires.room, c.loop-k-test.true)
+    omega (arith, ap (λ (r : Stretch _). r.room) c.loop-k.invariant.pushed, length-over c.args.source.now (take k senders) (take k values) (front ∙ sym back), back, c.requires.room, c.loop-k-test.true)
 
 pub loop-k-preserved : goal.loop-k-preserved
 loop-k-preserved g c =
     let source = c.args.source.now in
     let senders = c.args.senders.now in
+    let now = c.loop-k.senders in
     let values = c.split_at-2.result.0.now in
     let k = c.loop-k.k in
     let x = c.index-values-k.result in
     let y = c.unwrap_or.result in
     let before = written_over source (take k senders) (take k values) in
     let in_values : k < length values = search rules in
-    let is : y ≡ unwrap_or (slice_get source (get_or senders k 0)) x = search rules in
+    let in_senders : k < length now = omega (arith, c.loop-k-test.true, c.loop-k.auto.senders) in
+    let there : k + 0 ≡ k = omega arith in
+    let read : get_or now k 0 ≡ get_or senders k 0 =
+    sym (get_or-drop k now 0 0 ∙ ap (λ j. get_or now j 0) there) ∙ ap (λ xs. get_or xs 0 0) c.loop-k.invariant.left ∙ get_or-drop k senders 0 0 ∙ ap (λ j. get_or senders j 0) there in
+    let here : y ≡ unwrap_or (slice_get source (get_or now k 0)) x = search rules in
+    let is = here ∙ ap (λ s. unwrap_or (slice_get source s) x) read in
     let next : suc k ≡ k + 1 = omega arith in
-    one_written c.args.run c.loop-k.run c.push.new.self before y c.loop-k.invariant c.push.ensures
-    ∙ ap (with_items c.args.run) (written_more source senders values k x y c.loop-k-test.true in_values c.index-values-k.is is ∙ ap (λ j. written_over source (take j senders) (take j values)) next)
+    record {
+      pushed = one_written c.args.run c.loop-k.run c.push.new.self before y c.loop-k.invariant.pushed c.push.ensures
+          ∙ ap (with_items c.args.run) (written_more source senders values k x y c.loop-k-test.true in_values c.index-values-k.is is ∙ ap (λ j. written_over source (take j senders) (take j values)) next);
+      cleared = take_more_set now k nobody in_senders ∙ ap (λ ss. ss ++ nobody ∷ []) c.loop-k.invariant.cleared ∙ replicate_more k nobody;
+      left = drop-set-lt (k + 1) now k nobody (omega arith) ∙ drop_more_same now senders k c.loop-k.invariant.left;
+    }
 
-pub returns : goal.returns
-returns g c =
+pub returns-clause-pushed : goal.returns-clause-pushed
+returns-clause-pushed g c =
     let source = c.args.source.now in
     let senders = c.args.senders.now in
     let values = c.split_at-2.result.0.now in
@@ -54,6 +65,12 @@ returns g c =
     let n = length senders in
     let values_are : values ≡ part c.args.before.now (c.args.run.first + length c.args.run.items) n = search rules in
     let values_long : length values ≡ n = search rules in
-    c.loop-k.invariant
+    c.loop-k.invariant.pushed
     ∙ ap (λ ss. with_items c.args.run (written_over source ss (take k values))) (take_all k senders (omega (arith, c.loop-k-test.false)))
     ∙ ap (λ vs. with_items c.args.run (written_over source senders vs)) (take_all k values (omega (arith, c.loop-k-test.false, values_long)) ∙ values_are)
+
+pub returns-clause-cleared : goal.returns-clause-cleared
+returns-clause-cleared g c =
+    let k = c.loop-k.k in
+    let all : k ≡ length c.args.senders.now = omega (arith, c.loop-k-test.false, c.loop-k.auto.k-end) in
+    sym (take_all k c.loop-k.senders (omega (arith, all, c.loop-k.auto.senders))) ∙ c.loop-k.invariant.cleared ∙ ap (λ n. replicate n nobody) all

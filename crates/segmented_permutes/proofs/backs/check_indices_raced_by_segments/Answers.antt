@@ -3,7 +3,7 @@ use Rattle.cvl_base.specs.Gives.{Gives, unless}
 use Rattle.permute_walks.specs.Indices.{first_outside}
 use Rattle.segment_sends.proofs.Through.{destinations-parts, places-parts}
 use Rattle.segmented_permutes.proofs.FlatIndices.{outside_flat}
-use Rattle.segmented_permutes.proofs.backs.check_segment_indices.Goals as goal
+use Rattle.segmented_permutes.proofs.backs.check_indices_raced_by_segments.Goals as goal
 
 pub flat_indices-requires-clause-as_long : goal.flat_indices-requires-clause-as_long
 flat_indices-requires-clause-as_long g c κs within = destinations-parts c.args.index_d.now c.args.source_d.now c.args.index.now c.requires.total (sym c.requires.count)
@@ -12,11 +12,11 @@ pub flat_indices-requires-clause-in_limit : goal.flat_indices-requires-clause-in
 flat_indices-requires-clause-in_limit g c κs within =
     omega (arith, places-parts c.args.index_d.now c.args.source_d.now c.args.index.now (sym c.requires.count), c.total-places.ensures.value, c.total-places.ensures.in_limit)
 
-pub returns-in_ok-flat-in-Some : goal.returns-in_ok-flat-in-Some
-returns-in_ok-flat-in-Some g c =
+pub returns : goal.returns
+returns g c =
     let whole = c.total-places.result in
     subst (Gives (λ u. u) c.check_indices_raced.result)
     (ap (λ o. unless {Y = Unit {0}} o (Ok (tt {0})))
-    (ap (first_outside 0 whole) (c.deref.ensures.value ∙ c.in_ok-flat-in-Some.ensures.are)
+    (ap (first_outside 0 whole) (c.deref.ensures.value ∙ c.in_ok-flat.ensures.are)
     ∙ sym (outside_flat 0 0 whole c.args.source_d.now c.args.index_d.now c.args.index.now c.requires.count (omega (arith, c.requires.total)) (omega (arith, c.total-places.ensures.value)))))
     c.check_indices_raced.ensures

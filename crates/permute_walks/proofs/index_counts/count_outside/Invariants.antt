@@ -1,6 +1,6 @@
 use Rattle.std.proofs.Common.{◌≡◌, take}
 use Rattle.permute_walks.specs.Indices.{count_outside}
-use Rattle.permute_walks.proofs.index_counts.count_alone.Given as goal
+use Rattle.permute_walks.proofs.index_counts.count_outside.Given as goal
 
 abbrev pub invariant-loop-i : goal.invariant-loop-i
 invariant-loop-i l = l.count ≡ count_outside l.places (take l.i-index l.index)

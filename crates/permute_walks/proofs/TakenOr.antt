@@ -1,0 +1,89 @@
+-- A back permute in one walk: what is written and found from index to index, and what the definition makes of it.
+use Rattle.std.proofs.Common.{◌≡◌, ◌∙◌, ℕ, ◌+◌, ◌-◌, ◌<◌, ◌≤◌, List, [], ◌∷◌, ◌++◌, length, map, take, drop, get_or, refl, sym, ap, arith, length-append, ℤ, pos, negsuc, option_map, Option, Some, None, Result, Ok, Err}
+use Rattle.std.specs.Prelude.{unwrap_or}
+use Rattle.std.specs.Option.{ok_or, option_or}
+use Rattle.std.proofs.lemmas.List.{length-map, map-append}
+use Rattle.std.specs.List.{All}
+use Rattle.std.proofs.lemmas.List.Elements.{All-cons, All-head, All-nil}
+use Rattle.std.proofs.lemmas.Option.{none-some, same_Some}
+use Rattle.fresh.specs.Found.{first_without}
+use Rattle.fresh.specs.Places.{Stretch, somes, stretch, with_items}
+use Rattle.fresh.proofs.FirstWithout.{first_of_both}
+use Rattle.fresh.proofs.Written.{one_written}
+use Rattle.cvl_base.specs.declared.fault.Fault.{Fault}
+use Rattle.cvl_base.specs.declared.fault.FaultNo.{FaultNo}
+use Rattle.cvl_base.specs.Elementwise.{values_from}
+use Rattle.cvl_base.specs.Extracts.{element_at}
+use Rattle.cvl_base.specs.Faults.{fault_at}
+use Rattle.cvl_base.specs.Gives.{◌>>=◌, unless}
+use Rattle.permute_walks.specs.Indices.{each_or}
+
+module _ {X : Type 0} (other : X) where
+  -- ---- from index to index: behind the first values one more
+
+  module _ (run now next : Stretch X) (vs : List (Option X)) (v : Option X) (so_far : now ≡ with_items run (each_or other vs)) where
+    pub taken_more : (x : X) → x ≡ unwrap_or v other → next ≡ stretch now.block now.first (now.items ++ x ∷ []) (now.room - 1) → next ≡ with_items run (each_or other (vs ++ v ∷ []))
+    taken_more x is pushed = one_written run now next (each_or other vs) x so_far pushed ∙ ap (with_items run) (ap (λ y. each_or other vs ++ y ∷ []) is ∙ sym (map-append (λ w. unwrap_or w other) vs (v ∷ [])))
+
+    pub found_more : (found first : Option ℕ) (place : ℕ) → place ≡ now.first + length now.items → found ≡ first_without (run.first + length run.items) vs
+        → first ≡ option_or found (first_without place (v ∷ [])) → first ≡ first_without (run.first + length run.items) (vs ++ v ∷ [])
+    found_more found first place at was is =
+        let there : place ≡ (run.first + length run.items) + length vs =
+        omega (arith, at, ap (λ r. r.first + length r.items) so_far, length-append run.items (each_or other vs), length-map vs (λ w. unwrap_or w other)) in
+        is ∙ (λ i. option_or (was i) (first_without (there i) (v ∷ []))) ∙ sym (first_of_both (run.first + length run.items) vs (v ∷ []))
+
+  -- where each takes something, that is all that is written
+  pub each_taken : (place : ℕ) (vs : List (Option X)) → first_without place vs ≡ None → each_or other vs ≡ somes vs
+  each_taken place [] none = refl
+  each_taken place (None ∷ vs) none = absurd (none-some place (sym none))
+  each_taken place (Some x ∷ vs) none = ap (λ xs. x ∷ xs) (each_taken (place + 1) vs none)
+
+-- ---- the definition
+
+module _ {X : Type 0} (number : FaultNo) where
+  onto : (first : Option Fault) (x : X) (xs : List X) → (unless first (Ok xs) >>= λ ys. Ok (x ∷ ys)) ≡ unless first (Ok (x ∷ xs))
+  onto None x xs = refl
+  onto (Some f) x xs = refl
+
+  pub values_told : (place : ℕ) (vs : List (Option X)) → values_from number place vs ≡ unless (option_map (λ p. fault_at number p) (first_without place vs)) (Ok (somes vs))
+  values_told place [] = refl
+  values_told place (None ∷ vs) = refl
+  values_told place (Some x ∷ vs) =
+      ap (λ r. r >>= λ ys. Ok (x ∷ ys)) (values_told (place + 1) vs) ∙ onto (option_map (λ p. fault_at number p) (first_without (place + 1) vs)) x (somes vs)
+
+  module _ (vs : List (Option X)) (found : Option ℕ) (is : found ≡ first_without 0 vs) where
+    told : (o : Option ℕ) → found ≡ o → values_from number 0 vs ≡ unless (option_map (λ p. fault_at number p) o) (Ok (somes vs))
+    told o same = values_told 0 vs ∙ ap (λ p. unless (option_map (λ q. fault_at number q) p) (Ok (somes vs))) (sym is ∙ same)
+
+    pub all_taken : (other : X) (xs : List X) → found ≡ None → xs ≡ each_or other vs → values_from number 0 vs ≡ Ok xs
+    all_taken other xs none are = told None none ∙ ap Ok (sym (are ∙ each_taken other 0 vs (sym is ∙ none)))
+
+    pub not_taken : (p : ℕ) → found ≡ Some p → values_from number 0 vs ≡ Err (fault_at number p)
+    not_taken p some = told (Some p) some
+
+pub found_within : {X : Type 0} (place p : ℕ) (vs : List (Option X)) → first_without place vs ≡ Some p → p < place + length vs
+found_within place p [] is = absurd (none-some p is)
+found_within place p (None ∷ vs) is = let same : place ≡ p = same_Some place p is in omega (arith, same)
+found_within place p (Some x ∷ vs) is = omega (arith, found_within (place + 1) p vs is)
+
+-- ---- a source without an element
+
+pub nothing_taken : {X : Type 0} (number : FaultNo) (values : List (Option X)) → All (λ v. v ≡ None) values → 0 < length values → values_from number 0 values ≡ Err (fault_at number 0)
+nothing_taken number [] none some = absurd (omega arith)
+nothing_taken number (v ∷ values) none some =
+    ap (λ w. ok_or w (fault_at number 0) >>= λ y. values_from number 1 values >>= λ ys. Ok (y ∷ ys)) (All-head (λ w. w ≡ None) v values none)
+
+module _ {X : Type 0} where
+  none_at : (i : ℤ) → element_at {X = X} [] i ≡ None
+  none_at (pos k) = refl
+  none_at (negsuc k) = refl
+
+  pub nothing_at : (index : List ℤ) → All (λ v. v ≡ None) (map (element_at {X = X} []) index)
+  nothing_at [] = All-nil (λ v. v ≡ None)
+  nothing_at (i ∷ index) = All-cons (λ v. v ≡ None) (element_at [] i) (map (element_at []) index) (none_at i) (nothing_at index)
+
+-- no index takes something, and none takes nothing: there is none
+pub none_left : {X : Type 0} (place : ℕ) (values : List (Option X)) → All (λ v. v ≡ None) values → first_without place values ≡ None → length values ≡ 0
+none_left place [] none all = refl
+none_left place (None ∷ values) none all = absurd (none-some place (sym all))
+none_left place (Some x ∷ values) none all = absurd (none-some x (sym (All-head (λ w. w ≡ None) (Some x) values none)))

@@ -1,0 +1,7 @@
+use Rattle.segmented_permutes.specs.Backs.{values_at}
+use Rattle.segmented_permutes.proofs.Listed.{IsTaken}
+use Rattle.segmented_permutes.proofs.back_segments.SegmentsTakenCheckedWriter.write.Given as goal
+
+abbrev pub invariant-loop-s : goal.invariant-loop-s
+invariant-loop-s g l =
+    IsTaken (values_at l.self.source_d.now l.self.source.now l.self.index_d.now l.self.index.now) l.self.other l.self.index_d.now l.fn.run l.s l.run l.found
