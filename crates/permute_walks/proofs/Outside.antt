@@ -1,6 +1,7 @@
 -- The walks of a back permute: which index is the first outside, and what the definition gives where none is.
 use Rattle.std.proofs.Common.{◌≡◌, ◌∙◌, ℕ, ◌+◌, ◌<◌, ◌≤◌, Bool, true, false, not, if◌then◌else◌, cond, List, [], ◌∷◌, length, map, drop, get_or, refl, sym, ap, arith}
-use Rattle.std.proofs.Common.{◌-◌, ◌++◌, take, length-drop, ℤ, pos, negsuc, is_some, option_map, unsigned_abs, nat_abs, to_z, of_z, w32, w64, Fits, FitsSigned, T, inl, inr, Option, Some, None, Result, Ok}
+use Rattle.std.proofs.Common.{◌-◌, ◌++◌, take, length-drop, ℤ, pos, negsuc, is_some, option_map, unsigned_abs, nat_abs, to_z, of_z, w32, w64, Fits, FitsSigned, T}
+use Rattle.std.proofs.Common.{inl, inr, Option, Some, None, Result, Ok}
 use Rattle.std.specs.List.{cons_option}
 use Rattle.std.specs.Option.{ok_or}
 use Rattle.std.proofs.lemmas.Bool.{lt-ltb, le-ltb, ltb-true, false≢true}

@@ -1,5 +1,5 @@
 -- A back permute in one walk: what is written and found from index to index, and what the definition makes of it.
-use Rattle.std.proofs.Common.{◌≡◌, ◌∙◌, ℕ, ◌+◌, ◌-◌, ◌<◌, ◌≤◌, List, [], ◌∷◌, ◌++◌, length, map, take, drop, get_or, refl, sym, ap, arith, length-append, ℤ, pos, negsuc, option_map, Option, Some, None, Result, Ok, Err}
+use Rattle.std.proofs.Common.{◌≡◌, ◌∙◌, ℕ, ◌+◌, ◌-◌, ◌<◌, List, [], ◌∷◌, ◌++◌, length, map, refl, sym, ap, arith, length-append, ℤ, pos, negsuc, option_map, Option, Some, None, Ok, Err}
 use Rattle.std.specs.Prelude.{unwrap_or}
 use Rattle.std.specs.Option.{ok_or, option_or}
 use Rattle.std.proofs.lemmas.List.{length-map, map-append}
@@ -9,7 +9,7 @@ use Rattle.std.proofs.lemmas.Option.{none-some, same_Some}
 use Rattle.fresh.specs.Found.{first_without}
 use Rattle.fresh.specs.Places.{Stretch, somes, stretch, with_items}
 use Rattle.fresh.proofs.FirstWithout.{first_of_both}
-use Rattle.fresh.proofs.Written.{one_written}
+use Rattle.fresh.proofs.Written.{one_written, written_twice}
 use Rattle.cvl_base.specs.declared.fault.Fault.{Fault}
 use Rattle.cvl_base.specs.declared.fault.FaultNo.{FaultNo}
 use Rattle.cvl_base.specs.Elementwise.{values_from}
@@ -23,7 +23,9 @@ module _ {X : Type 0} (other : X) where
 
   module _ (run now next : Stretch X) (vs : List (Option X)) (v : Option X) (so_far : now ≡ with_items run (each_or other vs)) where
     pub taken_more : (x : X) → x ≡ unwrap_or v other → next ≡ stretch now.block now.first (now.items ++ x ∷ []) (now.room - 1) → next ≡ with_items run (each_or other (vs ++ v ∷ []))
-    taken_more x is pushed = one_written run now next (each_or other vs) x so_far pushed ∙ ap (with_items run) (ap (λ y. each_or other vs ++ y ∷ []) is ∙ sym (map-append (λ w. unwrap_or w other) vs (v ∷ [])))
+    taken_more x is pushed =
+        one_written run now next (each_or other vs) x so_far pushed
+        ∙ ap (with_items run) (ap (λ y. each_or other vs ++ y ∷ []) is ∙ sym (map-append (λ w. unwrap_or w other) vs (v ∷ [])))
 
     pub found_more : (found first : Option ℕ) (place : ℕ) → place ≡ now.first + length now.items → found ≡ first_without (run.first + length run.items) vs
         → first ≡ option_or found (first_without place (v ∷ [])) → first ≡ first_without (run.first + length run.items) (vs ++ v ∷ [])
@@ -31,6 +33,21 @@ module _ {X : Type 0} (other : X) where
         let there : place ≡ (run.first + length run.items) + length vs =
         omega (arith, at, ap (λ r. r.first + length r.items) so_far, length-append run.items (each_or other vs), length-map vs (λ w. unwrap_or w other)) in
         is ∙ (λ i. option_or (was i) (first_without (there i) (v ∷ []))) ∙ sym (first_of_both (run.first + length run.items) vs (v ∷ []))
+
+  -- and then the others
+  module _ (run now : Stretch X) (vs ws all : List (Option X)) (whole : all ≡ vs ++ ws) (so_far : now ≡ with_items run (each_or other vs)) where
+    pub others_taken : (next : Stretch X) → next ≡ with_items now (each_or other ws) → next ≡ with_items run (each_or other all)
+    others_taken next pushed =
+        pushed ∙ ap (λ (r : Stretch X). with_items r (each_or other ws)) so_far ∙ written_twice run (each_or other vs) (each_or other ws)
+        ∙ ap (with_items run) (sym (map-append (λ w. unwrap_or w other) vs ws) ∙ ap (each_or other) (sym whole))
+
+    pub others_found : (found : Option ℕ) → None ≡ first_without (run.first + length run.items) vs → found ≡ first_without (now.first + length now.items) ws
+        → found ≡ first_without (run.first + length run.items) all
+    others_found found none is =
+        let place = run.first + length run.items in
+        let there : now.first + length now.items ≡ place + length vs =
+        omega (arith, ap (λ r. r.first + length r.items) so_far, length-append run.items (each_or other vs), length-map vs (λ w. unwrap_or w other)) in
+        is ∙ ap (λ p. first_without p ws) there ∙ ap (λ o. option_or o (first_without (place + length vs) ws)) none ∙ sym (ap (first_without place) whole ∙ first_of_both place vs ws)
 
   -- where each takes something, that is all that is written
   pub each_taken : (place : ℕ) (vs : List (Option X)) → first_without place vs ≡ None → each_or other vs ≡ somes vs

@@ -34,9 +34,8 @@ fn element_at<T: Copy>(source: &[T], index: &i32) -> Option<T>
 
 /// Pushes the element at each index, or another one where an index is no place of the source, and tells the place of the first
 /// such index in the block of the run.
-// Inlined, so that what is known of the run stays in registers from segment to segment.
-#[inline(always)]
-pub fn push_elements_at<T: Copy>(
+#[inline(never)]
+fn push_or_other<T: Copy>(
     run: Run<T>,
     source: &[T],
     index: &[i32],
@@ -53,6 +52,30 @@ pub fn push_elements_at<T: Copy>(
         run.push(element.unwrap_or(other));
     }
     (run, found)
+}
+
+/// The same, by a loop that is left at the first index that is no place of the source: it keeps nothing but the run.
+// Inlined, so that what is known of the run stays in registers from segment to segment.
+#[inline(always)]
+pub fn push_elements_at<T: Copy>(
+    run: Run<T>,
+    source: &[T],
+    index: &[i32],
+    other: T,
+) -> (Run<T>, Option<usize>)
+    requires room { length index.now ≤ run.room }
+    ensures run { result.0 ≡ with_items run (each_or other (map (element_at source.now) index.now)) }
+    ensures found { result.1 ≡ first_without (run.first + length run.items) (map (element_at source.now) index.now) }
+{
+    let mut run = run;
+    for k in 0..index.len() {
+        let Some(element) = element_at(source, &index[k]) else {
+            let (_, rest) = index.split_at(k);
+            return push_or_other(run, source, rest, other);
+        };
+        run.push(element);
+    }
+    (run, None)
 }
 
 /// Takes the element at each index: the walk of a flat back permute.

@@ -68,14 +68,15 @@ pub(crate) fn destinations_before<P: Parts>(parts: &P, s: usize) -> usize
 }
 
 /// The length of the longest segment.
+// Without their signs, which are none, vector code takes several lengths at once.
 pub(crate) fn longest<A: Allocator>(d: &SegDes<A>) -> usize
     ensures { (s : ℕ) → s < length d.now → slice_index d.now s ≤ result }
 {
     let mut longest = 0;
-    for s in 0..d.count() {
-        longest = d.length(s).max(longest);
+    for length in d.lengths() {
+        longest = length.cast_unsigned().max(longest);
     }
-    longest
+    longest as usize
 }
 
 /// Each place takes part, and the result has segments of its own lengths.

@@ -49,7 +49,8 @@ module _ {X : Type 0} where
   chained (Ok r) (Err f) = refl
   chained (Err f) others = refl
 
-  values_both : (number : FaultNo) (place : ℕ) (vs ws : List (Option X)) → values_from number place (vs ++ ws) ≡ (values_from number place vs >>= λ xs. after xs (values_from number (place + length vs) ws))
+  values_both : (number : FaultNo) (place : ℕ) (vs ws : List (Option X))
+      → values_from number place (vs ++ ws) ≡ (values_from number place vs >>= λ xs. after xs (values_from number (place + length vs) ws))
   values_both number place [] ws = same (values_from number place ws) ∙ ap (λ p. after [] (values_from number p ws)) (omega arith)
     where
       same : (r : Result (List X) Fault) → r ≡ after [] r

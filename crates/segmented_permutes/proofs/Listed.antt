@@ -1,6 +1,7 @@
 -- What the indices of a segmented back permute take: a list for each segment, of which the code reads a part by ranges of source and
 -- index; and what a run holds while it is written segment by segment.
-use Rattle.std.proofs.Common.{◌≡◌, ◌∙◌, ℕ, zero, suc, ◌+◌, ◌-◌, ◌<◌, ◌≤◌, List, [], ◌∷◌, ◌++◌, length, map, sum, take, drop, get_or, refl, sym, ap, length-drop, arith, inl, inr, ℤ, option_map, slice_get, Option, Some, None, Ok}
+use Rattle.std.proofs.Common.{◌≡◌, ◌∙◌, ℕ, zero, suc, ◌+◌, ◌-◌, ◌<◌, ◌≤◌, List, [], ◌∷◌, ◌++◌, length, map, sum, take, drop, get_or, refl, sym, ap, length-drop, arith, inl, inr}
+use Rattle.std.proofs.Common.{ℤ, option_map, slice_get, Option, Some, None, Ok}
 use Rattle.std.specs.Prelude.{min, unwrap_or}
 use Rattle.std.specs.Option.{option_or}
 use Rattle.std.proofs.lemmas.List.{drop-drop, drop-take, length-map, length-take-le, map-append, take-take, take_all}

@@ -29,7 +29,8 @@ push-requires g c =
     let values_long : length values ≡ length senders = search rules in
     let front : length (take k senders) ≡ k = length-take-le k senders (omega (arith, c.loop-k-test.true)) in
     let back : length (take k values) ≡ k = length-take-le k values (omega (arith, c.loop-k-test.true, values_long)) in
-    omega (arith, ap (λ (r : Stretch _). r.room) c.loop-k.invariant.pushed, length-over c.args.source.now (take k senders) (take k values) (front ∙ sym back), back, c.requires.room, c.loop-k-test.true)
+    let long = length-over c.args.source.now (take k senders) (take k values) (front ∙ sym back) in
+    omega (arith, ap (λ (r : Stretch _). r.room) c.loop-k.invariant.pushed, long, back, c.requires.room, c.loop-k-test.true)
 
 pub loop-k-preserved : goal.loop-k-preserved
 loop-k-preserved g c =
@@ -51,7 +52,8 @@ loop-k-preserved g c =
     let next : suc k ≡ k + 1 = omega arith in
     record {
       pushed = one_written c.args.run c.loop-k.run c.push.new.self before y c.loop-k.invariant.pushed c.push.ensures
-          ∙ ap (with_items c.args.run) (written_more source senders values k x y c.loop-k-test.true in_values c.index-values-k.is is ∙ ap (λ j. written_over source (take j senders) (take j values)) next);
+          ∙ ap (with_items c.args.run) (written_more source senders values k x y c.loop-k-test.true in_values c.index-values-k.is is
+          ∙ ap (λ j. written_over source (take j senders) (take j values)) next);
       cleared = take_more_set now k nobody in_senders ∙ ap (λ ss. ss ++ nobody ∷ []) c.loop-k.invariant.cleared ∙ replicate_more k nobody;
       left = drop-set-lt (k + 1) now k nobody (omega arith) ∙ drop_more_same now senders k c.loop-k.invariant.left;
     }

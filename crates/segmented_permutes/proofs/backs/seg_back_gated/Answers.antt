@@ -1,4 +1,4 @@
-use Rattle.std.proofs.Common.{◌≡◌, ◌∙◌, Vec, List, [], ◌∷◌, ap, arith, length, refl, slice_get, subst, sym, Err, Option, None}
+use Rattle.std.proofs.Common.{◌≡◌, ◌∙◌, Vec, [], ap, arith, length, refl, subst, sym, Err}
 use Rattle.std.specs.Option.{option_copied}
 use Rattle.std.proofs.lemmas.Result.{err_from_is_err_and}
 use Rattle.cvl_base.specs.declared.fault.FaultNo.TheVariants.{IndexOutOfRange}

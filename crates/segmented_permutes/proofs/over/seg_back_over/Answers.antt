@@ -25,14 +25,16 @@ returns-in_err-check_agree g c =
 pub returns-in_err-check_segments : goal.returns-in_err-check_segments
 returns-in_err-check_segments g c =
     let call = seg_back_told c.args.source.now c.args.index.now c.args.source_d.now c.args.index_d.now
-    (fitting c.args.source.now c.args.index.now c.args.source_d.now c.args.index_d.now c.in_ok-check_total.ensures.agrees c.in_ok-check_total-2.ensures.agrees (omega (arith, c.in_ok-check_agree.ensures))) in
+    (fitting c.args.source.now c.args.index.now c.args.source_d.now c.args.index_d.now c.in_ok-check_total.ensures.agrees c.in_ok-check_total-2.ensures.agrees
+    (omega (arith, c.in_ok-check_agree.ensures))) in
     told _ c.from_residual-in_err-check_segments.result c.in_err-check_segments.field-0.0 c.args.out.now c.from_residual-in_err-check_segments.ensures.1
     (ap (in_room (length c.args.out.now)) (told_err call _ c.in_err-check_segments.ensures))
 
 pub returns-in_err-check_agree-2 : goal.returns-in_err-check_agree-2
 returns-in_err-check_agree-2 g c =
     let call = seg_back_told c.args.source.now c.args.index.now c.args.source_d.now c.args.index_d.now
-    (fitting c.args.source.now c.args.index.now c.args.source_d.now c.args.index_d.now c.in_ok-check_total.ensures.agrees c.in_ok-check_total-2.ensures.agrees (omega (arith, c.in_ok-check_agree.ensures))) in
+    (fitting c.args.source.now c.args.index.now c.args.source_d.now c.args.index_d.now c.in_ok-check_total.ensures.agrees c.in_ok-check_total-2.ensures.agrees
+    (omega (arith, c.in_ok-check_agree.ensures))) in
     mismatch call c.in_err-check_agree-2.field-0.0 c.args.out.now c.in_ok-check_segments.ensures c.in_err-check_agree-2.ensures
     c.from_residual-in_err-check_agree-2.result c.from_residual-in_err-check_agree-2.ensures.1
 

@@ -1,4 +1,4 @@
-use Rattle.std.proofs.Common.{◌≡◌, ◌+◌, ◌-◌, ◌≤◌, ◌∙◌, ℕ, ap, arith, length}
+use Rattle.std.proofs.Common.{◌≡◌, ◌+◌, ◌-◌, ◌≤◌, ◌∙◌, ap, arith, length}
 use Rattle.std.specs.Prelude.{min}
 use Rattle.fresh.specs.Found.{first_without}
 use Rattle.fresh.specs.Places.{with_items}

@@ -1,4 +1,4 @@
-use Rattle.std.proofs.Common.{◌≡◌, ◌+◌, ◌-◌, ◌<◌, ◌≤◌, arith, ap, length, refl, sum, unwrap_or}
+use Rattle.std.proofs.Common.{◌≡◌, ◌+◌, ◌-◌, ◌≤◌, arith, ap, length, refl, unwrap_or}
 use Rattle.std.specs.Prelude.{min}
 use Rattle.std.proofs.lemmas.List.{length-map}
 use Rattle.segdes.specs.Starts.{start_of}
@@ -15,7 +15,8 @@ loop-s-init g c =
     let begin = c.saturating_sub-begin.result in
     let within : run.first + run.room ≤ length values = omega (arith, c.requires.within, length-map values (λ v. unwrap_or v w.other)) in
     let first : c.next_place-first.result ≡ run.first = omega (arith, c.next_place-first.ensures.place, ap length c.requires.empty) in
-    let begins : start_of d begin ≤ run.first = omega (arith, first, starts_at d c.next_place-first.result c.starts_before.result begin c.saturating_sub-begin.ensures c.starts_before.ensures.before) in
+    let begins : start_of d begin ≤ run.first =
+    omega (arith, first, starts_at d c.next_place-first.result c.starts_before.result begin c.saturating_sub-begin.ensures c.starts_before.ensures.before) in
     let ends : run.first ≤ start_of d (begin + 1) =
     reaches d (begin + 1) run.first (λ lt. omega (arith, first, c.starts_before.ensures.others (begin + 1) (omega (arith, c.saturating_sub-begin.ensures)) lt))
     (omega (arith, within, length-values w.fits, w.fits.total)) in
