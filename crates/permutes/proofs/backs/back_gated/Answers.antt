@@ -1,4 +1,4 @@
-use Rattle.std.proofs.Common.{◌≡◌, ◌∙◌, List, Vec, [], ◌∷◌, ap, length, map, refl, slice_get, subst, sym, Option, None}
+use Rattle.std.proofs.Common.{◌≡◌, ◌∙◌, List, Vec, [], ◌∷◌, ap, map, refl, slice_get, subst, sym, Option, None}
 use Rattle.std.specs.Option.{option_copied}
 use Rattle.std.proofs.lemmas.List.{length-map}
 use Rattle.std.proofs.lemmas.Option.{none-some}
