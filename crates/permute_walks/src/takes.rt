@@ -34,6 +34,7 @@ fn element_at<T: Copy>(source: &[T], index: &i32) -> Option<T>
 
 /// Pushes the element at each index, or another one where an index is no place of the source, and tells the place of the first
 /// such index in the block of the run.
+// Of many indices this loop takes more in the same time than one that is left early, though it has more to do for each.
 #[inline(never)]
 fn push_or_other<T: Copy>(
     run: Run<T>,
@@ -112,7 +113,7 @@ impl<'a, T: Copy> CheckedWriter<T> for ElementsTaken<'a, T> {
     {
         let (_, rest) = self.index.split_at(run.next_place());
         let (index, _) = rest.split_at(run.room());
-        push_elements_at(run, self.source, index, self.other)
+        push_or_other(run, self.source, index, self.other)
     }
 
     fn share(&self, _first: usize, room: usize, few: usize, threads: usize) -> usize {
