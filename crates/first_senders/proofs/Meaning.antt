@@ -12,8 +12,8 @@ use Rattle.cvl_base.specs.Segmented.{beside, end_to_end, in_vector, of_two, resu
 use Rattle.cvl_base.proofs.Elementwise.{if_as_long-fits, if_as_long-misfits}
 use Rattle.cvl_base.proofs.Lists.{sum-cons}
 use Rattle.cvl_base.proofs.Nests.{length-cut, nest-fits, nest-misfits}
-use Rattle.permutes.proofs.Told.{IsTold}
-use Rattle.segmented_permutes.proofs.Joined.{front, left_more}
+use Rattle.permute_walks.proofs.Told.{IsTold}
+use Rattle.permute_walks.proofs.EndToEnd.{front, left_more}
 use Rattle.first_senders.specs.FirstSenders.{first_sender, first_senders, first_senders_to, seg_first_senders_to, wrong_in}
 use Rattle.first_senders.specs.Walks.{fault_by, senders_by}
 

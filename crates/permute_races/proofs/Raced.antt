@@ -1,7 +1,7 @@
 -- What the boards of a permute are shown, and what follows of what they tell.
 use Rattle.std.proofs.Common.{◌≡◌, ◌∙◌, ℕ, zero, suc, ◌+◌, ◌-◌, ◌<◌, ◌≤◌, Bool, true, false, not, ◌||◌, if◌then◌else◌, List, [], ◌∷◌, length, map, take, get_or, min, refl, sym, ap, arith, inl, inr}
 use Rattle.std.proofs.Common.{eqb, eq-eqb, ltb}
-use Rattle.std.proofs.Common.{ℤ, pos, negsuc, option_map, unwrap_or, Option, Some, None, Ok, Err, unsigned_abs}
+use Rattle.std.proofs.Common.{ℤ, pos, negsuc, option_map, unwrap_or, Option, Some, None, Ok, unsigned_abs}
 use Rattle.std.specs.List.{list_any, enumerate_from}
 use Rattle.std.proofs.lemmas.Bool.{lt-ltb, ltb-true}
 use Rattle.std.proofs.lemmas.Bool.Decides.{eqb_tells, Decides-int_eq}
@@ -12,10 +12,8 @@ use Rattle.boards.specs.Slots.{is_slot, least_from, leasts_of}
 use Rattle.cvl_base.specs.declared.fault.Fault.{Fault}
 use Rattle.cvl_base.specs.declared.fault.FaultNo.{FaultNo}
 use Rattle.cvl_base.specs.declared.fault.FaultNo.TheVariants.{IndexOutOfRange, IndexRepeated}
-use Rattle.cvl_base.specs.declared.refused.Refused.{Refused}
-use Rattle.cvl_base.specs.declared.refused.Refused.TheVariants as refused
 use Rattle.cvl_base.specs.Faults.{fault_at}
-use Rattle.cvl_base.specs.Gives.{Gives, unless}
+use Rattle.cvl_base.specs.Gives.{unless}
 use Rattle.cvl_base.specs.Limits.{most_elements}
 use Rattle.cvl_base.specs.Permutes.{destination_if, first_fault, is_place, is_destination, place_among, wrong_at, wrongs}
 use Rattle.permute_walks.specs.Senders.{nobody, sender_from, senders_of}
@@ -176,13 +174,6 @@ some_found ws o q few least some =
 pub checked_ok : (one other : Option Fault) (senders items : List ℕ) → one ≡ other → unless {Y = Unit {0}} one (Ok (tt {0})) ≡ Ok (tt {0}) → items ≡ senders → unless other (Ok senders) ≡ Ok items
 checked_ok None other senders items same right are = ap (λ o. unless o (Ok senders)) (sym same) ∙ ap Ok (sym are)
 checked_ok (Some f) other senders items same right are = absurd (cc)
-
-pub checked_err : {V X : Type 0} (view : V → List X) (one other : Option Fault) (senders : List X) (e : Refused) → one ≡ other
-    → Gives {X = Unit {0}} {Y = Unit {0}} (λ u. u) (Err e) (unless one (Ok (tt {0})))
-    → Gives view (Err e) (unless other (Ok senders))
-checked_err view (Some g) other senders (refused.Fault f) same given = let is : g ≡ f = cc in ap (λ o. unless o (Ok senders)) (sym same) ∙ ap Err is
-checked_err view None other senders (refused.Fault f) same given = absurd (cc)
-checked_err view one other senders refused.NoResources same given = tt {0}
 
 -- ---- what is wrong with an index, as the code finds it
 

@@ -1,6 +1,6 @@
 //! The race for the senders: a slot for each place of the result.
 
-ghost use Rattle.std.specs.Prelude.{◌≡◌, ◌≤◌, length, map, unwrap_or, IfOk, Ok};
+ghost use Rattle.std.specs.Prelude.{◌≡◌, ◌≤◌, length, map, unwrap_or, IfOk, Ok, vec_len};
 ghost use Rattle.cvl_base.specs.Gives.{Gives, unless};
 ghost use Rattle.cvl_base.specs.Limits.{most_elements};
 ghost use Rattle.cvl_base.specs.Permutes.{first_fault, wrongs};
@@ -90,7 +90,8 @@ fn senders_told<A: Memory>(
     places: u32,
 ) -> Result<Vec<u32, A>, NoResources>
     requires { length leasts.now ≡ places }
-    ensures { IfOk result (λ v. v.items ≡ map (λ least. unwrap_or least nobody) leasts.now) }
+    ensures are { IfOk result (λ v. v.items ≡ map (λ least. unwrap_or least nobody) leasts.now) }
+    ensures as_long { IfOk result (λ v. vec_len v ≡ places) }
 {
     let mut senders = Vec::with_capacity(alloc, places as usize)?;
     for slot in 0..places {
@@ -112,8 +113,9 @@ pub fn senders_raced<R: Threads + Sync, A: Memory, D: Destinations + Sync, G: Ga
 ) -> Result<Vec<u32, A>, Refused>
     requires few { length (D.destinations destinations.now) ≤ most_elements }
     requires few_places { places ≤ most_elements }
-    ensures { Gives (λ v. v.items) result (unless (first_fault 0 (wrongs places (D.destinations destinations.now)))
+    ensures senders { Gives (λ v. v.items) result (unless (first_fault 0 (wrongs places (D.destinations destinations.now)))
         (Ok (senders_of 0 (D.destinations destinations.now) places))) }
+    ensures as_long { IfOk result (λ v. vec_len v ≡ places) }
 {
     let slots = Slots {
         destinations,

@@ -1,10 +1,13 @@
 pub mod EachSent
+pub mod EndToEnd
 pub mod LastSent
 pub mod Listed
 pub mod MarkWords
 pub mod Outside
 pub mod Scattered
+pub mod Standing
 pub mod Taken
 pub mod TakenOr
+pub mod Told
 pub mod Written
 pub use Rattle.sent_places.proofs.Sent

@@ -9,7 +9,7 @@ use Rattle.std.proofs.lemmas.Slice.Zip.{length-zip}
 use Rattle.cvl_base.specs.Permutes.{is_destination, sent_to}
 use Rattle.cvl_base.proofs.Lists.{element}
 use Rattle.fresh.specs.Parts.{part}
-use Rattle.permute_walks.specs.Senders.{elements_or, nobody, sender_from, senders_of, written_over}
+use Rattle.permute_walks.specs.Senders.{nobody, sender_from, senders_of, written_over}
 
 -- ---- what was sent: the destinations are those of the elements that stand in the source from `place` on
 
@@ -71,20 +71,7 @@ pub length-over : {X : Type 0} (source : List X) (senders : List ℕ) (defaults 
 length-over source senders defaults long =
     omega (arith, length-map (zip senders defaults) (λ p. unwrap_or (slice_get source p.0) p.1), length-zip senders defaults, long)
 
-pub over_within : {X : Type 0} (source : List X) (senders : List ℕ) (defaults : List X) (n : ℕ) → n ≤ length (written_over source senders defaults) → (n ≤ length senders) × (n ≤ length defaults)
-over_within source senders defaults n within =
-    let one_each = length-map (zip senders defaults) (λ p. unwrap_or (slice_get source p.0) p.1) in
-    (omega (arith, one_each, length-zip senders defaults, within), omega (arith, one_each, length-zip senders defaults, within))
-
 -- ---- each sender is a place of the source
-
-pub taken_or : {X : Type 0} (source : List X) (other : X) (senders : List ℕ) → All (λ s. s < length source) senders → elements_or source other senders ≡ filter_map (slice_get source) senders
-taken_or source other [] below = refl
-taken_or source other (s ∷ senders) below =
-    let some = (element source s (All-head (λ s. s < length source) s senders below)).1 in
-    let rest = taken_or source other senders (All-tail (λ s. s < length source) s senders below) in
-    (λ i. unwrap_or (some i) other ∷ rest i)
-    ∙ ap (λ o. cons_option o (filter_map (slice_get source) senders)) (sym some)
 
 pub length-taken : {X : Type 0} (source : List X) (senders : List ℕ) → All (λ s. s < length source) senders → length (filter_map (slice_get source) senders) ≡ length senders
 length-taken source [] below = refl

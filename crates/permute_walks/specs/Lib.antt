@@ -1,3 +1,4 @@
+pub mod Before
 pub mod Indices
 pub mod Marks
 pub mod Senders

@@ -1,11 +1,12 @@
 //! The walks of a permute over one range. The first, which finds the sender of each place of the result, is that of
-//! `sent_places`, which is handed on. `elements` has the second, which writes the elements of the senders. `owners` has both in
-//! one, by threads each of which owns a range of the result, with `ranges` for one range and `marks` for the places that are
-//! written. `takes` has the walk of a back permute; over a room it has the two of `backs`, the first of which counts indices by
-//! `index_counts`. `scatters` has those of a simple permute straight into a room.
+//! `sent_places`, which is handed on. `elements` has the second, which writes the elements of the senders over what `before` says
+//! of the places. `owners` has both in one, by threads each of which owns a range of the result, with `ranges` for one range and
+//! `marks` for the places that are written. `takes` has the walk of a back permute; over a room it has the two of `backs`, the
+//! first of which counts indices by `index_counts`. `scatters` has those of a simple permute straight into a room.
 #![tactic(auto)]
 
 pub mod backs;
+pub mod before;
 pub mod elements;
 mod index_counts;
 pub mod marks;
@@ -15,7 +16,8 @@ mod scatters;
 pub mod takes;
 
 pub use backs::{ElementsAt, check_places_alone, write_elements_at};
-pub use elements::{ElementsOr, element_of, elements_of, elements_of_over};
+pub use before::Before;
+pub use elements::{Elements, element_of};
 pub use marks::{count_marks, words_for};
 pub use owners::permuted_shared;
 pub use ranges::write_range;

@@ -1,3 +1,1 @@
 pub mod Flat
-pub mod Told
-pub mod Walked

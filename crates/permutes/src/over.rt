@@ -4,19 +4,40 @@
 //! result. Only then the room is written. A back permute asks for no memory. A simple permute asks for a byte for each place of
 //! its result, and for the senders only to find its first fault; the others ask for the senders, 4 bytes a place.
 
-ghost use Rattle.std.specs.Prelude.{◌≤◌, length};
+ghost use Rattle.std.specs.Prelude.{◌≤◌, List, Result, length};
+ghost use Rattle.cvl_base.specs.declared.fault.Fault.{Fault};
 ghost use Rattle.cvl_base.specs.Limits.{most_places};
-ghost use Rattle.cvl_base.specs.Permutes.{back_of, default_of, select_of, simple_of};
+ghost use Rattle.cvl_base.specs.Permutes.{back_of, default_of, first_fault, select_of, simple_of, wrongs};
 ghost use Rattle.cvl_base.specs.Rooms.{Overwrites, OverwritesOr, in_room};
+ghost use Rattle.permute_walks.specs.Before.{IsPermuted, values_of};
+ghost use Rattle.permute_walks.specs.Senders.{senders_of};
 
 use crate::sent_alone::senders_alone;
-use crate::taken_over::{take_or_default_over, take_over};
+use crate::taken::take_over;
 use cvl_base::{Fault, Memory, Refused, check_agree, true_count};
 use fresh::write_over;
 use permute_walks::{
-    AllDestinations, ElementsAt, FlaggedDestinations, check_places_alone, is_permutation,
-    scatter_over,
+    AllDestinations, Before, Destinations, ElementsAt, FlaggedDestinations, check_places_alone,
+    is_permutation, scatter_over,
 };
+
+/// A permute in two walks, the first of which finds the senders.
+fn permuted_over<T: Copy, A: Memory, D: Destinations>(
+    alloc: A,
+    source: &[T],
+    destinations: &D,
+    before: Before<T>,
+    out: &mut [T],
+) -> Result<(), Refused>
+    requires few { length (D.destinations destinations.now) ≤ most_places }
+    ensures { (meaning : Result (List T) Fault) → IsPermuted source.now before.entry meaning
+        (first_fault 0 (wrongs (length (values_of before.entry)) (D.destinations destinations.now)))
+        (senders_of 0 (D.destinations destinations.now) (length (values_of before.entry)))
+        → OverwritesOr (in_room (length out.old) meaning) result out.old out.new }
+{
+    let found = senders_alone(alloc, before.values().len(), destinations);
+    take_over(source, found, before, out)
+}
 
 /// The same as [`simple`](crate::simple), over a room.
 pub fn simple_over<T: Copy, A: Memory>(
@@ -34,8 +55,8 @@ pub fn simple_over<T: Copy, A: Memory>(
         scatter_over(source, index, out);
         return Ok(());
     }
-    let found = senders_alone(alloc, index.len(), &AllDestinations { index });
-    take_over(source, found, out)
+    let destinations = AllDestinations { index };
+    permuted_over(alloc, source, &destinations, Before::Any(source), out)
 }
 
 /// The same as [`select`](crate::select), over a room.
@@ -51,9 +72,9 @@ pub fn select_over<T: Copy, A: Memory>(
 {
     check_agree(source.len(), index.len())?;
     check_agree(index.len(), flags.len())?;
-    let places = true_count(flags);
-    let found = senders_alone(alloc, places, &FlaggedDestinations { index, flags });
-    take_over(source, found, out)
+    let destinations = FlaggedDestinations { index, flags };
+    let (values, _) = source.split_at(true_count(flags));
+    permuted_over(alloc, source, &destinations, Before::Any(values), out)
 }
 
 /// The same as [`default_into`](crate::default_into), over a room.
@@ -68,8 +89,9 @@ pub fn default_into_over<T: Copy, A: Memory>(
     ensures { OverwritesOr (in_room (length out.old) (default_of source.now index.now defaults.now)) result out.old out.new }
 {
     check_agree(source.len(), index.len())?;
-    let found = senders_alone(alloc, defaults.len(), &AllDestinations { index });
-    take_or_default_over(source, found, defaults, out)
+    let destinations = AllDestinations { index };
+    let before = Before::Defaults(defaults);
+    permuted_over(alloc, source, &destinations, before, out)
 }
 
 /// The same as [`back`](crate::back), over a room.

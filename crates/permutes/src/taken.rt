@@ -1,63 +1,70 @@
-//! The second walk of a permute, by several threads where the result is long.
+//! The second walk of a permute, by several threads where the result is long, or over a room of the caller's by the thread that
+//! calls.
 
-ghost use Rattle.std.specs.Prelude.{◌≡◌, ◌<◌, ◌≤◌, IfOk, List, Ok, Option, filter_map, length, slice_get, vec_len, ℕ};
-ghost use Rattle.std.specs.List.{All};
+ghost use Rattle.std.specs.Prelude.{◌≡◌, IfOk, List, Ok, Option, Result, length, vec_len, ℕ};
 ghost use Rattle.cvl_base.specs.declared.fault.Fault.{Fault};
 ghost use Rattle.cvl_base.specs.Gives.{Gives, unless};
-ghost use Rattle.permute_walks.specs.Senders.{written_over};
-ghost use Rattle.permutes.specs.Walks.{IsTaken};
+ghost use Rattle.cvl_base.specs.Rooms.{OverwritesOr, in_room};
+ghost use Rattle.permute_walks.specs.Before.{IsPermuted, values_of};
 
-use cvl_base::{Config, Memory, Refused};
-use fresh::write_in_runs;
-use permute_walks::{ElementsOr, elements_of};
+use cvl_base::{Config, Memory, Refused, check_agree};
+use fresh::{write_in_runs, write_over};
+use permute_walks::{Before, Elements};
 use sharing::threads_writing;
 use std::thread::Threads;
 
-/// The element of each sender that was found, or why none were found.
-pub fn elements_found<T: Copy + Send + Sync, R: Threads + Sync, A: Memory>(
+/// For each sender that was found its element, or what stands before in its place where it is nobody, or why none were found.
+pub fn take<T: Copy + Send + Sync, R: Threads + Sync, A: Memory>(
     rt: &R,
     alloc: A,
     config: Config,
     source: &[T],
     found: Result<Vec<u32, A>, Refused>,
+    before: Before<T>,
 ) -> Result<Vec<T, A>, Refused>
-    ensures values { IsTaken (λ v. v.items) (λ v. v.items) found (λ senders. All (λ s. s < length source.now) senders)
-        (filter_map (slice_get source.now)) result }
-    ensures in_length { (fault : Option Fault) (senders : List ℕ) → Gives (λ v. v.items) found (unless fault (Ok senders))
-        → IfOk result (λ v. vec_len v ≤ length senders) }
+    requires as_long { IfOk found (λ v. vec_len v ≡ length (values_of before)) }
+    ensures values { (first : Option Fault) (senders : List ℕ) (meaning : Result (List T) Fault)
+        → Gives (λ v. v.items) found (unless first (Ok senders)) → IsPermuted source.now before.entry meaning first senders
+        → Gives (λ v. v.items) result meaning }
+    ensures as_long { IfOk result (λ v. vec_len v ≡ length (values_of before.entry)) }
 {
     match found {
         Ok(senders) => {
-            let threads = threads_writing(config, senders.len());
-            Ok(elements_of(rt, alloc, threads, source, &senders)?)
+            let places = senders.len();
+            let threads = threads_writing(config, places);
+            let elements = Elements {
+                source,
+                senders: &senders,
+                before,
+            };
+            Ok(write_in_runs(rt, alloc, threads, &elements, places)?)
         }
         Err(refused) => Err(refused),
     }
 }
 
-/// For each sender that was found its element, or the default at the same place where it is nobody, or why none were found.
-pub fn elements_or_defaults_found<T: Copy + Send + Sync, R: Threads + Sync, A: Memory>(
-    rt: &R,
-    alloc: A,
-    config: Config,
+/// The same over a room. `LengthMismatch`, without a place, where the room isn't as long as the senders.
+pub fn take_over<T: Copy, A: Memory>(
     source: &[T],
     found: Result<Vec<u32, A>, Refused>,
-    defaults: &[T],
-) -> Result<Vec<T, A>, Refused>
-    requires as_long { IfOk found (λ v. vec_len v ≡ length defaults.now) }
-    ensures values { IsTaken (λ v. v.items) (λ v. v.items) found (λ senders. length senders ≡ length defaults.now)
-        (λ senders. written_over source.now senders defaults.now) result }
-    ensures as_long { IfOk result (λ v. vec_len v ≡ length defaults.now) }
+    before: Before<T>,
+    out: &mut [T],
+) -> Result<(), Refused>
+    requires as_long { IfOk found (λ v. vec_len v ≡ length (values_of before)) }
+    ensures { (first : Option Fault) (senders : List ℕ) (meaning : Result (List T) Fault)
+        → Gives (λ v. v.items) found (unless first (Ok senders)) → IsPermuted source.now before.entry meaning first senders
+        → OverwritesOr (in_room (length out.old) meaning) result out.old out.new }
 {
     match found {
         Ok(senders) => {
-            let threads = threads_writing(config, defaults.len());
-            let elements = ElementsOr {
+            check_agree(senders.len(), out.len())?;
+            let elements = Elements {
                 source,
                 senders: &senders,
-                defaults,
+                before,
             };
-            Ok(write_in_runs(rt, alloc, threads, &elements, defaults.len())?)
+            write_over(out, &elements);
+            Ok(())
         }
         Err(refused) => Err(refused),
     }

@@ -10,7 +10,7 @@ use Rattle.permute_walks.specs.Senders.{nobody, senders_of}
 use Rattle.cvl_base.proofs.Lists.{sum-cons}
 use Rattle.permute_walks.proofs.EachSent.{takes_part, each_sent, all_take_part, flagged_take_part}
 use Rattle.permute_walks.proofs.Sent.{length-senders_of}
-use Rattle.permutes.specs.Walks.{AreAllSent}
+use Rattle.permute_walks.proofs.Told.{AreAllSent}
 use Rattle.segment_sends.proofs.Through.{destinations-flagged_parts, destinations-parts, flagged_part_at, length-flagged_parts, length-parts, length-segment, part_at, places-parts}
 use Rattle.segment_sends.specs.Parts.{destinations_in, fault_from, flagged_parts, parts_of, places_in, senders_from}
 

@@ -25,7 +25,7 @@ use Rattle.permute_walks.proofs.TakenOr.{nothing_at}
 use Rattle.segmented_permutes.specs.Backs.{outside_from, values_at}
 use Rattle.cvl_base.proofs.Lists.{sum-cons}
 use Rattle.cvl_base.proofs.Nests.{length-cut, nest-fits}
-use Rattle.segmented_permutes.proofs.Joined.{left_more}
+use Rattle.permute_walks.proofs.EndToEnd.{left_more}
 use Rattle.segmented_permutes.proofs.Whole.{beside-fits}
 
 -- ---- the values of some places and then of others

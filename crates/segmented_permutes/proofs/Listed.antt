@@ -23,7 +23,7 @@ use Rattle.cvl_base.specs.SegmentedCalls.{seg_back_of}
 use Rattle.cvl_base.proofs.Lists.{sum-cons}
 use Rattle.permute_walks.specs.Indices.{each_or}
 use Rattle.permute_walks.proofs.TakenOr.{each_taken, values_told}
-use Rattle.permutes.proofs.Told.{IsTold}
+use Rattle.permute_walks.proofs.Told.{IsTold}
 use Rattle.segmented_permutes.specs.Backs.{IsSegmentedBack, lists_at, outside_from, values_at}
 use Rattle.segmented_permutes.proofs.Backed.{outside_valued, seg_back_values}
 use Rattle.segment_sends.proofs.Ranges.{range_is}

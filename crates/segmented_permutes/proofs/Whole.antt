@@ -1,5 +1,5 @@
 -- The segmented definitions, told by the parts of all segments.
-use Rattle.std.proofs.Common.{◌≡◌, ◌≢◌, ◌∙◌, ℕ, ◌+◌, ◌≤◌, Bool, List, [], ◌∷◌, length, filter_map, sum, take, drop, refl, sym, ap, length-drop, arith, ℤ, slice_get, Result, Ok, Err}
+use Rattle.std.proofs.Common.{◌≡◌, ◌≢◌, ◌∙◌, ℕ, ◌+◌, ◌≤◌, Bool, Bor, List, [], ◌∷◌, length, filter_map, sum, take, drop, refl, sym, ap, length-drop, arith, ℤ, slice_get, Result, Ok, Err}
 use Rattle.std.specs.List.{zip}
 use Rattle.std.proofs.lemmas.List.{drop-drop, length-take-le, take-append-drop}
 use Rattle.std.proofs.lemmas.Slice.Zip.{length-zip}
@@ -17,14 +17,17 @@ use Rattle.cvl_base.specs.Segmented.{beside, end_to_end, in_vector, of_two, of_t
 use Rattle.cvl_base.specs.SegmentedCalls.{seg_back_of, seg_default_of, seg_select_of, seg_simple_of}
 use Rattle.fresh.specs.Parts.{part, length_part}
 use Rattle.segment_sends.specs.Parts.{fault_from, flagged_parts, parts_of, senders_from}
+use Rattle.permute_walks.specs.Before.{IsPermuted}
+use Rattle.permute_walks.specs.declared.before.Before.TheVariants as before
 use Rattle.permute_walks.specs.Senders.{nobody, written_over}
 use Rattle.cvl_base.proofs.Nests.{length-cut, nest-fits}
 use Rattle.cvl_base.proofs.Lists.{sum-cons}
 use Rattle.cvl_base.proofs.Elementwise.{if_as_long-fits, if_as_long-misfits}
-use Rattle.permutes.proofs.Told.{IsSent, IsSentOver}
+use Rattle.permute_walks.proofs.Told.{IsSent}
 use Rattle.segment_sends.proofs.AllSent.{flagged_segments_sent, length-senders, length-senders_from, segments_sent}
 use Rattle.segment_sends.proofs.Through.{places-flagged_parts}
-use Rattle.segmented_permutes.proofs.Joined.{front_taken, front_over, left_more}
+use Rattle.permute_walks.proofs.EndToEnd.{left_more}
+use Rattle.segmented_permutes.proofs.Joined.{front_taken, front_over}
 use Rattle.cvl_base.proofs.Permutes.{length-all_destinations, length-flagged_destinations}
 
 -- ---- the calls on the segments from s on, whose elements are xs and begin in the source at `place`
@@ -155,10 +158,16 @@ module _ {X : Type 0} (source : List X) (index : List ℤ) (lengths : List ℕ) 
       as_many = length-senders_from 0 (flagged_parts lengths index flags) ∙ places-flagged_parts lengths index flags flag_total;
     }
 
-    pub seg_default_sent : (defaults : List X) (widths : List ℕ) → sum widths ≡ length defaults → length lengths ≡ length widths
-        → IsSentOver source defaults (seg_default_of source index defaults lengths widths) (fault_from 0 (parts_of lengths widths index)) (senders_from 0 (parts_of lengths widths index))
-    seg_default_sent defaults widths default_total count = record {
-      is = ap (end_to_end (in_vector lengths) (of_three default_of)) (beside-fits (beside (nest lengths source) (nest lengths index)) segments widths defaults nested default_total (many ∙ count))
-          ∙ default_walked lengths source small 0 0 lengths widths source index defaults refl refl refl (omega (arith, total)) index_total default_total count;
-      as_many = length-senders lengths widths index count ∙ default_total;
-    }
+    pub seg_default_sent : (defaults : Bor (List X)) (widths : List ℕ) → sum widths ≡ length defaults.now → length lengths ≡ length widths
+        → IsPermuted source (before.Defaults defaults) (seg_default_of source index defaults.now lengths widths) (fault_from 0 (parts_of lengths widths index))
+        (senders_from 0 (parts_of lengths widths index))
+    seg_default_sent defaults widths default_total count =
+        let parts = parts_of lengths widths index in
+        record {
+          is = λ stands same.
+              ap (end_to_end (in_vector lengths) (of_three default_of))
+              (beside-fits (beside (nest lengths source) (nest lengths index)) segments widths defaults.now nested default_total (many ∙ count))
+              ∙ default_walked lengths source small 0 0 lengths widths source index defaults.now refl refl refl (omega (arith, total)) index_total default_total count
+              ∙ ap (λ xs. unless (fault_from 0 parts) (Ok (written_over source (senders_from 0 parts) xs))) (sym same);
+          as_many = length-senders lengths widths index count ∙ default_total;
+        }

@@ -3,8 +3,9 @@
 //!
 //! A simple, select or default permute is one walk of `segment_sends`: each thread, or the only one, takes whole segments, and a
 //! buffer holds the senders of one segment at a time. Where a place is bad, or one segment is longer than a thread's share, the
-//! senders of the whole result are found first. `sent` says which of these a call does. A back permute is one walk, too: each
-//! thread has as many indices, looks at each and takes its element at once, and a fault drops what was written.
+//! senders of the whole result are found first. `segment_way` of `permutes` says which of these a call does. A back permute is
+//! one walk, too: each thread has as many indices, looks at each and takes its element at once, and a fault drops what was
+//! written.
 //!
 //! Each call has a gated form with the same contract for every gate. Workers race for the first walk where short tiles are asked
 //! for: the race is that of a flat permute, whose indices are counted from the start of the whole result first.
@@ -16,15 +17,14 @@
 
 mod back_segments;
 mod backs;
-mod defaults;
 mod flat_indices;
 mod over;
-mod selects;
+mod sends;
 mod sent;
-mod simples;
 
 pub use backs::{seg_back, seg_back_gated};
-pub use defaults::{seg_default_into, seg_default_into_gated};
 pub use over::{seg_back_over, seg_default_into_over, seg_select_over, seg_simple_over};
-pub use selects::{seg_select, seg_select_gated};
-pub use simples::{seg_simple, seg_simple_gated};
+pub use sends::{
+    seg_default_into, seg_default_into_gated, seg_select, seg_select_gated, seg_simple,
+    seg_simple_gated,
+};

@@ -4,20 +4,42 @@
 //! result. Only then the room is written. A back permute asks for no memory. A simple permute asks for a byte for each place of
 //! its longest segment, and for the senders only to find its first fault; the others ask for the senders, 4 bytes a place.
 
-ghost use Rattle.std.specs.Prelude.{◌≤◌, length};
+ghost use Rattle.std.specs.Prelude.{◌≡◌, ◌≤◌, List, Result, length};
+ghost use Rattle.cvl_base.specs.declared.fault.Fault.{Fault};
 ghost use Rattle.cvl_base.specs.Limits.{most_places};
 ghost use Rattle.cvl_base.specs.Rooms.{Overwrites, OverwritesOr, in_room};
 ghost use Rattle.cvl_base.specs.SegmentedCalls.{seg_back_of, seg_default_of, seg_select_of, seg_simple_of};
+ghost use Rattle.permute_walks.specs.Before.{IsPermuted, values_of};
+ghost use Rattle.segment_sends.specs.Parts.{destinations_in, fault_from, places_in, senders_from};
 
 use crate::back_segments::{SegmentsTaken, check_segments};
 use cvl_base::{Fault, Memory, Refused, check_agree, true_count};
-use permute_walks::write_taken_over;
-use permutes::{take_or_default_over, take_over};
+use permute_walks::{Before, write_taken_over};
+use permutes::take_over;
 use segdes::{SegDes, check_total};
 use segment_sends::{
-    AllParts, FlaggedParts, are_permutations, scatter_segments_over, segment_senders_alone,
+    AllParts, FlaggedParts, Parts, are_permutations, scatter_segments_over, segment_senders_alone,
 };
 use std::alloc::Allocator;
+
+/// A permute in two walks, the first of which finds the senders.
+fn permuted_over<T: Copy, A: Memory, P: Parts>(
+    alloc: A,
+    source: &[T],
+    parts: &P,
+    before: Before<T>,
+    out: &mut [T],
+) -> Result<(), Refused>
+    requires cut { P.AreCut parts.now }
+    requires few { destinations_in (P.parts parts.now) ≤ most_places }
+    requires whole { places_in (P.parts parts.now) ≡ length (values_of before) }
+    ensures { (meaning : Result (List T) Fault)
+        → IsPermuted source.now before.entry meaning (fault_from 0 (P.parts parts.now)) (senders_from 0 (P.parts parts.now))
+        → OverwritesOr (in_room (length out.old) meaning) result out.old out.new }
+{
+    let found = segment_senders_alone(alloc, before.values().len(), parts);
+    take_over(source, found, before, out)
+}
 
 /// The same as [`seg_simple`](crate::seg_simple), over a room.
 pub fn seg_simple_over<T: Copy, A: Memory>(
@@ -42,8 +64,7 @@ pub fn seg_simple_over<T: Copy, A: Memory>(
         d,
         result_d: d,
     };
-    let found = segment_senders_alone(alloc, index.len(), &parts);
-    take_over(source, found, out)
+    permuted_over(alloc, source, &parts, Before::Any(source), out)
 }
 
 /// The same as [`seg_select`](crate::seg_select), over a room.
@@ -62,10 +83,9 @@ pub fn seg_select_over<T: Copy, A: Memory>(
     check_total(source, d)?;
     check_total(index, d)?;
     check_total(flags, d)?;
-    let places = true_count(flags);
     let parts = FlaggedParts { index, flags, d };
-    let found = segment_senders_alone(alloc, places, &parts);
-    take_over(source, found, out)
+    let (values, _) = source.split_at(true_count(flags));
+    permuted_over(alloc, source, &parts, Before::Any(values), out)
 }
 
 /// The same as [`seg_default_into`](crate::seg_default_into), over a room.
@@ -92,8 +112,7 @@ pub fn seg_default_into_over<T: Copy, A: Memory>(
         d: source_d,
         result_d: default_d,
     };
-    let found = segment_senders_alone(alloc, defaults.len(), &parts);
-    take_or_default_over(source, found, defaults, out)
+    permuted_over(alloc, source, &parts, Before::Defaults(defaults), out)
 }
 
 /// The same as [`seg_back`](crate::seg_back), over a room.

@@ -9,7 +9,7 @@ use Rattle.cvl_base.specs.Extracts.{element_at}
 use Rattle.cvl_base.specs.Gives.{Gives}
 use Rattle.permute_walks.proofs.TakenOr.{nothing_at}
 use Rattle.permutes.proofs.Flat.{back_told}
-use Rattle.permutes.proofs.Told.{told_refused}
+use Rattle.permute_walks.proofs.Told.{told_refused}
 use Rattle.permutes.proofs.backs.back_gated.Goals as goal
 
 no_first : {X : Type 0} (xs : List X) (first : Option X) → first ≡ slice_get xs 0 → first ≡ None → xs ≡ []

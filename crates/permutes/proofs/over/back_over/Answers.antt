@@ -3,7 +3,7 @@ use Rattle.cvl_base.specs.Rooms.{in_room}
 use Rattle.cvl_base.proofs.Rooms.{told}
 use Rattle.permute_walks.proofs.Outside.{all_inside, length-elements_at}
 use Rattle.permutes.proofs.Flat.{back_told}
-use Rattle.permutes.proofs.Told.{fits_in_room, mismatch, told_err}
+use Rattle.permute_walks.proofs.Told.{fits_in_room, mismatch, told_err}
 use Rattle.permutes.proofs.over.back_over.Goals as goal
 
 pub returns-in_err-check_places_alone : goal.returns-in_err-check_places_alone

@@ -4,7 +4,7 @@ use Rattle.std.proofs.lemmas.Result.{err_from_is_err_and}
 use Rattle.cvl_base.specs.declared.fault.FaultNo.TheVariants.{IndexOutOfRange}
 use Rattle.cvl_base.specs.Elementwise.{values_from}
 use Rattle.cvl_base.specs.Gives.{Gives}
-use Rattle.permutes.proofs.Told.{told_refused}
+use Rattle.permute_walks.proofs.Told.{told_refused}
 use Rattle.segmented_permutes.specs.Backs.{values_at}
 use Rattle.segmented_permutes.proofs.Backed.{nothing_there, seg_back_values}
 use Rattle.segmented_permutes.proofs.Listed.{fitting, length-values, no_first, seg_back_told}

@@ -5,7 +5,7 @@ use Rattle.std.proofs.lemmas.List.{length-map}
 use Rattle.fresh.specs.Places.{somes}
 use Rattle.cvl_base.specs.Rooms.{in_room}
 use Rattle.cvl_base.proofs.Rooms.{told}
-use Rattle.permutes.proofs.Told.{fits_in_room, mismatch, told_err}
+use Rattle.permute_walks.proofs.Told.{fits_in_room, mismatch, told_err}
 use Rattle.permute_walks.proofs.TakenOr.{none_left}
 use Rattle.segmented_permutes.specs.Backs.{values_at}
 use Rattle.segmented_permutes.proofs.Backed.{nothing_there}

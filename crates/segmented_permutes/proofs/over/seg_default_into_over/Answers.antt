@@ -1,18 +1,18 @@
-use Rattle.std.proofs.Common.{ℕ, Vec, ◌≡◌, ◌∙◌, ap, arith, length, refl, subst, sym, vec_len, Err}
+use Rattle.std.proofs.Common.{◌≡◌, ◌∙◌, ap, arith, length, refl, sym, Err}
 use Rattle.cvl_base.specs.declared.refused.Refused.TheVariants as refused
-use Rattle.cvl_base.specs.Rooms.{OverwritesOr, in_room}
-use Rattle.permutes.proofs.Told.{senders_long, told_or}
+use Rattle.cvl_base.specs.Rooms.{in_room}
+use Rattle.permute_walks.proofs.Told.{told_or}
 use Rattle.segment_sends.proofs.Through.{destinations-parts, places-parts}
 use Rattle.segmented_permutes.proofs.Whole.{seg_default-differ, seg_default_sent}
 use Rattle.segmented_permutes.proofs.over.seg_default_into_over.Goals as goal
 
-pub segment_senders_alone-found-requires-clause-few : goal.segment_senders_alone-found-requires-clause-few
-segment_senders_alone-found-requires-clause-few g c κs within =
+pub permuted_over-requires-clause-few : goal.permuted_over-requires-clause-few
+permuted_over-requires-clause-few g c κs within =
     let count : length c.args.source_d.now ≡ length c.args.default_d.now = omega (arith, c.in_ok-check_agree.ensures) in
     omega (arith, destinations-parts c.args.source_d.now c.args.default_d.now c.args.index.now c.in_ok-check_total-2.ensures.agrees count, c.requires.in_limit)
 
-pub segment_senders_alone-found-requires-clause-whole : goal.segment_senders_alone-found-requires-clause-whole
-segment_senders_alone-found-requires-clause-whole g c κs within =
+pub permuted_over-requires-clause-whole : goal.permuted_over-requires-clause-whole
+permuted_over-requires-clause-whole g c κs within =
     places-parts c.args.source_d.now c.args.default_d.now c.args.index.now (omega (arith, c.in_ok-check_agree.ensures)) ∙ c.in_ok-check_total-3.ensures.agrees
 
 pub returns-in_err-check_agree : goal.returns-in_err-check_agree
@@ -26,15 +26,8 @@ returns-in_err-check_agree g c =
       refl,
     )
 
-pub take_or_default_over-requires-clause-as_long : goal.take_or_default_over-requires-clause-as_long
-take_or_default_over-requires-clause-as_long g c κs within =
-    let call = seg_default_sent c.args.source.now c.args.index.now c.args.source_d.now c.in_ok-check_total.ensures.agrees c.in_ok-check_total-2.ensures.agrees c.requires.in_limit c.args.defaults.now
-    c.args.default_d.now c.in_ok-check_total-3.ensures.agrees (omega (arith, c.in_ok-check_agree.ensures)) in
-    senders_long call (λ (v : Vec ℕ g.row.A.Denot). v.items) (λ v. vec_len v) (λ v. omega (arith, v.ok.0)) c.segment_senders_alone-found.result c.segment_senders_alone-found.ensures
-
 pub returns : goal.returns
 returns g c =
-    let call = seg_default_sent c.args.source.now c.args.index.now c.args.source_d.now c.in_ok-check_total.ensures.agrees c.in_ok-check_total-2.ensures.agrees c.requires.in_limit c.args.defaults.now
-    c.args.default_d.now c.in_ok-check_total-3.ensures.agrees (omega (arith, c.in_ok-check_agree.ensures)) in
-    subst (λ m. OverwritesOr (in_room (length c.args.out.now) m) c.take_or_default_over.result c.args.out.now c.take_or_default_over.new.out) (sym call.is)
-    (c.take_or_default_over.ensures _ _ c.segment_senders_alone-found.ensures (λ none. call.as_many))
+    c.permuted_over.ensures _
+    (seg_default_sent c.args.source.now c.args.index.now c.args.source_d.now c.in_ok-check_total.ensures.agrees c.in_ok-check_total-2.ensures.agrees c.requires.in_limit c.args.defaults
+    c.args.default_d.now c.in_ok-check_total-3.ensures.agrees (omega (arith, c.in_ok-check_agree.ensures)))

@@ -1,16 +1,15 @@
-use Rattle.std.proofs.Common.{◌∙◌, ap, arith, length, refl, subst, sym, Ok}
-use Rattle.cvl_base.specs.Rooms.{OverwritesOr, in_room}
-use Rattle.permutes.proofs.Told.{fits_in_room, mismatch_or, sent_told}
+use Rattle.std.proofs.Common.{◌∙◌, ap, arith, length, refl, sym, Ok}
+use Rattle.permute_walks.proofs.Told.{fits_in_room, mismatch_or, sent_permuted, sent_told}
 use Rattle.segment_sends.proofs.Through.{destinations-parts, places-parts}
 use Rattle.segmented_permutes.proofs.Whole.{seg_simple_sent}
 use Rattle.segmented_permutes.proofs.over.seg_simple_over.Goals as goal
 
-pub segment_senders_alone-found-requires-clause-few : goal.segment_senders_alone-found-requires-clause-few
-segment_senders_alone-found-requires-clause-few g c κs within =
+pub permuted_over-requires-clause-few : goal.permuted_over-requires-clause-few
+permuted_over-requires-clause-few g c κs within =
     omega (arith, destinations-parts c.args.d.now c.args.d.now c.args.index.now c.in_ok-check_total-2.ensures.agrees refl, c.requires.in_limit)
 
-pub segment_senders_alone-found-requires-clause-whole : goal.segment_senders_alone-found-requires-clause-whole
-segment_senders_alone-found-requires-clause-whole g c κs within = places-parts c.args.d.now c.args.d.now c.args.index.now refl ∙ c.in_ok-check_total-2.ensures.agrees
+pub permuted_over-requires-clause-whole : goal.permuted_over-requires-clause-whole
+permuted_over-requires-clause-whole g c κs within = places-parts c.args.d.now c.args.d.now c.args.index.now refl ∙ c.in_ok-check_total.ensures.agrees
 
 pub returns-in_err-check_agree : goal.returns-in_err-check_agree
 returns-in_err-check_agree g c =
@@ -25,6 +24,5 @@ returns-then-branch g c =
 
 pub returns : goal.returns
 returns g c =
-    let call = seg_simple_sent c.args.source.now c.args.index.now c.args.d.now c.in_ok-check_total.ensures.agrees c.in_ok-check_total-2.ensures.agrees c.requires.in_limit in
-    subst (λ m. OverwritesOr (in_room (length c.args.out.now) m) c.take_over.result c.args.out.now c.take_over.new.out) (sym call.is)
-    (c.take_over.ensures _ _ c.segment_senders_alone-found.ensures call.sent)
+    let total = c.in_ok-check_total.ensures.agrees in let index_total = c.in_ok-check_total-2.ensures.agrees in
+    c.permuted_over.ensures _ (sent_permuted (seg_simple_sent c.args.source.now c.args.index.now c.args.d.now total index_total c.requires.in_limit) _ (sym total ∙ index_total))

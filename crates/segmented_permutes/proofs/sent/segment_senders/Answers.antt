@@ -1,5 +1,6 @@
-use Rattle.std.proofs.Common.{◌∙◌, ap, subst, sym, arith}
+use Rattle.std.proofs.Common.{◌≤◌, ◌∙◌, ap, subst, sym, arith, IfSome}
 use Rattle.cvl_base.specs.Gives.{Gives}
+use Rattle.cvl_base.specs.Limits.{most_elements}
 use Rattle.cvl_base.specs.Permutes.{all_destinations}
 use Rattle.segment_sends.specs.Parts.{parts_of}
 use Rattle.segment_sends.proofs.Through.{destinations-parts, places-parts}
@@ -11,19 +12,27 @@ flat_indices-requires-clause-as_long g c κs within = destinations-parts c.args.
 
 pub flat_indices-requires-clause-in_limit : goal.flat_indices-requires-clause-in_limit
 flat_indices-requires-clause-in_limit g c κs within =
-    omega (arith, places-parts c.args.d.now c.args.result_d.now c.args.index.now c.requires.count, c.total-places.ensures.value, c.total-places.ensures.in_limit)
+    omega (
+      arith,
+      places-parts c.args.d.now c.args.result_d.now c.args.index.now c.requires.count,
+      c.requires.whole,
+      subst (λ o. IfSome o (λ _. c.args.places ≤ most_elements)) (sym c.pace.ensures ∙ c.in-Some.is) c.requires.few_places,
+    )
+
+pub senders_raced-requires-clause-few_places : goal.senders_raced-requires-clause-few_places
+senders_raced-requires-clause-few_places g c κs within = subst (λ o. IfSome o (λ _. c.args.places ≤ most_elements)) (sym c.pace.ensures ∙ c.in-Some.is) c.requires.few_places
 
 pub segment_senders_alone-requires-clause-few : goal.segment_senders_alone-requires-clause-few
 segment_senders_alone-requires-clause-few g c κs within =
     omega (arith, destinations-parts c.args.d.now c.args.result_d.now c.args.index.now c.requires.total c.requires.count, c.requires.in_limit)
 
 pub segment_senders_alone-requires-clause-whole : goal.segment_senders_alone-requires-clause-whole
-segment_senders_alone-requires-clause-whole g c κs within = places-parts c.args.d.now c.args.result_d.now c.args.index.now c.requires.count ∙ sym c.total-places.ensures.value
+segment_senders_alone-requires-clause-whole g c κs within = places-parts c.args.d.now c.args.result_d.now c.args.index.now c.requires.count ∙ c.requires.whole
 
-pub returns-in_ok-flat-in-Some : goal.returns-in_ok-flat-in-Some
-returns-in_ok-flat-in-Some g c =
+pub returns-in_ok-flat-in-Some-clause-senders : goal.returns-in_ok-flat-in-Some-clause-senders
+returns-in_ok-flat-in-Some-clause-senders g c =
     let parts = parts_of c.args.d.now c.args.result_d.now c.args.index.now in
     subst (Gives (λ v. v.items) c.senders_raced.result)
-    (raced_flat parts c.total-places.result (all_destinations c.deref.result.now) (places-parts c.args.d.now c.args.result_d.now c.args.index.now c.requires.count ∙ sym c.total-places.ensures.value)
+    (raced_flat parts c.args.places (all_destinations c.deref.result.now) (places-parts c.args.d.now c.args.result_d.now c.args.index.now c.requires.count ∙ c.requires.whole)
     (ap all_destinations (c.deref.ensures.value ∙ c.in_ok-flat-in-Some.ensures.are) ∙ sym (destinations_all 0 c.args.d.now c.args.result_d.now c.args.index.now (omega (arith, c.requires.total)))))
-    c.senders_raced.ensures
+    c.senders_raced.ensures.senders

@@ -1,0 +1,135 @@
+//! The permutes that send each element to a place of the result: the simple, the select and the default permute. They differ in
+//! which elements are sent, and in what stands before in the places of the result.
+
+ghost use Rattle.std.specs.Prelude.{◌≡◌, ◌≤◌, IfOk, length, vec_len};
+ghost use Rattle.cvl_base.specs.Gives.{Gives};
+ghost use Rattle.cvl_base.specs.Limits.{most_elements};
+ghost use Rattle.cvl_base.specs.Permutes.{default_of, select_of, simple_of};
+
+use crate::sent::permuted;
+use crew::{Gate, OpenGate};
+use cvl_base::{Config, Memory, Refused, check_agree, true_count};
+use permute_walks::{AllDestinations, Before, FlaggedDestinations};
+use std::thread::Threads;
+
+/// Each element goes to its index, `d[i[k]] = s[k]`: `smp_puz` and `smp_pub`.
+///
+/// Source and index are equally long, else `LengthMismatch`, without a place; the result is as long as they are. An index
+/// that is no place of the result is `IndexOutOfRange` at its place, and one that an earlier place has too is
+/// `IndexRepeated` at the later place. The fault of the first bad place counts. Source: CVL's permute.
+pub fn simple<T: Copy + Send + Sync, R: Threads + Sync, A: Memory>(
+    rt: &R,
+    alloc: A,
+    config: Config,
+    source: &[T],
+    index: &[i32],
+) -> Result<Vec<T, A>, Refused>
+    requires in_limit { length index.now ≤ most_elements }
+    ensures values { Gives (λ v. v.items) result (simple_of source.now index.now) }
+    ensures as_long { IfOk result (λ v. vec_len v ≡ length index.now) }
+{
+    simple_gated(rt, alloc, config, source, index, &OpenGate)
+}
+
+/// `simple` with a gate for workers who race, for the senders and then for the least bad place. Each passes it at `Claimed`
+/// and `Finished` of each of its tiles.
+pub fn simple_gated<T: Copy + Send + Sync, R: Threads + Sync, A: Memory, G: Gate>(
+    rt: &R,
+    alloc: A,
+    config: Config,
+    source: &[T],
+    index: &[i32],
+    gate: &G,
+) -> Result<Vec<T, A>, Refused>
+    requires in_limit { length index.now ≤ most_elements }
+    ensures values { Gives (λ v. v.items) result (simple_of source.now index.now) }
+    ensures as_long { IfOk result (λ v. vec_len v ≡ length index.now) }
+{
+    check_agree(source.len(), index.len())?;
+    let destinations = AllDestinations { index };
+    let before = Before::Any(source);
+    permuted(rt, alloc, config, source, &destinations, before, gate)
+}
+
+/// Each element whose flag is true goes to its index: `sel_puz` and `sel_pub`.
+///
+/// Source, index and flags are equally long, else `LengthMismatch`, without a place; the result is as long as there are
+/// true flags. The faults are those of `simple`, of the places whose flag is true; no other index is looked at. Source:
+/// this library's profile of CVL's select permute.
+pub fn select<T: Copy + Send + Sync, R: Threads + Sync, A: Memory>(
+    rt: &R,
+    alloc: A,
+    config: Config,
+    source: &[T],
+    index: &[i32],
+    flags: &[bool],
+) -> Result<Vec<T, A>, Refused>
+    requires in_limit { length index.now ≤ most_elements }
+    ensures values { Gives (λ v. v.items) result (select_of source.now index.now flags.now) }
+    ensures in_length { IfOk result (λ v. vec_len v ≤ length index.now) }
+{
+    select_gated(rt, alloc, config, source, index, flags, &OpenGate)
+}
+
+/// `select` with a gate for workers who race, for the senders and then for the least bad place. Each passes it at `Claimed`
+/// and `Finished` of each of its tiles.
+pub fn select_gated<T: Copy + Send + Sync, R: Threads + Sync, A: Memory, G: Gate>(
+    rt: &R,
+    alloc: A,
+    config: Config,
+    source: &[T],
+    index: &[i32],
+    flags: &[bool],
+    gate: &G,
+) -> Result<Vec<T, A>, Refused>
+    requires in_limit { length index.now ≤ most_elements }
+    ensures values { Gives (λ v. v.items) result (select_of source.now index.now flags.now) }
+    ensures in_length { IfOk result (λ v. vec_len v ≤ length index.now) }
+{
+    check_agree(source.len(), index.len())?;
+    check_agree(index.len(), flags.len())?;
+    let destinations = FlaggedDestinations { index, flags };
+    let (values, _) = source.split_at(true_count(flags));
+    let before = Before::Any(values);
+    permuted(rt, alloc, config, source, &destinations, before, gate)
+}
+
+/// Each element goes to its index, and a place to which none goes keeps its default: `def_puz` and `def_pub`.
+///
+/// Source and index are equally long, else `LengthMismatch`, without a place; the result is as long as the defaults. The
+/// faults are those of `simple`. Source: this library's profile of CVL's default permute.
+pub fn default_into<T: Copy + Send + Sync, R: Threads + Sync, A: Memory>(
+    rt: &R,
+    alloc: A,
+    config: Config,
+    source: &[T],
+    index: &[i32],
+    defaults: &[T],
+) -> Result<Vec<T, A>, Refused>
+    requires in_limit { length index.now ≤ most_elements }
+    ensures values { Gives (λ v. v.items) result (default_of source.now index.now defaults.now) }
+    ensures as_long { IfOk result (λ v. vec_len v ≡ length defaults.now) }
+{
+    default_into_gated(rt, alloc, config, source, index, defaults, &OpenGate)
+}
+
+/// `default_into` with a gate for workers who race, for the senders and then for the least bad place. Each passes it at
+/// `Claimed` and `Finished` of each of its tiles.
+pub fn default_into_gated<T: Copy + Send + Sync, R: Threads + Sync, A: Memory, G: Gate>(
+    rt: &R,
+    alloc: A,
+    config: Config,
+    source: &[T],
+    index: &[i32],
+    defaults: &[T],
+    gate: &G,
+) -> Result<Vec<T, A>, Refused>
+    requires in_limit { length index.now ≤ most_elements }
+    ensures values { Gives (λ v. v.items) result (default_of source.now index.now defaults.now) }
+    ensures as_long { IfOk result (λ v. vec_len v ≡ length defaults.now) }
+{
+    check_agree(source.len(), index.len())?;
+    let destinations = AllDestinations { index };
+    let before = Before::Defaults(defaults);
+    permuted(rt, alloc, config, source, &destinations, before, gate)
+}

@@ -1,0 +1,67 @@
+//! In which way a permute is made, which hangs on the configuration and on lengths alone.
+
+ghost use Rattle.std.specs.Prelude.{◌≡◌};
+ghost use Rattle.permutes.specs.Ways.{RacesWithin, WalksWithin, flat_way, pace_of, segment_way};
+
+use cvl_base::Config;
+use cvl_base::limits::MOST_ELEMENTS;
+use permute_races::permute_pace;
+use sharing::{LEAST_SEARCHED, LEAST_SHARED, Pace, ThreadCount, race_pace, threads_writing};
+
+/// A way in which a permute is made. No result depends on it.
+#[derive(Clone, Copy)]
+pub enum Way {
+    /// Workers race for the senders, at this pace, and the elements are taken in a second walk.
+    Race(Pace),
+    /// So many threads write the elements in one walk, which finds out whether a place is bad. Only if one is, there is a search
+    /// for the first one: workers race at the pace, or the thread that calls walks.
+    OneWalk(ThreadCount, Option<Pace>),
+    /// The thread that calls finds the senders, and the elements are taken in a second walk.
+    Alone,
+}
+
+impl Way {
+    /// The tiles and the workers of the race for the senders, where these are looked for, or none where one thread walks.
+    pub fn pace(self) -> Option<Pace>
+        ensures { result ≡ pace_of self }
+    {
+        match self {
+            Way::Race(pace) => Some(pace),
+            Way::OneWalk(_, search) => search,
+            Way::Alone => None,
+        }
+    }
+}
+
+/// The way of a flat permute of so many indices into so many places: in one walk where the result is so long that this is sooner
+/// done than two, by whatever number of threads.
+pub(crate) fn flat_way(config: Config, indices: usize, places: usize) -> Way
+    ensures exact { result ≡ flat_way config indices places }
+    ensures raced { RacesWithin places result }
+    ensures walked { WalksWithin places result }
+{
+    if let Some(pace) = permute_pace(config, indices, places) {
+        return Way::Race(pace);
+    }
+    if places < LEAST_SHARED || places > MOST_ELEMENTS {
+        return Way::Alone;
+    }
+    let search = race_pace(indices >= LEAST_SEARCHED, config, indices);
+    Way::OneWalk(threads_writing(config, places), search)
+}
+
+/// The way of a permute by segments, none of which has more than `widest` of the places: in one walk, each thread on whole
+/// segments, unless one segment is longer than a thread's share.
+pub fn segment_way(config: Config, indices: usize, places: usize, widest: usize) -> Way
+    ensures exact { result ≡ segment_way config indices places widest }
+    ensures raced { RacesWithin places result }
+{
+    if let Some(pace) = permute_pace(config, indices, places) {
+        return Way::Race(pace);
+    }
+    let threads = threads_writing(config, places);
+    if widest > places / threads.get() {
+        return Way::Alone;
+    }
+    Way::OneWalk(threads, None)
+}

@@ -1,0 +1,4 @@
+use Rattle.segmented_permutes.proofs.over.permuted_over.Goals as goal
+
+pub returns : goal.returns
+returns g c = λ meaning call. c.take_over.ensures _ _ meaning c.segment_senders_alone-found.ensures.senders call

@@ -1,0 +1,185 @@
+//! The permutes that send each element to a place of its segment: the simple, the select and the default permute. They differ in
+//! which elements are sent, and in what stands before in the places of the result.
+
+ghost use Rattle.std.specs.Prelude.{◌≡◌, ◌≤◌, IfOk, length, vec_len};
+ghost use Rattle.cvl_base.specs.Gives.{Gives};
+ghost use Rattle.cvl_base.specs.Limits.{most_elements};
+ghost use Rattle.cvl_base.specs.SegmentedCalls.{seg_default_of, seg_select_of, seg_simple_of};
+
+use crate::sent::{flagged_segment_senders, permuted_in_one, segment_senders};
+use crew::{Gate, OpenGate};
+use cvl_base::{Config, Memory, Refused, check_agree, true_count};
+use permute_walks::Before;
+use permutes::take;
+use segdes::{SegDes, check_total};
+use segment_sends::{AllParts, FlaggedParts};
+use std::thread::Threads;
+
+/// The simple permute of each segment: `smp_pez` and `smp_peb`.
+///
+/// Source and index have as many elements as the segments in all, else `LengthMismatch`, without a place; the result is
+/// as long. An index counts from the start of its segment, and one that is no place of the segment is `IndexOutOfRange`;
+/// one that an earlier place of the segment has too is `IndexRepeated` at the later place. The fault of the first bad
+/// place counts, a place of the whole index. Source: CVL's segmented permute.
+pub fn seg_simple<T: Copy + Send + Sync, R: Threads + Sync, A: Memory>(
+    rt: &R,
+    alloc: A,
+    config: Config,
+    source: &[T],
+    index: &[i32],
+    d: &SegDes<A>,
+) -> Result<Vec<T, A>, Refused>
+    requires in_limit { length index.now ≤ most_elements }
+    ensures values { Gives (λ v. v.items) result (seg_simple_of source.now index.now d.now) }
+    ensures in_length { IfOk result (λ v. vec_len v ≤ length index.now) }
+{
+    seg_simple_gated(rt, alloc, config, source, index, d, &OpenGate)
+}
+
+/// `seg_simple` with a gate for workers who race, for the senders and then for the least bad place. Each passes it at `Claimed`
+/// and `Finished` of each of its tiles.
+pub fn seg_simple_gated<T: Copy + Send + Sync, R: Threads + Sync, A: Memory, G: Gate>(
+    rt: &R,
+    alloc: A,
+    config: Config,
+    source: &[T],
+    index: &[i32],
+    d: &SegDes<A>,
+    gate: &G,
+) -> Result<Vec<T, A>, Refused>
+    requires in_limit { length index.now ≤ most_elements }
+    ensures values { Gives (λ v. v.items) result (seg_simple_of source.now index.now d.now) }
+    ensures in_length { IfOk result (λ v. vec_len v ≤ length index.now) }
+{
+    check_total(source, d)?;
+    check_total(index, d)?;
+    let parts = AllParts {
+        index,
+        d,
+        result_d: d,
+    };
+    let before = Before::Any(source);
+    let (in_one, way) = permuted_in_one(rt, alloc, config, source, &parts, before)?;
+    if let Some(elements) = in_one {
+        return Ok(elements);
+    }
+    let found = segment_senders(rt, alloc, way, index, d, d, source.len(), gate);
+    take(rt, alloc, config, source, found, before)
+}
+
+/// The select permute of each segment: `sel_pez` and `sel_peb`.
+///
+/// Source, index and flags have as many elements as the segments in all, else `LengthMismatch`, without a place. A
+/// segment of the result is as long as the segment has true flags. The faults are those of `seg_simple`, of the places
+/// whose flag is true; no other index is looked at. Source: this library's profile of CVL's segmented select permute.
+pub fn seg_select<T: Copy + Send + Sync, R: Threads + Sync, A: Memory>(
+    rt: &R,
+    alloc: A,
+    config: Config,
+    source: &[T],
+    index: &[i32],
+    flags: &[bool],
+    d: &SegDes<A>,
+) -> Result<Vec<T, A>, Refused>
+    requires in_limit { length index.now ≤ most_elements }
+    ensures values { Gives (λ v. v.items) result
+        (seg_select_of source.now index.now flags.now d.now) }
+    ensures in_length { IfOk result (λ v. vec_len v ≤ length index.now) }
+{
+    seg_select_gated(rt, alloc, config, source, index, flags, d, &OpenGate)
+}
+
+/// `seg_select` with a gate for workers who race, for the senders and then for the least bad place. Each passes it at `Claimed`
+/// and `Finished` of each of its tiles.
+pub fn seg_select_gated<T: Copy + Send + Sync, R: Threads + Sync, A: Memory, G: Gate>(
+    rt: &R,
+    alloc: A,
+    config: Config,
+    source: &[T],
+    index: &[i32],
+    flags: &[bool],
+    d: &SegDes<A>,
+    gate: &G,
+) -> Result<Vec<T, A>, Refused>
+    requires in_limit { length index.now ≤ most_elements }
+    ensures values { Gives (λ v. v.items) result
+        (seg_select_of source.now index.now flags.now d.now) }
+    ensures in_length { IfOk result (λ v. vec_len v ≤ length index.now) }
+{
+    check_total(source, d)?;
+    check_total(index, d)?;
+    check_total(flags, d)?;
+    let parts = FlaggedParts { index, flags, d };
+    let places = true_count(flags);
+    let (values, _) = source.split_at(places);
+    let before = Before::Any(values);
+    let (in_one, way) = permuted_in_one(rt, alloc, config, source, &parts, before)?;
+    if let Some(elements) = in_one {
+        return Ok(elements);
+    }
+    let found = flagged_segment_senders(rt, alloc, way, index, flags, d, places, gate);
+    take(rt, alloc, config, source, found, before)
+}
+
+/// The default permute of each segment: `def_pez` and `def_peb`.
+///
+/// Source and index have as many elements as the segments of `source_d` in all, the defaults as many as those of
+/// `default_d`, and the descriptors have equally many segments, else `LengthMismatch`, without a place. The result is as
+/// long as the defaults. The faults are those of `seg_simple`, where an index is a place of the segment of the defaults.
+/// Source: this library's profile of CVL's segmented default permute.
+pub fn seg_default_into<T: Copy + Send + Sync, R: Threads + Sync, A: Memory>(
+    rt: &R,
+    alloc: A,
+    config: Config,
+    source: &[T],
+    index: &[i32],
+    defaults: &[T],
+    source_d: &SegDes<A>,
+    default_d: &SegDes<A>,
+) -> Result<Vec<T, A>, Refused>
+    requires in_limit { length index.now ≤ most_elements }
+    ensures values { Gives (λ v. v.items) result
+        (seg_default_of source.now index.now defaults.now source_d.now default_d.now) }
+    ensures as_long { IfOk result (λ v. vec_len v ≡ length defaults.now) }
+{
+    seg_default_into_gated(
+        rt, alloc, config, source, index, defaults, source_d, default_d, &OpenGate,
+    )
+}
+
+/// `seg_default_into` with a gate for workers who race, for the senders and then for the least bad place. Each passes it at
+/// `Claimed` and `Finished` of each of its tiles.
+pub fn seg_default_into_gated<T: Copy + Send + Sync, R: Threads + Sync, A: Memory, G: Gate>(
+    rt: &R,
+    alloc: A,
+    config: Config,
+    source: &[T],
+    index: &[i32],
+    defaults: &[T],
+    source_d: &SegDes<A>,
+    default_d: &SegDes<A>,
+    gate: &G,
+) -> Result<Vec<T, A>, Refused>
+    requires in_limit { length index.now ≤ most_elements }
+    ensures values { Gives (λ v. v.items) result
+        (seg_default_of source.now index.now defaults.now source_d.now default_d.now) }
+    ensures as_long { IfOk result (λ v. vec_len v ≡ length defaults.now) }
+{
+    check_total(source, source_d)?;
+    check_total(index, source_d)?;
+    check_total(defaults, default_d)?;
+    check_agree(source_d.count(), default_d.count())?;
+    let parts = AllParts {
+        index,
+        d: source_d,
+        result_d: default_d,
+    };
+    let places = defaults.len();
+    let before = Before::Defaults(defaults);
+    let (in_one, way) = permuted_in_one(rt, alloc, config, source, &parts, before)?;
+    if let Some(elements) = in_one {
+        return Ok(elements);
+    }
+    let found = segment_senders(rt, alloc, way, index, source_d, default_d, places, gate);
+    take(rt, alloc, config, source, found, before)
+}
