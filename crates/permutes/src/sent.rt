@@ -93,50 +93,13 @@ where
     ensures as_long { IfOk result (λ v. vec_len v ≡ length (values_of before.entry)) }
 {
     let places = before.values().len();
-    match flat_way(config, destinations.count(), places) {
-        Way::Race(pace) => permuted_by_senders(
-            rt,
-            alloc,
-            config,
-            Some(pace),
-            source,
-            destinations,
-            before,
-            gate,
-        ),
-        Way::OneWalk(threads, search) => {
-            let in_one = permuted_shared(
-                rt,
-                alloc,
-                threads,
-                source,
-                destinations,
-                places,
-                &before,
-            )?;
-            match in_one {
-                Some(elements) => Ok(elements),
-                None => permuted_by_senders(
-                    rt,
-                    alloc,
-                    config,
-                    search,
-                    source,
-                    destinations,
-                    before,
-                    gate,
-                ),
-            }
+    let way = flat_way(config, destinations.count(), places);
+    if let Way::OneWalk(threads, _) = way {
+        let in_one = permuted_shared(rt, alloc, threads, source, destinations, places, &before)?;
+        if let Some(elements) = in_one {
+            return Ok(elements);
         }
-        Way::Alone => permuted_by_senders(
-            rt,
-            alloc,
-            config,
-            None,
-            source,
-            destinations,
-            before,
-            gate,
-        ),
     }
+    let pace = way.pace();
+    permuted_by_senders(rt, alloc, config, pace, source, destinations, before, gate)
 }
