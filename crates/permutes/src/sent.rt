@@ -39,35 +39,6 @@ fn senders_to<R: Threads + Sync, A: Memory, D: Destinations + Sync, G: Gate>(
     }
 }
 
-/// The elements of a flat permute in two walks, the first of which finds the senders.
-fn permuted_by_senders<T, R, A, D, G>(
-    rt: &R,
-    alloc: A,
-    config: Config,
-    pace: Option<Pace>,
-    source: &[T],
-    destinations: &D,
-    before: Before<T>,
-    gate: &G,
-) -> Result<Vec<T, A>, Refused>
-where
-    T: Copy + Send + Sync,
-    R: Threads + Sync,
-    A: Memory,
-    D: Destinations + Sync,
-    G: Gate,
-    requires few { length (D.destinations destinations.now) ≤ most_elements }
-    requires few_places { IfSome pace (λ _. length (values_of before) ≤ most_elements) }
-    ensures values { (meaning : Result (List T) Fault) → IsPermuted source.now before.entry meaning
-        (first_fault 0 (wrongs (length (values_of before.entry)) (D.destinations destinations.now)))
-        (senders_of 0 (D.destinations destinations.now) (length (values_of before.entry))) → Gives (λ v. v.items) result meaning }
-    ensures as_long { IfOk result (λ v. vec_len v ≡ length (values_of before.entry)) }
-{
-    let places = before.values().len();
-    let found = senders_to(rt, alloc, pace, places, destinations, gate);
-    take(rt, alloc, config, source, found, before)
-}
-
 /// The elements of a flat permute: for each place that of its sender, or what stands there before where it has none. It is made
 /// in the way of its lengths.
 pub(crate) fn permuted<T, R, A, D, G>(
@@ -100,6 +71,6 @@ where
             return Ok(elements);
         }
     }
-    let pace = way.pace();
-    permuted_by_senders(rt, alloc, config, pace, source, destinations, before, gate)
+    let found = senders_to(rt, alloc, way.pace(), places, destinations, gate);
+    take(rt, alloc, config, source, found, before)
 }
