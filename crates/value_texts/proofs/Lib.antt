@@ -1,4 +1,5 @@
 pub mod DecimalTexts
+pub mod Lengths
 pub mod NestWalk
 pub mod PartWalk
 pub mod SegmentWalk

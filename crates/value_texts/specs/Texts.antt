@@ -11,6 +11,8 @@ use Rattle.cvl_base.specs.declared.value.Value.TheVariants as value
 use Rattle.cvl_base.specs.Faults.{fault}
 use Rattle.cvl_base.specs.Gives.{◌>>=◌}
 use Rattle.cvl_base.specs.Nests.{nest}
+use Rattle.value_texts.specs.declared.flat_vectors.FlatVector.{FlatVector}
+use Rattle.value_texts.specs.declared.flat_vectors.FlatVector.TheVariants as flat
 
 abbrev pub boolean_text : Bool → List ℕ
 boolean_text true = codes "T"
@@ -53,3 +55,8 @@ module _ {A : Type 0} where
   abbrev pub value_text : Option (List ℕ) → Value A → Result (List ℕ) Fault
   value_text None v = Ok (text_of v)
   value_text (Some lengths) v = cut_text lengths v
+
+-- the text of a vector, or of a descriptor as its lengths
+abbrev pub flat_text : FlatVector → List ℕ
+flat_text (flat.Integers xs) = vector_text signed_decimal xs.now
+flat_text (flat.Booleans bs) = vector_text boolean_text bs.now

@@ -1,6 +1,6 @@
 //! The text of vectors.
 
-ghost use Rattle.std.specs.Prelude.{◌≡◌, ◌≤◌, ◌++◌, codes, length, take, drop, IfOk, OnOk};
+ghost use Rattle.std.specs.Prelude.{◌≡◌, ◌+◌, ◌*◌, ◌≤◌, ◌++◌, codes, length, take, drop, vec_len, vec_capacity, IfOk, IsOk, OnOk};
 ghost use Rattle.cvl_base.specs.Limits.{most_elements};
 ghost use Rattle.value_texts.specs.Texts.{spaced, vector_text};
 
@@ -37,6 +37,7 @@ pub(crate) fn write_spaced<T: Written>(xs: &[T], page: &mut Page) -> usize
     requires { length xs.now ≤ PAGE_ELEMENTS }
     ensures written { drop result page.new ≡ spaced T.text_of xs.now }
     ensures within { result ≤ PAGE_BYTES }
+    ensures short { PAGE_BYTES ≤ result + 12 * length xs.now }
 {
     let mut at = PAGE_BYTES;
     let mut left = xs.len();
@@ -48,14 +49,17 @@ pub(crate) fn write_spaced<T: Written>(xs: &[T], page: &mut Page) -> usize
     at
 }
 
-/// Appends the texts of the elements with a space before each. After a refusal the text begins as before.
-fn put_spaced_alone<T: Written, A: Allocator>(
+/// Appends the texts of the elements with a space before each. After a refusal the text begins as before. None comes where the
+/// text has room for twelve bytes an element.
+pub(crate) fn put_spaced_alone<T: Written, A: Allocator>(
     xs: &[T],
     page: &mut Page,
     text: &mut Vec<u8, A>,
 ) -> Result<(), NoResources>
     ensures ok { OnOk result (text.new.items ≡ text.old.items ++ spaced T.text_of xs.now) }
     ensures begins { take (length text.old.items) text.new.items ≡ text.old.items }
+    ensures in_room { vec_len text.old + 12 * length xs.now ≤ vec_capacity text.old → IsOk result }
+    ensures capacity { vec_capacity text.old ≤ vec_capacity text.new }
 {
     let mut rest = xs;
     while rest.len() > PAGE_ELEMENTS {
@@ -101,6 +105,20 @@ fn put_first<'a, T: Written, A: Allocator>(
     };
     put_element(first, page, text)?;
     Ok(others)
+}
+
+/// Appends the beginning of a vector's text, `[` and the text of the first element, if there is one, and returns the others:
+/// these follow with a space before each, and then `]`. After a refusal the text may have a part of it.
+pub fn put_opening<'a, T: Written, A: Allocator>(
+    xs: &'a [T],
+    text: &mut Vec<u8, A>,
+) -> Result<&'a [T], NoResources>
+    ensures ok { IfOk result (λ others. text.new.items ++ spaced T.text_of others.now ++ codes "]"
+        ≡ text.old.items ++ vector_text T.text_of xs.now) }
+    ensures few { IfOk result (λ others. length others.now ≤ length xs.now) }
+{
+    let mut page = [0; PAGE_BYTES];
+    put_first(xs, &mut page, text)
 }
 
 /// Appends the text of a vector by the thread that calls. After a refusal the text begins as before.

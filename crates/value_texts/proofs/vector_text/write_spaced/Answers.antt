@@ -7,5 +7,6 @@ loop-left-init g c = record {
   written = rw (drop_all 12288 c.args.page.now (omega arith), drop_all (length c.args.xs.now) c.args.xs.now (omega arith));
   room = omega arith;
   within = omega arith;
+  short = omega arith;
   left = omega arith;
 }
