@@ -1,6 +1,7 @@
 -- The text of a call without a target, once its arguments are found to be right.
-use Rattle.std.proofs.Common.{◌≡◌, ℕ, List, sym, ap, subst, Some, None, Result, Ok, Err}
+use Rattle.std.proofs.Common.{◌≡◌, ℕ, List, sym, ap, subst, IfSome, Option, Some, None, Result, Ok, Err}
 use Rattle.cvl_base.specs.declared.call.Arg.{Arg}
+use Rattle.cvl_base.specs.declared.call.Call.{Call}
 use Rattle.cvl_base.specs.declared.call.ResultNames.TheVariants as results
 use Rattle.cvl_base.specs.declared.fault.Fault.{Fault}
 use Rattle.cvl_base.specs.declared.operation.Op.{Op}
@@ -11,7 +12,7 @@ use Rattle.bound_names.specs.Arguments.{args_fault, argument_at}
 use Rattle.bound_names.specs.Names.{Entries}
 use Rattle.vector_handles.specs.declared.input.Input.{Input}
 use Rattle.vector_handles.specs.Families.{ArgumentAt}
-use Rattle.vector_handles.specs.Steps.{Stepped, performed, written}
+use Rattle.vector_handles.specs.Steps.{Stepped, performed, step, written}
 
 -- what is made of an answer is given where the answer is
 made : {X Y Z : Type 0} (view : X → Y) (make : Y → Z) (answer : Result X Refused) (meaning : Result Y Fault) →
@@ -28,3 +29,10 @@ told {V} {A} view names inputs op args arg answer right values is =
     let whole : (written args arg >>= λ text. Ok (shows text)) ≡ unless (args_fault names op args) (performed names inputs results.None op args) =
     λ i. unless (sym right i) (written args (values i) >>= λ text. Ok (shows text)) in
     subst (λ m. Gives (λ v. shows (view v)) answer m) whole (made view shows answer (written args arg) is)
+
+-- the same of a call that may be one of those that write
+pub told_if_any : {V A : Type 0} (view : V → List ℕ) (names : Entries A) (inputs : List (Input A)) (call : Call A) (arg : ArgumentAt A) (answer : Option V) →
+    call.results ≡ results.None → args_fault names call.op call.args ≡ None → arg ≡ argument_at names call.args → IfSome answer (λ v. written call.args arg ≡ Ok (view v)) →
+    IfSome answer (λ v. step names inputs call ≡ Ok (record { names = names; shown = Some (view v) }))
+told_if_any view names inputs call arg None none right values is = tt
+told_if_any view names inputs call arg (Some v) none right values is = rw none (told view names inputs call.op call.args arg (Ok v) right values is)

@@ -4,6 +4,7 @@ pub mod CallValues
 pub mod ElementTypes
 pub mod Families
 pub mod KeptInputs
+pub mod LongWrites
 pub use Rattle.bound_names.specs.Names
 pub use Rattle.bound_names.specs.Operands
 pub mod Sessions

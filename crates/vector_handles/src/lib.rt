@@ -9,6 +9,7 @@ mod elementwise_calls;
 pub mod input;
 mod kept;
 pub mod laws;
+pub mod long_writes;
 mod numbered;
 mod pack_calls;
 mod pair_calls;
@@ -23,5 +24,7 @@ pub use input::Input;
 // A crate can name a session in a contract only if the types of its fields are exported.
 #[doc(hidden)]
 pub use kept::{Content, KeptInput};
+pub use long_writes::LongWrite;
 pub use session::Session;
 pub use shown::Shown;
+pub use value_texts::FlatVector;

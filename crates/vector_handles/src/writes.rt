@@ -81,7 +81,7 @@ impl<R: Threads + Sync, A: Memory> Asked<'_, R, A> {
 }
 
 /// The name that is the first argument.
-fn name_of_first(args: &[Arg]) -> &[u8]
+pub(crate) fn name_of_first(args: &[Arg]) -> &[u8]
     ensures { result.now ≡ name_in (slice_get args.now 0) }
 {
     match args.first() {
