@@ -1,4 +1,6 @@
 mod Cuts
 pub mod FaultNames
+mod LinePuts
+mod PutInParts
 mod Underway
 pub mod Shown

@@ -1,7 +1,7 @@
 -- How the run of one line may end: with its text whole in the sink and the names that it leaves, or as a run of the
 -- script ends at this line.
 -- Source: this library.
-use Rattle.std.specs.Prelude.{◌≡◌, ℕ, ◌<◌, List, [], length, take, unwrap_or, Result, Ok, Err}
+use Rattle.std.specs.Prelude.{◌≡◌, ℕ, ◌<◌, List, [], length, take, unwrap_or, Some, Result, Ok, Err}
 use Rattle.cvl_base.specs.declared.fault.Fault.{Fault}
 use Rattle.cvl_base.specs.declared.refused.Refused.{Refused}
 use Rattle.cvl_base.specs.declared.refused.Refused.TheVariants as refused
@@ -18,6 +18,10 @@ refused_at number (refused.Fault f) = stop.Script number f
 refused_at number refused.NoResources = stop.NoResources number
 
 module _ {A : Type 0} where
+  -- a line that leaves these names and has this text
+  abbrev pub with_text : Entries A → List ℕ → Stepped A
+  with_text names text = record { names = names; shown = Some text }
+
   abbrev pub text_of_step : Stepped A → List ℕ
   text_of_step stepped = unwrap_or stepped.shown []
 

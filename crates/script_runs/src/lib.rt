@@ -2,6 +2,7 @@
 #![tactic(auto)]
 
 mod lines;
+mod long_texts;
 pub mod mem_sink;
 pub mod puts;
 pub mod runs;

@@ -1,43 +1,24 @@
 //! Runs of scripts.
 
 ghost use Rattle.std.specs.Prelude.{◌≡◌, ◌^◌, ◌<◌, ◌-◌, ◌≤◌, [], length, unwrap_or, OnErr};
-ghost use Rattle.cvl_base.specs.Gives.{Gives};
 ghost use Rattle.cvl_base.specs.Limits.{most_script_bytes};
 ghost use Rattle.vector_handles.specs.Sessions.{text_shown};
+ghost use Rattle.vector_handles.specs.Steps.{step};
 ghost use Rattle.script_runs.specs.Ends.{AtEnd, AtFault, Runs};
 ghost use Rattle.script_runs.specs.LineRuns.{LineRuns, refused_at};
 ghost use Rattle.script_runs.specs.Meaning.{meaning, from_line, line_step, lines_of, names_left};
 
 use crate::lines::next_line;
+use crate::long_texts::run_long_write;
 use crate::puts::put_all;
 use crate::sink::Sink;
 use crate::stop::Stop;
 use crew::{Gate, OpenGate};
 use cvl_base::limits::MOST_SCRIPT_BYTES;
-use cvl_base::{Config, Fault, FaultNo, Memory, Refused};
+use cvl_base::{Call, Config, Fault, FaultNo, Memory, Refused};
 use line_reader::read_line;
 use std::thread::Threads;
 use vector_handles::{Input, Session, Shown};
-
-/// Reads one line and makes its call, if it has one.
-fn step_line<R: Threads + Sync, A: Memory, G: Gate>(
-    rt: &R,
-    alloc: A,
-    session: &mut Session<A>,
-    line: &[u8],
-    gate: &G,
-) -> Result<Shown<A>, Refused>
-    ensures meaning { Gives (λ shown. record { names = session.new.names; shown = text_shown shown }) result
-        (line_step session.old.names session.old.inputs line.now) }
-    ensures inputs { session.new.inputs ≡ session.old.inputs }
-    ensures refused { OnErr result (session.new.names ≡ session.old.names) }
-{
-    match read_line(alloc, line) {
-        Err(refused) => Err(refused),
-        Ok(None) => Ok(Shown::Nothing),
-        Ok(Some(call)) => session.apply_gated(rt, &call, gate),
-    }
-}
 
 /// The bytes of the text that a call shows, none where it shows nothing.
 fn shown_bytes<A: Memory>(shown: &Shown<A>) -> &[u8]
@@ -61,7 +42,35 @@ fn stop_of(refused: Refused, number: u32) -> Stop
     }
 }
 
-/// Runs one line, with its number from 1 on, and puts its text whole into the sink.
+/// Makes the call of a line, and puts its text into the sink: whole, or that of a long vector piece by piece.
+fn run_call<R: Threads + Sync, A: Memory, S: Sink, G: Gate>(
+    rt: &R,
+    alloc: A,
+    session: &mut Session<A>,
+    call: &Call<A>,
+    number: u32,
+    sink: &mut S,
+    gate: &G,
+) -> Result<(), Stop>
+    requires { (S.seen sink.old).failed_puts < 2 ^ 64 - 1 }
+    ensures runs { LineRuns number (step session.old.names session.old.inputs call.now) session.new.names
+        (S.seen sink.old) (S.seen sink.new) result }
+    ensures inputs { session.new.inputs ≡ session.old.inputs }
+    ensures refused { AtFault result (session.new.names ≡ session.old.names) }
+{
+    if let Some(write) = session.long_write(call) {
+        return run_long_write(rt, alloc, &write, number, sink);
+    }
+    match session.apply_gated(rt, call, gate) {
+        Err(refused) => Err(stop_of(refused, number)),
+        Ok(shown) => match put_all(sink, shown_bytes(&shown)) {
+            Ok(()) => Ok(()),
+            Err(_) => Err(Stop::WriteFailed { line: number }),
+        },
+    }
+}
+
+/// Runs one line, with its number from 1 on.
 fn run_line<R: Threads + Sync, A: Memory, S: Sink, G: Gate>(
     rt: &R,
     alloc: A,
@@ -77,12 +86,10 @@ fn run_line<R: Threads + Sync, A: Memory, S: Sink, G: Gate>(
     ensures inputs { session.new.inputs ≡ session.old.inputs }
     ensures refused { AtFault result (session.new.names ≡ session.old.names) }
 {
-    match step_line(rt, alloc, session, line, gate) {
+    match read_line(alloc, line) {
         Err(refused) => Err(stop_of(refused, number)),
-        Ok(shown) => match put_all(sink, shown_bytes(&shown)) {
-            Ok(()) => Ok(()),
-            Err(_) => Err(Stop::WriteFailed { line: number }),
-        },
+        Ok(None) => Ok(()),
+        Ok(Some(call)) => run_call(rt, alloc, session, &call, number, sink, gate),
     }
 }
 
