@@ -8,6 +8,9 @@ from scripts import run, words_of
 LEAST_READ, LEAST_READ_EACH = 131072, 32768
 LEAST_WRITTEN, LEAST_WRITTEN_EACH = 32768, 16384
 
+# how many elements a vector has at most whose text is made whole, and how many of a longer one are in a piece of its text
+MOST_WHOLE, PIECE = 262144, 65536
+
 SHOWN = "a = input {0}\nn = len_luz a\nwrite n\ns = xor_ruz a\nwrite s\ni = ind_luz 0 997 {1}\nt = bck_puz a i\nwrite t\n"
 
 
@@ -189,6 +192,12 @@ def texts(rng):
     for count in counts[6:9]:
         lengths = range(100)
         text += vectors(f"{count} lengths", "1 2 3", "v = input 1\nv = mke_fov v\nwrite v\n", lengths, count, lengths)
+    # the most whose text is made whole; behind the first element whole pieces and an element more, by one worker and by three
+    for count in (MOST_WHOLE, *(1 + pieces * PIECE + more for pieces in (4, 6) for more in (0, 1))):
+        for kind, lines, words, numbers in (
+            ("numbers", "", NUMBERS, NUMBERS), ("flags", "v = boo_wuz v\n", FLAGS, NUMBERS), ("lengths", "v = mke_fov v\n", range(11), range(11)),
+        ):
+            text += vectors(f"{count} {kind}", "1 3", f"v = input 1\n{lines}write v\n", words, count, numbers)
     for number, shape in enumerate(SHAPES):
         text += nests(number, shape)
     for name, lines in (("", "write v\n"), (" in segments", "l = dis_vuz 1 32770\nd = mke_fov l\nwrite v d\n")):
@@ -196,4 +205,9 @@ def texts(rng):
         settings = tiles(("4096", "3")) + refused(6)
         text += f"== case a long text{name} where memory is refused\n{settings}{section('input', elements(NUMBERS, count, ''))}" \
             f"== script\nv = input 1\n{lines}" + section("text", [*elements(words, count, "v = ["), ("]\n", 1)])
+    # five for the inputs' list, the input, the session's list, the vector and its name; and five for the write: its beginning, the list
+    # of its pieces, and three pieces
+    text += f"== case a text in pieces where memory is refused\n{tiles(('4096', '3')) + refused(10)}" \
+        f"{section('input', elements(NUMBERS, MOST_WHOLE + 2, ''))}== script\nv = input 1\nwrite v\n" \
+        + section("text", [*elements(NUMBERS, MOST_WHOLE + 2, "v = ["), ("]\n", 1)])
     return text
