@@ -2,7 +2,7 @@
 
 use cvl_base::{Config, NoResources, Refused};
 use refusing_memory::Refusing;
-use shell::MemSink;
+use shell::{MemSink, run};
 use std::alloc::Global;
 use std::test::Fail;
 use std::thread::Threads;
@@ -95,6 +95,36 @@ fn first_other<R: Threads + Sync>(
     Ok(None)
 }
 
+/// A script whose text has 3,600,006 bytes, and the same without its text.
+const LONG_WRITE: &str = "v = dis_vuz -2147483648 300000\nwrite v\n";
+
+const NO_WRITE: &str = "v = dis_vuz -2147483648 300000\n";
+
+/// How many bytes a run asks for by so many workers.
+fn asked_by_run<R: Threads + Sync>(
+    rt: &R,
+    alloc: Global,
+    workers: u32,
+    script: &str,
+) -> Result<u64, NoResources> {
+    let heap = Refusing::none(alloc);
+    let Ok(config) = Config::new(4_096, workers) else {
+        return Err(NoResources);
+    };
+    let mut sink = MemSink::new(alloc);
+    match run(
+        rt,
+        &heap,
+        config,
+        script.as_bytes(),
+        Vec::new(&heap),
+        &mut sink,
+    ) {
+        Ok(()) => Ok(heap.bytes()),
+        Err(_) => Err(NoResources),
+    }
+}
+
 /// How many bytes a sink asks for that has room for so many.
 fn asked_by_sink(alloc: Global, room: usize) -> Result<u64, NoResources> {
     let heap = Refusing::none(alloc);
@@ -108,6 +138,18 @@ fn memory_of_each_family(rt: HostRuntime) -> Result<(), Fail> {
     for by_four in [false, true] {
         let other = first_other(&rt, rt.alloc(), by_four);
         assert!(rt; other == Ok(None), "{other:?}");
+    }
+    Ok(())
+}
+
+/// A long text takes a piece of 65,536 elements for each worker, with twelve bytes for each of them, and little beside.
+#[test]
+fn memory_of_a_long_text(rt: HostRuntime) -> Result<(), Fail> {
+    for (workers, least) in [(1, 786_432), (3, 2_359_296), (64, 3_145_728)] {
+        let asked = asked_by_run(&rt, rt.alloc(), workers, LONG_WRITE)?;
+        let more = asked.wrapping_sub(asked_by_run(&rt, rt.alloc(), workers, NO_WRITE)?);
+        let beside = more.wrapping_sub(least);
+        assert!(rt; beside < 1_000, "{workers} workers, {more} bytes");
     }
     Ok(())
 }

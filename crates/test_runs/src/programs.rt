@@ -5,7 +5,7 @@ use refusing_memory::Refusing;
 use shell::OpenGate;
 use std::test::Fail;
 use test_fixtures::hosts::Failing::{Errors, Flush, Nothing, Room, Writes};
-use test_fixtures::hosts::{Failing, Files};
+use test_fixtures::hosts::{Failing, Files, text_of};
 use test_fixtures::programs::{REFUSED, Row, ends_as};
 
 /// A script that sums up a vector segment by segment. Its lines 4, 6 and 8 write 29, 30 and 17 bytes.
@@ -164,6 +164,22 @@ const STOPPED: &[(Failing, &str, &str, usize, u32)] = &[
     (Writes(100, 1), SUMS, SUMMED, 29, 6),
 ];
 
+/// A write whose text is put in four whole pieces of 131,072 bytes, behind a beginning of 6. An element of 2 bytes and an end of
+/// 2 follow.
+const LONG: &str = "v = dis_vuz 7 262146\nwrite v\n";
+
+/// How many writes standard output takes, of 1,000 bytes at most, and how many bytes of the text it has then: a piece takes 132.
+const LONG_WRITES: &[(u64, usize)] = &[
+    (0, 0),
+    (1, 6),
+    (132, 131_006),
+    (133, 131_078),
+    (134, 132_078),
+    (529, 524_294),
+    (530, 524_296),
+    (531, 524_298),
+];
+
 #[test]
 fn texts_messages_and_statuses(rt: HostRuntime) -> Result<(), Fail> {
     let heap = Refusing::none(rt.alloc());
@@ -184,6 +200,25 @@ fn texts_messages_and_statuses(rt: HostRuntime) -> Result<(), Fail> {
         let row = (*line, text, errors.as_str(), 3);
         let right = ends_as(&rt, &heap, FILES, *failing, &row, &OpenGate)?;
         assert!(rt; right, "{line}");
+    }
+    Ok(())
+}
+
+#[test]
+fn long_writes_to_narrow_writers(rt: HostRuntime) -> Result<(), Fail> {
+    let heap = Refusing::none(rt.alloc());
+    let text = text_of(rt.alloc(), "v = [7", " 7", 262_145, "]\n")?;
+    for (writes, taken) in LONG_WRITES {
+        let (front, errors, status) = match text.split_at_checked(*taken) {
+            Some((front, "")) => (front, "", 0),
+            Some((front, _)) => (front, "line 2: write failed\n", 3),
+            None => ("", "", 1),
+        };
+        for line in ["cvl --workers 1 long", "cvl --workers 3 long"] {
+            let (files, row) = ([("long", LONG)], (line, front, errors, status));
+            let right = ends_as(&rt, &heap, &files, Writes(999, *writes), &row, &OpenGate)?;
+            assert!(rt; right, "{line}, {writes} writes");
+        }
     }
     Ok(())
 }
