@@ -2,7 +2,7 @@
 -- Source: this library's profile.
 use Rattle.std.specs.Prelude.{ℕ, ◌*◌, ◌/◌, max, min, nat_le, nat_lt, if◌then◌else◌}
 use Rattle.cvl_base.specs.Limits.{most_elements}
-use Rattle.sharing.specs.Thresholds.{least_cleared, least_cleared_each, least_each, least_read, least_read_each, least_searched}
+use Rattle.sharing.specs.Thresholds.{least_cleared, least_cleared_each, least_each, least_read, least_read_each}
 use Rattle.sharing.specs.Thresholds.{least_shared, longest_chain}
 use Rattle.sharing.specs.Thresholds.{least_written, least_written_each}
 
@@ -22,10 +22,6 @@ share_of_first few threads items = items / threads * few
 -- the threads, at most `most`, that share the writing of so many elements
 abbrev pub writing_threads : ℕ → ℕ → ℕ
 writing_threads most elements = share_among most elements least_shared least_each
-
--- a search among so many elements
-abbrev pub searching_threads : ℕ → ℕ → ℕ
-searching_threads most elements = share_among most elements least_searched least_each
 
 -- the reading of an input of so many bytes
 abbrev pub reading_threads : ℕ → ℕ → ℕ

@@ -19,8 +19,8 @@ pub use pace::{Pace, race_pace};
 pub use shares::share_of_first;
 pub use thread_count::ThreadCount;
 pub use threads::{
-    all_workers, threads_among, threads_clearing, threads_reading, threads_searching,
-    threads_writing, threads_writing_text,
+    all_workers, threads_among, threads_clearing, threads_reading, threads_writing,
+    threads_writing_text,
 };
 
 /// From how many elements on a second thread pays where they are written. One thread is done with fewer before another has

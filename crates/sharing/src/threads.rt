@@ -2,13 +2,13 @@
 
 ghost use Rattle.std.specs.Prelude.{◌≡◌, ◌<◌, ◌≤◌};
 ghost use Rattle.cvl_base.specs.Limits.{most_elements};
-ghost use Rattle.sharing.specs.Shares.{clearing_threads, reading_threads, searching_threads, share_among, text_threads};
+ghost use Rattle.sharing.specs.Shares.{clearing_threads, reading_threads, share_among, text_threads};
 ghost use Rattle.sharing.specs.Shares.{writing_threads};
 
 use crate::thread_count::ThreadCount;
 use crate::{
-    LEAST_CLEARED, LEAST_CLEARED_EACH, LEAST_EACH, LEAST_READ, LEAST_READ_EACH, LEAST_SEARCHED,
-    LEAST_SHARED, LEAST_WRITTEN, LEAST_WRITTEN_EACH,
+    LEAST_CLEARED, LEAST_CLEARED_EACH, LEAST_EACH, LEAST_READ, LEAST_READ_EACH, LEAST_SHARED,
+    LEAST_WRITTEN, LEAST_WRITTEN_EACH,
 };
 use cvl_base::Config;
 use cvl_base::limits::MOST_ELEMENTS;
@@ -64,16 +64,6 @@ pub fn threads_among(most: u32, elements: usize) -> u32
     ensures greatest { result ≤ most }
 {
     share_of(most, elements, LEAST_SHARED, LEAST_EACH)
-}
-
-/// How many threads share a search among so many elements, each of which is looked at once: at most as many as the configuration
-/// has workers, and one where a second doesn't pay.
-pub fn threads_searching(config: Config, elements: usize) -> ThreadCount
-    ensures exact { result ≡ searching_threads config.1 elements }
-    ensures least { 1 ≤ result }
-    ensures greatest { result ≤ config.1 }
-{
-    threads_sharing(config, elements, LEAST_SEARCHED, LEAST_EACH)
 }
 
 /// How many threads share the reading of an input of so many bytes: at most as many as the configuration has workers, and one

@@ -1,8 +1,7 @@
 //! Worked values of how many threads share a call, about each length from which on one more does, and of what each thread has.
 
 ghost use Rattle.std.specs.Prelude.{◌≡◌, [], ◌∷◌, ◌++◌, replicate};
-ghost use Rattle.sharing.specs.Shares.{clearing_threads, first_of_two, reading_threads, searching_threads, text_threads};
-ghost use Rattle.sharing.specs.Shares.{writing_threads};
+ghost use Rattle.sharing.specs.Shares.{clearing_threads, first_of_two, reading_threads, text_threads, writing_threads};
 ghost use Rattle.worked_values.specs.Shared.{by_workers, forked, in_turn};
 ghost use Rattle.worked_values.specs.Written.{lengths};
 
@@ -20,9 +19,6 @@ pub fn writing()
     ensures below_all { by_workers writing_threads 8388607 ≡ lengths "1 3 4 63" }
     ensures all { by_workers writing_threads 8388608 ≡ lengths "1 3 4 64" }
     ensures no_more { by_workers writing_threads 8519680 ≡ lengths "1 3 4 64" }
-    ensures below_a_search { by_workers searching_threads 262143 ≡ lengths "1 1 1 1" }
-    ensures search { by_workers searching_threads 262144 ≡ lengths "1 2 2 2" }
-    ensures search_by_four { by_workers searching_threads 524288 ≡ lengths "1 3 4 4" }
 {}
 
 /// The threads that read an input of so many bytes, and those that clear the memory for a file.
