@@ -11,7 +11,7 @@ use Rattle.cvl_base.specs.Limits.{most_elements}
 use Rattle.cvl_base.specs.Nests.{cut_of}
 use Rattle.cvl_base.proofs.Nests.{nest-fits}
 use Rattle.value_texts.specs.Texts.{vector_text, nest_text}
-use Rattle.line_reader.specs.Tokens.{begins_with_part}
+use Rattle.line_reader.specs.Tokens.{begins_in_token}
 use Rattle.line_reader.specs.Numbers.{written_number}
 use Rattle.call_reader.specs.NestedTexts.{nested_class, Mark, opening, closing, number, mark_of, marks_of, list_marks, nest_marks, nested_of, IsWithin32, IsNestedText, read_again}
 use Rattle.line_reader.proofs.TokenWalk.{cut_at_blank, cut_at_lone}
@@ -41,7 +41,7 @@ number-marks z fits =
     let k = length text in
     let whole : take k text ≡ text = take_all k text (omega arith) in
     let none : drop k text ≡ [] = drop_all k text (omega arith) in
-    number_first text k z (ap written_number whole ∙ read_back z fits) (ap (begins_with_part nested_class) none) ∙ ap (λ (bs : List ℕ). number z ∷ marks_of bs) none
+    number_first text k z (ap written_number whole ∙ read_back z fits) (ap (begins_in_token nested_class) none) ∙ ap (λ (bs : List ℕ). number z ∷ marks_of bs) none
 
 numbers-marks : (xs : List ℤ) → IsWithin32 xs → flat_map marks_of (map signed_decimal xs) ≡ map number xs
 numbers-marks [] fit = refl

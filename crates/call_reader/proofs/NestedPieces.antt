@@ -4,7 +4,7 @@ use Rattle.std.proofs.Common.{◌≡◌, ℕ, true, false, List, [], ◌∷◌, 
 use Rattle.std.specs.Prelude.{flat_map}
 use Rattle.std.proofs.lemmas.List.{append-nil, map-append}
 use Rattle.std.proofs.lemmas.Grind.{flat_map-append}
-use Rattle.line_reader.specs.Tokens.{tokens_by, begins_with_part}
+use Rattle.line_reader.specs.Tokens.{tokens_by, begins_in_token}
 use Rattle.call_reader.specs.NestedTexts.{Mark, nested_class, mark_of, marks_of, list_marks}
 use Rattle.call_reader.specs.NestedReads.{AreListsRead, is_no_mark}
 use Rattle.line_reader.proofs.TokenWalk.{cut_before}
@@ -13,11 +13,11 @@ none_left : (ms : List Mark) → is_no_mark ms ≡ true → ms ≡ []
 none_left [] e = refl
 none_left (m ∷ ms) e = absurd (cc)
 
-marks_of_both : (front back : List ℕ) → begins_with_part nested_class back ≡ false → marks_of (front ++ back) ≡ marks_of front ++ marks_of back
+marks_of_both : (front back : List ℕ) → begins_in_token nested_class back ≡ false → marks_of (front ++ back) ≡ marks_of front ++ marks_of back
 marks_of_both front back ends =
     ap (map mark_of) (cut_before nested_class front back ends) ∙ map-append mark_of (tokens_by nested_class front) (tokens_by nested_class back)
 
-lists_of_both : (bytes front back rest last : List ℕ) (xs ys all lens others both : List ℤ) → front ++ back ≡ bytes → begins_with_part nested_class back ≡ false
+lists_of_both : (bytes front back rest last : List ℕ) (xs ys all lens others both : List ℤ) → front ++ back ≡ bytes → begins_in_token nested_class back ≡ false
     → AreListsRead front rest xs lens → is_no_mark (marks_of rest) ≡ true → AreListsRead back last ys others → all ≡ xs ++ ys → both ≡ lens ++ others
     → AreListsRead bytes last all both
 lists_of_both bytes front back rest last xs ys all lens others both whole ends one none two all_are both_are = record {
@@ -36,7 +36,7 @@ lists_of_both bytes front back rest last xs ys all lens others both whole ends o
 
 -- the same of an answer that may be none, or a refusal, where the lists of both were put one after another
 pub both_read : {X F : Type 0} (rest_of : X → List ℕ) (numbers_of lengths_of : X → List ℤ) (answer : Result (Option X) F) (bytes front back rest last : List ℕ) (xs ys lens others : List ℤ)
-    → front ++ back ≡ bytes → begins_with_part nested_class back ≡ false → AreListsRead front rest xs lens → AreListsRead back last ys others
+    → front ++ back ≡ bytes → begins_in_token nested_class back ≡ false → AreListsRead front rest xs lens → AreListsRead back last ys others
     → IfOk answer (λ o. IfSome o (λ _. is_no_mark (marks_of rest) ≡ true)) → IfOk answer (λ o. IfSome o (λ l. numbers_of l ≡ xs ++ ys))
     → IfOk answer (λ o. IfSome o (λ l. lengths_of l ≡ lens ++ others)) → IfOk answer (λ o. IfSome o (λ l. rest_of l ≡ last))
     → IfOk answer (λ o. IfSome o (λ l. AreListsRead bytes (rest_of l) (numbers_of l) (lengths_of l)))

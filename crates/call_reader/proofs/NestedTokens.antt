@@ -9,8 +9,8 @@ use Rattle.std.proofs.lemmas.List.Sums.{count_by-le-length}
 use Rattle.std.proofs.lemmas.Slice.Eq.{bytes_eq-Decides}
 use Rattle.cvl_base.specs.Limits.{most_elements}
 use Rattle.line_reader.specs.declared.token.ByteClass.{ByteClass}
-use Rattle.line_reader.specs.declared.token.ByteClass.TheVariants.{Part}
-use Rattle.line_reader.specs.Tokens.{tokens_by, with_byte, is_part, begins_with_part, IsFirstToken}
+use Rattle.line_reader.specs.declared.token.ByteClass.TheVariants.{InToken}
+use Rattle.line_reader.specs.Tokens.{tokens_by, with_byte, is_in_token, begins_in_token, IsFirstToken}
 use Rattle.line_reader.specs.Numbers.{written_number}
 use Rattle.call_reader.specs.NestedTexts.{nested_class, Mark, opening, closing, number, stray, number_or, mark_of, marks_of, is_opening, is_no_bracket}
 use Rattle.call_reader.specs.NestedReads.{is_closing, HasRoom}
@@ -66,24 +66,24 @@ pub number_mark : (token : List ℕ) (n : ℤ) → written_number token ≡ Some
 number_mark token n e =
     ap (λ (o : Option ℤ). number_or o (if pointwise nat_eq token (codes "[") then opening else (if pointwise nat_eq token (codes "]") then closing else stray))) e
 
-digit_in_nested : (b : ℕ) → is_ascii_digit b ≡ true → is_part (nested_class b) ≡ true
+digit_in_nested : (b : ℕ) → is_ascii_digit b ≡ true → is_in_token (nested_class b) ≡ true
 digit_in_nested b e = grind (arith, nat_tests)
 
 -- a number with no part of a run after it is the first token
-pub number_first : (bytes : List ℕ) (k : ℕ) (n : ℤ) → written_number (take k bytes) ≡ Some n → begins_with_part nested_class (drop k bytes) ≡ false
+pub number_first : (bytes : List ℕ) (k : ℕ) (n : ℤ) → written_number (take k bytes) ≡ Some n → begins_in_token nested_class (drop k bytes) ≡ false
     → marks_of bytes ≡ number n ∷ marks_of (drop k bytes)
 number_first bytes k n e ends =
     first_mark bytes (take k bytes) (drop k bytes) (number_leads nested_class digit_in_nested refl bytes k n e ends)
     ∙ ap (λ (m : Mark). m ∷ marks_of (drop k bytes)) (number_mark (take k bytes) n e)
 
 one_more : (c : ByteClass) (runs_on : Bool) (b : ℕ) (tokens : List (List ℕ)) → length (with_byte c runs_on b tokens) ≤ 1 + length tokens
-one_more Part true b [] = omega arith
-one_more Part true b (token ∷ tokens) = omega arith
+one_more InToken true b [] = omega arith
+one_more InToken true b (token ∷ tokens) = omega arith
 one_more c runs_on b tokens = omega arith
 
 tokens_short : (bytes : List ℕ) → length (tokens_by nested_class bytes) ≤ length bytes
 tokens_short [] = omega arith
-tokens_short (b ∷ bs) = omega (arith, one_more (nested_class b) (begins_with_part nested_class bs) b (tokens_by nested_class bs), tokens_short bs)
+tokens_short (b ∷ bs) = omega (arith, one_more (nested_class b) (begins_in_token nested_class bs) b (tokens_by nested_class bs), tokens_short bs)
 
 -- each token has a byte
 pub marks_short : (p : Mark → Bool) (bytes : List ℕ) → count_by p (marks_of bytes) ≤ length bytes

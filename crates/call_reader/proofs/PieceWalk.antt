@@ -10,7 +10,7 @@ use Rattle.cvl_base.specs.declared.fault.FaultNo.TheVariants.{BadInput, TooLong}
 use Rattle.cvl_base.specs.Elementwise.{values_from}
 use Rattle.cvl_base.specs.Faults.{fault, fault_at}
 use Rattle.cvl_base.specs.Gives.{◌>>=◌, fault_if}
-use Rattle.line_reader.specs.Tokens.{tokens_by, begins_with_part}
+use Rattle.line_reader.specs.Tokens.{tokens_by, begins_in_token}
 use Rattle.line_reader.specs.Numbers.{written_number}
 use Rattle.call_reader.specs.Inputs.{input_class, input_of}
 use Rattle.call_reader.specs.Pieces.{numbers_of, or_zero}
@@ -19,7 +19,7 @@ use Rattle.fresh.specs.Found.{first_without}
 use Rattle.fresh.proofs.FirstWithout.{first_of_both}
 
 -- the numbers of two texts, where no token has a part in both, are those of the one and then those of the other
-pub numbers_of_both : (front back : List ℕ) → begins_with_part input_class back ≡ false → numbers_of (front ++ back) ≡ numbers_of front ++ numbers_of back
+pub numbers_of_both : (front back : List ℕ) → begins_in_token input_class back ≡ false → numbers_of (front ++ back) ≡ numbers_of front ++ numbers_of back
 numbers_of_both front back ends =
     ap (map written_number) (cut_before input_class front back ends) ∙ map-append written_number (tokens_by input_class front) (tokens_by input_class back)
 
@@ -52,12 +52,12 @@ pub few_enough : (n : ℕ) (rest : Result (List ℤ) Fault) → n ≤ most_eleme
 few_enough n rest few = grind (arith, nat_tests)
 
 -- what is written for the numbers of two texts, where no token has a part in both, and the first that is wrong among them
-pub items_cut : (front others bytes : List ℕ) → front ++ others ≡ bytes → begins_with_part input_class others ≡ false
+pub items_cut : (front others bytes : List ℕ) → front ++ others ≡ bytes → begins_in_token input_class others ≡ false
     → map or_zero (numbers_of front) ++ map or_zero (numbers_of others) ≡ map or_zero (numbers_of bytes)
 items_cut front others bytes whole ends =
     sym (map-append or_zero (numbers_of front) (numbers_of others)) ∙ ap (map or_zero) (sym (numbers_of_both front others ends) ∙ ap numbers_of whole)
 
-pub found_cut : (front others bytes : List ℕ) (first : ℕ) → front ++ others ≡ bytes → begins_with_part input_class others ≡ false
+pub found_cut : (front others bytes : List ℕ) (first : ℕ) → front ++ others ≡ bytes → begins_in_token input_class others ≡ false
     → option_or (first_without first (numbers_of front)) (first_without (first + length (map or_zero (numbers_of front))) (numbers_of others)) ≡ first_without first (numbers_of bytes)
 found_cut front others bytes first whole ends =
     ap (λ n. option_or (first_without first (numbers_of front)) (first_without (first + n) (numbers_of others))) (length-map (numbers_of front) or_zero)

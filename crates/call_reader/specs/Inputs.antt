@@ -8,7 +8,7 @@ use Rattle.cvl_base.specs.Faults.{fault}
 use Rattle.cvl_base.specs.Gives.{fault_if}
 use Rattle.cvl_base.specs.Limits.{most_elements}
 use Rattle.line_reader.specs.declared.token.ByteClass.{ByteClass}
-use Rattle.line_reader.specs.declared.token.ByteClass.TheVariants.{Blank, Part}
+use Rattle.line_reader.specs.declared.token.ByteClass.TheVariants.{Blank, InToken}
 use Rattle.line_reader.specs.Tokens.{tokens_by}
 use Rattle.line_reader.specs.Numbers.{written_number}
 
@@ -17,7 +17,7 @@ abbrev pub is_white_space : ℕ → Bool
 is_white_space b = (b == 32) || (b == 9) || (b == 10) || (b == 13)
 
 abbrev pub input_class : ℕ → ByteClass
-input_class b = if is_white_space b then Blank else Part
+input_class b = if is_white_space b then Blank else InToken
 
 -- the tokens' numbers, or the fault at the first token that is none; more tokens than a vector may have are a fault
 -- whatever they are

@@ -16,14 +16,14 @@ use Rattle.cvl_base.specs.Limits.{most_elements}
 use Rattle.cvl_base.specs.Nests.{cut_of, nest}
 use Rattle.value_texts.specs.Texts.{nest_text}
 use Rattle.line_reader.specs.declared.token.ByteClass.{ByteClass}
-use Rattle.line_reader.specs.declared.token.ByteClass.TheVariants.{Blank, Alone, Part}
+use Rattle.line_reader.specs.declared.token.ByteClass.TheVariants.{Blank, Alone, InToken}
 use Rattle.line_reader.specs.Tokens.{tokens_by}
 use Rattle.line_reader.specs.Numbers.{written_number}
 use Rattle.call_reader.specs.Inputs.{is_white_space}
 
 -- white space stands between tokens, and `[` (91) and `]` (93) are tokens of their own
 abbrev pub nested_class : ℕ → ByteClass
-nested_class b = if is_white_space b then Blank else (if (b == 91) || (b == 93) then Alone else Part)
+nested_class b = if is_white_space b then Blank else (if (b == 91) || (b == 93) then Alone else InToken)
 
 -- what a token is to the grammar: `[`, `]`, an integer of 32 bits, or none of these
 pub data Mark : Type 0 where

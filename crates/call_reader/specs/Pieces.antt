@@ -3,7 +3,7 @@
 use Rattle.std.specs.Prelude.{ℕ, ◌≤◌, Bool, not, ◌&&◌, IsTrue, List, drop, length, map, Option, unwrap_or, ℤ, pos}
 use Rattle.std.specs.List.{list_all}
 use Rattle.sharing.specs.Shares.{share_of_first}
-use Rattle.line_reader.specs.Tokens.{tokens_by, begins_with_part}
+use Rattle.line_reader.specs.Tokens.{tokens_by, begins_in_token}
 use Rattle.line_reader.specs.Numbers.{written_number}
 use Rattle.call_reader.specs.Inputs.{input_class}
 
@@ -17,7 +17,7 @@ or_zero v = unwrap_or v (pos 0)
 
 -- whether bytes that stand behind white space, or not, go on with a token that began before them
 abbrev pub goes_on : Bool → List ℕ → Bool
-goes_on behind_white_space bytes = not behind_white_space && begins_with_part input_class bytes
+goes_on behind_white_space bytes = not behind_white_space && begins_in_token input_class bytes
 
 -- the front of the bytes for the first few of the threads is their share, and those behind it that belong to it
 pub record IsFrontFor (few threads : ℕ) (belongs : ℕ → Bool) (bytes front : List ℕ) : Type 0 where

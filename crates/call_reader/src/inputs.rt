@@ -15,7 +15,7 @@ ghost use Rattle.std.specs.Int.{from_bool};
 use cvl_base::limits::MOST_ELEMENTS;
 use cvl_base::{Fault, FaultNo, Memory, Refused};
 use line_reader::number::{leading_number, number};
-use line_reader::token::{ByteClass, Classes, begins_with_part, blanks, first_token};
+use line_reader::token::{ByteClass, Classes, begins_in_token, blanks, first_token};
 
 /// Whether a byte is white space: a space, a tab, a line feed or a carriage return.
 #[inline(always)]
@@ -37,7 +37,7 @@ impl Classes for InputBytes {
         if is_white_space(byte) {
             ByteClass::Blank
         } else {
-            ByteClass::Part
+            ByteClass::InToken
         }
     }
 }
@@ -112,7 +112,7 @@ pub(crate) fn first_number(bytes: &[u8]) -> Option<(&[u8], Option<i32>, &[u8])>
     // nearly every token is an integer that one walk finds and reads
     if let Some((value, length)) = leading_number(rest) {
         let (token, others) = rest.split_at(length);
-        if !begins_with_part::<InputBytes>(others) {
+        if !begins_in_token::<InputBytes>(others) {
             return Some((token, Some(value), others));
         }
     }

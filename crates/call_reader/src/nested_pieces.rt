@@ -3,7 +3,7 @@
 ghost use Rattle.std.specs.Prelude.{◌≡◌, ◌<◌, ◌≤◌, ◌==◌, ◌++◌, false, not, true, length, drop, slice_index, take, IfOk, IfSome};
 ghost use Rattle.std.specs.Prelude.{IsTrue};
 ghost use Rattle.std.specs.List.{list_all};
-ghost use Rattle.line_reader.specs.Tokens.{begins_with_part};
+ghost use Rattle.line_reader.specs.Tokens.{begins_in_token};
 ghost use Rattle.call_reader.specs.NestedTexts.{marks_of, nested_class};
 ghost use Rattle.call_reader.specs.NestedReads.{AreListsRead, is_no_mark};
 ghost use Rattle.call_reader.specs.Pieces.{IsFrontFor};
@@ -21,7 +21,7 @@ fn bytes_before_list(bytes: &[u8]) -> usize
     ensures within { result ≤ length bytes.now }
     ensures no_list { IsTrue (list_all (λ b. not (b == 91)) (take result bytes.now)) }
     ensures list { result < length bytes.now → slice_index bytes.now result ≡ 91 }
-    ensures between { begins_with_part nested_class (drop result bytes.now) ≡ false }
+    ensures between { begins_in_token nested_class (drop result bytes.now) ≡ false }
 {
     for (i, byte) in bytes.iter().enumerate() {
         if *byte == b'[' {
@@ -36,7 +36,7 @@ fn bytes_before_list(bytes: &[u8]) -> usize
 fn cut_at_list(bytes: &[u8], few: ThreadCount, threads: ThreadCount) -> (&[u8], &[u8])
     requires { few ≤ threads }
     ensures whole { result.0.now ++ result.1.now ≡ bytes.now }
-    ensures between { begins_with_part nested_class result.1.now ≡ false }
+    ensures between { begins_in_token nested_class result.1.now ≡ false }
     ensures front { IsFrontFor few threads (λ b. not (b == 91)) bytes.now result.0.now }
     ensures list { 0 < length result.1.now → slice_index result.1.now 0 ≡ 91 }
 {

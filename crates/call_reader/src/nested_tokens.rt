@@ -8,7 +8,7 @@ ghost use Rattle.call_reader.specs.NestedReads.{is_closing, is_number, is_no_mar
 use crate::inputs::is_white_space;
 use cvl_base::limits::MOST_ELEMENTS;
 use line_reader::number::{leading_number, number};
-use line_reader::token::{ByteClass, Classes, begins_with_part, blanks, first_token};
+use line_reader::token::{ByteClass, Classes, begins_in_token, blanks, first_token};
 
 /// The classes of a nested text's bytes: white space is blank, and brackets are tokens of their own.
 pub(crate) enum NestedBytes {}
@@ -23,7 +23,7 @@ impl Classes for NestedBytes {
         } else if byte == b'[' || byte == b']' {
             ByteClass::Alone
         } else {
-            ByteClass::Part
+            ByteClass::InToken
         }
     }
 }
@@ -89,7 +89,7 @@ pub(crate) fn after_number(bytes: &[u8]) -> Option<(i32, &[u8])>
     // nearly every number is one that one walk finds and reads
     if let Some((value, length)) = leading_number(rest) {
         let (_token, others) = rest.split_at(length);
-        if !begins_with_part::<NestedBytes>(others) {
+        if !begins_in_token::<NestedBytes>(others) {
             return Some((value, others));
         }
     }

@@ -1,7 +1,7 @@
 //! An input cut into pieces at white space, each of which is read by a thread of its own.
 
 ghost use Rattle.std.specs.Prelude.{◌≡◌, ◌≤◌, ◌++◌, [], false, length, map};
-ghost use Rattle.line_reader.specs.Tokens.{begins_with_part, is_part};
+ghost use Rattle.line_reader.specs.Tokens.{begins_in_token, is_in_token};
 ghost use Rattle.call_reader.specs.Inputs.{input_class};
 ghost use Rattle.call_reader.specs.Pieces.{IsFrontFor, numbers_of, or_zero};
 ghost use Rattle.fresh.specs.Found.{first_without};
@@ -66,8 +66,8 @@ impl<'a> Part<i32> for Piece<'a> {
 fn cut_near(bytes: &[u8], threads: usize) -> (&[u8], &[u8])
     requires { 1 ≤ threads }
     ensures whole { result.0.now ++ result.1.now ≡ bytes.now }
-    ensures between { begins_with_part input_class result.1.now ≡ false }
-    ensures front { IsFrontFor 1 threads (λ b. is_part (input_class b)) bytes.now result.0.now }
+    ensures between { begins_in_token input_class result.1.now ≡ false }
+    ensures front { IsFrontFor 1 threads (λ b. is_in_token (input_class b)) bytes.now result.0.now }
 {
     let place = share_of_first(1, threads, bytes.len());
     let (_front, back) = bytes.split_at(place);
@@ -77,12 +77,12 @@ fn cut_near(bytes: &[u8], threads: usize) -> (&[u8], &[u8])
 #[tactic(auto, using(crate::proofs::PieceWalk::items_cut, crate::proofs::PieceWalk::found_cut))]
 impl<'a> Cut<i32> for Piece<'a> {
     ghost use Rattle.std.specs.Prelude.{◌≡◌, ◌++◌};
-    ghost use Rattle.line_reader.specs.Tokens.{is_part};
+    ghost use Rattle.line_reader.specs.Tokens.{is_in_token};
     ghost use Rattle.call_reader.specs.Inputs.{input_class};
     ghost use Rattle.call_reader.specs.Pieces.{IsFrontFor};
 
     ghost IsCut = { λ piece parts front others. (front.bytes.now ++ others.bytes.now ≡ piece.bytes.now)
-        × IsFrontFor 1 parts (λ b. is_part (input_class b)) piece.bytes.now front.bytes.now };
+        × IsFrontFor 1 parts (λ b. is_in_token (input_class b)) piece.bytes.now front.bytes.now };
 
     fn cut(self, parts: usize) -> (Piece<'a>, Piece<'a>) {
         let (front, others) = cut_near(self.bytes, parts);

@@ -22,13 +22,13 @@ use Rattle.cvl_base.specs.Gives.{◌>>=◌, fault_if}
 use Rattle.cvl_base.specs.ResultNames.{count_of_results}
 use Rattle.cvl_base.specs.Words.{is_word, is_name}
 use Rattle.line_reader.specs.declared.token.ByteClass.{ByteClass}
-use Rattle.line_reader.specs.declared.token.ByteClass.TheVariants.{Blank, Alone, Part}
+use Rattle.line_reader.specs.declared.token.ByteClass.TheVariants.{Blank, Alone, InToken}
 use Rattle.line_reader.specs.Tokens.{tokens_by}
 use Rattle.line_reader.specs.Numbers.{written_number}
 
 -- space and tab stand between tokens, and `=` (61) is a token of its own
 abbrev pub line_class : ℕ → ByteClass
-line_class b = if (b == 32) || (b == 9) then Blank else (if b == 61 then Alone else Part)
+line_class b = if (b == 32) || (b == 9) then Blank else (if b == 61 then Alone else InToken)
 
 abbrev pub line_tokens : List ℕ → List (List ℕ)
 line_tokens bytes = tokens_by line_class bytes

@@ -4,7 +4,7 @@
 use Rattle.std.specs.Prelude.{◌≡◌, ◌<◌, ℕ, Bool, true, false, List, [], ◌∷◌, ◌++◌, length, IsTrue}
 use Rattle.std.specs.List.{list_all}
 use Rattle.line_reader.specs.declared.token.ByteClass.{ByteClass}
-use Rattle.line_reader.specs.declared.token.ByteClass.TheVariants.{Blank, Alone, Part}
+use Rattle.line_reader.specs.declared.token.ByteClass.TheVariants.{Blank, Alone, InToken}
 
 -- the first token with the byte before it
 abbrev pub onto_first : ℕ → List (List ℕ) → List (List ℕ)
@@ -15,23 +15,23 @@ onto_first b (token ∷ tokens) = (b ∷ token) ∷ tokens
 abbrev pub with_byte : ByteClass → Bool → ℕ → List (List ℕ) → List (List ℕ)
 with_byte Blank runs_on b tokens = tokens
 with_byte Alone runs_on b tokens = (b ∷ []) ∷ tokens
-with_byte Part true b tokens = onto_first b tokens
-with_byte Part false b tokens = (b ∷ []) ∷ tokens
+with_byte InToken true b tokens = onto_first b tokens
+with_byte InToken false b tokens = (b ∷ []) ∷ tokens
 
-abbrev pub is_part : ByteClass → Bool
-is_part Blank = false
-is_part Alone = false
-is_part Part = true
+abbrev pub is_in_token : ByteClass → Bool
+is_in_token Blank = false
+is_in_token Alone = false
+is_in_token InToken = true
 
 abbrev pub is_blank : ByteClass → Bool
 is_blank Blank = true
 is_blank Alone = false
-is_blank Part = false
+is_blank InToken = false
 
 -- whether the bytes begin with one that is part of a run
-abbrev pub begins_with_part : (ℕ → ByteClass) → List ℕ → Bool
-begins_with_part class_of [] = false
-begins_with_part class_of (b ∷ bs) = is_part (class_of b)
+abbrev pub begins_in_token : (ℕ → ByteClass) → List ℕ → Bool
+begins_in_token class_of [] = false
+begins_in_token class_of (b ∷ bs) = is_in_token (class_of b)
 
 -- whether the bytes begin with a blank
 abbrev pub begins_with_blank : (ℕ → ByteClass) → List ℕ → Bool
@@ -40,7 +40,7 @@ begins_with_blank class_of (b ∷ bs) = is_blank (class_of b)
 
 abbrev pub tokens_by : (ℕ → ByteClass) → List ℕ → List (List ℕ)
 tokens_by class_of [] = []
-tokens_by class_of (b ∷ bs) = with_byte (class_of b) (begins_with_part class_of bs) b (tokens_by class_of bs)
+tokens_by class_of (b ∷ bs) = with_byte (class_of b) (begins_in_token class_of bs) b (tokens_by class_of bs)
 
 -- the bytes' first token, and the bytes after it
 abbrev pub IsFirstToken : (ℕ → ByteClass) → List ℕ → List ℕ → List ℕ → Type 0
@@ -50,7 +50,7 @@ IsFirstToken class_of bytes token others = tokens_by class_of bytes ≡ token �
 -- with the lone byte as a token between them
 pub record AreTokens (class_of : ℕ → ByteClass) (tokens_of : List ℕ → List (List ℕ)) : Type 0 where
   pub nothing : tokens_of [] ≡ []
-  pub run : (bs : List ℕ) → 0 < length bs → IsTrue (list_all (λ b. is_part (class_of b)) bs)
+  pub run : (bs : List ℕ) → 0 < length bs → IsTrue (list_all (λ b. is_in_token (class_of b)) bs)
       → tokens_of bs ≡ bs ∷ []
   pub blank : (before after : List ℕ) (b : ℕ) → class_of b ≡ Blank
       → tokens_of (before ++ b ∷ after) ≡ tokens_of before ++ tokens_of after

@@ -21,7 +21,7 @@ impl Classes for LineClasses {
         } else if byte == b'=' {
             ByteClass::Alone
         } else {
-            ByteClass::Part
+            ByteClass::InToken
         }
     }
 }

@@ -3,7 +3,7 @@
 ghost use Rattle.std.specs.Prelude.{◌≡◌, ◌<◌, ◌≤◌, [], length, take, drop, filter, false, not, IsTrue, MatchOption, IfSome};
 ghost use Rattle.std.specs.List.{concat, list_all};
 ghost use Rattle.line_reader.specs.Numbers.{is_empty};
-ghost use Rattle.line_reader.specs.Tokens.{tokens_by, AreTokens, IsFirstToken, is_blank, is_part, begins_with_part};
+ghost use Rattle.line_reader.specs.Tokens.{tokens_by, AreTokens, IsFirstToken, is_blank, is_in_token, begins_in_token};
 ghost use Rattle.line_reader.specs.Tokens.{begins_with_blank};
 
 /// What a byte is to the tokens.
@@ -13,8 +13,8 @@ pub enum ByteClass {
     Blank,
     /// It is a token of its own.
     Alone,
-    /// It is part of a run, and a longest run is a token.
-    Part,
+    /// It belongs to a run, and a longest run is a token.
+    InToken,
 }
 
 /// The class of each byte, for one grammar.
@@ -46,11 +46,11 @@ pub fn blanks<C: Classes>(bytes: &[u8]) -> usize
 
 /// Whether the bytes begin with one that is part of a run.
 #[inline(always)]
-pub fn begins_with_part<C: Classes>(bytes: &[u8]) -> bool
-    ensures { result ≡ begins_with_part C.class_of bytes.now }
+pub fn begins_in_token<C: Classes>(bytes: &[u8]) -> bool
+    ensures { result ≡ begins_in_token C.class_of bytes.now }
 {
     match bytes.first() {
-        Some(byte) => C::class_of(*byte) == ByteClass::Part,
+        Some(byte) => C::class_of(*byte) == ByteClass::InToken,
         None => false,
     }
 }
@@ -59,11 +59,11 @@ pub fn begins_with_part<C: Classes>(bytes: &[u8]) -> bool
 #[inline]
 pub fn run_length<C: Classes>(bytes: &[u8]) -> usize
     ensures within { result ≤ length bytes.now }
-    ensures run { IsTrue (list_all (λ b. is_part (C.class_of b)) (take result bytes.now)) }
-    ensures longest { begins_with_part C.class_of (drop result bytes.now) ≡ false }
+    ensures run { IsTrue (list_all (λ b. is_in_token (C.class_of b)) (take result bytes.now)) }
+    ensures longest { begins_in_token C.class_of (drop result bytes.now) ≡ false }
 {
     for (i, byte) in bytes.iter().enumerate() {
-        if C::class_of(*byte) != ByteClass::Part {
+        if C::class_of(*byte) != ByteClass::InToken {
             return i;
         }
     }
@@ -80,7 +80,7 @@ pub fn first_token<C: Classes>(bytes: &[u8]) -> Option<(&[u8], &[u8])>
     let (_blank, rest) = bytes.split_at(blanks::<C>(bytes));
     let (first, _others) = rest.split_first()?;
     let length = match C::class_of(*first) {
-        ByteClass::Part => run_length::<C>(rest),
+        ByteClass::InToken => run_length::<C>(rest),
         ByteClass::Alone | ByteClass::Blank => 1,
     };
     Some(rest.split_at(length))

@@ -2,7 +2,7 @@ use Rattle.call_laws.proofs.Cited.{◌≡◌, ◌+◌, ◌<◌, ◌≤◌, ◌�
 use Rattle.std.proofs.Common.{codes}
 use Rattle.std.specs.List.{join_with_byte}
 use Rattle.cvl_base.specs.declared.fault.FaultNo.TheVariants.{BadInput}
-use Rattle.line_reader.specs.declared.token.ByteClass.TheVariants.{Blank, Part}
+use Rattle.line_reader.specs.declared.token.ByteClass.TheVariants.{Blank, InToken}
 use Rattle.call_reader.specs.Inputs.{input_class, is_white_space}
 use Rattle.call_reader.proofs.PieceWalk.{few_enough}
 use Rattle.line_reader.specs.Numbers.{written_number}
@@ -13,7 +13,7 @@ use Rattle.call_laws.proofs.TwoParts.{values-two}
 use Rattle.call_laws.proofs.texts.texts_in_parts.Goals as goal
 
 tokens-two : (first others : List ℕ) (b : ℕ) → IsTrue (is_white_space b) → tokens_by input_class (first ++ b ∷ others) ≡ tokens_by input_class first ++ tokens_by input_class others
-tokens-two first others b white = cut_at_blank input_class first others b (ap (λ w. if w then Blank else Part) white)
+tokens-two first others b white = cut_at_blank input_class first others b (ap (λ w. if w then Blank else InToken) white)
 
 texts-two : (x : List ℕ) (xs : List (List ℕ)) (y : List ℕ) (ys : List (List ℕ)) → join_with_byte 32 ((x ∷ xs) ++ (y ∷ ys)) ≡ join_with_byte 32 (x ∷ xs) ++ 32 ∷ join_with_byte 32 (y ∷ ys)
 texts-two x [] y ys = refl

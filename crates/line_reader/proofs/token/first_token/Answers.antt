@@ -2,7 +2,7 @@ use Rattle.std.proofs.Common.{◌≡◌, sym, ap, ◌∙◌, false}
 use Rattle.line_reader.specs.Tokens.{begins_with_blank}
 use Rattle.line_reader.proofs.TokenWalk.{run_taken, lone_taken}
 use Rattle.line_reader.proofs.token.first_token.Goals as goal
-use Rattle.line_reader.proofs.token.first_token.Goals.{in-Part, in-Alone}
+use Rattle.line_reader.proofs.token.first_token.Goals.{in-InToken, in-Alone}
 
 pub returns-clause-tokens : goal.returns-clause-tokens
 returns-clause-tokens g c =
@@ -10,8 +10,8 @@ returns-clause-tokens g c =
     let behind = c.split_at.result.1.now in
     let stands : begins_with_blank class_of behind ≡ false = ap (begins_with_blank class_of) c.split_at.ensures.back ∙ c.blanks.ensures.longest in
     elim c.match-class_of.branch [
-      | in-Part w ↦
-          let t = run_taken class_of behind _ _ w.run_length-length.result c.in_ok-first.ensures.cases.0 (sym c.class_of.ensures ∙ w.in-Part.is)
+      | in-InToken w ↦
+          let t = run_taken class_of behind _ _ w.run_length-length.result c.in_ok-first.ensures.cases.0 (sym c.class_of.ensures ∙ w.in-InToken.is)
           w.run_length-length.ensures.run w.run_length-length.ensures.longest in
           cc
       | in-Alone w ↦

@@ -1,7 +1,7 @@
 use Rattle.std.proofs.Common.{◌≡◌, take, true}
 use Rattle.std.specs.List.{list_all}
-use Rattle.line_reader.specs.Tokens.{is_part}
+use Rattle.line_reader.specs.Tokens.{is_in_token}
 use Rattle.line_reader.proofs.token.run_length.Given as goal
 
 abbrev pub invariant-loop-i : goal.invariant-loop-i
-invariant-loop-i g l = list_all (λ b. is_part (g.C.Classes.class_of b)) (take l.i l.bytes) ≡ true
+invariant-loop-i g l = list_all (λ b. is_in_token (g.C.Classes.class_of b)) (take l.i l.bytes) ≡ true
