@@ -7,7 +7,7 @@ ghost use Rattle.cvl_base.specs.Elementwise.{ints1_of, ints2_of, on_pairs, on_pa
 ghost use Rattle.cvl_base.specs.Limits.{most_places};
 ghost use Rattle.cvl_base.specs.Rooms.{Overwrites};
 
-use crate::looks::check_values;
+use crate::valueless::check_values;
 use cvl_base::sides::{Flipped, Twice};
 use cvl_base::singles::NotInt;
 use cvl_base::{

@@ -8,12 +8,12 @@
 mod choice;
 mod copies;
 mod in_place;
-mod looks;
 mod over;
 mod pairs;
 mod races;
 mod shared;
 mod singles;
+mod valueless;
 mod values;
 
 pub use choice::select;

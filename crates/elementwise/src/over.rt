@@ -5,7 +5,7 @@ ghost use Rattle.cvl_base.specs.Elementwise.{bools_from_ints, compare_of, ints1_
 ghost use Rattle.cvl_base.specs.Limits.{most_places};
 ghost use Rattle.cvl_base.specs.Rooms.{Overwrites, in_room};
 
-use crate::looks::check_values;
+use crate::valueless::check_values;
 use cvl_base::singles::{BoolOfInt, NotInt};
 use cvl_base::{
     Binary, Comparison, Fault, IntBinary, PartialBinary, Single, Unary, by_comparison,

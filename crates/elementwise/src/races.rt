@@ -8,7 +8,7 @@ ghost use Rattle.cvl_base.specs.Gives.{Gives};
 ghost use Rattle.cvl_base.specs.Limits.{most_elements};
 ghost use Rattle.elementwise.specs.Valueless.{least_without, slot_without};
 
-use crate::looks::{all_have_values, first_without};
+use crate::valueless::{all_have_values, first_without};
 use boards::Targets;
 use crew::Gate;
 use cvl_base::{Config, Fault, Memory, NoResources, PartialBinary, Refused, check_agree};

@@ -3,7 +3,7 @@
 
 mod answers;
 mod asked;
-mod bindings;
+mod bound_answers;
 mod calls;
 mod elementwise_calls;
 pub mod input;

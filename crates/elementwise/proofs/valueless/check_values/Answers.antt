@@ -1,7 +1,7 @@
 use Rattle.std.proofs.Common.{◌∙◌, sym}
 use Rattle.cvl_base.proofs.Elementwise.{if_as_long-fits}
 use Rattle.elementwise.proofs.LeastFaults.{pairs_fail, pairs_succeed}
-use Rattle.elementwise.proofs.looks.check_values.Goals as goal
+use Rattle.elementwise.proofs.valueless.check_values.Goals as goal
 
 pub returns-in-Some : goal.returns-in-Some
 returns-in-Some g c =

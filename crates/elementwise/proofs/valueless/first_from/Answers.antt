@@ -1,6 +1,6 @@
 use Rattle.std.proofs.Common.{◌∙◌, arith, sym}
 use Rattle.elementwise.proofs.FirstWithout.{found, none_left, passed}
-use Rattle.elementwise.proofs.looks.first_from.Goals as goal
+use Rattle.elementwise.proofs.valueless.first_from.Goals as goal
 
 pub loop-place-preserved : goal.loop-place-preserved
 loop-place-preserved g c =

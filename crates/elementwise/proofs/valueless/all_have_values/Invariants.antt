@@ -1,6 +1,6 @@
 use Rattle.std.specs.Prelude.{◌≡◌, ◌<◌, ◌≤◌, ℕ, IsTrue, None, slice_index_or}
 use Rattle.elementwise.specs.Valueless.{slots_without}
-use Rattle.elementwise.proofs.looks.all_have_values.Given as goal
+use Rattle.elementwise.proofs.valueless.all_have_values.Given as goal
 
 abbrev pub invariant-loop-place : goal.invariant-loop-place
 invariant-loop-place g l =

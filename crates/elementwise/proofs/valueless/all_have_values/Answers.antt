@@ -2,7 +2,7 @@ use Rattle.std.proofs.Common.{◌≡◌, ◌∙◌, ◌≤◌, Bool, ◌&&◌, t
 use Rattle.std.proofs.lemmas.Bool.{true≢false}
 use Rattle.elementwise.specs.Valueless.{slots_without}
 use Rattle.elementwise.proofs.FirstWithout.{no_slot}
-use Rattle.elementwise.proofs.looks.all_have_values.Goals as goal
+use Rattle.elementwise.proofs.valueless.all_have_values.Goals as goal
 
 both_true : (a b : Bool) → (a && b) ≡ true → (a ≡ true) × (b ≡ true)
 both_true true true is = (refl, refl)

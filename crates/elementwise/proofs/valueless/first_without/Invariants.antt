@@ -1,7 +1,7 @@
 use Rattle.std.proofs.Common.{◌≡◌, ◌≤◌, length}
 use Rattle.std.specs.Prelude.{◌-◌}
 use Rattle.elementwise.specs.Valueless.{least_without}
-use Rattle.elementwise.proofs.looks.first_without.Given as goal
+use Rattle.elementwise.proofs.valueless.first_without.Given as goal
 
 abbrev pub invariant-loop-start : goal.invariant-loop-start
 invariant-loop-start g l = record {

@@ -1,6 +1,6 @@
 use Rattle.std.proofs.Common.{◌∙◌, ◌≤◌, arith, length, sym}
 use Rattle.elementwise.proofs.FirstWithout.{none_left, passed_up_to}
-use Rattle.elementwise.proofs.looks.first_without.Goals as goal
+use Rattle.elementwise.proofs.valueless.first_without.Goals as goal
 
 pub loop-start-preserved : goal.loop-start-preserved
 loop-start-preserved g c =
