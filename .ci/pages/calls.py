@@ -5,9 +5,10 @@ import sys
 
 from pages.texts import TOP, held, lines_of, rows_of, text_of
 
-sys.path.insert(0, str(TOP / "bindings/generator"))
+sys.path[:0] = [str(TOP / "bindings/generator"), str(TOP / "crates/script_cases/generator")]
 
 import call_table
+import calls as plain_reading
 
 PAGE, SCRIPT, GLOSSARY = "docs/calls.md", "docs/script.md", "docs/glossary.md"
 
@@ -23,6 +24,12 @@ def check_names():
     """The names in the headings of docs/calls.md are those of the table of calls. A write is no call."""
     shown = sorted(name for heading in headings() for name in heading.split())
     yield from held(PAGE, "crates/call_table/specs/Calls.antt", shown, sorted(set(call_table.read(TOP)) - {"write"}))
+
+
+def check_plain_reading():
+    """The plain reading that writes cases has each call of the table, but those that read inputs."""
+    read = sorted({*plain_reading.CALLS, "input", "nested"})
+    yield from held("crates/script_cases/generator/calls.py", "crates/call_table/specs/Calls.antt", read, sorted(set(call_table.read(TOP)) - {"write"}))
 
 
 def check_index():
