@@ -1,5 +1,5 @@
 -- What the definition of a call is told to be by its walks, and what follows for the answers of the call.
-use Rattle.std.proofs.Common.{◌≡◌, ◌≢◌, ◌∙◌, ℕ, ◌<◌, List, ◌++◌, length, filter_map, take, drop, refl, sym, ap, subst, slice_get, Option, Some, None, Result, Ok, Err, IfOk, IfSome}
+use Rattle.std.proofs.Common.{◌≡◌, ◌≢◌, ◌∙◌, ℕ, ◌<◌, List, ◌++◌, length, filter_map, take, drop, refl, sym, ap, subst, slice_get, Option, Some, None, Result, Ok, Err, IfSome}
 use Rattle.std.specs.List.{All}
 use Rattle.std.specs.Result.{IsErrAnd}
 use Rattle.std.proofs.lemmas.List.{take_at}
@@ -162,11 +162,3 @@ module _ {X V : Type 0} (view : V → List X) (source : List X) (b : Before X) (
       → IfSome found (λ v. (meaning : Result (List X) Fault) → IsPermuted source b meaning first senders → meaning ≡ Ok (view v))
   found_in_one (Some v) right written = λ meaning call. permuted_in_one call stands (view v) (subst (MayStand b) (sym are) (values_stand b)) right written
   found_in_one None right written = tt
-
--- the length of a value that both walks gave
-pub length_given : {X V : Type 0} (view : V → List X) (len : V → ℕ) → ((v : V) → len v ≡ length (view v)) → (r : Result V Refused) (fault : Option Fault) (xs : List X) (n : ℕ)
-    → (fault ≡ None → length xs ≡ n)
-    → Gives view r (unless fault (Ok xs)) → IfOk r (λ v. len v ≡ n)
-length_given view len is (Ok v) None xs n long given = let same : xs ≡ view v = cc in is v ∙ ap length (sym same) ∙ long refl
-length_given view len is (Ok v) (Some f) xs n long given = absurd (cc)
-length_given view len is (Err e) fault xs n long given = tt

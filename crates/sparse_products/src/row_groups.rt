@@ -15,7 +15,8 @@ ghost use Rattle.sparse_products.specs.Rows.{row_item, row_value, wrapping};
 use crate::row_counts::entries_of;
 use crate::row_sums::{Wrapping, element_of, with_product};
 use crate::row_walks::{RowWalk, rows_into};
-use cvl_base::integer::sub;
+use cvl_base::Binary;
+use cvl_base::integer::Sub;
 use fresh::Run;
 
 /// How many rows are taken together.
@@ -53,7 +54,7 @@ fn sums_into(sums: &mut [i32], columns: &[i32], values: &[i32], x: &[i32]) -> bo
 fn difference(sum: &i32, before: &i32) -> i32
     ensures { result ≡ wrap (sum.now -ℤ before.now) }
 {
-    sub(*sum, *before)
+    Sub::apply(*sum, *before)
 }
 
 /// Writes the sums of the rows with these lengths, by those of the first entries.
