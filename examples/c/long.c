@@ -45,6 +45,7 @@ static size_t memory_of(const Row *row, const char *call) {
     if (begins(call, "def")) return descriptors + sizeof(uint32_t) * n;
     if (begins(call, "rep")) return begins(call, "rep_vub") ? 0 : item * n;
     if (begins(call, "num")) return 3 * segments * sizeof(int32_t); /* numbers, and the descriptor by which they are distributed */
+    if (begins(call, "prd") && strstr(row->name, "by_offsets") != NULL) return 2 * item * segments; /* the rows' lengths, too */
     if (begins(call, "ext_ve") || begins(call, "tot_re") || begins(call, "prd")) return item * segments;
     return descriptors;
 }
