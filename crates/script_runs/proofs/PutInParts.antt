@@ -3,7 +3,7 @@ use Rattle.std.proofs.Common.{◌≡◌, ℕ, ◌+◌, ◌<◌, List, [], ◌++�
 use Rattle.std.proofs.lemmas.List.{take-append-le}
 use Rattle.std.proofs.Math.Seq.{take-append-add}
 use Rattle.script_runs.specs.declared.sink.SinkFault.{SinkFault}
-use Rattle.script_runs.specs.Hosts.{Seen, Shows, with_failures, with_output}
+use Rattle.script_runs.specs.Hosts.{Seen, Shows, with_output}
 use Rattle.script_runs.specs.Sinks.{PutsAll}
 use Rattle.script_runs.proofs.Shown.{output_both, shows_failures, shows_nothing_put, shows_on, shows_same}
 

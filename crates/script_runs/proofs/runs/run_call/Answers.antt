@@ -1,4 +1,3 @@
-use Rattle.std.proofs.Common.{sym}
 use Rattle.script_runs.proofs.LinePuts.{cut_line, put_line}
 use Rattle.script_runs.proofs.Underway.{at_fault, refused_line}
 use Rattle.script_runs.proofs.runs.run_call.Goals as goal
