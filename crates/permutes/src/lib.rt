@@ -1,10 +1,10 @@
 //! Flat permutes: simple, back, select and default permutes. Those of segments are `segmented_permutes`.
 //!
-//! Most go in two walks. The first walk of a simple, select or default permute finds for each place of the result its
-//! sender, the place whose element goes there; that of a back permute looks at all indices. The second writes the elements,
-//! by several threads where the result is long. A long simple, select or default permute is made in one walk by threads of which
-//! each owns a range of the result, writes the elements that are sent there over what stood there before, and counts the places
-//! that it wrote. `ways` says which of these is done, of flat permutes and of those by segments.
+//! A simple, select or default permute goes in two walks. The first finds for each place of the result its sender, the place
+//! whose element goes there. The second writes the elements, by several threads where the result is long. A long one is made in
+//! one walk by threads of which each owns a range of the result, writes the elements that are sent there over what stood there
+//! before, and counts the places that it wrote. `ways` says which of these is done, of flat permutes and of those by segments. A
+//! back permute is one walk, which looks at each index and takes its element at once, by several threads where they are many.
 //!
 //! Each call has a gated form with the same contract for every gate. Workers race for the first walk where short tiles are
 //! asked for.
