@@ -1,14 +1,13 @@
 -- The block of a vector is a row of places and the right to free it, and back. Assumes `Logic`.
+use Rattle.fresh.proofs.Cited.{El, el_x, elτ, R, sz, Hd, slots}
 use mir.Raw.{raw as bare}
 use denote.Array.{Array}
 use Rattle.core.specs.Allocator.{block_with_items}
 use Rattle.core.proofs.mem.Param as one
-use Rattle.std_alloc.proofs.VecSteps.El.{El, el_x, elτ, R, sz, Hd}
 use Rattle.std_alloc.proofs.VecSteps.Rows.{apart, whole}
-use Rattle.fresh.proofs.Walks.{◌≡◌, ap, Bool, true, false, not, ℕ, zero, suc, ◌+◌, ◌-◌, ◌*◌, ◌≤◌, arith, List, [], ◌∷◌, ◌++◌, map, T, length, replicate, length-map, Ura}
-use Rattle.fresh.proofs.Walks.{full_share, ty_array, ent, sep, emp, Fml, ftrue, froom, Logic, sem, ‵, ◌⊛◌, given, ◌$◌, ◌∵◌, !, qed, move, keep, use0, use1, use2, split, learn}
-use Rattle.fresh.proofs.Walks.{fsplit3, fjoin, done, part_at, row, block_ptr, token, Some, None, owns_if, as_raw, as_written}
-use Rattle.fresh.specs.Ownership.{slots}
+use Rattle.fresh.proofs.Walks.{◌≡◌, ap, Bool, true, false, not, ℕ, zero, suc, ◌+◌, ◌-◌, ◌*◌, ◌≤◌, arith, List, [], ◌∷◌, ◌++◌, map, T, length, replicate, length-map, Ura, full_share, ty_array, ent}
+use Rattle.fresh.proofs.Walks.{sep, emp, Fml, ftrue, froom, Logic, sem, ‵, ◌⊛◌, given, ◌$◌, ◌∵◌, !, qed, move, keep, use0, use1, use2, split, learn, fsplit3, fjoin, done, part_at, row, block_ptr}
+use Rattle.fresh.proofs.Walks.{token, Some, None, owns_if, as_raw, as_written}
 use Rattle.fresh.proofs.Memory.{cut, glue, of_row, to_row, of_room, to_room}
 
 abbrev pub el : El → one.El

@@ -1,19 +1,12 @@
 -- Places may cross threads as their items may, and the right to free a block as its allocator may.
-use Rattle.std.specs.Prelude.{ℕ, ◌+◌, ◌*◌, List, [], ◌∷◌, Option, Some, None}
-use Rattle.std.specs.Mem.{type_size}
+use Rattle.fresh.proofs.Cited.{rules, ℕ, ◌+◌, ◌*◌, List, [], ◌∷◌, Option, Some, None, type_size, RattleType, Ptr, block_ptr, null_ptr, shape, to, IsSend, IsSync}
+use Rattle.fresh.proofs.Cited.{part_keyless, struct_sync, sendable, Ghosts, slots, cells_own}
 use mathlib.Core.Bool.{Bool, true, false}
 use base.Fraction.{full_share}
 use base.Fml.{Fml}
 use base.Shift.{Keyless}
-use denote.RattleType.{RattleType}
-use denote.RawPtr.{Ptr, block_ptr, null_ptr}
-use denote.Struct.Struct.{exits_of}
-use denote.Struct.Owning.{shape, fields, to}
-use denote.Param.Send.{IsSend, IsSync, AllSend, part_keyless, owning_send, struct_send, struct_sync, sendable}
-use Rattle.core.specs.declared.alloc.Allocator.{Ghosts}
-use Rattle.std_alloc.specs.Vec.Ownership.{owns_if, has_block}
+use Rattle.std_alloc.specs.Vec.Ownership.{owns_if}
 use Rattle.std_alloc.proofs.SendSync.{FreesAnywhere, quiet}
-use Rattle.fresh.specs.Ownership.{slots, cells_own}
 use Rattle.fresh.specs.contracts.cells.Cells as Cells
 use Rattle.fresh.specs.contracts.block.Deed as Deed
 
@@ -32,18 +25,14 @@ module _ (R : RattleType) where
   cells-Keyless s null_ptr from cs = tt
 
   pub Cells-send : IsSend R → IsSend (Cells.the_row R)
-  Cells-send s =
-      let O = Cells.the_type R in let all : AllSend (fields O) = (search sendable, tt) in
-      owning_send O all (λ d. cells-Keyless s d.at d.from d.slots) (λ k. quiet (to O) (exits_of k (fields O)) ((struct_send (shape O) all).leaving k))
+  Cells-send s = search (rules, cells-Keyless, quiet)
 
   pub Cells-sync : IsSync (Cells.the_row R)
   Cells-sync = let O = Cells.the_type R in record { shared = λ d b o κ. ((struct_sync (shape O) (search sendable, tt)).shared (to O d) b o κ, tt) }
 
   module _ (A : RattleType) (g : Ghosts A.Denot) where
     pub Deed-send : FreesAnywhere A.Denot g → IsSend (Deed.the_row R A g)
-    Deed-send f =
-        let O = Deed.the_type R A g in let all : AllSend (fields O) = (search sendable, tt) in
-        owning_send O all (λ d. owns_if-Keyless (has_block d.len) _ (f.frees d.alloc _ d.at)) (λ k. quiet (to O) (exits_of k (fields O)) ((struct_send (shape O) all).leaving k))
+    Deed-send f = search (rules, owns_if-Keyless, quiet)
 
     pub Deed-sync : IsSync (Deed.the_row R A g)
     Deed-sync = let O = Deed.the_type R A g in record { shared = λ d b o κ. ((struct_sync (shape O) (search sendable, tt)).shared (to O d) b o κ, tt) }

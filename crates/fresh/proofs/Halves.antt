@@ -1,7 +1,5 @@
 -- Two runs of a list, one after another, are one.
-use Rattle.std.proofs.Common.{◌≡◌, ℕ, ◌+◌, ◌-◌, ◌≤◌, List, ◌++◌, map, take, drop, sym, ap, ◌∙◌, arith, take-add, drop-drop}
-use Rattle.std.proofs.lemmas.List.{drop-map, take-map}
-use Rattle.fresh.specs.Parts.{part}
+use Rattle.fresh.proofs.Cited.{◌≡◌, ℕ, ◌+◌, ◌-◌, ◌≤◌, List, ◌++◌, map, take, drop, sym, ap, ◌∙◌, arith, take-add, drop-drop, drop-map, take-map, part}
 
 pub parts_both : {X : Type 0} (whole : List X) (first n room : ℕ) → n ≤ room → part whole first room ≡ part whole first n ++ part whole (first + n) (room - n)
 parts_both whole first n room within =

@@ -11,3 +11,4 @@ pub mod Rows
 pub mod Walks
 pub mod Written
 pub mod Zips
+pub mod Cited

@@ -1,9 +1,6 @@
 -- Items that belong one by one to the elements of a list.
-use Rattle.std.proofs.Common.{◌≡◌, ℕ, ◌+◌, ◌-◌, ◌<◌, List, [], ◌∷◌, ◌++◌, length, map, take, get_or, refl, sym, ap, ◌∙◌, subst, arith, append_assoc}
-use Rattle.std.proofs.lemmas.List.{take_more}
-use Rattle.std.proofs.lemmas.Slice.Zip.{all_zipped_more}
-use Rattle.std.specs.List.{AllZip}
-use Rattle.fresh.specs.Places.{Stretch, stretch}
+use Rattle.fresh.proofs.Cited.{◌≡◌, ℕ, ◌+◌, ◌-◌, ◌<◌, List, [], ◌∷◌, ◌++◌, length, map, take, get_or, refl, sym, ap, ◌∙◌, subst, arith, append_assoc, take_more, all_zipped_more, AllZip, Stretch}
+use Rattle.fresh.proofs.Cited.{stretch}
 
 module _ {A B : Type 0} (P : A → B → Type 0) where
   pub zipped_map : (h : A → B) (xs : List A) (ys : List B) → AllZip P xs ys → ((x : A) (y : B) → P x y → y ≡ h x) → ys ≡ map h xs

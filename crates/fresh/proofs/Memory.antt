@@ -3,22 +3,16 @@
 --     cut, glue      a row of places is parted in two, and two rows that meet become one
 --     slot_out, slot_in      one place is taken out of the row, and put back
 --     of_room, to_room      room for an array is a row of empty places
-use lib.ListN.{drop}
+use Rattle.fresh.proofs.Cited.{drop, Laws, param_laws, Shape, Struct, within, shape, type_size, slot, slots}
 use lib.Seq.{drop-cons, set_split}
 use denote.Laws.{Typed, Is, shows}
-use denote.Param.Laws.{Laws, param_laws}
 use denote.Shadow.{makes_shadow}
-use denote.Struct.Struct.{Shape, Struct, within}
-use denote.Struct.Owning.{shape}
 use denote.Struct.Declared as Declared
 use borrow.Table.OneValue.{part_in}
-use Rattle.std.specs.Mem.{type_size}
-use Rattle.fresh.proofs.Walks.{◌≡◌, refl, sym, ap, subst, ◌∙◌, ℕ, zero, suc, ◌+◌, ◌*◌, ◌<◌, ◌≤◌, arith, zero-mul, suc-mul, List, [], ◌∷◌, ◌++◌, map, length, take, set, get_or}
-use Rattle.fresh.proofs.Walks.{replicate, take-append-drop, length-take, Ura, full_share, Ty, ty_array, Val, vstruct, vcons, vnil, of_list, ent, sep, emp, id⊢, mono_r, Fml, ftrue}
-use Rattle.fresh.proofs.Walks.{fsep, froom, Logic, sem, Item, Goal, Seq, Step, step, ‵, ◌⊛◌, ◌$◌, ◌∵◌, !, qed, by, move, keep, drop as skip, use1, use2, split, frame, fsplit}
-use Rattle.fresh.proofs.Walks.{fjoin, fpick, fpack, feq_i, feq_l, rewrite, done, RattleType, Valss, param, layout, part_at, Ptr, RawPtr, ptr_val, row, nothing, peeks, Tuple}
-use Rattle.fresh.proofs.Walks.{tuple_type, Option, Some, None, El, R, el_x, elτ, Good, word}
-use Rattle.fresh.specs.Ownership.{slot, slots}
+use Rattle.fresh.proofs.Walks.{◌≡◌, refl, sym, ap, subst, ◌∙◌, ℕ, zero, suc, ◌+◌, ◌*◌, ◌<◌, ◌≤◌, arith, zero-mul, suc-mul, List, [], ◌∷◌, ◌++◌, map, length, take, set, get_or, replicate}
+use Rattle.fresh.proofs.Walks.{take-append-drop, length-take, Ura, full_share, Ty, ty_array, Val, vstruct, vcons, vnil, of_list, ent, sep, emp, id⊢, mono_r, Fml, ftrue, fsep, froom, Logic, sem}
+use Rattle.fresh.proofs.Walks.{Item, Goal, Seq, Step, step, ‵, ◌⊛◌, ◌$◌, ◌∵◌, !, qed, by, move, keep, drop as skip, use1, use2, split, frame, fsplit, fjoin, fpick, fpack, feq_i, feq_l, rewrite}
+use Rattle.fresh.proofs.Walks.{done, RattleType, Valss, param, layout, part_at, Ptr, RawPtr, ptr_val, row, nothing, peeks, Tuple, tuple_type, Option, Some, None, El, R, el_x, elτ, Good, word}
 use Rattle.fresh.specs.contracts.cells.Cells as C-type
 use Rattle.fresh.specs.contracts.cells.Base as B-type
 

@@ -1,10 +1,7 @@
 -- A list in parts: its items are those of the parts, and the first without a value is the first of the parts' first ones.
-use Rattle.std.proofs.Common.{◌≡◌, ℕ, ◌+◌, ◌-◌, ◌^◌, ◌≤◌, ◌<◌, List, [], ◌∷◌, ◌++◌, length, min, take, drop, refl, ap, sym, ◌∙◌, arith, sum, Option, Some, None, length-append}
-use Rattle.std.specs.List.{flat_map}
-use Rattle.std.specs.Option.{option_or}
-use Rattle.std.proofs.lemmas.List.{drop-map, take-append-drop, take-map}
+use Rattle.fresh.proofs.Cited.{◌≡◌, ℕ, ◌+◌, ◌-◌, ◌^◌, ◌≤◌, ◌<◌, List, [], ◌∷◌, ◌++◌, length, min, take, drop, refl, ap, sym, ◌∙◌, arith, sum, Option, Some, None, length-append, flat_map, option_or}
+use Rattle.fresh.proofs.Cited.{drop-map, take-append-drop, take-map, flat_map-append}
 use Rattle.std.proofs.lemmas.List.Sums.{sum_by-cons}
-use Rattle.std.proofs.lemmas.Grind.{flat_map-append}
 use Rattle.fresh.specs.Counted.{counts_of, found_in}
 
 or_or : (a b c : Option ℕ) → option_or a (option_or b c) ≡ option_or (option_or a b) c
@@ -15,9 +12,7 @@ module _ {P X : Type 0} (items : P → List X) where
   -- the counts add up to the number of items
   pub counted : (parts : List P) → sum (counts_of items parts) ≡ length (flat_map items parts)
   counted [] = refl
-  counted (part ∷ parts) =
-      sum_by-cons (λ n. n) (length (items part)) (counts_of items parts) ∙ ap (λ n. length (items part) + n) (counted parts)
-      ∙ sym (length-append (items part) (flat_map items parts))
+  counted (part ∷ parts) = cc (sum_by-cons (λ n. n) (length (items part)) (counts_of items parts), counted parts, length-append (items part) (flat_map items parts))
 
   found_both : (found : P → ℕ → Option ℕ) (low high : List P) (first : ℕ)
       → found_in items found (low ++ high) first ≡ option_or (found_in items found low first) (found_in items found high (first + length (flat_map items low)))
@@ -25,10 +20,15 @@ module _ {P X : Type 0} (items : P → List X) where
   found_both found (part ∷ low) high first =
       let next = first + length (items part) in
       let at : next + length (flat_map items low) ≡ first + length (flat_map items (part ∷ low)) = omega (arith, length-append (items part) (flat_map items low)) in
-      ap (option_or (found part first)) (found_both found low high next) ∙ or_or (found part first) (found_in items found low next) (found_in items found high (next + length (flat_map items low)))
-      ∙ ap (λ p. option_or (option_or (found part first) (found_in items found low next)) (found_in items found high p)) at
+      cc (found_both found low high next, or_or (found part first) (found_in items found low next) (found_in items found high (next + length (flat_map items low))), at)
 
   -- parts in two, with their counts
+  pub record AreCut (parts low high : List P) (low_counts high_counts : List ℕ) (room total : ℕ) : Type 0 where
+    pub within : total ≤ room
+    pub front : (low_counts ≡ counts_of items low) × (total ≡ length (flat_map items low))
+    pub back : (high_counts ≡ counts_of items high) × (room - total ≡ length (flat_map items high))
+    pub found : (found : P → ℕ → Option ℕ) (first : ℕ) → found_in items found parts first ≡ option_or (found_in items found low first) (found_in items found high (first + total))
+
   module _ (parts : List P) {low high : List P} {counts low_counts high_counts : List ℕ} (few : ℕ) {room total : ℕ} (counts_are : counts ≡ counts_of items parts)
       (all : room ≡ length (flat_map items parts))
       (low_is : low ≡ take few parts) (high_is : high ≡ drop few parts) (low_counts_are : low_counts ≡ take few counts) (high_counts_are : high_counts ≡ drop few counts)
@@ -45,17 +45,12 @@ module _ {P X : Type 0} (items : P → List X) where
     low_total : total ≡ length (flat_map items low)
     low_total = let sums : sum low_counts ≡ length (flat_map items low) = ap sum low_counted ∙ counted low in omega (arith, sizes)
 
-    pub within : total ≤ room
-    within = omega (arith, sizes, low_total)
-
-    pub front_counted : (low_counts ≡ counts_of items low) × (total ≡ length (flat_map items low))
-    front_counted = (low_counted, low_total)
-
-    pub back_counted : (high_counts ≡ counts_of items high) × (room - total ≡ length (flat_map items high))
-    back_counted =
-        (high_counts_are ∙ ap (drop few) counts_are ∙ drop-map (λ part. length (items part)) few parts ∙ ap (counts_of items) (sym high_is), omega (arith, sizes, low_total))
-
-    pub found_split : (found : P → ℕ → Option ℕ) (first : ℕ)
-        → found_in items found parts first ≡ option_or (found_in items found low first) (found_in items found high (first + total))
-    found_split found first =
-        ap (λ ps. found_in items found ps first) both ∙ found_both found low high first ∙ ap (λ n. option_or (found_in items found low first) (found_in items found high (first + n))) (sym low_total)
+    pub cut_in_two : AreCut parts low high low_counts high_counts room total
+    cut_in_two = record {
+      within = omega (arith, sizes, low_total);
+      front = (low_counted, low_total);
+      back = (high_counts_are ∙ ap (drop few) counts_are ∙ drop-map (λ part. length (items part)) few parts ∙ ap (counts_of items) (sym high_is), omega (arith, sizes, low_total));
+      found = λ found first.
+          ap (λ ps. found_in items found ps first) both ∙ found_both found low high first
+          ∙ ap (λ n. option_or (found_in items found low first) (found_in items found high (first + n))) (sym low_total);
+    }

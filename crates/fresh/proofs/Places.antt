@@ -1,10 +1,7 @@
 -- Lists of places that begin with items and end empty.
 --     begun, front, back, pushed_on, joined_with      what a run is made of, and how it is seen
-use Rattle.std.proofs.Common.{◌≡◌, ℕ, zero, suc, ◌+◌, ◌-◌, ◌<◌, ◌≤◌, ◌^◌, ◌⊎◌, inl, inr, List, [], ◌∷◌, ◌++◌, length, map, take, drop, replicate, slice_set, Option, Some, None, refl, sym, ap, ◌∙◌}
-use Rattle.std.proofs.Common.{append-nil, arith, length-append}
-use Rattle.std.proofs.lemmas.List.{drop-replicate, replicate-append-replicate, take-replicate}
-use denote.RawPtr.{Ptr}
-use Rattle.fresh.specs.Places.{Follows, IsRun, Stretch, filled, somes, stretch}
+use Rattle.fresh.proofs.Cited.{◌≡◌, ℕ, zero, suc, ◌+◌, ◌-◌, ◌<◌, ◌≤◌, ◌^◌, ◌⊎◌, inl, inr, List, [], ◌∷◌, ◌++◌, length, map, take, drop, replicate, slice_set, Option, Some, None, refl, sym, ap, ◌∙◌}
+use Rattle.fresh.proofs.Cited.{append-nil, arith, length-append, drop-replicate, replicate-append-replicate, take-replicate, Ptr, Follows, IsRun, Stretch, filled, somes, stretch}
 use Rattle.fresh.specs.declared.cells.Cells.{Cells}
 
 module _ {X : Type 0} where

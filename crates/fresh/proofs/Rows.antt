@@ -1,16 +1,15 @@
 -- The two raw calls of a row of slots, and its places as those of a block. Assumes `Logic`.
+use Rattle.fresh.proofs.Cited.{slots}
 use denote.Triple.Statement.{Contract}
 use Rattle.core.specs.Mem.Slots.Ownership.{slots as places, owned}
 use Rattle.core.specs.contracts.slots.Slots.from_raw_parts as FR
 use Rattle.core.specs.contracts.slots.Slots.into_raw_parts as IR
 use Rattle.core.proofs.slots.Places as Core
-use Rattle.fresh.proofs.Walks.{◌≡◌, refl, sym, ap, subst, ◌∙◌, Bool, true, ℕ, ◌*◌, ◌<◌, ◌^◌, List, [], ◌∷◌, ◌++◌, map, T, length, replicate, Ura, w64, ty_array, Val, vint, vptr}
-use Rattle.fresh.proofs.Walks.{vstruct, of_list, has_ty, WT, SProp, ent, sep, ex, guard, emp, id⊢, Fml, Lft, Share, ftrue, fsep, flft, froom, Memory, Routine, Logic, sem, ◌⊑◌, Fun}
-use Rattle.fresh.proofs.Walks.{fact, fact_i, Goal, Seq, Item, ‵, raw, ◌⊛◌, some, later, ◌$◌, ◌∵◌, !, qed, by, move, keep, drop, use0, use1, split, join, pick, rewrite, fsplit}
-use Rattle.fresh.proofs.Walks.{fsplit3, fjoin, fjoin3, fpick, feq_l, feq_i, flt_i, check, show, await, updating, now, done, RattleType, usize, layout, row, Ptr, RawPtr, block_ptr}
-use Rattle.fresh.proofs.Walks.{in_block, full_share, only, heard, nothing, Tuple, triple_of, Some, None, slots_items, slots_filled, slots_ptr, slots_len, El, el_x, elτ, R, Sr}
-use Rattle.fresh.proofs.Walks.{words_val, row_val, row_had, row_made}
-use Rattle.fresh.specs.Ownership.{slots}
+use Rattle.fresh.proofs.Walks.{◌≡◌, refl, sym, ap, subst, ◌∙◌, Bool, true, ℕ, ◌*◌, ◌<◌, ◌^◌, List, [], ◌∷◌, ◌++◌, map, T, length, replicate, Ura, w64, ty_array, Val, vint, vptr, vstruct, of_list}
+use Rattle.fresh.proofs.Walks.{has_ty, WT, SProp, ent, sep, ex, guard, emp, id⊢, Fml, Lft, Share, ftrue, fsep, flft, froom, Memory, Routine, Logic, sem, ◌⊑◌, Fun, fact, fact_i, Goal, Seq, Item, ‵}
+use Rattle.fresh.proofs.Walks.{raw, ◌⊛◌, some, later, ◌$◌, ◌∵◌, !, qed, by, move, keep, drop, use0, use1, split, join, pick, rewrite, fsplit, fsplit3, fjoin, fjoin3, fpick, feq_l, feq_i, flt_i}
+use Rattle.fresh.proofs.Walks.{check, show, await, updating, now, done, RattleType, usize, layout, row, Ptr, RawPtr, block_ptr, in_block, full_share, only, heard, nothing, Tuple, triple_of, Some}
+use Rattle.fresh.proofs.Walks.{None, slots_items, slots_filled, slots_ptr, slots_len, El, el_x, elτ, R, Sr, words_val, row_val, row_had, row_made}
 use Rattle.fresh.proofs.Memory.{of_room, to_row}
 
 module _ (E : El) where

@@ -1,7 +1,6 @@
 -- What a run holds while it is written.
 -- Source: what the definitions of Places imply.
-use Rattle.std.proofs.Common.{◌≡◌, ℕ, ◌-◌, ◌≤◌, List, [], ◌∷◌, ◌++◌, length, append_assoc, append-nil, ap, ◌∙◌, arith, length-append}
-use Rattle.fresh.specs.Places.{IsAllOf, Site, Stretch, stretch, with_items}
+use Rattle.fresh.proofs.Cited.{◌≡◌, ℕ, ◌-◌, ◌≤◌, List, [], ◌∷◌, ◌++◌, length, append_assoc, append-nil, ap, ◌∙◌, arith, length-append, IsAllOf, Site, Stretch, stretch, with_items}
 
 module _ {X : Type 0} where
   -- one list of items after another

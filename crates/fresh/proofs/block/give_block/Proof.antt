@@ -1,14 +1,11 @@
 -- `give_block` makes the block of a vector of its places and the right to free it. Assumes `Logic`.
-use Rattle.std_alloc.proofs.VecSteps.El.{El, args, el_x, el_d, Vr, R, P, sz, Hd}
-use Rattle.fresh.proofs.Walks.{◌≡◌, refl, sym, ap, subst, ◌∙◌, ℕ, ◌+◌, ◌-◌, ◌*◌, ◌<◌, ◌≤◌, ◌^◌, arith, zero-mul, List, [], ◌∷◌, ◌++◌, map, length, replicate, length-append}
-use Rattle.fresh.proofs.Walks.{length-map, length-replicate, Fn, w64, inst_fn, Val, vunit, vint, vptr, SProp, ent, never, id⊢, ftrue, flft, Env, WpFn}
-use Rattle.fresh.proofs.Walks.{◌⊑◌, fact, tables, ‵, raw, ◌⊛◌, at_ret, ◌$◌, ◌∵◌, !, qed, move, keep, drop, use2, split, split3, join, rewrite}
-use Rattle.fresh.proofs.Walks.{fsplit, fsplit3, fjoin, fjoin3, feq_i, feq_l, flt_l, suffices, done, whole, sub, store_in, stop, fld, addr, unit_lit, of_opd, assigns, assigns_last}
-use Rattle.fresh.proofs.Walks.{first, blocks, exec, returns, enter, alloc_all, pass_all, free_all, look_at, get, get_in, through, is, sets, env, yes, no, RattleType, owns, usize}
-use Rattle.fresh.proofs.Walks.{Ptr, ptr_val, in_a_block, plain, types_at, heard, nothing, Ended, proved_at, Stays, stay_dropped, stay_ref}
-use Rattle.fresh.proofs.Walks.{walk_of, ends_at, Goes-dropped, Goes-ref, Some, None, token, Goes-blank, says_two, has_block, word, word-Good, Blk, vec_opens⁰}
-use Rattle.fresh.proofs.Walks.{vec_closes⁰, after}
-use Rattle.fresh.specs.Ownership.{slots, cells_own, deed_owns}
+use Rattle.fresh.proofs.Cited.{El, args, el_x, el_d, Vr, R, P, sz, Hd, slots, cells_own, deed_owns}
+use Rattle.fresh.proofs.Walks.{◌≡◌, refl, sym, ap, subst, ◌∙◌, ℕ, ◌+◌, ◌-◌, ◌*◌, ◌<◌, ◌≤◌, ◌^◌, arith, zero-mul, List, [], ◌∷◌, ◌++◌, map, length, replicate, length-append, length-map}
+use Rattle.fresh.proofs.Walks.{length-replicate, Fn, w64, inst_fn, Val, vunit, vint, vptr, SProp, ent, never, id⊢, ftrue, flft, Env, WpFn, ◌⊑◌, fact, tables, ‵, raw, ◌⊛◌, at_ret, ◌$◌, ◌∵◌, !, qed}
+use Rattle.fresh.proofs.Walks.{move, keep, drop, use2, split, split3, join, rewrite, fsplit, fsplit3, fjoin, fjoin3, feq_i, feq_l, flt_l, suffices, done, whole, sub, store_in, stop, fld, addr}
+use Rattle.fresh.proofs.Walks.{unit_lit, of_opd, assigns, assigns_last, first, blocks, exec, returns, enter, alloc_all, pass_all, free_all, look_at, get, get_in, through, is, sets, env, yes, no}
+use Rattle.fresh.proofs.Walks.{RattleType, owns, usize, Ptr, ptr_val, in_a_block, plain, types_at, heard, nothing, Ended, proved_at, Stays, stay_dropped, stay_ref, walk_of, ends_at, Goes-dropped}
+use Rattle.fresh.proofs.Walks.{Goes-ref, Some, None, token, Goes-blank, says_two, has_block, word, word-Good, Blk, vec_opens⁰, vec_closes⁰, after}
 use Rattle.fresh.proofs.Blocks.{el, items_in}
 use Rattle.fresh.proofs.Memory.{Bs, Cr, Place, mark, mark_had, word_had}
 use Rattle.fresh.specs.contracts.block.Deed as D-type

@@ -1,13 +1,11 @@
 -- `take_block` parts a vector from its block. Assumes `Logic`.
-use Rattle.std_alloc.proofs.VecSteps.El.{El, args, el_x, el_d, Vr, R, P, sz}
-use Rattle.fresh.proofs.Walks.{◌≡◌, refl, sym, subst, ℕ, ◌+◌, ◌-◌, ◌*◌, ◌<◌, ◌≤◌, ◌^◌, arith, zero-mul, List, [], ◌∷◌, ◌++◌, map, lit<, length, replicate, length-append}
-use Rattle.fresh.proofs.Walks.{length-map, length-replicate, Fn, inst_fn, Val, vptr, SProp, ent, emp, id⊢, ftrue, flft, Env, WpFn, ◌⊑◌}
-use Rattle.fresh.proofs.Walks.{fact, tables, ‵, raw, ◌⊛◌, at_ret, ◌$◌, ◌∵◌, !, qed, move, keep, drop, use0, use1, use3, split, split3, join, rewrite, fsplit}
-use Rattle.fresh.proofs.Walks.{fsplit3, fjoin, fjoin3, feq_i, feq_l, flt_i, suffices, done, whole, sub, agg, look_in, store_in, stop, fld, load, addr, lit, of_opd, no_more}
-use Rattle.fresh.proofs.Walks.{and_then, assigns, assigns_last, first, blocks, exec, returns, enter, alloc_all, pass_all, free_all, look_at, get, through, sets, sets_last, env}
-use Rattle.fresh.proofs.Walks.{RattleType, owns, Ptr, block_ptr, plain, types_at, nothing, Ended, proved_at, Stays, stay_ref, walk_of, ends_at}
-use Rattle.fresh.proofs.Walks.{Goes-ref, None, Some, says_three, owns_if, has_block, Good, word, word-Good, not_live, vec_opens⁰, vec_closes⁰, after, layout, Tuple}
-use Rattle.fresh.specs.Ownership.{slots}
+use Rattle.fresh.proofs.Cited.{El, args, el_x, el_d, Vr, R, P, sz, slots}
+use Rattle.fresh.proofs.Walks.{◌≡◌, refl, sym, subst, ℕ, ◌+◌, ◌-◌, ◌*◌, ◌<◌, ◌≤◌, ◌^◌, arith, zero-mul, List, [], ◌∷◌, ◌++◌, map, lit<, length, replicate, length-append, length-map}
+use Rattle.fresh.proofs.Walks.{length-replicate, Fn, inst_fn, Val, vptr, SProp, ent, emp, id⊢, ftrue, flft, Env, WpFn, ◌⊑◌, fact, tables, ‵, raw, ◌⊛◌, at_ret, ◌$◌, ◌∵◌, !, qed, move, keep, drop}
+use Rattle.fresh.proofs.Walks.{use0, use1, use3, split, split3, join, rewrite, fsplit, fsplit3, fjoin, fjoin3, feq_i, feq_l, flt_i, suffices, done, whole, sub, agg, look_in, store_in, stop, fld}
+use Rattle.fresh.proofs.Walks.{load, addr, lit, of_opd, no_more, and_then, assigns, assigns_last, first, blocks, exec, returns, enter, alloc_all, pass_all, free_all, look_at, get, through, sets}
+use Rattle.fresh.proofs.Walks.{sets_last, env, RattleType, owns, Ptr, block_ptr, plain, types_at, nothing, Ended, proved_at, Stays, stay_ref, walk_of, ends_at, Goes-ref, None, Some, says_three}
+use Rattle.fresh.proofs.Walks.{owns_if, has_block, Good, word, word-Good, not_live, vec_opens⁰, vec_closes⁰, after, layout, Tuple}
 use Rattle.fresh.proofs.Blocks.{el, Frees, items_out}
 use Rattle.fresh.proofs.Memory.{Bs, Cr, Mark, Place, mark, mark_made, word_made, three_val, three_of}
 use Rattle.fresh.specs.contracts.block.Deed as D-type

@@ -1,13 +1,12 @@
 -- `emptied` takes a row for its places. Assumes `Logic`.
 use Rattle.core.proofs.slots.Slots.into_raw_parts.Met as callee
-use Rattle.fresh.proofs.Walks.{◌≡◌, refl, sym, subst, ◌∙◌, Bool, ℕ, ◌+◌, ◌*◌, ◌<◌, ◌^◌, arith, zero-mul, List, [], ◌∷◌, ◌++◌, length, replicate, length-replicate, Fn, inst_fn, Val}
-use Rattle.fresh.proofs.Walks.{WT, SProp, ent, emp, id⊢, Lft, Share, ftrue, flft, WpFn, ◌⊑◌, fact, tables, FmC, ‵, raw, ◌⊛◌, given, later, at_ret, ◌$◌, ◌∵◌}
-use Rattle.fresh.proofs.Walks.{ !, qed, move, keep, drop, use0, use1, use2, split, join, rewrite, fsplit, fjoin, learn, await, flt_i, suffices, done, agg, sub, whole, stop, fld}
-use Rattle.fresh.proofs.Walks.{of_opd, and_then, no_more, first, blocks, exec, returns, enter, alloc_all, pass_all, free_all, look_at, get, get_in, sets, lands_last, is, env, no}
-use Rattle.fresh.proofs.Walks.{layout, owns, Ptr, block_ptr, plain, types_at, heard, nothing, Tuple, calls_at_last, Ended, proved_at, framed, Stays, stay_dropped}
-use Rattle.fresh.proofs.Walks.{walk_of, ends_at, Goes-dropped, None, slots_items, slots_filled, slots_len, slots_counts, tail, says_two, El, R, args, el_x, row_val}
-use Rattle.fresh.proofs.Walks.{Good, word, word-Good}
-use Rattle.fresh.specs.Ownership.{slots}
+use Rattle.fresh.proofs.Cited.{slots}
+use Rattle.fresh.proofs.Walks.{◌≡◌, refl, sym, subst, ◌∙◌, Bool, ℕ, ◌+◌, ◌*◌, ◌<◌, ◌^◌, arith, zero-mul, List, [], ◌∷◌, ◌++◌, length, replicate, length-replicate, Fn, inst_fn, Val, WT, SProp, ent}
+use Rattle.fresh.proofs.Walks.{emp, id⊢, Lft, Share, ftrue, flft, WpFn, ◌⊑◌, fact, tables, FmC, ‵, raw, ◌⊛◌, given, later, at_ret, ◌$◌, ◌∵◌, !, qed, move, keep, drop, use0, use1, use2, split, join}
+use Rattle.fresh.proofs.Walks.{rewrite, fsplit, fjoin, learn, await, flt_i, suffices, done, agg, sub, whole, stop, fld, of_opd, and_then, no_more, first, blocks, exec, returns, enter, alloc_all}
+use Rattle.fresh.proofs.Walks.{pass_all, free_all, look_at, get, get_in, sets, lands_last, is, env, no, layout, owns, Ptr, block_ptr, plain, types_at, heard, nothing, Tuple, calls_at_last, Ended}
+use Rattle.fresh.proofs.Walks.{proved_at, framed, Stays, stay_dropped, walk_of, ends_at, Goes-dropped, None, slots_items, slots_filled, slots_len, slots_counts, tail, says_two, El, R, args, el_x}
+use Rattle.fresh.proofs.Walks.{row_val, Good, word, word-Good}
 use Rattle.fresh.proofs.Memory.{Bs, Cr, Mark, mark, mark_made, word_made, two_val, two_of}
 use Rattle.fresh.proofs.Rows.{Row, all, parts_typed, row_seen, Into, at_into, into_goes, into_gives, empties}
 use Rattle.fresh.specs.contracts.over.emptied as F

@@ -1,13 +1,12 @@
 -- `filled_row` gives places that hold items back as a row. Assumes `Logic`.
 use Rattle.core.proofs.slots.Slots.from_raw_parts.Met as callee
-use Rattle.fresh.proofs.Walks.{◌≡◌, refl, sym, ap, subst, ◌∙◌, Bool, true, false, ℕ, ◌+◌, ◌*◌, ◌<◌, ◌^◌, arith, zero-mul, List, [], ◌∷◌, ◌++◌, map, length, replicate, length-map}
-use Rattle.fresh.proofs.Walks.{length-replicate, get_or, get_or-replicate, Fn, w64, inst_fn, Val, WT, vint, SProp, ent, never, id⊢, Lft, Share, ftrue, flft, WpFn, ◌⊑◌, fact}
-use Rattle.fresh.proofs.Walks.{tables, FmC, ‵, raw, ◌⊛◌, some, given, later, at_ret, ◌$◌, ◌∵◌, !, qed, move, keep, use1, use2, split, split3, join, pick}
-use Rattle.fresh.proofs.Walks.{rewrite, fsplit, fjoin, feq_l, flt_l, learn, await, suffices, done, sub, whole, stop, fld, of_opd, and_then, no_more, first, blocks, exec, returns}
-use Rattle.fresh.proofs.Walks.{enter, alloc_all, pass_all, free_all, look_at, get, get_in, sets, lands_last, is, env, usize, yes, no, owns, Ptr, block_ptr, in_a_block, plain}
-use Rattle.fresh.proofs.Walks.{types_at, heard, nothing, calls_at_last, Ended, proved_at, framed, Stays, stay_dropped, walk_of, ends_at, Goes-dropped}
+use Rattle.fresh.proofs.Cited.{slots, cells_own}
+use Rattle.fresh.proofs.Walks.{◌≡◌, refl, sym, ap, subst, ◌∙◌, Bool, true, false, ℕ, ◌+◌, ◌*◌, ◌<◌, ◌^◌, arith, zero-mul, List, [], ◌∷◌, ◌++◌, map, length, replicate, length-map, length-replicate}
+use Rattle.fresh.proofs.Walks.{get_or, get_or-replicate, Fn, w64, inst_fn, Val, WT, vint, SProp, ent, never, id⊢, Lft, Share, ftrue, flft, WpFn, ◌⊑◌, fact, tables, FmC, ‵, raw, ◌⊛◌, some, given}
+use Rattle.fresh.proofs.Walks.{later, at_ret, ◌$◌, ◌∵◌, !, qed, move, keep, use1, use2, split, split3, join, pick, rewrite, fsplit, fjoin, feq_l, flt_l, learn, await, suffices, done, sub, whole}
+use Rattle.fresh.proofs.Walks.{stop, fld, of_opd, and_then, no_more, first, blocks, exec, returns, enter, alloc_all, pass_all, free_all, look_at, get, get_in, sets, lands_last, is, env, usize, yes}
+use Rattle.fresh.proofs.Walks.{no, owns, Ptr, block_ptr, in_a_block, plain, types_at, heard, nothing, calls_at_last, Ended, proved_at, framed, Stays, stay_dropped, walk_of, ends_at, Goes-dropped}
 use Rattle.fresh.proofs.Walks.{Option, Some, IsFull, Goes-blank, tail, says_two, El, R, args, el_x, row_val, word, word-Good}
-use Rattle.fresh.specs.Ownership.{slots, cells_own}
 use Rattle.fresh.proofs.Memory.{Bs, Cr, mark, mark_had, word_had, sz}
 use Rattle.fresh.proofs.Rows.{Row, all, row_Typed, From, at_from, Made, from_goes, from_gives, fills}
 use Rattle.fresh.specs.contracts.over.filled_row as F

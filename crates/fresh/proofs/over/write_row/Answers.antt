@@ -1,6 +1,5 @@
-use Rattle.std.proofs.Common.{[], refl, sym, ap, ◌∙◌, subst}
+use Rattle.fresh.proofs.Cited.{[], refl, sym, ap, ◌∙◌, subst, somes, stretch}
 use Rattle.core.specs.Mem.Slots.{slots_items}
-use Rattle.fresh.specs.Places.{somes, stretch}
 use Rattle.fresh.specs.contracts.over.write_row.F-FnOnce.{words}
 use Rattle.fresh.proofs.Places.{somes_filled, somes_map}
 use Rattle.fresh.proofs.over.write_row.Goals as goal

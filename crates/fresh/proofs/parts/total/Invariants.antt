@@ -1,4 +1,4 @@
-use Rattle.std.proofs.Common.{◌≡◌, ◌+◌, ◌-◌, ◌^◌, ◌<◌, drop, min, sum}
+use Rattle.fresh.proofs.Cited.{◌≡◌, ◌+◌, ◌-◌, ◌^◌, ◌<◌, drop, min, sum}
 use Rattle.fresh.proofs.parts.total.Given as goal
 
 abbrev pub invariant-loop-count : goal.invariant-loop-count

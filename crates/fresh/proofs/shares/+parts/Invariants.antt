@@ -1,4 +1,4 @@
-use Rattle.std.proofs.Common.{◌+◌, ◌-◌, ◌*◌}
+use Rattle.fresh.proofs.Cited.{◌+◌, ◌-◌, ◌*◌}
 use Rattle.fresh.proofs.shares.+parts.Given as goal
 
 abbrev pub decreases-write_whole : goal.decreases-write_whole

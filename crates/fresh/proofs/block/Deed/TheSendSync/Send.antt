@@ -1,8 +1,6 @@
-use denote.RattleType.{RattleType}
-use denote.Param.Send.{IsSend, Frees}
-use Rattle.core.specs.declared.alloc.Allocator.{Ghosts}
-use Rattle.fresh.proofs.Crosses.{Deed-send}
+use Rattle.fresh.proofs.Cited.{RattleType, IsSend, Frees, Ghosts}
 use Rattle.fresh.specs.contracts.block.Deed.{the_row}
+use Rattle.fresh.proofs.Crosses.{Deed-send}
 
 pub send : (R A : RattleType) (g : Ghosts A.Denot) → IsSend A → Frees g g.dealloc_token → IsSend (the_row R A g)
 send R A g s = Deed-send R A g

@@ -1,11 +1,5 @@
 -- A `&` to the places holds nothing. Assumes `Logic`.
-use denote.RattleType.{RattleType}
-use denote.RawPtr.{RawPtr}
-use denote.Param.Laws.{Laws}
-use denote.Param.Shared.{copy_shared}
-use denote.SharingLaws.{nothing_shr_laws}
-use denote.Struct.Laws.{field_copy}
-use denote.Struct.Lending.{of_Lends, Lends-nothing}
+use Rattle.fresh.proofs.Cited.{RattleType, RawPtr, Laws, copy_shared, nothing_shr_laws, field_copy, of_Lends, Lends-nothing}
 use Rattle.core.specs.contracts.marker.PhantomData as marker
 use Rattle.fresh.specs.contracts.cells.Cells as C
 use Rattle.fresh.proofs.cells.Cells.TheLaw.Statement.{statement}

@@ -1,5 +1,4 @@
-use denote.RattleType.{RattleType}
-use denote.Param.Send.{IsSend}
+use Rattle.fresh.proofs.Cited.{RattleType, IsSend}
 use Rattle.fresh.proofs.Crosses.{Cells-send}
 use Rattle.fresh.specs.contracts.cells.Cells.{the_row}
 

@@ -1,5 +1,4 @@
-use denote.RattleType.{RattleType}
-use denote.Param.Send.{IsSync}
+use Rattle.fresh.proofs.Cited.{RattleType, IsSync}
 use Rattle.fresh.proofs.Crosses.{Cells-sync}
 use Rattle.fresh.specs.contracts.cells.Cells.{the_row}
 

@@ -1,10 +1,9 @@
 -- `merge` glues two rows of places that meet. Assumes `Logic`.
-use Rattle.fresh.proofs.Walks.{◌≡◌, refl, sym, ap, subst, ◌∙◌, ℕ, ◌+◌, ◌*◌, ◌<◌, ◌^◌, arith, List, [], ◌∷◌, ◌++◌, length, length-append, Fn, inst_fn, Val, SProp, ent, never, id⊢}
-use Rattle.fresh.proofs.Walks.{Lft, Share, ftrue, flft, WpFn, ◌⊑◌, fact, tables, ‵, raw, ◌⊛◌, ◌$◌, ◌∵◌, !, qed, move, keep, drop, use0, use2, split, join}
-use Rattle.fresh.proofs.Walks.{rewrite, fsplit, fjoin, suffices, done, flt_l, flt_i, agg, and_then, no_more, returns, enter, alloc_all, pass_all, free_all, look_at, get, sets, no, owns, Ptr}
-use Rattle.fresh.proofs.Walks.{in_a_block, plain, types_at, heard, nothing, Ended, proved_at, says, Stays, stay_dropped, walk_of, ends_at, Goes-blank, El, R}
-use Rattle.fresh.proofs.Walks.{args, add_times}
-use Rattle.fresh.specs.Ownership.{slots, cells_own}
+use Rattle.fresh.proofs.Cited.{slots, cells_own}
+use Rattle.fresh.proofs.Walks.{◌≡◌, refl, sym, ap, subst, ◌∙◌, ℕ, ◌+◌, ◌*◌, ◌<◌, ◌^◌, arith, List, [], ◌∷◌, ◌++◌, length, length-append, Fn, inst_fn, Val, SProp, ent, never, id⊢, Lft, Share, ftrue}
+use Rattle.fresh.proofs.Walks.{flft, WpFn, ◌⊑◌, fact, tables, ‵, raw, ◌⊛◌, ◌$◌, ◌∵◌, !, qed, move, keep, drop, use0, use2, split, join, rewrite, fsplit, fjoin, suffices, done, flt_l, flt_i, agg}
+use Rattle.fresh.proofs.Walks.{and_then, no_more, returns, enter, alloc_all, pass_all, free_all, look_at, get, sets, no, owns, Ptr, in_a_block, plain, types_at, heard, nothing, Ended, proved_at}
+use Rattle.fresh.proofs.Walks.{says, Stays, stay_dropped, walk_of, ends_at, Goes-blank, El, R, args, add_times}
 use Rattle.fresh.proofs.Memory.{Cr, Mark, sz, mark, mark_had, mark_made, glue}
 use Rattle.fresh.specs.contracts.cells.Cells.merge as F
 use Rattle.fresh.specs.contracts.cells.Cells.merge.Key.{name as #self}

@@ -1,11 +1,10 @@
 -- `split` parts a row of places in two. Assumes `Logic`.
+use Rattle.fresh.proofs.Cited.{slots, cells_own}
 use lib.ListN.{drop as drop_l}
-use Rattle.fresh.proofs.Walks.{◌≡◌, refl, sym, subst, ℕ, ◌+◌, ◌*◌, ◌<◌, ◌≤◌, ◌^◌, arith, List, [], ◌∷◌, ◌++◌, length, take, length-take, length-drop, Fn, w64, inst_fn, Val, vint, SProp, ent}
-use Rattle.fresh.proofs.Walks.{never, id⊢, Lft, Share, ftrue, flft, WpFn, ◌⊑◌, fact, tables, ‵, raw, ◌⊛◌, ◌$◌, ◌∵◌, !, qed, move, keep, drop, use0, use1, use2, split}
-use Rattle.fresh.proofs.Walks.{join, rewrite, fsplit, fjoin, feq_l, suffices, done, flt_l, flt_i, agg, and_then, no_more, returns, enter, alloc_all, pass_all, free_all, look_at, get, sets}
-use Rattle.fresh.proofs.Walks.{usize, yes, no, Tuple, owns, Ptr, in_a_block, plain, types_at, heard, nothing, Ended, proved_at, Stays, stay_dropped, walk_of, ends_at}
-use Rattle.fresh.proofs.Walks.{Goes-dropped, Goes-blank, El, R, args, add_times, times_below, says_two}
-use Rattle.fresh.specs.Ownership.{slots, cells_own}
+use Rattle.fresh.proofs.Walks.{◌≡◌, refl, sym, subst, ℕ, ◌+◌, ◌*◌, ◌<◌, ◌≤◌, ◌^◌, arith, List, [], ◌∷◌, ◌++◌, length, take, length-take, length-drop, Fn, w64, inst_fn, Val, vint, SProp, ent, never}
+use Rattle.fresh.proofs.Walks.{id⊢, Lft, Share, ftrue, flft, WpFn, ◌⊑◌, fact, tables, ‵, raw, ◌⊛◌, ◌$◌, ◌∵◌, !, qed, move, keep, drop, use0, use1, use2, split, join, rewrite, fsplit, fjoin, feq_l}
+use Rattle.fresh.proofs.Walks.{suffices, done, flt_l, flt_i, agg, and_then, no_more, returns, enter, alloc_all, pass_all, free_all, look_at, get, sets, usize, yes, no, Tuple, owns, Ptr, in_a_block}
+use Rattle.fresh.proofs.Walks.{plain, types_at, heard, nothing, Ended, proved_at, Stays, stay_dropped, walk_of, ends_at, Goes-dropped, Goes-blank, El, R, args, add_times, times_below, says_two}
 use Rattle.fresh.proofs.Memory.{Cr, Mark, sz, mark, mark_had, mark_made, parted, two_val, two_of}
 use Rattle.fresh.specs.contracts.cells.Cells.split as F
 use Rattle.fresh.specs.contracts.cells.Cells.split.Key.{name as #self}

@@ -1,12 +1,11 @@
 -- `write` fills an empty place. Assumes `Logic`.
-use Rattle.fresh.proofs.Walks.{◌≡◌, refl, sym, subst, ◌∙◌, ap, ℕ, ◌+◌, ◌*◌, ◌<◌, ◌^◌, ◌-◌, ◌≤◌, arith, List, [], ◌∷◌, ◌++◌, length, get_or, set, length-set, Fn, w64, inst_fn, Val}
-use Rattle.fresh.proofs.Walks.{vint, vptr, vunit, SProp, ent, id⊢, never, Lft, Share, ftrue, flft, fat, WpFn, ◌⊑◌, fact, tables, ‵, raw, ◌⊛◌, at_ret, ◌$◌}
-use Rattle.fresh.proofs.Walks.{◌∵◌, qed, move, keep, drop, use1, use2, split, join, rewrite, fsplit, fjoin, flt_i, suffices, done, split3, feq_l, flt_l, fsplit3, fjoin3, feq_i}
-use Rattle.fresh.proofs.Walks.{sub, whole, stop, fld, of_opd, first, blocks, exec, returns, enter, assigns_last, unit_lit, init, bin, size_lit, alloc_all, pass_all, free_all}
-use Rattle.fresh.proofs.Walks.{look_at, get, get_in, sets, env, through, take_at, give_at, no, yes, layout, owns, Ptr, in_a_block, plain, types_at, heard, nothing, opens, closes}
-use Rattle.fresh.proofs.Walks.{Ended, proved_at, Stays, stay_dropped, walk_of, ends_at, Goes-dropped, stay_ref, Goes-ref, says, None, Some, El, R}
+use Rattle.fresh.proofs.Cited.{slot, slots, cells_own}
+use Rattle.fresh.proofs.Walks.{◌≡◌, refl, sym, subst, ◌∙◌, ap, ℕ, ◌+◌, ◌*◌, ◌<◌, ◌^◌, ◌-◌, ◌≤◌, arith, List, [], ◌∷◌, ◌++◌, length, get_or, set, length-set, Fn, w64, inst_fn, Val, vint, vptr, vunit}
+use Rattle.fresh.proofs.Walks.{SProp, ent, id⊢, never, Lft, Share, ftrue, flft, fat, WpFn, ◌⊑◌, fact, tables, ‵, raw, ◌⊛◌, at_ret, ◌$◌, ◌∵◌, qed, move, keep, drop, use1, use2, split, join, rewrite}
+use Rattle.fresh.proofs.Walks.{fsplit, fjoin, flt_i, suffices, done, split3, feq_l, flt_l, fsplit3, fjoin3, feq_i, sub, whole, stop, fld, of_opd, first, blocks, exec, returns, enter, assigns_last}
+use Rattle.fresh.proofs.Walks.{unit_lit, init, bin, size_lit, alloc_all, pass_all, free_all, look_at, get, get_in, sets, env, through, take_at, give_at, no, yes, layout, owns, Ptr, in_a_block}
+use Rattle.fresh.proofs.Walks.{plain, types_at, heard, nothing, opens, closes, Ended, proved_at, Stays, stay_dropped, walk_of, ends_at, Goes-dropped, stay_ref, Goes-ref, says, None, Some, El, R}
 use Rattle.fresh.proofs.Walks.{args, elτ, word, word-Good, usize, after, add_times, times_below, one_below, full_share, as_written, ! }
-use Rattle.fresh.specs.Ownership.{slot, slots, cells_own}
 use Rattle.fresh.proofs.Memory.{Cr, Bs, sz, Place, word_had, value_in, tells, Besides, slot_out, slot_in}
 use Rattle.fresh.specs.contracts.cells.Cells.write as F
 use Rattle.fresh.specs.contracts.cells.Cells.write.Key.{name as #self}

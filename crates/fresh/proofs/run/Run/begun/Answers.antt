@@ -1,6 +1,4 @@
-use Rattle.std.proofs.Common.{◌≡◌, ◌-◌, [], ◌∙◌, arith}
-use Rattle.std.proofs.lemmas.List.{nil_from_length}
-use Rattle.fresh.specs.Places.{stretch}
+use Rattle.fresh.proofs.Cited.{◌≡◌, ◌-◌, [], ◌∙◌, arith, nil_from_length, stretch}
 use Rattle.fresh.proofs.Places.{begun}
 use Rattle.fresh.proofs.run.Run.begun.Goals as goal
 

@@ -1,5 +1,4 @@
-use Rattle.std.proofs.Common.{◌≡◌, take}
-use Rattle.fresh.specs.Places.{with_items}
+use Rattle.fresh.proofs.Cited.{◌≡◌, take, with_items}
 use Rattle.fresh.proofs.run.Run.extend_from_slice.Given as goal
 
 abbrev pub invariant-loop-item : goal.invariant-loop-item

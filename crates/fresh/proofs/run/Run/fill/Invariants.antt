@@ -1,5 +1,4 @@
-use Rattle.std.proofs.Common.{◌≡◌, ◌+◌, ◌-◌, ◌≤◌, List, ◌++◌, length}
-use Rattle.fresh.specs.Places.{stretch, GoWith}
+use Rattle.fresh.proofs.Cited.{◌≡◌, ◌+◌, ◌-◌, ◌≤◌, List, ◌++◌, length, stretch, GoWith}
 use Rattle.fresh.proofs.run.Run.fill.Given as goal
 
 abbrev pub invariant-loop-place : goal.invariant-loop-place

@@ -1,6 +1,4 @@
-use Rattle.std.proofs.Common.{◌≡◌, ◌+◌, ◌++◌, length, map, take, drop, ap, ◌∙◌}
-use Rattle.fresh.specs.Places.{stretch}
-use Rattle.fresh.specs.Parts.{part}
+use Rattle.fresh.proofs.Cited.{◌≡◌, ◌+◌, ◌++◌, length, map, take, drop, ap, ◌∙◌, stretch, part}
 use Rattle.fresh.proofs.Halves.{part_map}
 use Rattle.fresh.proofs.run.Run.fill_by.Goals as goal
 

@@ -1,7 +1,4 @@
-use Rattle.std.proofs.Common.{◌≡◌, ◌+◌, ◌++◌, length, map, take, drop, ap, ◌∙◌}
-use Rattle.std.specs.List.{zip}
-use Rattle.fresh.specs.Places.{stretch}
-use Rattle.fresh.specs.Parts.{part}
+use Rattle.fresh.proofs.Cited.{◌≡◌, ◌+◌, ◌++◌, length, map, take, drop, ap, ◌∙◌, zip, stretch, part}
 use Rattle.fresh.proofs.Halves.{part_map}
 use Rattle.fresh.proofs.Maps.{zipped_map}
 use Rattle.fresh.proofs.Zips.{part_zip}

@@ -1,6 +1,4 @@
-use Rattle.std.proofs.Common.{◌≡◌, ◌-◌, ◌++◌, map, take, ◌∙◌, subst, arith, take_all}
-use Rattle.std.specs.List.{AllZip}
-use Rattle.fresh.specs.Places.{stretch}
+use Rattle.fresh.proofs.Cited.{◌≡◌, ◌-◌, ◌++◌, map, take, ◌∙◌, subst, arith, take_all, AllZip, stretch}
 use Rattle.fresh.proofs.Maps.{one_more, zipped_map}
 use Rattle.fresh.proofs.run.Run.fill_from.Goals as goal
 

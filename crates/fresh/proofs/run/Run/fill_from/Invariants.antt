@@ -1,6 +1,4 @@
-use Rattle.std.proofs.Common.{◌≡◌, ◌-◌, List, ◌++◌, take}
-use Rattle.std.specs.List.{AllZip}
-use Rattle.fresh.specs.Places.{stretch}
+use Rattle.fresh.proofs.Cited.{◌≡◌, ◌-◌, List, ◌++◌, take, AllZip, stretch}
 use Rattle.fresh.proofs.run.Run.fill_from.Given as goal
 
 abbrev pub invariant-loop-x : goal.invariant-loop-x

@@ -1,8 +1,4 @@
-use Rattle.std.proofs.Common.{◌≡◌, ◌-◌, ◌<◌, ◌++◌, length, take, sym, ◌∙◌, subst, arith}
-use Rattle.std.proofs.lemmas.List.{take_all}
-use Rattle.std.proofs.lemmas.Slice.Zip.{get_or-zip, length-zip}
-use Rattle.std.specs.List.{AllZip, zip}
-use Rattle.fresh.specs.Places.{stretch}
+use Rattle.fresh.proofs.Cited.{◌≡◌, ◌-◌, ◌<◌, ◌++◌, length, take, sym, ◌∙◌, subst, arith, take_all, get_or-zip, length-zip, AllZip, zip, stretch}
 use Rattle.fresh.proofs.Maps.{one_more}
 use Rattle.fresh.proofs.run.Run.fill_from_both.Goals as goal
 

@@ -1,6 +1,4 @@
-use Rattle.std.proofs.Common.{◌≡◌, ◌-◌, List, ◌++◌, take}
-use Rattle.std.specs.List.{AllZip, zip}
-use Rattle.fresh.specs.Places.{stretch}
+use Rattle.fresh.proofs.Cited.{◌≡◌, ◌-◌, List, ◌++◌, take, AllZip, zip, stretch}
 use Rattle.fresh.proofs.run.Run.fill_from_both.Given as goal
 
 abbrev pub invariant-loop-k : goal.invariant-loop-k

@@ -1,5 +1,4 @@
-use Rattle.std.proofs.Common.{◌≡◌, replicate}
-use Rattle.fresh.specs.Places.{with_items}
+use Rattle.fresh.proofs.Cited.{◌≡◌, replicate, with_items}
 use Rattle.fresh.proofs.run.Run.push_copies.Given as goal
 
 abbrev pub invariant-loop : goal.invariant-loop
