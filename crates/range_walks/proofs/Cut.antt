@@ -1,16 +1,8 @@
 -- A run of a segmented vector is what continues the segment that it begins in, and then the segments that start in it.
-use Rattle.std.proofs.Common.{◌≡◌, ℕ, zero, suc, ◌+◌, ◌-◌, ◌<◌, ◌≤◌, Bool, false, true, inl, inr, List, [], ◌∷◌, ◌++◌, length, take, drop, refl, sym, ap, ◌∙◌, arith}
-use Rattle.std.specs.Prelude.{sum}
-use Rattle.std.specs.List.{AllPass}
-use Rattle.std.proofs.lemmas.Bool.Decides.{leb_tells}
-use Rattle.std.proofs.lemmas.List.{length-map, length-take, length-take-le, length-drop, take_all, drop-append-le, drop-take, drop-drop, drop-map, drop_at}
-use Rattle.std.proofs.lemmas.List.Elements.{All-head, All-take, All-drop}
-use Rattle.cvl_base.specs.Folds.{fold_of, scan_of}
-use Rattle.cvl_base.specs.Monoid.{MonoidLaws}
-use Rattle.cvl_base.proofs.Lists.{sum-cons}
-use Rattle.segdes.specs.Starts.{start_of}
-use Rattle.range_walks.specs.Ranges.{continued, started, with_starts, range_scan_of, scans_of}
-use Rattle.cvl_base.proofs.FoldLaws.{scan_of-cons}
+use Rattle.range_walks.proofs.Cited.{rules, ◌≡◌, ℕ, zero, suc, ◌+◌, ◌-◌, ◌<◌, ◌≤◌, Bool, false, true, List, [], ◌∷◌, ◌++◌, length, take, drop, refl, sym, ap, ◌∙◌, arith, sum, AllPass, length-map}
+use Rattle.range_walks.proofs.Cited.{length-take, length-take-le, length-drop, take_all, drop-append-le, drop-take, drop-drop, drop-map, drop_at, All-head, All-take, All-drop, fold_of, scan_of}
+use Rattle.range_walks.proofs.Cited.{MonoidLaws, sum-cons, start_of, scan_of-cons, continued, started, with_starts, range_scan_of, scans_of}
+use Rattle.std.proofs.lemmas.Bool.Decides.{nat_tests, leb_tells}
 
 module _ {Item : Type 0} where
   pub length-started : (xs : List Item) → length (started xs) ≡ length xs
@@ -25,12 +17,7 @@ module _ {Item : Type 0} where
   -- the run begins in the first segment
   cut_here : (ls : List ℕ) (xs : List Item) (from k : ℕ) → 0 < from → from ≤ length xs
       → drop from (with_starts ((from + k) ∷ ls) xs) ≡ continued (take k (drop from xs)) ++ with_starts ls (drop k (drop from xs))
-  cut_here ls xs from k begins within =
-      let front = take (from + k) xs in
-      let rest = with_starts ls (drop (from + k) xs) in
-      drop-append-le from (started front) rest (omega (arith, length-started front, length-take (from + k) xs))
-      ∙ ap (λ ys. ys ++ rest) (drop-started from front begins)
-      ∙ (λ i. continued (drop-take from k xs i) ++ with_starts ls (sym (drop-drop k from xs) i))
+  cut_here ls xs from k begins within = search (rules, drop-append-le, length-started, length-take, drop-started, drop-take, drop-drop)
 
   -- the run begins after the first segment
   cut_later : (n m : ℕ) (ls : List ℕ) (xs : List Item) → n ≤ length xs → drop (n + m) (with_starts (n ∷ ls) xs) ≡ drop m (with_starts ls (drop n xs))
@@ -66,20 +53,12 @@ start_of_all lengths s ge = ap sum (take_all s lengths ge)
 
 -- where the segments from `first` on start at `from` or after it, so do the elements after the segments before `first`
 pub begins_by : (lengths : List ℕ) (from first : ℕ) → from ≤ sum lengths → ((s : ℕ) → first ≤ s → s < length lengths → from ≤ start_of lengths s) → from ≤ start_of lengths first
-begins_by lengths from first within later =
-    elim (leb_tells (length lengths) first) [
-      | inl t ↦ omega (arith, within, start_of_all lengths first t.1)
-      | inr t ↦ later first (omega arith) t.1
-    ]
+begins_by lengths from first within later = grind (arith, nat_tests, leb_tells, start_of_all)
 
 -- of two places in order, no more segments start before the first
 pub starts_in_order : (lengths : List ℕ) (from to first next : ℕ) → from ≤ to → first ≤ length lengths → ((s : ℕ) → s < first → start_of lengths s < from)
     → ((s : ℕ) → next ≤ s → s < length lengths → to ≤ start_of lengths s) → first ≤ next
-starts_in_order lengths from to first next in_order le earlier later =
-    elim (leb_tells first next) [
-      | inl t ↦ t.1
-      | inr t ↦ absurd (omega (arith, in_order, earlier next t.1, later next (omega arith) (omega (arith, t.1, le))))
-    ]
+starts_in_order lengths from to first next in_order le earlier later = grind (arith, nat_tests, leb_tells)
 
 -- ---- the scan of a run
 
@@ -87,19 +66,13 @@ module _ {Item : Type 0} (join : Item → Item → Item) (unit : Item) where
   continued_scanned : (before : Item) (ys : List Item) (run : List (Bool × Item))
       → range_scan_of join unit before (continued ys ++ run) ≡ scan_of join before ys ++ range_scan_of join unit (fold_of join before ys) run
   continued_scanned before [] run = refl
-  continued_scanned before (y ∷ ys) run =
-      ap (λ tail. before ∷ tail) (continued_scanned (join before y) ys run)
-      ∙ ap (λ sums. sums ++ range_scan_of join unit (fold_of join before (y ∷ ys)) run) (sym (scan_of-cons join before y ys))
+  continued_scanned before (y ∷ ys) run = cc (continued_scanned (join before y) ys run, scan_of-cons join before y ys)
 
 module _ {Item : Type 0} {is_item : Item → Bool} {unit : Item} {join : Item → Item → Item} (laws : MonoidLaws is_item unit join) where
   segment_scanned : (before : Item) (ys : List Item) (run : List (Bool × Item)) (sums : List Item) → AllPass is_item ys
       → ((b : Item) → range_scan_of join unit b run ≡ sums) → range_scan_of join unit before (started ys ++ run) ≡ scan_of join unit ys ++ sums
   segment_scanned before [] run sums items rest = rest before
-  segment_scanned before (y ∷ ys) run sums items rest =
-      ap (λ tail. unit ∷ tail) (continued_scanned join unit y ys run)
-      ∙ ap (λ tail. unit ∷ (scan_of join y ys ++ tail)) (rest (fold_of join y ys))
-      ∙ ap (λ b. (unit ∷ scan_of join b ys) ++ sums) (sym (laws.left_unit y (All-head (λ x. is_item x ≡ true) y ys items)))
-      ∙ ap (λ tail. tail ++ sums) (sym (scan_of-cons join unit y ys))
+  segment_scanned before (y ∷ ys) run sums items rest = search (rules, continued_scanned, All-head, scan_of-cons)
 
   pub segments_scanned : (lengths : List ℕ) (xs : List Item) (before : Item) → AllPass is_item xs → range_scan_of join unit before (with_starts lengths xs) ≡ scans_of join unit lengths xs
   segments_scanned [] xs before items = refl
@@ -111,6 +84,4 @@ module _ {Item : Type 0} {is_item : Item → Bool} {unit : Item} {join : Item �
   -- what continues the segment before a range, and then segments
   pub parts_scanned : (lengths : List ℕ) (before : Item) (front others : List Item) → AllPass is_item others
       → range_scan_of join unit before (continued front ++ with_starts lengths others) ≡ scan_of join before front ++ scans_of join unit lengths others
-  parts_scanned lengths before front others items =
-      continued_scanned join unit before front (with_starts lengths others)
-      ∙ ap (λ sums. scan_of join before front ++ sums) (segments_scanned lengths others (fold_of join before front) items)
+  parts_scanned lengths before front others items = cc (continued_scanned join unit before front (with_starts lengths others), segments_scanned lengths others (fold_of join before front) items)

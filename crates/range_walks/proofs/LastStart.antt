@@ -1,20 +1,9 @@
 -- What the elements of a run join to since the last start in it.
-use Rattle.std.proofs.Common.{◌≡◌, ℕ, ◌+◌, ◌-◌, ◌<◌, ◌≤◌, Bool, false, true, List, [], ◌∷◌, ◌++◌, length, take, drop, get_or, slice_range, refl, sym, ap, ◌∙◌, arith, append-nil}
-use Rattle.std.specs.Prelude.{sum}
-use Rattle.std.specs.List.{AllPass, flat_map}
-use Rattle.std.proofs.lemmas.Grind.{flat_map-append}
-use Rattle.std.proofs.lemmas.List.{length-take, length-drop, length-append, take_all, drop_all, drop_more, drop-append-le}
-use Rattle.std.proofs.lemmas.Slice.{between_is}
-use Rattle.std.proofs.lemmas.List.Elements.{All-head, All-take, All-drop}
-use Rattle.std.proofs.lemmas.List.Sums.{fold-append, sum_by_more}
+use Rattle.range_walks.proofs.Cited.{rules, common_steps, ◌≡◌, ℕ, ◌+◌, ◌-◌, ◌<◌, ◌≤◌, Bool, false, true, List, [], ◌∷◌, ◌++◌, length, take, drop, get_or, slice_range, refl, sym, ap, ◌∙◌, arith}
+use Rattle.range_walks.proofs.Cited.{append-nil, sum, AllPass, flat_map-append, length-take, length-drop, length-append, take_all, drop_all, drop_more, drop-append-le, between_is, All-head}
+use Rattle.range_walks.proofs.Cited.{All-take, All-drop, fold-append, sum_by_more, fold_of, MonoidLaws, start_of, sum-cons, cut_of, continued, started, with_starts, range_between}
 use Rattle.cvl_base.specs.Booleans.{either}
-use Rattle.cvl_base.specs.Folds.{fold_of}
-use Rattle.cvl_base.specs.Monoid.{MonoidLaws}
 use Rattle.cvl_base.specs.SegmentMonoid.{seg_join}
-use Rattle.segdes.specs.Starts.{start_of}
-use Rattle.range_walks.specs.Ranges.{continued, started, with_starts, range_between}
-use Rattle.cvl_base.proofs.Lists.{sum-cons}
-use Rattle.cvl_base.specs.Nests.{cut_of}
 use Rattle.range_walks.proofs.Cut.{begins_by, length-started, range_cut}
 use Rattle.range_walks.proofs.Segments.{cut_parted}
 
@@ -28,20 +17,12 @@ module _ {Item : Type 0} where
   pub split_at_start : (lengths : List ℕ) (xs : List Item) (s : ℕ)
       → with_starts lengths xs ≡ with_starts (take s lengths) (take (start_of lengths s) xs) ++ with_starts (drop s lengths) (drop (start_of lengths s) xs)
   split_at_start lengths xs s =
-      ap (flat_map started) (cut_parted s lengths xs)
-      ∙ flat_map-append started (cut_of (take s lengths) (take (start_of lengths s) xs)) (cut_of (drop s lengths) (drop (start_of lengths s) xs))
+      cc (cut_parted s lengths xs, flat_map-append started (cut_of (take s lengths) (take (start_of lengths s) xs)) (cut_of (drop s lengths) (drop (start_of lengths s) xs)))
 
   pub length-with_starts : (lengths : List ℕ) (xs : List Item) → length xs ≤ sum lengths → length (with_starts lengths xs) ≡ length xs
   length-with_starts [] xs covered = omega (arith, covered)
   length-with_starts (n ∷ ls) xs covered =
-      omega (
-        arith,
-        length-append (started (take n xs)) (with_starts ls (drop n xs)),
-        length-started (take n xs),
-        length-take n xs,
-        length-drop n xs,
-        length-with_starts ls (drop n xs) (omega (arith, covered, sum-cons n ls, length-drop n xs)),
-      )
+      search (rules, length-append, length-started, length-take, length-drop, sum-cons, length-with_starts ls (drop n xs) (omega (arith, covered, sum-cons n ls, length-drop n xs)))
 
   -- a run at whose elements no segment starts: those before `first` start before it, and the others behind it
   pub range_continued : (lengths : List ℕ) (xs : List Item) (from to first : ℕ) → from ≤ to → to ≤ length xs → first ≤ length lengths → to ≤ start_of lengths first
@@ -67,11 +48,7 @@ module _ {Item : Type 0} where
       let ys = drop p (take to xs) in
       let short : length ys ≤ n = omega (arith, length-drop p (take to xs), length-take to xs, sum_by_more (λ x. x) lengths s 0 lt, last) in
       let long : length front ≡ length (take p (take to xs)) = length-with_starts (take s lengths) (take p (take to xs)) (omega (arith, length-take p (take to xs))) in
-      let behind : with_starts (drop s lengths) ys ≡ started ys =
-      ap (λ ls. with_starts ls ys) (drop_more lengths s 0 lt)
-      ∙ (λ i. started (take_all n ys short i) ++ with_starts (drop (s + 1) lengths) (drop_all n ys short i))
-      ∙ ap (λ zs. started ys ++ zs) (with_starts-none (drop (s + 1) lengths))
-      ∙ append-nil (started ys) in (
+      let behind : with_starts (drop s lengths) ys ≡ started ys = grind (arith, common_steps, drop_more, take_all, drop_all, with_starts-none, append-nil) in (
         drop from front,
         ap (drop from) (split_at_start lengths (take to xs) s ∙ ap (λ zs. front ++ zs) behind)
             ∙ drop-append-le from front (started ys) (omega (arith, long, length-take p (take to xs), length-take to xs, le, before, within))
@@ -91,8 +68,7 @@ flag_set false = refl
 module _ {Item : Type 0} (join : Item → Item → Item) where
   pub continued_summed : (f : Bool) (before : Item) (ys : List Item) → fold_of (seg_join join) (f, before) (continued ys) ≡ (f, fold_of join before ys)
   continued_summed f before [] = refl
-  continued_summed f before (y ∷ ys) =
-      ap (λ g. fold_of (seg_join join) (g, join before y) (continued ys)) (flag_stays f) ∙ continued_summed f (join before y) ys
+  continued_summed f before (y ∷ ys) = cc (flag_stays f, continued_summed f (join before y) ys)
 
   -- `next` is the first segment that starts at `to` or after it, as `first` is for `from`
   pub range_summed : (lengths : List ℕ) (xs : List Item) (f : Bool) (before : Item) (from to first next : ℕ) → from ≤ to → to ≤ length xs → sum lengths ≡ length xs → first ≤ length lengths
@@ -100,16 +76,12 @@ module _ {Item : Type 0} (join : Item → Item → Item) where
       → fold_of (seg_join join) (f, before) (range_between lengths xs from to) ≡ (f, fold_of join before (slice_range xs from to))
   range_summed lengths xs f before from to first next in_order within total le earlier later none =
       let past = begins_by lengths to first (omega (arith, within, total)) (λ s ge lt. later s (omega (arith, ge, none)) lt) in
-      ap (fold_of (seg_join join) (f, before)) (range_continued lengths xs from to first in_order within le past earlier)
-      ∙ continued_summed f before (slice_range xs from to)
+      cc (range_continued lengths xs from to first in_order within le past earlier, continued_summed f before (slice_range xs from to))
 
 module _ {Item : Type 0} {is_item : Item → Bool} {unit : Item} {join : Item → Item → Item} (laws : MonoidLaws is_item unit join) where
   started_summed : (before : Bool × Item) (ys : List Item) → 0 < length ys → AllPass is_item ys → fold_of (seg_join join) before (started ys) ≡ (true, fold_of join unit ys)
   started_summed before [] some items = absurd (omega (arith, some))
-  started_summed before (y ∷ ys) some items =
-      ap (λ f. fold_of (seg_join join) (f, y) (continued ys)) (flag_set before.0)
-      ∙ continued_summed join true y ys
-      ∙ ap (λ b. (true, fold_of join b ys)) (sym (laws.left_unit y (All-head (λ x. is_item x ≡ true) y ys items)))
+  started_summed before (y ∷ ys) some items = cc (flag_set before.0, continued_summed join true y ys, laws.left_unit y (All-head (λ x. is_item x ≡ true) y ys items))
 
   pub started_range_summed : (lengths : List ℕ) (xs : List Item) (before : Bool × Item) (from to s : ℕ) → to ≤ length xs → s < length lengths
       → from ≤ start_of lengths s → start_of lengths s < to → to ≤ start_of lengths (s + 1) → AllPass is_item xs
@@ -128,10 +100,4 @@ module _ {Item : Type 0} {is_item : Item → Bool} {unit : Item} {join : Item �
       → ((s : ℕ) → first ≤ s → s < length lengths → from ≤ start_of lengths s) → ((s : ℕ) → s < next → start_of lengths s < to)
       → ((s : ℕ) → next ≤ s → s < length lengths → to ≤ start_of lengths s) → first < next → start ≡ start_of lengths (next - 1) → AllPass is_item xs
       → fold_of (seg_join join) before (range_between lengths xs from to) ≡ (true, fold_of join unit (slice_range xs start to))
-  last_range_summed lengths xs before from to first next start within total le behind earlier later some is_start items =
-      let s : ℕ = next - 1 in
-      let more : next ≡ s + 1 = omega (arith, some) in
-      let lt : s < length lengths = omega (arith, more, le) in
-      let past = begins_by lengths to next (omega (arith, within, total)) later in
-      started_range_summed lengths xs before from to s within lt (behind s (omega (arith, more, some)) lt) (earlier s (omega (arith, more))) (omega (arith, past, ap (start_of lengths) more)) items
-      ∙ ap (λ p. (true, fold_of join unit (slice_range xs p to))) (sym is_start)
+  last_range_summed lengths xs before from to first next start within total le behind earlier later some is_start items = search (rules, begins_by, started_range_summed)

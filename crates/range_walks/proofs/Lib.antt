@@ -5,3 +5,4 @@ pub mod Scanned
 pub mod SegmentReduces
 pub mod Segments
 pub mod Written
+pub mod Cited

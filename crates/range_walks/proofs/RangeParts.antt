@@ -1,12 +1,8 @@
 -- The parts of a range: what continues the segment before it, and the segments that start in it.
-use Rattle.std.proofs.Common.{◌≡◌, ℕ, suc, zero, ◌-◌, ◌<◌, ◌≤◌, min, Bool, false, true, List, [], ◌∷◌, ◌++◌, refl, length, map, take, drop, sym, ap, ◌∙◌, arith}
-use Rattle.std.specs.Prelude.{sum, if◌then◌else◌}
-use Rattle.std.proofs.lemmas.List.{drop-map, drop_min, length-drop, length-take, map-append, take-map, take_min}
+use Rattle.range_walks.proofs.Cited.{rules, ◌≡◌, ℕ, suc, zero, ◌-◌, ◌<◌, ◌≤◌, min, Bool, false, true, List, [], ◌∷◌, ◌++◌, refl, length, map, take, drop, sym, ap, ◌∙◌, arith, sum, if◌then◌else◌}
+use Rattle.range_walks.proofs.Cited.{drop-map, drop_min, length-drop, length-take, map-append, take-map, take_min, between_is, sum-cons, start_of, continued, range_between, range_scan_of, started}
+use Rattle.range_walks.proofs.Cited.{with_starts}
 use Rattle.std.proofs.lemmas.Simd.{map-map}
-use Rattle.std.proofs.lemmas.Slice.{between_is}
-use Rattle.cvl_base.proofs.Lists.{sum-cons}
-use Rattle.segdes.specs.Starts.{start_of}
-use Rattle.range_walks.specs.Ranges.{continued, range_between, range_scan_of, started, with_starts}
 use Rattle.range_walks.proofs.Cut.{begins_by, range_cut, starts_in_order}
 use Rattle.range_walks.proofs.LastStart.{with_starts-none}
 use Rattle.range_walks.proofs.Segments.{range_sum}
@@ -20,18 +16,14 @@ module _ {Item : Type 0} (join : Item → Item → Item) (unit : Item) where
 pub segments_cover : (d : List ℕ) (from to first next start j others : ℕ) → from ≤ to → to ≤ sum d → first ≤ length d
     → ((s : ℕ) → s < first → start_of d s < from) → ((s : ℕ) → next ≤ s → s < length d → to ≤ start_of d s)
     → start ≡ start_of d first → j ≡ min start to - from → others ≡ (to - from) - j → others ≤ sum (take (next - first) (drop first d))
-segments_cover d from to first next start j others in_order within le earlier later is_start is_j is_others =
-    let ordered : first ≤ next = starts_in_order d from to first next in_order le earlier later in
-    let reach : to ≤ start_of d next = begins_by d to next within later in
-    omega (arith, reach, range_sum d first next ordered, is_start, is_j, is_others, in_order)
+segments_cover d from to first next start j others in_order within le earlier later is_start is_j is_others = search (rules, starts_in_order, begins_by, range_sum)
 
 -- segments that start after the elements' end change nothing
 starts_cut : {Item : Type 0} (k : ℕ) (lengths : List ℕ) (xs : List Item) → length xs ≤ start_of lengths k → with_starts (take k lengths) xs ≡ with_starts lengths xs
 starts_cut zero lengths [] covered = sym (with_starts-none lengths)
 starts_cut zero lengths (x ∷ xs) covered = absurd (omega (arith, covered))
 starts_cut (suc k) [] xs covered = refl
-starts_cut (suc k) (n ∷ ls) xs covered =
-    ap (λ ws. started (take n xs) ++ ws) (starts_cut k ls (drop n xs) (omega (arith, covered, sum-cons n (take k ls), length-drop n xs)))
+starts_cut (suc k) (n ∷ ls) xs covered = cc (starts_cut k ls (drop n xs) (omega (arith, covered, sum-cons n (take k ls), length-drop n xs)))
 
 -- a range is what continues the segment before it, and then the segments that start in it
 pub range_parted : {Item : Type 0} (d : List ℕ) (xs rest front others : List Item) (from to first next start j : ℕ)
@@ -68,16 +60,8 @@ module _ {X Item : Type 0} (item : X → Item) where
 
   with_starts-map : (lengths : List ℕ) (xs : List X) → with_starts lengths (map item xs) ≡ map read (with_starts lengths xs)
   with_starts-map [] xs = refl
-  with_starts-map (n ∷ ls) xs =
-      (λ i. started (take-map item n xs i) ++ with_starts ls (drop-map item n xs i))
-      ∙ (λ i. started-map (take n xs) i ++ with_starts-map ls (drop n xs) i)
-      ∙ sym (map-append read (started (take n xs)) (with_starts ls (drop n xs)))
+  with_starts-map (n ∷ ls) xs = search (rules, take-map, drop-map, started-map, map-append, with_starts-map ls (drop n xs))
 
   pub parts_read : (d lengths : List ℕ) (xs front others : List X) (from to : ℕ) → range_between d xs from to ≡ continued front ++ with_starts lengths others
       → range_between d (map item xs) from to ≡ continued (map item front) ++ with_starts lengths (map item others)
-  parts_read d lengths xs front others from to is =
-      ap (drop from) (ap (with_starts d) (take-map item to xs) ∙ with_starts-map d (take to xs))
-      ∙ drop-map read from (with_starts d (take to xs))
-      ∙ ap (map read) is
-      ∙ map-append read (continued front) (with_starts lengths others)
-      ∙ (λ i. sym (continued-map front) i ++ sym (with_starts-map lengths others) i)
+  parts_read d lengths xs front others from to is = search (rules, take-map, with_starts-map, drop-map, map-append, continued-map)

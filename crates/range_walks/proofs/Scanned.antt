@@ -1,16 +1,12 @@
 -- Sums that begin after what stands before them.
-use Rattle.std.proofs.Common.{◌≡◌, ℕ, ◌+◌, ◌<◌, ◌≤◌, List, length, take, drop, map, get_or, sym, ap, ◌∙◌, arith}
-use Rattle.std.proofs.lemmas.List.{drop-map, get_or-map, length-map, take-map, take_all}
-use Rattle.std.proofs.lemmas.List.Sums.{fold_more}
-use Rattle.cvl_base.specs.Folds.{fold_of, scan_of}
-use Rattle.cvl_base.proofs.FoldLaws.{length-scan_of}
+use Rattle.range_walks.proofs.Cited.{◌≡◌, ℕ, ◌+◌, ◌<◌, ◌≤◌, List, length, take, drop, map, get_or, sym, ap, ◌∙◌, arith, drop-map, get_or-map, length-map, take-map, take_all, fold_more, fold_of}
+use Rattle.range_walks.proofs.Cited.{scan_of, length-scan_of}
 
 module _ {Item : Type 0} (join : Item → Item → Item) where
   -- the step of the sum itself
   pub joined_more : (before sum x next : Item) (xs : List Item) (i : ℕ) → i < length xs → x ≡ get_or xs i x → sum ≡ fold_of join before (take i xs) → next ≡ join sum x
       → next ≡ fold_of join before (take (i + 1) xs)
-  joined_more before sum x next xs i within is_x is_sum is_next =
-      is_next ∙ ap (λ s. join s x) is_sum ∙ ap (join (fold_of join before (take i xs))) is_x ∙ sym (fold_more join before xs i x within)
+  joined_more before sum x next xs i within is_x is_sum is_next = cc (is_next, is_sum, is_x, fold_more join before xs i x within)
 
 -- ---- elements that are read as items
 

@@ -1,22 +1,17 @@
 -- The reduces of a run of segments, of which the first may have begun before the run.
-use Rattle.std.proofs.Common.{◌≡◌, ℕ, zero, suc, ◌+◌, ◌-◌, ◌<◌, ◌≤◌, List, [], ◌∷◌, length, map, take, drop, get_or, slice_range, refl, sym, ap, ◌∙◌, arith, take-add}
-use Rattle.std.proofs.lemmas.List.{drop-drop, drop_at, length-take-le}
-use Rattle.std.proofs.lemmas.List.Sums.{fold-append, sum_by_more}
-use Rattle.cvl_base.specs.Folds.{fold_of}
-use Rattle.segdes.specs.Starts.{start_of}
-use Rattle.range_walks.specs.Ranges.{IsOpenAt, reduces_of}
-use Rattle.cvl_base.specs.Nests.{cut_of}
+use Rattle.range_walks.proofs.Cited.{common_steps, ◌≡◌, ℕ, zero, suc, ◌+◌, ◌-◌, ◌<◌, ◌≤◌, List, [], ◌∷◌, length, map, take, drop, get_or, slice_range, refl, sym, ap, ◌∙◌, arith, take-add, drop-drop}
+use Rattle.range_walks.proofs.Cited.{drop_at, length-take-le, fold-append, sum_by_more, fold_of, start_of, cut_of, IsOpenAt, reduces_of}
 use Rattle.cvl_base.proofs.Nests.{length-cut}
 use Rattle.range_walks.proofs.Scanned.{part_read}
 use Rattle.range_walks.proofs.Segments.{cut_more, cut_parted}
 
 -- the first segments, and those from segment s on
-cut-take : {Item : Type 0} (lengths : List ℕ) (xs : List Item) (n : ℕ) → take n (cut_of lengths xs) ≡ cut_of (take n lengths) xs
+pub cut-take : {Item : Type 0} (lengths : List ℕ) (xs : List Item) (n : ℕ) → take n (cut_of lengths xs) ≡ cut_of (take n lengths) xs
 cut-take lengths xs zero = refl
 cut-take [] xs (suc n) = refl
 cut-take (k ∷ ls) xs (suc n) = ap (λ lists. take k xs ∷ lists) (cut-take ls (drop k xs) n)
 
-cut-drop : {Item : Type 0} (lengths : List ℕ) (xs : List Item) (s : ℕ) → s ≤ length lengths → drop s (cut_of lengths xs) ≡ cut_of (drop s lengths) (drop (start_of lengths s) xs)
+pub cut-drop : {Item : Type 0} (lengths : List ℕ) (xs : List Item) (s : ℕ) → s ≤ length lengths → drop s (cut_of lengths xs) ≡ cut_of (drop s lengths) (drop (start_of lengths s) xs)
 cut-drop lengths xs s le = ap (drop s) (cut_parted s lengths xs) ∙ drop_at _ _ s (length-cut (take s lengths) (take (start_of lengths s) xs) ∙ length-take-le s lengths le)
 
 module _ {Item : Type 0} (join : Item → Item → Item) (unit : Item) where
@@ -37,11 +32,7 @@ module _ {Item : Type 0} (join : Item → Item → Item) (unit : Item) where
       let parts : n ≡ (from - p) + rest = omega (arith, ends, front, begun.not_past, is_end) in
       let behind : from + rest ≡ p + n = omega (arith, ends, begun.not_past, is_end) in
       let others : drop rest (drop from xs) ≡ drop n (drop p xs) = drop-drop rest from xs ∙ ap (λ k. drop k xs) behind ∙ sym (drop-drop n p xs) in
-      let sum : fold_of join unit (take n (drop p xs)) ≡ fold_of join before (take rest (drop from xs)) =
-      ap (λ k. fold_of join unit (take k (drop p xs))) parts
-      ∙ ap (fold_of join unit) (take-add (from - p) rest (drop p xs))
-      ∙ fold-append join unit (take (from - p) (drop p xs)) (take rest (drop (from - p) (drop p xs)))
-      ∙ (λ i. fold_of join (sym begun.before_is i) (take rest ((drop-drop (from - p) p xs ∙ ap (λ k. drop k xs) front) i))) in
+      let sum : fold_of join unit (take n (drop p xs)) ≡ fold_of join before (take rest (drop from xs)) = grind (arith, common_steps, take-add, fold-append, drop-drop) in
       sym (part_read (fold_of join unit) (next - first) first (cut_of lengths xs))
       ∙ (λ i. map (fold_of join unit) (take (count i) ((cut-drop lengths xs first (omega (arith, lt)) ∙ cut_more lengths first n (drop p xs) _ _ lt refl refl others) i)))
       ∙ ap (λ lists. fold_of join unit (take n (drop p xs)) ∷ map (fold_of join unit) lists) (cut-take (drop (first + 1) lengths) (drop rest (drop from xs)) m)

@@ -1,44 +1,28 @@
 -- Loops over segments: what is left to them, and the lengths that they read.
-use Rattle.std.proofs.Common.{◌≡◌, ℕ, zero, suc, ◌-◌, ℤ, pos, to_z, of_z, w32, w64, Fits, ◌+◌, ◌<◌, ◌≤◌, min, List, [], ◌∷◌, ◌++◌, length, take, drop, map, get_or, refl, sym, ap, ◌∙◌, arith, take-add}
-use Rattle.std.specs.Prelude.{sum, unsigned_abs}
+use Rattle.range_walks.proofs.Cited.{rules, ◌≡◌, ℕ, zero, suc, ◌-◌, ℤ, pos, to_z, of_z, w32, w64, Fits, ◌+◌, ◌<◌, ◌≤◌, min, List, [], ◌∷◌, ◌++◌, length, take, drop, map, get_or, refl, sym, ap, ◌∙◌}
+use Rattle.range_walks.proofs.Cited.{arith, take-add, sum, unsigned_abs, length-map, length-take, drop-take, take-take, length-drop, drop_more, take_all, drop-drop, take_min, drop_min, append-nil}
+use Rattle.range_walks.proofs.Cited.{length-append, map-append, flat_map-append, sum_by-append, sum_by-drop_more, sum_by_more, sum_by-take-drop, scan_of, cut_of, length-scan_of, sum-cons, start_of}
+use Rattle.range_walks.proofs.Cited.{scans_of}
 use Rattle.std.proofs.Math.Facts.{Fits-below}
-use Rattle.std.proofs.lemmas.List.{length-map, length-take, drop-take, take-take, length-drop, drop_more, take_all, drop-drop, take_min, drop_min, append-nil, length-append, map-append}
-use Rattle.std.proofs.lemmas.Grind.{flat_map-append}
-use Rattle.std.proofs.lemmas.List.Sums.{sum_by-append, sum_by-take-drop}
 use Rattle.std.specs.Int.{IsNonNegative}
 use Rattle.cvl_base.specs.Descriptors.{AreLengthsWithin}
 use Rattle.cvl_base.specs.Limits.{most_places}
-use Rattle.cvl_base.specs.Folds.{scan_of}
-use Rattle.cvl_base.specs.Lists.{joined}
-use Rattle.cvl_base.specs.Nests.{cut_of}
-use Rattle.cvl_base.proofs.FoldLaws.{length-scan_of}
 use Rattle.cvl_base.proofs.Descriptors.{abs_pos}
-use Rattle.cvl_base.proofs.Lists.{sum-cons}
 use Rattle.segdes.proofs.Sums.{cast_fits, length_at}
-use Rattle.segdes.specs.Starts.{start_of}
-use Rattle.range_walks.specs.Ranges.{scans_of}
 use Rattle.range_walks.proofs.Scanned.{part_read}
 
 -- ---- what is left to a loop over the segments: segment s, and those after it
 
 pub cut_more : {Item : Type 0} (lengths : List ℕ) (s n : ℕ) (rest front others : List Item) → s < length lengths → n ≡ get_or lengths s 0 → front ≡ take n rest → others ≡ drop n rest
     → cut_of (drop s lengths) rest ≡ front ∷ cut_of (drop (s + 1) lengths) others
-cut_more lengths s n rest front others lt is is_front is_others =
-    ap (λ ls. cut_of ls rest) (drop_more lengths s 0 lt)
-    ∙ ap (λ m. take m rest ∷ cut_of (drop (s + 1) lengths) (drop m rest)) (sym is)
-    ∙ (λ i. sym is_front i ∷ cut_of (drop (s + 1) lengths) (sym is_others i))
+cut_more lengths s n rest front others lt is is_front is_others = cc (drop_more lengths s 0 lt, is, is_front, is_others)
 
 -- k segments, and those after them
 pub cut_parted : {Item : Type 0} (k : ℕ) (lengths : List ℕ) (xs : List Item)
     → cut_of lengths xs ≡ cut_of (take k lengths) (take (start_of lengths k) xs) ++ cut_of (drop k lengths) (drop (start_of lengths k) xs)
 cut_parted zero lengths xs = refl
 cut_parted (suc k) [] xs = refl
-cut_parted (suc k) (n ∷ ls) xs =
-    let p : ℕ = start_of ls k in
-    let begins : n + p ≡ start_of (n ∷ ls) (suc k) = omega (arith, sum-cons n (take k ls)) in
-    ap (λ rest. take n xs ∷ rest) (cut_parted k ls (drop n xs))
-    ∙ (λ i. sym (take-take n (n + p) xs (omega arith)) i ∷ cut_of (take k ls) (sym (drop-take n p xs) i) ++ cut_of (drop k ls) (drop-drop p n xs i))
-    ∙ ap (λ q. cut_of (n ∷ take k ls) (take q xs) ++ cut_of (drop k ls) (drop q xs)) begins
+cut_parted (suc k) (n ∷ ls) xs = search (rules, sum-cons, take-take, drop-take, drop-drop, cut_parted k ls (drop n xs))
 
 module _ {Item : Type 0} (join : Item → Item → Item) (unit : Item) where
   scans_after : (k : ℕ) (lengths : List ℕ) (xs : List Item)
@@ -46,35 +30,23 @@ module _ {Item : Type 0} (join : Item → Item → Item) (unit : Item) where
   scans_after k lengths xs =
       let first = cut_of (take k lengths) (take (start_of lengths k) xs) in
       let others = cut_of (drop k lengths) (drop (start_of lengths k) xs) in
-      ap (λ lists. joined (map (scan_of join unit) lists)) (cut_parted k lengths xs)
-      ∙ ap joined (map-append (scan_of join unit) first others)
-      ∙ flat_map-append (λ ys. ys) (map (scan_of join unit) first) (map (scan_of join unit) others)
+      cc (cut_parted k lengths xs, map-append (scan_of join unit) first others, flat_map-append (λ ys. ys) (map (scan_of join unit) first) (map (scan_of join unit) others))
 
   -- where the last of the k is cut short
   pub scans_parted : (k n cut : ℕ) (lengths : List ℕ) (xs : List Item) → n ≡ start_of lengths k → cut ≡ min n (length xs)
       → scans_of join unit lengths xs ≡ scans_of join unit (take k lengths) (take cut xs) ++ scans_of join unit (drop k lengths) (drop cut xs)
-  scans_parted k n cut lengths xs is is_cut =
-      let at = λ (m : ℕ). scans_of join unit (take k lengths) (take m xs) ++ scans_of join unit (drop k lengths) (drop m xs) in
-      scans_after k lengths xs
-      ∙ ap at (sym is)
-      ∙ (λ i. scans_of join unit (take k lengths) (sym (take_min n xs) i) ++ scans_of join unit (drop k lengths) (sym (drop_min n xs) i))
-      ∙ ap at (sym is_cut)
+  scans_parted k n cut lengths xs is is_cut = search (rules, scans_after, take_min, drop_min)
 
   -- scans of segments are as long as the elements
   pub length-scans_of : (lengths : List ℕ) (xs : List Item) → length xs ≤ sum lengths → length (scans_of join unit lengths xs) ≡ length xs
   length-scans_of [] xs covered = omega (arith, covered)
   length-scans_of (n ∷ ls) xs covered =
-      let front = take n xs in
-      let rest = length-scans_of ls (drop n xs) (omega (arith, covered, sum-cons n ls, length-drop n xs)) in
-      omega (arith, length-append (scan_of join unit front) (scans_of join unit ls (drop n xs)), length-scan_of join unit front, length-take n xs, length-drop n xs, rest)
+      search (rules, sum-cons, length-drop, length-append, length-scan_of, length-take, length-scans_of ls (drop n xs) (omega (arith, covered, sum-cons n ls, length-drop n xs)))
 
   -- one segment, and its scan
   pub one_scanned : (lengths : List ℕ) (s n : ℕ) (xs : List Item) → s < length lengths → n ≡ get_or lengths s 0 → length xs ≤ n
       → scan_of join unit xs ≡ scans_of join unit (take 1 (drop s lengths)) xs
-  one_scanned lengths s n xs lt is few =
-      sym (ap (λ ls. scans_of join unit (take 1 ls) xs) (drop_more lengths s 0 lt)
-      ∙ append-nil (scan_of join unit (take (get_or lengths s 0) xs))
-      ∙ ap (scan_of join unit) (take_all (get_or lengths s 0) xs (omega (arith, is, few))))
+  one_scanned lengths s n xs lt is few = cc (drop_more lengths s 0 lt, append-nil (scan_of join unit (take (get_or lengths s 0) xs)), take_all (get_or lengths s 0) xs (omega (arith, is, few)))
 
 pub one_long : (lengths : List ℕ) (s n : ℕ) → s < length lengths → n ≡ get_or lengths s 0 → n ≡ sum (take 1 (drop s lengths))
 one_long lengths s n lt is = omega (arith, is, ap (λ ls. sum (take 1 ls)) (drop_more lengths s 0 lt), sum-cons (get_or lengths s 0) [])
@@ -99,6 +71,26 @@ module _ (row : List ℤ) (lengths : List ℕ) (is : row ≡ map pos lengths) (a
   pub length_fits : (s : ℕ) → s < length row → IsNonNegative (to_z w32 (of_z w32 (get_or row s (pos 0)))) × Fits w64 (read_at row s)
   length_fits s lt = cast_fits w64 row s lengths is small lt (λ n le. Fits-below tt le)
 
+-- the length of segment s, which a loop over the segments reads: it fits, and with it segment s stands before the others
+pub record IsLengthAt (row : List ℤ) (s : ℕ) : Type 0 where
+  pub within : s < length (map unsigned_abs row)
+  pub is : read_at row s ≡ get_or (map unsigned_abs row) s 0
+  pub fits : IsNonNegative (to_z w32 (of_z w32 (get_or row s (pos 0)))) × Fits w64 (read_at row s)
+  pub left : sum (drop s (map unsigned_abs row)) ≡ read_at row s + sum (drop (s + 1) (map unsigned_abs row))
+  pub next : start_of (map unsigned_abs row) (s + 1) ≡ start_of (map unsigned_abs row) s + read_at row s
+
+pub length_here : {row : List ℤ} {s : ℕ} → AreLengthsWithin most_places row → s < length row → IsLengthAt row s
+length_here {row = row} {s = s} are lt =
+    let lengths = map unsigned_abs row in
+    let read = segment_read row lengths are.none_negative are s lt in
+    record {
+      within = read.0;
+      is = read.1;
+      fits = length_fits row lengths are.none_negative are s lt;
+      left = omega (arith, read.1, sum_by-drop_more (λ x. x) lengths s 0 read.0);
+      next = omega (arith, read.1, sum_by_more (λ x. x) lengths s 0 read.0);
+    }
+
 -- a range of a descriptor's row is one of lengths
 range_of : (row : List ℤ) (lengths : List ℕ) (k m : ℕ) → row ≡ map pos lengths → take m (drop k row) ≡ map pos (take m (drop k lengths))
 range_of row lengths k m is = ap (λ ns. take m (drop k ns)) is ∙ sym (part_read pos m k lengths)
@@ -117,8 +109,7 @@ range_lengths row lengths k m is are =
 
 -- k segments from s on, and what is left of them
 pub range_left : (lengths : List ℕ) (s k later : ℕ) → later ≡ s + k → sum (take k (drop s lengths)) + sum (drop later lengths) ≡ sum (drop s lengths)
-range_left lengths s k later is =
-    ap (λ ls. sum (take k (drop s lengths)) + sum ls) (ap (λ j. drop j lengths) is ∙ sym (drop-drop k s lengths)) ∙ sum_by-take-drop (λ x. x) (drop s lengths) k
+range_left lengths s k later is = cc (is, drop-drop k s lengths, sum_by-take-drop (λ x. x) (drop s lengths) k)
 
 -- the segments from `first` on to the one before `next` have the elements between their starts
 pub range_sum : (lengths : List ℕ) (first next : ℕ) → first ≤ next → start_of lengths first + sum (take (next - first) (drop first lengths)) ≡ start_of lengths next

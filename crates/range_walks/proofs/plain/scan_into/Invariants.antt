@@ -1,6 +1,4 @@
-use Rattle.std.proofs.Common.{◌≡◌, IsTrue, map, take}
-use Rattle.cvl_base.specs.Folds.{fold_of, scan_of}
-use Rattle.fresh.specs.Places.{with_items}
+use Rattle.range_walks.proofs.Cited.{◌≡◌, IsTrue, map, take, fold_of, scan_of, with_items}
 use Rattle.range_walks.proofs.plain.scan_into.Given as goal
 
 abbrev pub invariant-loop-x : goal.invariant-loop-x

@@ -1,4 +1,4 @@
-use Rattle.std.proofs.Common.{rules, ap, ◌∙◌}
+use Rattle.range_walks.proofs.Cited.{rules, ap, ◌∙◌}
 use Rattle.range_walks.proofs.Scanned.{joined_reading}
 use Rattle.range_walks.proofs.plain.sum_from.Goals as goal
 

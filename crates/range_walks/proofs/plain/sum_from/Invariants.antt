@@ -1,5 +1,4 @@
-use Rattle.std.proofs.Common.{◌≡◌, IsTrue, map, take}
-use Rattle.cvl_base.specs.Folds.{fold_of}
+use Rattle.range_walks.proofs.Cited.{◌≡◌, IsTrue, map, take, fold_of}
 use Rattle.range_walks.proofs.plain.sum_from.Given as goal
 
 abbrev pub invariant-loop-x : goal.invariant-loop-x

@@ -1,29 +1,17 @@
-use Rattle.std.proofs.Common.{◌-◌, ◌≤◌, ◌∙◌, ◌++◌, length, take, drop, refl, sym, ap, arith, rules}
-use Rattle.std.specs.Prelude.{sum}
-use Rattle.range_walks.specs.Ranges.{continued, with_starts}
+use Rattle.range_walks.proofs.Cited.{◌-◌, ◌≤◌, ◌∙◌, ◌++◌, length, take, drop, refl, sym, ap, arith, rules, sum, continued, with_starts}
 use Rattle.range_walks.proofs.Cut.{starts_in_order}
 use Rattle.range_walks.proofs.RangeParts.{range_parted, segments_cover}
 use Rattle.range_walks.proofs.Segments.{range_lengths, range_read}
 use Rattle.range_walks.proofs.range_parts.parts_of_range.Goals as goal
 
 pub slice_bounds-result-count : goal.slice_bounds-result-count
-slice_bounds-result-count g c =
-    let first = c.starts_before-first in
-    let next = c.starts_before-next in
-    starts_in_order c.args.d.now c.args.from c.args.to first.result next.result c.requires.in_order first.ensures.in_count first.ensures.before next.ensures.others
+slice_bounds-result-count g c = search (rules, starts_in_order)
 
 pub slice_bounds-result-start : goal.slice_bounds-result-start
-slice_bounds-result-start g c =
-    let first = c.starts_before-first in
-    let next = c.starts_before-next in
-    let ordered : first.result ≤ next.result =
-    starts_in_order c.args.d.now c.args.from c.args.to first.result next.result c.requires.in_order first.ensures.in_count first.ensures.before next.ensures.others in
-    search (rules, ordered)
+slice_bounds-result-start g c = search (rules, starts_in_order)
 
 pub returns-clause-lengths : goal.returns-clause-lengths
-returns-clause-lengths g c =
-    range_lengths c.lengths.result.now c.args.d.now c.starts_before-first.result (c.starts_before-next.result - c.starts_before-first.result)
-    c.lengths.ensures.value c.lengths.ensures.lengths
+returns-clause-lengths g c = search (rules, range_lengths)
 
 pub returns-clause-covered : goal.returns-clause-covered
 returns-clause-covered g c =

@@ -1,26 +1,13 @@
-use Rattle.std.proofs.Common.{◌≡◌, ◌+◌, ◌-◌, ◌∷◌, [], true, drop, map, unsigned_abs, sym, subst, ap, ◌∙◌, arith}
-use Rattle.std.specs.List.{AllPass}
-use Rattle.std.proofs.lemmas.List.{drop-map, take-map}
-use Rattle.std.proofs.lemmas.List.Elements.{All-drop}
-use Rattle.std.proofs.lemmas.List.Sums.{sum_by-drop_more}
-use Rattle.cvl_base.specs.Folds.{fold_of}
-use Rattle.range_walks.specs.Ranges.{reduces_of}
-use Rattle.range_walks.proofs.Segments.{cut_more, length_fits, segment_read, read_at}
+use Rattle.range_walks.proofs.Cited.{◌≡◌, ◌+◌, ◌-◌, ◌∷◌, [], true, drop, map, unsigned_abs, sym, subst, ap, ◌∙◌, arith, AllPass, drop-map, take-map, All-drop, fold_of, reduces_of}
+use Rattle.range_walks.proofs.Segments.{cut_more, length_here, read_at}
 use Rattle.range_walks.proofs.Written.{written_more}
 use Rattle.range_walks.proofs.ranges.reduces_into.Goals as goal
 
 pub overflow_cast-length : goal.overflow_cast-length
-overflow_cast-length g c =
-    let row = c.args.lengths.now in
-    length_fits row (map unsigned_abs row) c.requires.lengths.none_negative c.requires.lengths c.loop-length.length-index c.loop-length-test.true
+overflow_cast-length g c = (length_here c.requires.lengths c.loop-length-test.true).fits
 
 pub split_at-requires : goal.split_at-requires
-split_at-requires g c =
-    let row = c.args.lengths.now in
-    let lengths = map unsigned_abs row in
-    let s = c.loop-length.length-index in
-    let read = segment_read row lengths c.requires.lengths.none_negative c.requires.lengths s c.loop-length-test.true in
-    omega (arith, read.1, c.loop-length.invariant.covered, sum_by-drop_more (λ x. x) lengths s 0 read.0)
+split_at-requires g c = let here = length_here c.requires.lengths c.loop-length-test.true in omega (arith, here.left, c.loop-length.invariant.covered)
 
 pub loop-length-preserved : goal.loop-length-preserved
 loop-length-preserved g c =
@@ -30,17 +17,17 @@ loop-length-preserved g c =
     let lengths = map unsigned_abs row in
     let s = c.loop-length.length-index in
     let rest = c.loop-length.rest.now in
-    let read = segment_read row lengths c.requires.lengths.none_negative c.requires.lengths s c.loop-length-test.true in
+    let here = length_here c.requires.lengths c.loop-length-test.true in
     let n = read_at row s in
     let left : c.push.new.self.room ≡ c.loop-length.run.room - 1 = ap (λ r. r.room) c.push.ensures in
     record {
       whole = written_more c.loop-length.run c.push.new.self _ (c.sum_from.result ∷ []) _ _ c.push.ensures
-          (ap (map (fold_of m.join m.unit)) (cut_more lengths s n (map item rest) (map item c.split_at.result.0.now) _ read.0 read.1
+          (ap (map (fold_of m.join m.unit)) (cut_more lengths s n (map item rest) (map item c.split_at.result.0.now) _ here.within here.is
           (ap (map item) c.split_at.ensures.front ∙ sym (take-map item n rest)) (ap (map item) c.split_at.ensures.back ∙ sym (drop-map item n rest)))
           ∙ ap (λ sum. sum ∷ reduces_of m.join m.unit (drop (s + 1) lengths) (map item c.split_at.result.1.now))
           (sym (c.sum_from.ensures ∙ ap (λ u. fold_of m.join u (map item c.split_at.result.0.now)) c.unit.ensures)))
           c.loop-length.invariant.whole;
-      covered = omega (arith, read.1, c.split_at.ensures.back_len, c.loop-length.invariant.covered, sum_by-drop_more (λ x. x) lengths s 0 read.0);
+      covered = omega (arith, here.left, c.split_at.ensures.back_len, c.loop-length.invariant.covered);
       room = omega (arith, left, c.loop-length.invariant.room, c.loop-length-test.true);
       items = subst (λ xs. AllPass (λ x. m.is_item (item x)) xs) (sym c.split_at.ensures.back) (All-drop (λ x. m.is_item (item x) ≡ true) n rest c.loop-length.invariant.items);
     }

@@ -1,12 +1,5 @@
-use Rattle.std.proofs.Common.{◌≡◌, ◌-◌, ◌∙◌, true, length, map, drop, slice_range, unsigned_abs, sym, ap, subst, arith}
-use Rattle.std.specs.List.{AllPass}
-use Rattle.std.proofs.lemmas.List.{length-drop, length-map, length-take}
-use Rattle.std.proofs.lemmas.List.Elements.{All-drop, All-map, All-take}
-use Rattle.cvl_base.proofs.FoldLaws.{length-scan_of}
-use Rattle.cvl_base.specs.Folds.{scan_of}
-use Rattle.fresh.specs.Places.{Stretch, with_items}
-use Rattle.fresh.proofs.Written.{written_twice}
-use Rattle.range_walks.specs.Ranges.{range_scan_of, scans_of}
+use Rattle.range_walks.proofs.Cited.{rules, ◌≡◌, ◌-◌, ◌∙◌, true, map, unsigned_abs, sym, ap, subst, AllPass, length-drop, length-map, length-take, All-drop, All-map, All-take, length-scan_of}
+use Rattle.range_walks.proofs.Cited.{scan_of, Stretch, with_items, written_twice, range_scan_of, scans_of}
 use Rattle.range_walks.proofs.Cut.{parts_scanned}
 use Rattle.range_walks.proofs.RangeParts.{parts_read}
 use Rattle.range_walks.proofs.ranges.scan_range_into.Goals as goal
@@ -19,21 +12,7 @@ scans_into-requires-clause-items g c =
     subst (λ xs. AllPass (λ x. g.M.Monoid.is_item (item x)) xs) (sym c.parts_of_range.ensures.others) (All-drop is_item _ _ part)
 
 pub scans_into-requires-clause-room : goal.scans_into-requires-clause-room
-scans_into-requires-clause-room g c =
-    let parts = c.parts_of_range in
-    let front = map g.E.Reading.item parts.result.0.now in
-    let range = slice_range c.args.a.now c.args.from c.args.to in
-    let left = ap (λ r. r.room) c.scan_into-run.ensures in
-    grind (
-      arith,
-      left,
-      length-scan_of,
-      length-map parts.result.0.now g.E.Reading.item,
-      ap length parts.ensures.others,
-      length-drop (length parts.result.0.now) range,
-      length-take (c.args.to - c.args.from) (drop c.args.from c.args.a.now),
-      c.requires.room,
-    )
+scans_into-requires-clause-room g c = search (rules, length-scan_of, length-map, length-drop, length-take)
 
 pub returns : goal.returns
 returns g c =

@@ -1,8 +1,4 @@
-use Rattle.std.proofs.Common.{◌≡◌, ◌≤◌, length, drop, map, unsigned_abs}
-use Rattle.std.specs.Prelude.{sum}
-use Rattle.std.specs.List.{AllPass}
-use Rattle.range_walks.specs.Ranges.{scans_of}
-use Rattle.fresh.specs.Places.{with_items}
+use Rattle.range_walks.proofs.Cited.{◌≡◌, ◌≤◌, length, drop, map, unsigned_abs, sum, AllPass, with_items, scans_of}
 use Rattle.range_walks.proofs.ranges.scans_into.Given as goal
 
 -- what is written with what is left to write is the whole

@@ -1,7 +1,4 @@
-use Rattle.std.proofs.Common.{◌≡◌, ◌-◌, ◌∙◌, true, false, length, map, slice_range, sym, ap, arith}
-use Rattle.std.proofs.lemmas.List.{length-map}
-use Rattle.std.proofs.lemmas.List.Elements.{All-map}
-use Rattle.cvl_base.specs.Folds.{fold_of}
+use Rattle.range_walks.proofs.Cited.{◌≡◌, ◌-◌, ◌∙◌, true, false, length, map, slice_range, sym, ap, arith, length-map, All-map, fold_of}
 use Rattle.range_walks.proofs.LastStart.{last_range_summed, range_summed}
 use Rattle.range_walks.proofs.Scanned.{part_read}
 use Rattle.range_walks.proofs.ranges.sum_of_range.Goals as goal
