@@ -1,18 +1,9 @@
 -- Where no place is bad and as many places take part as the result has, each place of the result has a sender.
-use Rattle.std.proofs.Common.{◌≡◌, ◌∙◌, ℕ, suc, ◌+◌, ◌<◌, ◌≤◌, Bool, true, false, not, if◌then◌else◌, cond, List, [], ◌∷◌, length, get_or, set, refl, sym, ap}
-use Rattle.std.proofs.Common.{arith, eqb, inl, inr, ℤ, pos, is_some, Option, Some, None}
-use Rattle.std.specs.List.{All, sum_by}
-use Rattle.std.proofs.lemmas.Bool.{false≢true}
-use Rattle.std.proofs.lemmas.Bool.Decides.{eqb_tells}
-use Rattle.std.proofs.lemmas.List.{length-set}
-use Rattle.std.proofs.lemmas.List.Elements.{All-from_get_or}
-use Rattle.std.proofs.lemmas.List.Sums.{count_by-le-length, sum_by-cons, sum_by-set}
-use Rattle.cvl_base.specs.Packs.{count_of}
-use Rattle.cvl_base.specs.Permutes.{all_destinations, first_fault, flagged_destinations, is_destination, wrongs}
-use Rattle.permute_walks.specs.Senders.{last_senders, nobody, sender_from, senders_of}
+use Rattle.permute_walks.proofs.Cited.{◌≡◌, ◌∙◌, ℕ, suc, ◌+◌, ◌<◌, ◌≤◌, Bool, true, false, not, if◌then◌else◌, cond, List, [], ◌∷◌, length, get_or, set, refl, sym, ap, arith, eqb, inl, inr, ℤ, pos}
+use Rattle.permute_walks.proofs.Cited.{is_some, Option, Some, None, All, sum_by, false≢true, eqb_tells, length-set, All-from_get_or, count_by-le-length, sum_by-cons, sum_by-set, count_of}
+use Rattle.permute_walks.proofs.Cited.{all_destinations, first_fault, flagged_destinations, is_destination, wrongs, length-senders_of, sender_at, is_sent, last_senders, nobody, sender_from}
+use Rattle.permute_walks.proofs.Cited.{senders_of}
 use Rattle.permute_walks.proofs.LastSent.{lasts_stored}
-use Rattle.sent_places.proofs.Sent.{length-senders_of, sender_at}
-use Rattle.sent_places.proofs.Stored.{is_sent}
 
 -- 1 where a place takes part
 abbrev pub takes_part : Option ℤ → ℕ
@@ -58,7 +49,5 @@ pub flagged_take_part : (index : List ℤ) (flags : List Bool) → length index 
 flagged_take_part [] [] same = refl
 flagged_take_part [] (f ∷ flags) same = absurd (omega arith)
 flagged_take_part (i ∷ index) [] same = absurd (omega arith)
-flagged_take_part (i ∷ index) (true ∷ flags) same =
-    omega (arith, sum_by-cons takes_part (Some i) (flagged_destinations index flags), flagged_take_part index flags (omega arith), sum_by-cons (λ (f : Bool). cond f 1 0) true flags)
-flagged_take_part (i ∷ index) (false ∷ flags) same =
-    omega (arith, sum_by-cons takes_part None (flagged_destinations index flags), flagged_take_part index flags (omega arith), sum_by-cons (λ (f : Bool). cond f 1 0) false flags)
+flagged_take_part (i ∷ index) (true ∷ flags) same = omega (arith, sum_by-cons, flagged_take_part index flags (omega arith))
+flagged_take_part (i ∷ index) (false ∷ flags) same = omega (arith, sum_by-cons, flagged_take_part index flags (omega arith))

@@ -1,14 +1,7 @@
 -- The calls on the segments of a segmented call, end to end: the first fault at its place in the whole, else what they give.
-use Rattle.std.proofs.Common.{◌≡◌, ◌∙◌, ℕ, ◌+◌, ◌<◌, List, [], ◌∷◌, ◌++◌, length, sum, take, drop, get_or, refl, sym, ap, length-drop, arith, option_map, Option, Some, None, Result, Ok, Err}
-use Rattle.std.specs.Option.{option_or}
-use Rattle.std.proofs.lemmas.List.{drop_more}
-use Rattle.std.proofs.lemmas.List.Sums.{sum_by_more}
-use Rattle.cvl_base.specs.declared.fault.Fault.{Fault}
-use Rattle.cvl_base.specs.declared.fault.FaultNo.{FaultNo}
-use Rattle.cvl_base.specs.Faults.{fault_at}
-use Rattle.cvl_base.specs.Gives.{◌>>=◌, unless}
+use Rattle.permute_walks.proofs.Cited.{rules, ◌≡◌, ℕ, ◌+◌, ◌<◌, List, [], ◌∷◌, ◌++◌, length, sum, take, drop, get_or, refl, sym, ap, length-drop, arith, option_map, Option, Some, None, Result, Ok}
+use Rattle.permute_walks.proofs.Cited.{Err, option_or, drop_more, sum_by_more, Fault, FaultNo, fault_at, ◌>>=◌, unless, first_fault}
 use Rattle.cvl_base.specs.Lists.{joined}
-use Rattle.cvl_base.specs.Permutes.{first_fault}
 use Rattle.cvl_base.specs.Segmented.{in_vector, moved}
 
 -- ---- faults at their places in the whole
@@ -36,10 +29,7 @@ in_front to None (Some f) r later (Err e) is = is
 pub front : {X : Type 0} (lengths : List ℕ) (s place : ℕ) (result : Result (List X) Fault) (ws : List (Option FaultNo)) (r later : List X) (rest : Result (List (List X)) Fault) (others : Option Fault)
     → sum (take s lengths) ≡ place → result ≡ unless (first_fault 0 ws) (Ok r) → (rest >>= λ lists. Ok (joined lists)) ≡ unless others (Ok later)
     → ((moved (in_vector lengths s) result >>= λ r. rest >>= λ rs. Ok (r ∷ rs)) >>= λ lists. Ok (joined lists)) ≡ unless (option_or (first_fault place ws) others) (Ok (r ++ later))
-front lengths s place result ws r later rest others there is more =
-    ap (λ a. (moved (in_vector lengths s) a >>= λ r. rest >>= λ rs. Ok (r ∷ rs)) >>= λ lists. Ok (joined lists)) is
-    ∙ in_front (in_vector lengths s) (first_fault 0 ws) others r later rest more
-    ∙ ap (λ o. unless (option_or o others) (Ok (r ++ later))) (sym (fault_moved lengths s place 0 ws (omega (arith, there))))
+front lengths s place result ws r later rest others there is more = search (rules, in_front, fault_moved)
 
 -- the lengths that are left, after one more
 pub left_more : (lengths : List ℕ) (s n : ℕ) (others : List ℕ) → drop s lengths ≡ n ∷ others → (drop (s + 1) lengths ≡ others) × (sum (take (s + 1) lengths) ≡ sum (take s lengths) + n)

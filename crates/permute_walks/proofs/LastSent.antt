@@ -1,21 +1,12 @@
 -- The last senders of a range of the result, of which each thread finds those of its own range; and that all of them are what
 -- one walk of stores leaves.
-use Rattle.std.proofs.Common.{◌≡◌, ◌∙◌, ℕ, zero, suc, ◌+◌, ◌<◌, ◌≤◌, Bool, true, false, if◌then◌else◌, List, [], ◌∷◌, ◌++◌, length, map, take, get_or, set, refl, sym, ap, subst}
-use Rattle.std.proofs.Common.{arith, inl, inr, ltb, ℤ, pos, negsuc, is_some, Option, Some, None}
-use Rattle.std.specs.List.{range_with_len}
+use Rattle.permute_walks.proofs.Cited.{rules, ◌≡◌, ◌∙◌, ℕ, zero, suc, ◌+◌, ◌<◌, ◌≤◌, Bool, true, false, if◌then◌else◌, List, [], ◌∷◌, ◌++◌, length, take, get_or, set, refl, sym, ap, subst, arith}
+use Rattle.permute_walks.proofs.Cited.{inl, inr, ltb, ℤ, pos, negsuc, is_some, Option, Some, None, le-leb, lt-ltb, ltb-true, false≢true, eqb_tells, Decides-int_eq, ext_get_or, get_or-set_same}
+use Rattle.permute_walks.proofs.Cited.{get_or-set_other, length-set, length-take, map-append, take_more, take_all, length-map-range_with_len, get_or-map-range_with_len, count_by_more_no}
+use Rattle.permute_walks.proofs.Cited.{count_by_more_yes, most_places, Fault, first_fault, is_destination, wrongs, nobody_sent, other_place, IsStoredTo, stored_none, stored_more, stored_outside}
+use Rattle.permute_walks.proofs.Cited.{stored_skip, stored_all, IsStored, count_sent, count_destinations, is_between, last_sender_from, last_senders, nobody, senders_of}
 use Rattle.std.specs.Cmp.Derive.{both_true}
-use Rattle.std.proofs.lemmas.Bool.{le-leb, lt-ltb, ltb-true, false≢true}
-use Rattle.std.proofs.lemmas.Bool.Decides.{eqb_tells, Decides-int_eq}
-use Rattle.std.proofs.lemmas.List.{ext_get_or, get_or-set_same, get_or-set_other, length-set, length-take, map-append, take_more, take_all}
-use Rattle.std.proofs.lemmas.List.FromFn.{length-map-range_with_len, get_or-map-range_with_len}
-use Rattle.std.proofs.lemmas.List.Sums.{count_by_more_no, count_by_more_yes}
-use Rattle.cvl_base.specs.Limits.{most_places}
-use Rattle.cvl_base.specs.declared.fault.Fault.{Fault}
-use Rattle.cvl_base.specs.Permutes.{first_fault, is_destination, wrongs}
-use Rattle.permute_walks.specs.Senders.{IsStored, count_sent, count_destinations, is_between, last_sender_from, last_senders, nobody, senders_of}
 use Rattle.permute_walks.proofs.Listed.{range_both}
-use Rattle.sent_places.proofs.Sent.{nobody_sent, other_place}
-use Rattle.sent_places.proofs.Stored.{IsStoredTo, stored_none, stored_more, stored_outside, stored_skip, stored_all}
 
 pub length-last_senders : (place : ℕ) (ts : List (Option ℤ)) (lowest n : ℕ) → length (last_senders place ts lowest n) ≡ n
 length-last_senders place ts lowest n = length-map-range_with_len (last_sender_from nobody place ts) lowest n
@@ -76,9 +67,7 @@ module _ (place : ℕ) (ts : List (Option ℤ)) (lowest n k : ℕ) (lt : k < len
 -- ---- two ranges side by side are one
 
 pub lasts_both : (place : ℕ) (ts : List (Option ℤ)) (lowest n m : ℕ) → last_senders place ts lowest n ++ last_senders place ts (lowest + n) m ≡ last_senders place ts lowest (n + m)
-lasts_both place ts lowest n m =
-    let last = last_sender_from nobody place ts in
-    sym (ap (map last) (range_both lowest n m) ∙ map-append last (range_with_len lowest n) (range_with_len (lowest + n) m))
+lasts_both place ts lowest n m = search (rules, range_both, map-append)
 
 -- ---- the whole result
 

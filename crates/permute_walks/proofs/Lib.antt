@@ -11,3 +11,4 @@ pub mod TakenOr
 pub mod Told
 pub mod Written
 pub use Rattle.sent_places.proofs.Sent
+pub mod Cited

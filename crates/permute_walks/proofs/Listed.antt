@@ -1,8 +1,6 @@
 -- The numbers of a range, and those that a test lists, one after another: what holds up to each of them, where the others change nothing.
-use Rattle.std.proofs.Common.{◌≡◌, ◌∙◌, ℕ, zero, suc, ◌+◌, ◌<◌, Bool, true, false, cond, List, [], ◌∷◌, ◌++◌, drop, get_or, length, refl, sym, ap, arith, subst}
-use Rattle.std.specs.List.{filter, range_with_len}
-use Rattle.std.proofs.lemmas.List.{map-id}
-use Rattle.std.proofs.lemmas.List.FromFn.{filter_of_map_range_with_len_more}
+use Rattle.permute_walks.proofs.Cited.{◌≡◌, ◌∙◌, ℕ, zero, suc, ◌+◌, ◌<◌, Bool, true, false, cond, List, [], ◌∷◌, ◌++◌, drop, get_or, length, refl, sym, ap, arith, subst, filter, range_with_len}
+use Rattle.permute_walks.proofs.Cited.{map-id, filter_of_map_range_with_len_more}
 
 -- two ranges, one behind the other
 pub range_both : (a n m : ℕ) → range_with_len a (n + m) ≡ range_with_len a n ++ range_with_len (a + n) m
@@ -14,9 +12,7 @@ range_both a (suc n) m =
 
 -- one number more
 pub listed_more : (p : ℕ → Bool) (first k : ℕ) (b : Bool) → p (first + k) ≡ b → filter p (range_with_len first (k + 1)) ≡ filter p (range_with_len first k) ++ cond b ((first + k) ∷ []) []
-listed_more p first k b is =
-    sym (ap (filter p) (map-id (range_with_len first (k + 1)))) ∙ filter_of_map_range_with_len_more p (λ n. n) first k (first + k) refl
-    ∙ (λ i. filter p (map-id (range_with_len first k) i) ++ cond (is i) ((first + k) ∷ []) [])
+listed_more p first k b is = cc (map-id (range_with_len first (k + 1)), filter_of_map_range_with_len_more p (λ n. n) first k (first + k) refl, map-id (range_with_len first k), is)
 
 -- the rest of a list is that of the numbers from `from` on and before `end`, up to which P holds
 pub record IsRest (p : ℕ → Bool) (P : ℕ → Type 0) (rest : List ℕ) (end : ℕ) : Type 0 where

@@ -1,17 +1,12 @@
 -- Marks in words: one more, none, and how many are set.
-use Rattle.std.proofs.Common.{◌≡◌, ◌∙◌, ℕ, zero, suc, ◌+◌, ◌-◌, ◌*◌, ◌/◌, ◌%◌, ◌^◌, ◌<◌, ◌≤◌, Bool, true, false, cond, List, [], ◌∷◌, drop, get_or, length, replicate, set, take}
-use Rattle.std.proofs.Common.{refl, sym, ap, arith, inl, inr, bit_or, count_ones, w32}
+use Rattle.permute_walks.proofs.Cited.{◌≡◌, ◌∙◌, ℕ, zero, suc, ◌+◌, ◌-◌, ◌*◌, ◌/◌, ◌%◌, ◌^◌, ◌<◌, ◌≤◌, Bool, true, false, cond, List, [], ◌∷◌, drop, get_or, length, replicate, set, take, refl, sym}
+use Rattle.permute_walks.proofs.Cited.{ap, arith, inl, inr, bit_or, count_ones, w32, sum_by, cases_eq, cases_lt, drop-replicate, drop-set-add, drop-set-lt, get_or-set_other, get_or-set_same}
+use Rattle.permute_walks.proofs.Cited.{length-drop, length-replicate, length-set, length-take, map-id, take-set-le, sum_by-cons, sum_by-take-drop, count_of, mark_words, words_for, words_of}
 use Rattle.std.specs.Int.{bit_at}
-use Rattle.std.specs.List.{sum_by}
 use Rattle.std.specs.Simd.Lanes.{mask_l}
 use Rattle.std.proofs.Math.Seq.{take-set-lt}
-use Rattle.std.proofs.lemmas.Bool.{cases_eq, cases_lt}
-use Rattle.std.proofs.lemmas.List.{drop-replicate, drop-set-add, drop-set-lt, get_or-set_other, get_or-set_same, length-drop, length-replicate, length-set, length-take, map-id, take-set-le}
-use Rattle.std.proofs.lemmas.List.Sums.{sum_by-cons, sum_by-take-drop}
 use Rattle.std.proofs.lemmas.Nat.Bits.{bit_at_set_other, bit_at_set_same, same_from_bits}
 use Rattle.std.proofs.lemmas.Simd.{bit_mask_l, ones-mask_l}
-use Rattle.cvl_base.specs.Packs.{count_of}
-use Rattle.permute_walks.specs.Marks.{mark_words, words_for, words_of}
 
 -- ---- one more mark
 
@@ -36,9 +31,7 @@ set_here : (n : ℕ) (marks : List Bool) (d : ℕ) → d < length marks → d < 
 set_here n marks d within below =
     let first : d / 32 ≡ 0 = omega arith in
     let bit : d % 32 ≡ d = omega arith in
-    (λ i. mask_l (take-set-lt 32 marks d true below i) ∷ words_of n (drop-set-lt 32 marks d true below i))
-    ∙ ap (λ w. w ∷ words_of n (drop 32 marks)) (mask_set (take 32 marks) d (omega (arith, length-take 32 marks, below, within)) below)
-    ∙ sym (λ i. set (words_of (suc n) marks) (first i) (with_bit (get_or (words_of (suc n) marks) (first i) 0) (bit i)))
+    cc (take-set-lt 32 marks d true below, drop-set-lt 32 marks d true below, mask_set (take 32 marks) d (omega (arith, length-take 32 marks, below, within)) below, first, bit)
 
 -- in a later one
 set_there : (n : ℕ) (marks : List Bool) (e d : ℕ) → 32 + e ≡ d → words_of n (set (drop 32 marks) e true) ≡ with_mark (words_of n (drop 32 marks)) e
@@ -46,10 +39,7 @@ set_there : (n : ℕ) (marks : List Bool) (e d : ℕ) → 32 + e ≡ d → words
 set_there n marks e d is rest =
     let next : suc (e / 32) ≡ d / 32 = omega (arith, is) in
     let bit : e % 32 ≡ d % 32 = omega (arith, is) in
-    (λ i. mask_l (take-set-le 32 marks d true (omega (arith, is)) i) ∷ words_of n (drop 32 (set marks (sym is i) true)))
-    ∙ ap (λ ms. mask_l (take 32 marks) ∷ words_of n ms) (drop-set-add 32 marks e true)
-    ∙ ap (λ ws. mask_l (take 32 marks) ∷ ws) rest
-    ∙ (λ i. set (words_of (suc n) marks) (next i) (with_bit (get_or (words_of (suc n) marks) (next i) 0) (bit i)))
+    cc (take-set-le 32 marks d true (omega (arith, is)), is, drop-set-add 32 marks e true, rest, next, bit)
 
 words_set : (n : ℕ) (marks : List Bool) (d : ℕ) → d < length marks → length marks ≤ 32 * n → words_of n (set marks d true) ≡ with_mark (words_of n marks) d
 words_set zero marks d within all = absurd (omega (arith, within, all))
@@ -61,8 +51,7 @@ words_set (suc n) marks d within all = elim (cases_lt d 32) [
 ]
 
 pub marked_one : (marks : List Bool) (d : ℕ) → d < length marks → mark_words (set marks d true) ≡ with_mark (mark_words marks) d
-marked_one marks d within =
-    ap (λ n. words_of (words_for n) (set marks d true)) (length-set marks d true) ∙ words_set (words_for (length marks)) marks d within (omega arith)
+marked_one marks d within = cc (length-set marks d true, words_set (words_for (length marks)) marks d within (omega arith))
 
 -- ---- no mark
 

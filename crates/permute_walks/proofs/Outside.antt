@@ -1,28 +1,11 @@
 -- The walks of a back permute: which index is the first outside, and what the definition gives where none is.
-use Rattle.std.proofs.Common.{◌≡◌, ◌∙◌, ℕ, ◌+◌, ◌<◌, ◌≤◌, Bool, true, false, not, if◌then◌else◌, cond, List, [], ◌∷◌, length, map, drop, get_or, refl, sym, ap, arith}
-use Rattle.std.proofs.Common.{◌-◌, ◌++◌, take, length-drop, ℤ, pos, negsuc, is_some, option_map, unsigned_abs, nat_abs, to_z, of_z, w32, w64, Fits, FitsSigned, T}
-use Rattle.std.proofs.Common.{inl, inr, Option, Some, None, Result, Ok}
-use Rattle.std.specs.List.{cons_option}
-use Rattle.std.specs.Option.{ok_or}
-use Rattle.std.proofs.lemmas.Bool.{lt-ltb, le-ltb, ltb-true, false≢true}
+use Rattle.permute_walks.proofs.Cited.{rules, nat_tests, ◌≡◌, ◌∙◌, ℕ, ◌+◌, ◌<◌, ◌≤◌, Bool, true, false, not, if◌then◌else◌, cond, List, [], ◌∷◌, length, map, drop, get_or, refl, sym, ap, arith, ◌-◌}
+use Rattle.permute_walks.proofs.Cited.{◌++◌, take, length-drop, ℤ, pos, negsuc, is_some, option_map, nat_abs, to_z, of_z, w32, w64, Fits, FitsSigned, T, Option, Some, None, Result, Ok, cons_option}
+use Rattle.permute_walks.proofs.Cited.{ok_or, lt-ltb, le-ltb, ltb-true, false≢true, ints, to_z-of_z, at_drop_more, drop_at, length-take-le, take-append-drop, take_at, take_more, All-cons, All-drop}
+use Rattle.permute_walks.proofs.Cited.{All-head, All-nil, All-tail, All-take, filter_map-append, sum_by-cons, cond_some, none-some, slice_get_cases, slice_get_read, first_without, part, Stretch}
+use Rattle.permute_walks.proofs.Cited.{stretch, Fault, FaultNo, IndexOutOfRange, values_from, element_at, fault_at, ◌>>=◌, unless, first_fault, is_place, place_among, AreInside, count_outside}
+use Rattle.permute_walks.proofs.Cited.{elements_at, first_outside, outside}
 use Rattle.std.specs.Int.Signed.{non_neg}
-use Rattle.std.proofs.lemmas.Int.{ints, to_z-of_z}
-use Rattle.std.proofs.lemmas.List.{at_drop_more, drop_at, length-take-le, take-append-drop, take_at, take_more}
-use Rattle.std.proofs.lemmas.List.Elements.{All-cons, All-drop, All-head, All-nil, All-tail, All-take, filter_map-append}
-use Rattle.std.proofs.lemmas.List.Sums.{sum_by-cons}
-use Rattle.std.proofs.lemmas.Option.{cond_some, none-some, slice_get_cases, slice_get_read}
-use Rattle.fresh.specs.Found.{first_without}
-use Rattle.fresh.specs.Parts.{part}
-use Rattle.fresh.specs.Places.{Stretch, stretch}
-use Rattle.cvl_base.specs.declared.fault.Fault.{Fault}
-use Rattle.cvl_base.specs.declared.fault.FaultNo.{FaultNo}
-use Rattle.cvl_base.specs.declared.fault.FaultNo.TheVariants.{IndexOutOfRange}
-use Rattle.cvl_base.specs.Elementwise.{values_from}
-use Rattle.cvl_base.specs.Extracts.{element_at}
-use Rattle.cvl_base.specs.Faults.{fault_at}
-use Rattle.cvl_base.specs.Gives.{◌>>=◌, unless}
-use Rattle.cvl_base.specs.Permutes.{first_fault, is_place, place_among}
-use Rattle.permute_walks.specs.Indices.{AreInside, count_outside, elements_at, first_outside, outside}
 
 -- ---- the first of some indices, and whether it is inside
 
@@ -30,7 +13,7 @@ module _ (place : ℕ) (ws : List (Option FaultNo)) where
   abbrev first_of : Bool → Option Fault
   first_of is_inside = first_fault place ((if is_inside then None else Some IndexOutOfRange) ∷ ws)
 
-  inside_first : (is_inside : Bool) → None ≡ first_of is_inside → (is_inside ≡ true) × (None ≡ first_fault (place + 1) ws)
+  pub inside_first : (is_inside : Bool) → None ≡ first_of is_inside → (is_inside ≡ true) × (None ≡ first_fault (place + 1) ws)
   inside_first true none = (refl, none)
   inside_first false none = absurd (none-some (fault_at IndexOutOfRange place) none)
 
@@ -38,7 +21,7 @@ module _ (place : ℕ) (ws : List (Option FaultNo)) where
   not_counted true none others = others
   not_counted false none others = absurd (omega arith)
 
-  passed : (is_inside : Bool) → is_inside ≡ true → first_of is_inside ≡ first_fault (place + 1) ws
+  pub passed : (is_inside : Bool) → is_inside ≡ true → first_of is_inside ≡ first_fault (place + 1) ws
   passed true inside = refl
   passed false inside = absurd (false≢true inside)
 
@@ -61,19 +44,12 @@ module _ (first places : ℕ) (index : List ℤ) (k : ℕ) (so_far : first_outsi
   next lt = so_far ∙ at_drop_more (first_outside (first + k) places) index k (pos 0) lt
 
   pub checked_more : (p : ℕ) → k < length index → place_among places this ≡ Some p → first_outside first places index ≡ first_outside (first + (k + 1)) places (drop (k + 1) index)
-  checked_more p lt inside =
-      next lt
-      ∙ passed (first + k) (map _ (drop (k + 1) index)) (is_place places this) (cond_some (is_place places this) (unsigned_abs this) p inside).0
-      ∙ ap (λ at. first_outside at places (drop (k + 1) index)) (omega arith)
+  checked_more p lt inside = search (rules, next, passed, cond_some)
 
 -- ---- the definition
 
 tells : {X : Type 0} (source : List X) (i : ℤ) → is_some (element_at source i) ≡ is_place (length source) i
-tells source (pos k) =
-    elim ((slice_get_cases source k).1) [
-      | inl t ↦ ap is_some t.2 ∙ sym (lt-ltb k (length source) t.1)
-      | inr t ↦ ap is_some t.1 ∙ sym (le-ltb k (length source) t.0)
-    ]
+tells source (pos k) = grind (arith, nat_tests, slice_get_cases, lt-ltb, le-ltb)
 tells source (negsuc k) = refl
 
 -- the first index outside is the first that takes nothing
@@ -90,7 +66,7 @@ outside_told {X = X} place source (i ∷ index) = on (element_at source i) (is_p
     on None true is rest = absurd (false≢true is)
     on None false is rest = refl
 
-cons_unless : {X : Type 0} (x : X) (o : Option Fault) (xs : List X) → (unless o (Ok xs) >>= λ ys. Ok (x ∷ ys)) ≡ unless o (Ok (x ∷ xs))
+pub cons_unless : {X : Type 0} (x : X) (o : Option Fault) (xs : List X) → (unless o (Ok xs) >>= λ ys. Ok (x ∷ ys)) ≡ unless o (Ok (x ∷ xs))
 cons_unless x None xs = refl
 cons_unless x (Some f) xs = refl
 
@@ -105,9 +81,7 @@ values_on place ws false None rest xs is same = refl
 pub values_unless : {X : Type 0} (place : ℕ) (source : List X) (index : List ℤ)
     → values_from IndexOutOfRange place (map (element_at source) index) ≡ unless (first_outside place (length source) index) (Ok (elements_at source index))
 values_unless place source [] = refl
-values_unless place source (i ∷ index) =
-    values_on place (map _ index) (is_place (length source) i) (element_at source i) (values_from IndexOutOfRange (place + 1) (map (element_at source) index))
-    (elements_at source index) (tells source i) (values_unless (place + 1) source index)
+values_unless place source (i ∷ index) = search (rules, values_on, tells, values_unless (place + 1) source index)
 
 -- ---- where none is outside
 
@@ -116,6 +90,11 @@ all_inside place places [] none = All-nil (λ i. is_place places i ≡ true)
 all_inside place places (i ∷ index) none =
     let here = inside_first place (map _ index) (is_place places i) none in
     All-cons (λ j. is_place places j ≡ true) i index here.0 (all_inside (place + 1) places index here.1)
+
+-- and where each is inside, none is outside
+pub all_passed : (place places : ℕ) (index : List ℤ) → AreInside places index → None ≡ first_outside place places index
+all_passed place places [] inside = refl
+all_passed place places (i ∷ index) inside = search (rules, All-tail, passed, All-head, all_passed (place + 1) places index (All-tail (λ j. is_place places j ≡ true) i index inside))
 
 length-on : {X : Type 0} (v : Option X) (xs : List X) → is_some v ≡ true → length (cons_option v xs) ≡ length xs + 1
 length-on (Some x) xs some = omega arith
@@ -147,10 +126,6 @@ module _ {X : Type 0} (source : List X) where
       ∙ take_at (elements_at source (take k others)) (elements_at source (drop k others)) k
       (length-front k others (omega (arith, length-drop p index)) (All-drop (λ j. is_place (length source) j ≡ true) p index inside))
 
-pub part_inside : (places : ℕ) (index : List ℤ) (p k : ℕ) → AreInside places index → AreInside places (part index p k)
-part_inside places index p k inside =
-    All-take (λ i. is_place places i ≡ true) k (drop p index) (All-drop (λ i. is_place places i ≡ true) p index inside)
-
 -- ---- an index as the code reads it
 
 pub read_index : (places : ℕ) (i : ℤ) → FitsSigned w32 i → is_place places i ≡ true
@@ -167,9 +142,7 @@ pub at_more : {X : Type 0} (source : List X) (index : List ℤ) (k d : ℕ) (x :
     → elements_at source (take (k + 1) index) ≡ elements_at source (take k index) ++ x ∷ []
 at_more source index k d x lt is within read =
     let some : element_at source (get_or index k (pos 0)) ≡ Some x = ap (element_at source) is ∙ slice_get_read source (length source) d x refl within read in
-    ap (elements_at source) (take_more index k (pos 0) lt)
-    ∙ filter_map-append (element_at source) (take k index) (get_or index k (pos 0) ∷ [])
-    ∙ ap (λ xs. elements_at source (take k index) ++ xs) (cons_alone (element_at source (get_or index k (pos 0))) x some)
+    cc (take_more index k (pos 0) lt, filter_map-append (element_at source) (take k index) (get_or index k (pos 0) ∷ []), cons_alone (element_at source (get_or index k (pos 0))) x some)
 
 -- ---- a run of them
 

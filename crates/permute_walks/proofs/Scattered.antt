@@ -1,22 +1,11 @@
 -- The walks of a simple permute straight into a room: what the marks of the places tell, and what the room holds.
-use Rattle.std.proofs.Common.{◌≡◌, ◌≢◌, ◌∙◌, ℕ, zero, suc, ◌+◌, ◌<◌, ◌≤◌, Bool, true, false, not, cond, List, [], ◌∷◌, length, filter_map, take, get_or, set, replicate, refl, sym, ap}
-use Rattle.std.proofs.Common.{arith, eqb, w32, to_z, of_z, FitsSigned, ℤ, pos, negsuc, slice_get, unwrap_or, Some, None}
-use Rattle.std.specs.List.{All, cons_option}
-use Rattle.std.proofs.lemmas.Bool.{false≢true, ltb-true, ne_eqb}
-use Rattle.std.proofs.lemmas.Int.{to_z-of_z}
-use Rattle.std.proofs.lemmas.List.{get_or-map, map-set, take_all}
-use Rattle.std.proofs.lemmas.List.Elements.{All-head, All-tail, All-weaker}
-use Rattle.std.proofs.lemmas.List.Sums.{sum_by-cons}
-use Rattle.std.proofs.lemmas.Option.{slice_get_past}
-use Rattle.cvl_base.specs.Packs.{count_of}
-use Rattle.cvl_base.specs.Permutes.{all_destinations, first_fault, is_place, wrongs}
-use Rattle.permute_walks.specs.Senders.{count_sent, count_destinations, last_senders, nobody, senders_of, sent_marks, written_over}
+use Rattle.permute_walks.proofs.Cited.{◌≡◌, ◌≢◌, ◌∙◌, ℕ, zero, suc, ◌+◌, ◌<◌, ◌≤◌, Bool, true, false, not, List, [], ◌∷◌, length, filter_map, take, get_or, set, replicate, refl, sym, ap, arith, eqb}
+use Rattle.permute_walks.proofs.Cited.{w32, to_z, of_z, FitsSigned, ℤ, pos, negsuc, slice_get, unwrap_or, Some, None, All, false≢true, ltb-true, ne_eqb, to_z-of_z, get_or-map, map-set, take_all}
+use Rattle.permute_walks.proofs.Cited.{All-head, All-tail, All-weaker, sum_by-cons, slice_get_past, count_of, all_destinations, first_fault, is_place, wrongs, length-senders_of, nobody_sent}
+use Rattle.permute_walks.proofs.Cited.{inside_where_right, right_now, element, count_sent, count_destinations, last_senders, nobody, senders_of, sent_marks, written_over}
 use Rattle.permute_walks.proofs.EachSent.{all_take_part, each_sent}
 use Rattle.permute_walks.proofs.LastSent.{lasts_set, lasts_stored, reached}
 use Rattle.cvl_base.proofs.Permutes.{length-all_destinations}
-use Rattle.sent_places.proofs.Sent.{length-senders_of, nobody_sent}
-use Rattle.sent_places.proofs.Stored.{inside_where_right, is_sent, right_now}
-use Rattle.cvl_base.proofs.Lists.{element}
 
 -- ---- marks
 
@@ -26,8 +15,7 @@ none_marked (suc m) = ap (λ rest. false ∷ rest) (none_marked m)
 
 pub count_marked : (senders : List ℕ) → count_of (sent_marks senders) ≡ count_sent senders
 count_marked [] = refl
-count_marked (s ∷ senders) =
-    omega (arith, sum_by-cons (λ (b : _). cond b 1 0) (not (eqb s nobody)) (sent_marks senders), sum_by-cons is_sent s senders, count_marked senders)
+count_marked (s ∷ senders) = omega (arith, sum_by-cons, count_marked senders)
 
 -- one more place is sent
 pub marked_set : (senders : List ℕ) (d k : ℕ) → k ≢ nobody → sent_marks (set senders d k) ≡ set (sent_marks senders) d true
@@ -48,8 +36,7 @@ written_set source [] values d k x is = refl
 written_set source (s ∷ senders) [] zero k x is = refl
 written_set source (s ∷ senders) [] (suc d) k x is = refl
 written_set source (s ∷ senders) (v ∷ values) zero k x is = ap (λ o. unwrap_or o v ∷ written_over source senders values) is
-written_set source (s ∷ senders) (v ∷ values) (suc d) k x is =
-    ap (λ rest. unwrap_or (slice_get source s) v ∷ rest) (written_set source senders values d k x is)
+written_set source (s ∷ senders) (v ∷ values) (suc d) k x is = cc (written_set source senders values d k x is)
 
 -- nobody was sent
 written_none : {X : Type 0} (source values : List X) → length source ≤ nobody → written_over source (replicate (length values) nobody) values ≡ values
@@ -70,8 +57,7 @@ written_all source (s ∷ senders) [] long below = absurd (omega arith)
 written_all source (s ∷ senders) (v ∷ values) long below =
     let some = (element source s (All-head (λ s. s < length source) s senders below)).1 in
     let rest = written_all source senders values (omega arith) (All-tail (λ s. s < length source) s senders below) in
-    (λ i. unwrap_or (some i) v ∷ rest i)
-    ∙ ap (λ o. cons_option o (filter_map (slice_get source) senders)) (sym some)
+    cc (some, rest)
 
 -- ---- the walks
 
@@ -111,15 +97,11 @@ module _ (index : List ℤ) (m : ℕ) (few : length index ≤ nobody) where
           ∙ ap (set (lasts k) d) (omega arith)
 
       pub marks_more : (marks : List Bool) → marks ≡ sent_marks (lasts k) → set marks d true ≡ sent_marks (lasts (k + 1))
-      marks_more marks are =
-          ap (λ bs. set bs d true) are ∙ sym (marked_set (lasts k) d k (λ same. omega arith)) ∙ ap sent_marks (sym sets)
+      marks_more marks are = cc (are, marked_set (lasts k) d k (λ same. omega arith), sets)
 
       pub room_more : {X : Type 0} (source old room : List X) (x : X) → slice_get source k ≡ Some x → room ≡ written_over source (lasts k) old
           → set room d x ≡ written_over source (lasts (k + 1)) old
-      room_more source old room x is are =
-          ap (λ xs. set xs d x) are
-          ∙ sym (written_set source (lasts k) old d k x is)
-          ∙ ap (λ ss. written_over source ss old) (sym sets)
+      room_more source old room x is are = cc (are, written_set source (lasts k) old d k x is, sets)
 
   -- the marks are as many as the indices exactly where no place is bad
   pub marks_tell : count_of (sent_marks (last_senders 0 (all_destinations index) 0 m)) ≡ length index → None ≡ first_fault 0 (wrongs m (all_destinations index))
@@ -128,8 +110,7 @@ module _ (index : List ℤ) (m : ℕ) (few : length index ≤ nobody) where
       (sym (count_marked (last_senders 0 (all_destinations index) 0 m)) ∙ all ∙ sym (all_take_part index))
 
   pub marks_full : None ≡ first_fault 0 (wrongs m (all_destinations index)) → count_of (sent_marks (last_senders 0 (all_destinations index) 0 m)) ≡ length index
-  marks_full right =
-      count_marked (last_senders 0 (all_destinations index) 0 m) ∙ (lasts_stored 0 (all_destinations index) m small).apart right ∙ all_take_part index
+  marks_full right = cc (count_marked (last_senders 0 (all_destinations index) 0 m), (lasts_stored 0 (all_destinations index) m small).apart right, all_take_part index)
 
   module _ {X : Type 0} (source old : List X) (sourced : length source ≡ length index) (long : length old ≡ m) where
     pub room_none : old ≡ written_over source (lasts 0) old

@@ -1,11 +1,8 @@
 -- What stands in the places of a permute's result before elements are sent there, and what the second walk makes of it.
 -- Source: what the definitions of replicate and zip imply.
-use Rattle.std.proofs.Common.{◌≡◌, ◌∙◌, suc, ℕ, List, [], ◌∷◌, length, replicate, slice_get, unwrap_or, Some, ap, refl, sym}
-use Rattle.std.proofs.lemmas.List.{length-replicate}
-use Rattle.permute_walks.specs.Before.{copies_of_first, values_of, written_of}
-use Rattle.permute_walks.specs.declared.before.Before.{Before}
+use Rattle.permute_walks.proofs.Cited.{◌≡◌, ◌∙◌, suc, ℕ, List, [], ◌∷◌, length, replicate, slice_get, unwrap_or, Some, ap, refl, sym, length-replicate, copies_of_first, values_of, written_of}
+use Rattle.permute_walks.proofs.Cited.{Before, elements_or, written_over}
 use Rattle.permute_walks.specs.declared.before.Before.TheVariants as before
-use Rattle.permute_walks.specs.Senders.{elements_or, written_over}
 use Rattle.permute_walks.proofs.Taken.{length-over}
 
 -- the copies of the first
@@ -33,5 +30,4 @@ over_copies source other (s ∷ senders) = ap (λ rest. unwrap_or (slice_get sou
 
 pub over_first : {X : Type 0} (source : List X) (senders : List ℕ) (values : List X) (other : X) → length senders ≡ length values → slice_get values 0 ≡ Some other
     → elements_or source other senders ≡ written_over source senders (copies_of_first values)
-over_first source senders values other long is =
-    over_copies source other senders ∙ ap (λ n. written_over source senders (replicate n other)) long ∙ ap (written_over source senders) (are_copies values other is)
+over_first source senders values other long is = cc (over_copies source other senders, long, are_copies values other is)

@@ -1,15 +1,8 @@
 -- The walk that takes the elements of senders: what it gives, and that this is what was sent.
-use Rattle.std.proofs.Common.{◌≡◌, ◌∙◌, ℕ, zero, suc, ◌+◌, ◌<◌, ◌≤◌, Bool, true, false, if◌then◌else◌, cond, List, [], ◌∷◌, length, map, filter_map, take, get_or, refl, sym, ap}
-use Rattle.std.proofs.Common.{arith, ℤ, pos, slice_get, option_map, unwrap_or, Option, Some}
-use Rattle.std.specs.List.{All, zip, find, range_with_len, enumerate_from, cons_option}
-use Rattle.std.proofs.lemmas.Option.{slice_get-get_or, slice_get_past}
-use Rattle.std.proofs.lemmas.List.{drop_more, length-map, take_all}
-use Rattle.std.proofs.lemmas.List.Elements.{All-head, All-tail}
+use Rattle.permute_walks.proofs.Cited.{◌≡◌, ◌∙◌, ℕ, zero, suc, ◌+◌, ◌<◌, ◌≤◌, Bool, true, false, if◌then◌else◌, cond, List, [], ◌∷◌, length, map, filter_map, take, get_or, refl, sym, ap, arith, ℤ}
+use Rattle.permute_walks.proofs.Cited.{pos, slice_get, option_map, unwrap_or, Option, Some, All, zip, find, range_with_len, enumerate_from, cons_option, slice_get-get_or, slice_get_past, drop_more}
+use Rattle.permute_walks.proofs.Cited.{length-map, take_all, All-head, All-tail, is_destination, sent_to, element, part, nobody, sender_from, senders_of, written_over}
 use Rattle.std.proofs.lemmas.Slice.Zip.{length-zip}
-use Rattle.cvl_base.specs.Permutes.{is_destination, sent_to}
-use Rattle.cvl_base.proofs.Lists.{element}
-use Rattle.fresh.specs.Parts.{part}
-use Rattle.permute_walks.specs.Senders.{nobody, sender_from, senders_of, written_over}
 
 -- ---- what was sent: the destinations are those of the elements that stand in the source from `place` on
 
@@ -55,8 +48,7 @@ module _ {X : Type 0} (source : List X) (few : length source ≤ nobody) where
 -- the destinations are of the whole source
 pub taken_flat : {X : Type 0} (source : List X) (ts : List (Option ℤ)) (m : ℕ) → length source ≡ length ts → length source ≤ nobody
     → filter_map (slice_get source) (senders_of 0 ts m) ≡ filter_map (sent_to source ts) (range_with_len 0 m)
-taken_flat source ts m long few =
-    taken_part source few 0 (length source) ts (sym long) (omega arith) m ∙ ap (λ xs. filter_map (sent_to xs ts) (range_with_len 0 m)) (take_all (length source) source (omega arith))
+taken_flat source ts m long few = cc (taken_part source few 0 (length source) ts (sym long) (omega arith) m, take_all (length source) source (omega arith))
 
 pub taken_over_flat : {X : Type 0} (source : List X) (ts : List (Option ℤ)) (defaults : List X) → length source ≡ length ts → length source ≤ nobody
     → written_over source (senders_of 0 ts (length defaults)) defaults ≡ map (λ p. unwrap_or (sent_to source ts p.0) p.1) (enumerate_from 0 defaults)
@@ -76,8 +68,7 @@ length-over source senders defaults long =
 pub length-taken : {X : Type 0} (source : List X) (senders : List ℕ) → All (λ s. s < length source) senders → length (filter_map (slice_get source) senders) ≡ length senders
 length-taken source [] below = refl
 length-taken source (s ∷ senders) below =
-    ap (λ o. length (cons_option o (filter_map (slice_get source) senders))) (element source s (All-head (λ s. s < length source) s senders below)).1
-    ∙ ap suc (length-taken source senders (All-tail (λ s. s < length source) s senders below))
+    cc ((element source s (All-head (λ s. s < length source) s senders below)).1, length-taken source senders (All-tail (λ s. s < length source) s senders below))
 
 -- how many elements are written
 pub ruleset lengths = (length-over, length-taken)

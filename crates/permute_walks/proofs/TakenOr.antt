@@ -1,53 +1,29 @@
 -- A back permute in one walk: what is written and found from index to index, and what the definition makes of it.
-use Rattle.std.proofs.Common.{◌≡◌, ◌∙◌, ℕ, ◌+◌, ◌-◌, ◌<◌, List, [], ◌∷◌, ◌++◌, length, map, refl, sym, ap, arith, length-append, ℤ, pos, negsuc, option_map, Option, Some, None, Ok, Err}
-use Rattle.std.specs.Prelude.{unwrap_or}
-use Rattle.std.specs.Option.{ok_or, option_or}
-use Rattle.std.proofs.lemmas.List.{length-map, map-append}
-use Rattle.std.specs.List.{All}
-use Rattle.std.proofs.lemmas.List.Elements.{All-cons, All-head, All-nil}
-use Rattle.std.proofs.lemmas.Option.{none-some, same_Some}
-use Rattle.fresh.specs.Found.{first_without}
-use Rattle.fresh.specs.Places.{Stretch, somes, stretch, with_items}
-use Rattle.fresh.proofs.FirstWithout.{first_of_both}
+use Rattle.permute_walks.proofs.Cited.{rules, ◌≡◌, ◌∙◌, ℕ, ◌+◌, ◌-◌, ◌<◌, List, [], ◌∷◌, ◌++◌, length, map, refl, sym, ap, arith, length-append, ℤ, pos, negsuc, option_map, Option, Some, None, Ok}
+use Rattle.permute_walks.proofs.Cited.{Err, unwrap_or, option_or, length-map, map-append, All, All-cons, All-head, All-nil, none-some, first_without, Stretch, somes, stretch, with_items, FaultNo}
+use Rattle.permute_walks.proofs.Cited.{values_from, element_at, fault_at, unless, first_of_both, each_or}
 use Rattle.fresh.proofs.Written.{one_written, written_twice}
-use Rattle.cvl_base.specs.declared.fault.Fault.{Fault}
-use Rattle.cvl_base.specs.declared.fault.FaultNo.{FaultNo}
-use Rattle.cvl_base.specs.Elementwise.{values_from}
-use Rattle.cvl_base.specs.Extracts.{element_at}
-use Rattle.cvl_base.specs.Faults.{fault_at}
-use Rattle.cvl_base.specs.Gives.{◌>>=◌, unless}
-use Rattle.permute_walks.specs.Indices.{each_or}
+use Rattle.permute_walks.proofs.Outside.{cons_unless}
 
 module _ {X : Type 0} (other : X) where
   -- ---- from index to index: behind the first values one more
 
   module _ (run now next : Stretch X) (vs : List (Option X)) (v : Option X) (so_far : now ≡ with_items run (each_or other vs)) where
     pub taken_more : (x : X) → x ≡ unwrap_or v other → next ≡ stretch now.block now.first (now.items ++ x ∷ []) (now.room - 1) → next ≡ with_items run (each_or other (vs ++ v ∷ []))
-    taken_more x is pushed =
-        one_written run now next (each_or other vs) x so_far pushed
-        ∙ ap (with_items run) (ap (λ y. each_or other vs ++ y ∷ []) is ∙ sym (map-append (λ w. unwrap_or w other) vs (v ∷ [])))
+    taken_more x is pushed = cc (one_written run now next (each_or other vs) x so_far pushed, is, map-append (λ w. unwrap_or w other) vs (v ∷ []))
 
     pub found_more : (found first : Option ℕ) (place : ℕ) → place ≡ now.first + length now.items → found ≡ first_without (run.first + length run.items) vs
         → first ≡ option_or found (first_without place (v ∷ [])) → first ≡ first_without (run.first + length run.items) (vs ++ v ∷ [])
-    found_more found first place at was is =
-        let there : place ≡ (run.first + length run.items) + length vs =
-        omega (arith, at, ap (λ r. r.first + length r.items) so_far, length-append run.items (each_or other vs), length-map vs (λ w. unwrap_or w other)) in
-        is ∙ (λ i. option_or (was i) (first_without (there i) (v ∷ []))) ∙ sym (first_of_both (run.first + length run.items) vs (v ∷ []))
+    found_more found first place at was is = search (rules, length-append, length-map, first_of_both)
 
   -- and then the others
   module _ (run now : Stretch X) (vs ws all : List (Option X)) (whole : all ≡ vs ++ ws) (so_far : now ≡ with_items run (each_or other vs)) where
     pub others_taken : (next : Stretch X) → next ≡ with_items now (each_or other ws) → next ≡ with_items run (each_or other all)
-    others_taken next pushed =
-        pushed ∙ ap (λ (r : Stretch X). with_items r (each_or other ws)) so_far ∙ written_twice run (each_or other vs) (each_or other ws)
-        ∙ ap (with_items run) (sym (map-append (λ w. unwrap_or w other) vs ws) ∙ ap (each_or other) (sym whole))
+    others_taken next pushed = cc (pushed, so_far, written_twice run (each_or other vs) (each_or other ws), map-append (λ w. unwrap_or w other) vs ws, whole)
 
     pub others_found : (found : Option ℕ) → None ≡ first_without (run.first + length run.items) vs → found ≡ first_without (now.first + length now.items) ws
         → found ≡ first_without (run.first + length run.items) all
-    others_found found none is =
-        let place = run.first + length run.items in
-        let there : now.first + length now.items ≡ place + length vs =
-        omega (arith, ap (λ r. r.first + length r.items) so_far, length-append run.items (each_or other vs), length-map vs (λ w. unwrap_or w other)) in
-        is ∙ ap (λ p. first_without p ws) there ∙ ap (λ o. option_or o (first_without (place + length vs) ws)) none ∙ sym (ap (first_without place) whole ∙ first_of_both place vs ws)
+    others_found found none is = search (rules, length-append, length-map, first_of_both)
 
   -- where each takes something, that is all that is written
   pub each_taken : (place : ℕ) (vs : List (Option X)) → first_without place vs ≡ None → each_or other vs ≡ somes vs
@@ -58,15 +34,10 @@ module _ {X : Type 0} (other : X) where
 -- ---- the definition
 
 module _ {X : Type 0} (number : FaultNo) where
-  onto : (first : Option Fault) (x : X) (xs : List X) → (unless first (Ok xs) >>= λ ys. Ok (x ∷ ys)) ≡ unless first (Ok (x ∷ xs))
-  onto None x xs = refl
-  onto (Some f) x xs = refl
-
   pub values_told : (place : ℕ) (vs : List (Option X)) → values_from number place vs ≡ unless (option_map (λ p. fault_at number p) (first_without place vs)) (Ok (somes vs))
   values_told place [] = refl
   values_told place (None ∷ vs) = refl
-  values_told place (Some x ∷ vs) =
-      ap (λ r. r >>= λ ys. Ok (x ∷ ys)) (values_told (place + 1) vs) ∙ onto (option_map (λ p. fault_at number p) (first_without (place + 1) vs)) x (somes vs)
+  values_told place (Some x ∷ vs) = cc (values_told (place + 1) vs, cons_unless x (option_map (λ p. fault_at number p) (first_without (place + 1) vs)) (somes vs))
 
   module _ (vs : List (Option X)) (found : Option ℕ) (is : found ≡ first_without 0 vs) where
     told : (o : Option ℕ) → found ≡ o → values_from number 0 vs ≡ unless (option_map (λ p. fault_at number p) o) (Ok (somes vs))
@@ -78,17 +49,11 @@ module _ {X : Type 0} (number : FaultNo) where
     pub not_taken : (p : ℕ) → found ≡ Some p → values_from number 0 vs ≡ Err (fault_at number p)
     not_taken p some = told (Some p) some
 
-pub found_within : {X : Type 0} (place p : ℕ) (vs : List (Option X)) → first_without place vs ≡ Some p → p < place + length vs
-found_within place p [] is = absurd (none-some p is)
-found_within place p (None ∷ vs) is = let same : place ≡ p = same_Some place p is in omega (arith, same)
-found_within place p (Some x ∷ vs) is = omega (arith, found_within (place + 1) p vs is)
-
 -- ---- a source without an element
 
 pub nothing_taken : {X : Type 0} (number : FaultNo) (values : List (Option X)) → All (λ v. v ≡ None) values → 0 < length values → values_from number 0 values ≡ Err (fault_at number 0)
 nothing_taken number [] none some = absurd (omega arith)
-nothing_taken number (v ∷ values) none some =
-    ap (λ w. ok_or w (fault_at number 0) >>= λ y. values_from number 1 values >>= λ ys. Ok (y ∷ ys)) (All-head (λ w. w ≡ None) v values none)
+nothing_taken number (v ∷ values) none some = cc (All-head (λ w. w ≡ None) v values none)
 
 module _ {X : Type 0} where
   none_at : (i : ℤ) → element_at {X = X} [] i ≡ None

@@ -1,20 +1,11 @@
 -- What the definition of a call is told to be by its walks, and what follows for the answers of the call.
-use Rattle.std.proofs.Common.{◌≡◌, ◌≢◌, ◌∙◌, ℕ, ◌<◌, List, ◌++◌, length, filter_map, take, drop, refl, sym, ap, subst, slice_get, Option, Some, None, Result, Ok, Err, IfSome}
-use Rattle.std.specs.List.{All}
-use Rattle.std.specs.Result.{IsErrAnd}
-use Rattle.std.proofs.lemmas.List.{take_at}
-use Rattle.cvl_base.specs.declared.fault.Fault.{Fault}
-use Rattle.cvl_base.specs.declared.fault.FaultNo.TheVariants.{LengthMismatch}
+use Rattle.permute_walks.proofs.Cited.{rules, ◌≡◌, ◌≢◌, ◌∙◌, ℕ, ◌<◌, List, ◌++◌, length, filter_map, take, drop, refl, sym, ap, subst, slice_get, Option, Some, None, Result, Ok, Err, IfSome, All}
+use Rattle.permute_walks.proofs.Cited.{IsErrAnd, take_at, Fault, LengthMismatch, fault, Gives, unless, Before, IsPermuted, MayStand, values_of, written_of, written_over}
 use Rattle.cvl_base.specs.declared.refused.Refused.{Refused}
 use Rattle.cvl_base.specs.declared.refused.Refused.TheVariants as refused
-use Rattle.cvl_base.specs.Faults.{fault}
-use Rattle.cvl_base.specs.Gives.{Gives, unless}
 use Rattle.cvl_base.specs.Rooms.{Overwrites, OverwritesOr, in_room}
 use Rattle.cvl_base.proofs.Rooms.{differs, fits, told}
-use Rattle.permute_walks.specs.declared.before.Before.{Before}
 use Rattle.permute_walks.specs.declared.before.Before.TheVariants as before
-use Rattle.permute_walks.specs.Before.{IsPermuted, MayStand, values_of, written_of}
-use Rattle.permute_walks.specs.Senders.{written_over}
 use Rattle.permute_walks.proofs.Scattered.{written_all}
 use Rattle.permute_walks.proofs.Standing.{length-before, length-written}
 use Rattle.permute_walks.proofs.Taken.{length-taken}
@@ -37,11 +28,6 @@ found_are (Some f) senders found same = absurd (cc)
 -- what holds of what was found
 pub found_gives : {V : Type 0} (P : V → Type 0) (found : Option V) (v : V) → found ≡ Some v → IfSome found P → P v
 found_gives P found v is given = subst (λ o. IfSome o P) is given
-
--- a check gave nothing
-pub none_told : (fault : Option Fault) → unless {Y = Unit {0}} fault (Ok (tt {0})) ≡ Ok (tt {0}) → None ≡ fault
-none_told None same = refl
-none_told (Some f) same = absurd (cc)
 
 -- a refusal of a walk or of a check, as that of the call
 pub refused_told : {V W X Y : Type 0} (view : V → X) (see : W → Y) (first : Option Fault) (x : X) (y : Y) (e : Refused) → Gives view (Err e) (unless first (Ok x))
@@ -86,8 +72,7 @@ module _ {X : Type 0} {meaning : Result (List X) Fault} {first : Option Fault} {
 
   module _ (f : Fault) (before : List X) (none : None ≡ first) (differ : (f ≡ fault LengthMismatch) × (places ≢ length before)) where
     differs_in_room : in_room (length before) meaning ≡ Err f
-    differs_in_room =
-        ap (in_room (length before)) (told_ok none items refl) ∙ differs (length before) items (λ same. differ.1 (sym (call.long none) ∙ same)) ∙ ap Err (sym differ.0)
+    differs_in_room = cc (told_ok none items refl, differs (length before) items (λ same. differ.1 (sym (call.long none) ∙ same)), differ.0)
 
     pub mismatch : (answer : Result (Unit {0}) Fault) → IsErrAnd answer (λ y. y ≡ f) → Overwrites (in_room (length before) meaning) answer before before
     mismatch answer is = told (in_room (length before) meaning) answer f before is differs_in_room
@@ -141,9 +126,7 @@ module _ {X : Type 0} {source : List X} {b : Before X} {meaning : Result (List X
   -- no senders were found
   module _ {V : Type 0} (view : V → List ℕ) (found : Result V Refused) (e : Refused) (is : found ≡ Err e) (gave : Gives view found (unless first (Ok senders))) where
     pub permuted_refused : {W : Type 0} (see : W → List X) → Gives see (Err e) meaning
-    permuted_refused see =
-        subst (Gives see (Err e)) (sym permuted_told.is)
-        (refused_told view see first senders (written_over source senders (written_of b)) e (subst (λ r. Gives view r (unless first (Ok senders))) is gave))
+    permuted_refused see = search (rules, permuted_told, refused_told)
 
     pub permuted_refused_over : (before : List X) → OverwritesOr (in_room (length before) meaning) (Err e) before before
     permuted_refused_over before = refused_over meaning e before (permuted_refused (λ xs. xs))

@@ -1,17 +1,11 @@
 -- The walk that writes and marks one range of a permute's result: what it leaves, and that two ranges side by side are one.
-use Rattle.std.proofs.Common.{◌≡◌, ◌∙◌, ℕ, ◌+◌, ◌*◌, ◌<◌, ◌≤◌, Bool, true, false, not, List, [], ◌∷◌, ◌++◌, ◌==◌, length, take, drop, get_or, set, replicate, refl, sym, ap, arith, subst}
-use Rattle.std.proofs.Common.{ℤ, pos, slice_get, unwrap_or, Option, Some, None}
-use Rattle.std.proofs.lemmas.List.{drop_all, drop_more, drop-replicate, length-map, take-replicate}
-use Rattle.std.proofs.lemmas.List.Sums.{count_by-le-length, sum_by-append}
-use Rattle.cvl_base.specs.Limits.{most_places}
-use Rattle.permute_walks.specs.Marks.{mark_words, words_for}
-use Rattle.permute_walks.specs.Senders.{IsWrittenTo, count_sent, is_between, last_senders, nobody, sent_marks, written_over}
+use Rattle.permute_walks.proofs.Cited.{◌≡◌, ◌∙◌, ℕ, ◌+◌, ◌*◌, ◌<◌, ◌≤◌, Bool, true, false, not, List, [], ◌∷◌, ◌++◌, ◌==◌, length, take, drop, get_or, set, replicate, refl, sym, ap, arith, subst, ℤ}
+use Rattle.permute_walks.proofs.Cited.{pos, slice_get, unwrap_or, Option, Some, None, drop_all, drop_more, drop-replicate, length-map, take-replicate, count_by-le-length, sum_by-append, most_places}
+use Rattle.permute_walks.proofs.Cited.{nobody_sent, is_sent, mark_words, words_for, IsWrittenTo, count_sent, is_between, last_senders, nobody, sent_marks, written_over}
 use Rattle.permute_walks.proofs.LastSent.{between_out, lasts_both, lasts_other, lasts_set, length-last_senders}
 use Rattle.permute_walks.proofs.Listed.{IsNext, IsRest, at_end, at_next}
 use Rattle.permute_walks.proofs.MarkWords.{no_marks}
 use Rattle.permute_walks.proofs.Scattered.{marked_set, nobody_written, none_marked, written_set}
-use Rattle.sent_places.proofs.Sent.{nobody_sent}
-use Rattle.sent_places.proofs.Stored.{is_sent}
 
 module _ {X : Type 0} (source : List X) (ts : List (Option ℤ)) (lowest : ℕ) where
   pub range_none : length source ≤ nobody → (old : List X) (marks : List ℕ) → marks ≡ replicate (words_for (length old)) 0 → IsWrittenTo source ts lowest old 0 old marks
@@ -82,10 +76,8 @@ unmarked_both n m k w marks low high unmarked front back seam all = (
 
 pub count_both : (place : ℕ) (ts : List (Option ℤ)) (lowest n m : ℕ)
     → count_sent (last_senders place ts lowest n) + count_sent (last_senders place ts (lowest + n) m) ≡ count_sent (last_senders place ts lowest (n + m))
-count_both place ts lowest n m =
-    sym (sum_by-append is_sent (last_senders place ts lowest n) (last_senders place ts (lowest + n) m)) ∙ ap count_sent (lasts_both place ts lowest n m)
+count_both place ts lowest n m = cc (sum_by-append is_sent (last_senders place ts lowest n) (last_senders place ts (lowest + n) m), lasts_both place ts lowest n m)
 
 -- so many are marked at most
 pub count_within : (place : ℕ) (ts : List (Option ℤ)) (lowest n : ℕ) → count_sent (last_senders place ts lowest n) ≤ n
-count_within place ts lowest n =
-    omega (arith, count_by-le-length (λ s. not (s == nobody)) (last_senders place ts lowest n), length-last_senders place ts lowest n)
+count_within place ts lowest n = omega (arith, count_by-le-length, length-last_senders)

@@ -1,4 +1,4 @@
-use Rattle.std.proofs.Common.{◌∙◌, sym}
+use Rattle.permute_walks.proofs.Cited.{◌∙◌, sym}
 use Rattle.permute_walks.proofs.Outside.{checked_more}
 use Rattle.permute_walks.proofs.backs.check_each.Goals as goal
 

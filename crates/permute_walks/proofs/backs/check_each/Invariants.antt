@@ -1,5 +1,4 @@
-use Rattle.std.proofs.Common.{◌≡◌, ◌+◌, drop}
-use Rattle.permute_walks.specs.Indices.{first_outside}
+use Rattle.permute_walks.proofs.Cited.{◌≡◌, ◌+◌, drop, first_outside}
 use Rattle.permute_walks.proofs.backs.check_each.Given as goal
 
 abbrev pub invariant-loop-k : goal.invariant-loop-k

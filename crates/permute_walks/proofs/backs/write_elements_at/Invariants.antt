@@ -1,6 +1,4 @@
-use Rattle.std.proofs.Common.{◌≡◌, ◌++◌, ◌-◌, take}
-use Rattle.fresh.specs.Places.{stretch}
-use Rattle.permute_walks.specs.Indices.{elements_at}
+use Rattle.permute_walks.proofs.Cited.{◌≡◌, ◌++◌, ◌-◌, take, stretch, elements_at}
 use Rattle.permute_walks.proofs.backs.write_elements_at.Given as goal
 
 abbrev pub invariant-loop-i : goal.invariant-loop-i

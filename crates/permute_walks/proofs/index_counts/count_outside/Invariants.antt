@@ -1,5 +1,4 @@
-use Rattle.std.proofs.Common.{◌≡◌, take}
-use Rattle.permute_walks.specs.Indices.{count_outside}
+use Rattle.permute_walks.proofs.Cited.{◌≡◌, take, count_outside}
 use Rattle.permute_walks.proofs.index_counts.count_outside.Given as goal
 
 abbrev pub invariant-loop-i : goal.invariant-loop-i

@@ -1,4 +1,4 @@
-use Rattle.std.proofs.Common.{◌≡◌, ◌≤◌, ◌*◌, count_ones, sum_by, take}
+use Rattle.permute_walks.proofs.Cited.{◌≡◌, ◌≤◌, ◌*◌, count_ones, sum_by, take}
 use Rattle.permute_walks.proofs.marks.count_marks.Given as goal
 
 abbrev pub invariant-loop-word : goal.invariant-loop-word

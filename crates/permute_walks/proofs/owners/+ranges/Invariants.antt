@@ -1,4 +1,4 @@
-use Rattle.std.proofs.Common.{◌+◌, ◌-◌, ◌*◌}
+use Rattle.permute_walks.proofs.Cited.{◌+◌, ◌-◌, ◌*◌}
 use Rattle.permute_walks.proofs.owners.+ranges.Given as goal
 
 abbrev pub decreases-write_ranges : goal.decreases-write_ranges

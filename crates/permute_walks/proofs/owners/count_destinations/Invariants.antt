@@ -1,5 +1,4 @@
-use Rattle.std.proofs.Common.{◌≡◌, ◌≤◌, take}
-use Rattle.permute_walks.specs.Senders.{count_destinations}
+use Rattle.permute_walks.proofs.Cited.{◌≡◌, ◌≤◌, take, count_destinations}
 use Rattle.permute_walks.proofs.owners.count_destinations.Given as goal
 
 abbrev pub invariant-loop-k : goal.invariant-loop-k

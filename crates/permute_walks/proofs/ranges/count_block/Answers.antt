@@ -1,5 +1,4 @@
-use Rattle.std.proofs.Common.{◌≡◌, ◌+◌, ◌∙◌, ◌∷◌, [], None, ap, length, length-append, get_or, sym, arith}
-use Rattle.permute_walks.specs.Senders.{is_between, places_between}
+use Rattle.permute_walks.proofs.Cited.{◌≡◌, ◌+◌, ◌∙◌, ◌∷◌, [], None, ap, length, length-append, get_or, sym, arith, is_between, places_between}
 use Rattle.permute_walks.proofs.Listed.{listed_more}
 use Rattle.permute_walks.proofs.ranges.count_block.Goals as goal
 use Rattle.permute_walks.proofs.ranges.count_block.Goals.{then-is_sent_between, else-is_sent_between}

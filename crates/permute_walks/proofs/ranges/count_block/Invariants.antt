@@ -1,5 +1,4 @@
-use Rattle.std.proofs.Common.{◌≡◌, ◌+◌, ◌≤◌, length}
-use Rattle.permute_walks.specs.Senders.{places_between}
+use Rattle.permute_walks.proofs.Cited.{◌≡◌, ◌+◌, ◌≤◌, length, places_between}
 use Rattle.permute_walks.proofs.ranges.count_block.Given as goal
 
 abbrev pub invariant-loop-k : goal.invariant-loop-k

@@ -1,6 +1,4 @@
-use Rattle.std.proofs.Common.{◌≡◌, ◌+◌, ◌<◌, ◌∙◌, ◌++◌, ◌∷◌, [], None, ap, length, get_or, set, take, sym, arith}
-use Rattle.std.proofs.lemmas.List.{append-nil, take-set, take_more_set}
-use Rattle.permute_walks.specs.Senders.{is_between}
+use Rattle.permute_walks.proofs.Cited.{◌≡◌, ◌+◌, ◌<◌, ◌∙◌, ◌++◌, ◌∷◌, [], None, ap, length, get_or, set, take, sym, arith, append-nil, take-set, take_more_set, is_between}
 use Rattle.permute_walks.proofs.Listed.{listed_more}
 use Rattle.permute_walks.proofs.ranges.list_block.Goals as goal
 use Rattle.permute_walks.proofs.ranges.list_block.Goals.{then-is_sent_between, else-is_sent_between}

@@ -1,4 +1,4 @@
-use Rattle.std.proofs.Common.{◌+◌, get_or, length, arith}
+use Rattle.permute_walks.proofs.Cited.{◌+◌, get_or, length, arith}
 use Rattle.permute_walks.proofs.Written.{leaves_end, leaves_more, leaves_next}
 use Rattle.permute_walks.proofs.ranges.write_block.Goals as goal
 

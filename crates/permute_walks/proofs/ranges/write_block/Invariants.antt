@@ -1,4 +1,4 @@
-use Rattle.std.proofs.Common.{◌+◌, drop, length}
+use Rattle.permute_walks.proofs.Cited.{◌+◌, drop, length}
 use Rattle.permute_walks.proofs.Listed.{IsRest}
 use Rattle.permute_walks.proofs.Written.{Leaves, is_own}
 use Rattle.permute_walks.proofs.ranges.write_block.Given as goal

@@ -1,4 +1,4 @@
-use Rattle.std.proofs.Common.{arith}
+use Rattle.permute_walks.proofs.Cited.{arith}
 use Rattle.permute_walks.proofs.Written.{range_none}
 use Rattle.permute_walks.proofs.ranges.write_range.Goals as goal
 

@@ -1,5 +1,4 @@
-use Rattle.std.proofs.Common.{◌-◌}
-use Rattle.permute_walks.specs.Senders.{IsWrittenTo}
+use Rattle.permute_walks.proofs.Cited.{◌-◌, IsWrittenTo}
 use Rattle.permute_walks.proofs.ranges.write_range.Given as goal
 
 abbrev pub invariant-loop-first : goal.invariant-loop-first

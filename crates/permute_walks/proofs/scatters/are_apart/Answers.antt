@@ -1,6 +1,4 @@
-use Rattle.std.proofs.Common.{◌∙◌, ◌≤◌, length, ap, sym, arith, eq-eqb, eqb-true}
-use Rattle.cvl_base.specs.Packs.{count_of}
-use Rattle.permute_walks.specs.Senders.{nobody}
+use Rattle.permute_walks.proofs.Cited.{◌∙◌, ◌≤◌, length, ap, sym, arith, eq-eqb, eqb-true, count_of, nobody}
 use Rattle.permute_walks.proofs.Scattered.{marks_full, marks_tell}
 use Rattle.permute_walks.proofs.scatters.are_apart.Goals as goal
 

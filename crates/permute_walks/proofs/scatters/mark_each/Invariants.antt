@@ -1,6 +1,4 @@
-use Rattle.std.proofs.Common.{◌≡◌, length, take}
-use Rattle.cvl_base.specs.Permutes.{all_destinations}
-use Rattle.permute_walks.specs.Senders.{last_senders, sent_marks}
+use Rattle.permute_walks.proofs.Cited.{◌≡◌, length, take, all_destinations, last_senders, sent_marks}
 use Rattle.permute_walks.proofs.scatters.mark_each.Given as goal
 
 abbrev pub invariant-loop-i : goal.invariant-loop-i

@@ -1,6 +1,4 @@
-use Rattle.std.proofs.Common.{◌≡◌, length, take}
-use Rattle.cvl_base.specs.Permutes.{all_destinations}
-use Rattle.permute_walks.specs.Senders.{last_senders, written_over}
+use Rattle.permute_walks.proofs.Cited.{◌≡◌, length, take, all_destinations, last_senders, written_over}
 use Rattle.permute_walks.proofs.scatters.scatter_over.Given as goal
 
 abbrev pub invariant-loop-k : goal.invariant-loop-k

@@ -1,8 +1,4 @@
-use Rattle.std.proofs.Common.{◌≡◌, ◌+◌, None, length, map, take}
-use Rattle.cvl_base.specs.Extracts.{element_at}
-use Rattle.fresh.specs.Found.{first_without}
-use Rattle.fresh.specs.Places.{with_items}
-use Rattle.permute_walks.specs.Indices.{each_or}
+use Rattle.permute_walks.proofs.Cited.{◌≡◌, ◌+◌, None, length, map, take, element_at, first_without, with_items, each_or}
 use Rattle.permute_walks.proofs.takes.push_elements_at.Given as goal
 
 abbrev pub invariant-loop-k : goal.invariant-loop-k

@@ -1,8 +1,4 @@
-use Rattle.std.proofs.Common.{◌≡◌, ◌+◌, length, map, take}
-use Rattle.cvl_base.specs.Extracts.{element_at}
-use Rattle.fresh.specs.Found.{first_without}
-use Rattle.fresh.specs.Places.{with_items}
-use Rattle.permute_walks.specs.Indices.{each_or}
+use Rattle.permute_walks.proofs.Cited.{◌≡◌, ◌+◌, length, map, take, element_at, first_without, with_items, each_or}
 use Rattle.permute_walks.proofs.takes.push_or_other.Given as goal
 
 abbrev pub invariant-loop-i : goal.invariant-loop-i

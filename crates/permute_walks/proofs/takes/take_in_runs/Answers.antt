@@ -1,6 +1,5 @@
-use Rattle.std.proofs.Common.{◌∙◌, arith, ap, sym, Err}
-use Rattle.cvl_base.specs.declared.fault.FaultNo.TheVariants.{IndexOutOfRange}
-use Rattle.permute_walks.proofs.TakenOr.{all_taken, found_within, not_taken}
+use Rattle.permute_walks.proofs.Cited.{◌∙◌, arith, ap, sym, Err, IndexOutOfRange, found_within}
+use Rattle.permute_walks.proofs.TakenOr.{all_taken, not_taken}
 use Rattle.permute_walks.proofs.takes.take_in_runs.Goals as goal
 
 pub overflow_cast-place : goal.overflow_cast-place

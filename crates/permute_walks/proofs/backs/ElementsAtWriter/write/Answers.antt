@@ -1,4 +1,4 @@
-use Rattle.std.proofs.Common.{◌∙◌, ap, arith, length, take, length-drop}
+use Rattle.permute_walks.proofs.Cited.{◌∙◌, ap, arith, length, take, length-drop}
 use Rattle.permute_walks.proofs.Outside.{length-elements_at, run_found}
 use Rattle.permute_walks.proofs.backs.ElementsAtWriter.write.Goals as goal
 
