@@ -1,16 +1,11 @@
 -- Blocks of numbers whose sums are seen to fit 32 bits by the least and the greatest of the numbers.
 -- Source: arithmetic.
-use Rattle.scan_walks.proofs.Cited.{◌≡◌, ◌∙◌, ◌+◌, ◌≤◌, ◌+ℤ◌, ◌*ℤ◌, ◌∷◌, refl, sym, ap, ℕ, true, cond, ℤ, pos, unsigned_abs, w32, w64, List, [], length, map, take, drop, arith, sum, int_wrap-add_left}
+use Rattle.scan_walks.proofs.Cited.{◌≡◌, ◌∙◌, ◌+◌, ◌≤◌, ◌+ℤ◌, ◌*ℤ◌, ◌∷◌, refl, sym, ap, ℕ, true, ℤ, pos, unsigned_abs, w32, w64, List, [], length, map, take, drop, arith, sum, int_wrap-add_left}
 use Rattle.scan_walks.proofs.Cited.{ints, length-drop, length-take, All-drop, All-take, number_words, fold_of, scan_of, greater_of, lesser_of, sum_of, wrap, is_number, sum-cons, scans_of}
-use Rattle.scan_walks.proofs.Cited.{scan_of-cons}
-use Rattle.std.proofs.Common.{suc, zero, negsuc, ◌≤ℤ◌, FitsSigned}
-use Rattle.std.specs.List.{All}
+use Rattle.scan_walks.proofs.Cited.{scan_of-cons, suc, zero, negsuc, ◌≤ℤ◌, FitsSigned, All, fits_signed_mul, fold-int_max_bounds, fold-int_min_bounds, unsigned_abs-mul, All-head, All-tail}
+use Rattle.scan_walks.proofs.Cited.{fits-is_number, is_number-fits, fitting_front}
 use Rattle.std.proofs.Math.IntN.{suc_ℤ-*ℤ, zero-*ℤ}
 use Rattle.std.proofs.Math.Nat.{mul-le-mul}
-use Rattle.std.proofs.lemmas.Int.{fits_signed_mul, fold-int_max_bounds, fold-int_min_bounds, unsigned_abs-mul}
-use Rattle.std.proofs.lemmas.List.Elements.{All-head, All-tail}
-use Rattle.operators.specs.NumberLaws.{fits-is_number, is_number-fits}
-use Rattle.scan_walks.specs.Fronts.{fitting_front}
 use Rattle.scan_walks.proofs.FrontLaws.{scan_past}
 
 -- a step of 32 bits, taken so often, leads at most 2^62 far
@@ -56,9 +51,7 @@ module _ (least greatest : ℤ) (down : least ≤ℤ pos 0) (up : pos 0 ≤ℤ g
   steps_fit (suc m) before (x ∷ xs) few room from to =
       let rest = steps_fit m (before +ℤ x) xs (omega (arith, few)) (goes_on m before x room (All-head (λ y. least ≤ℤ y) x xs from) (All-head (λ y. y ≤ℤ greatest) x xs to))
       (All-tail (λ y. least ≤ℤ y) x xs from) (All-tail (λ y. y ≤ℤ greatest) x xs to) in
-      let first : fitting_front (scan_of ◌+ℤ◌ before (x ∷ xs)) ≡ 1 + fitting_front (scan_of ◌+ℤ◌ (before +ℤ x) xs) =
-      ap fitting_front (scan_of-cons ◌+ℤ◌ before x xs)
-      ∙ ap (λ b. cond b (1 + fitting_front (scan_of ◌+ℤ◌ (before +ℤ x) xs)) 0) (begins (suc m) before room) in
+      let first : fitting_front (scan_of ◌+ℤ◌ before (x ∷ xs)) ≡ 1 + fitting_front (scan_of ◌+ℤ◌ (before +ℤ x) xs) = cc (scan_of-cons ◌+ℤ◌ before x xs, begins (suc m) before room) in
       (omega (arith, first, rest.0), rest.1)
 
   -- and all results of the scans of segments of which none is longer than n
@@ -103,8 +96,5 @@ block_walked n before least greatest xs few is_least is_greatest lowest highest 
     let room = leads least greatest from.0 to.0 n before lowest highest in
     let fit = steps_fit least greatest from.0 to.0 n before xs few room from.1 to.1 in (
       fit.0,
-      is_sum
-          ∙ ap (λ z. fold_of sum_of z xs) (sym (number_words.inverse before (begins least greatest from.0 to.0 n before room)))
-          ∙ wrapped_sum before xs
-          ∙ number_words.inverse (fold_of ◌+ℤ◌ before xs) fit.1,
+      cc (is_sum, number_words.inverse before (begins least greatest from.0 to.0 n before room), wrapped_sum before xs, number_words.inverse (fold_of ◌+ℤ◌ before xs) fit.1),
     )

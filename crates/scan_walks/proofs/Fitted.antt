@@ -1,13 +1,9 @@
 -- Lists of numbers of which the first ones fit 32 bits, and the checked scans of such results: the fault of the first that doesn't
 -- fit, or the scans that wrap.
 -- Source: what the definitions of CheckedSums, Fronts and Integers imply.
-use Rattle.scan_walks.proofs.Cited.{◌≡◌, ◌∙◌, ◌+◌, ◌<◌, ◌≤◌, ◌+ℤ◌, ◌∷◌, ◌++◌, if◌then◌else◌, ◌>>=◌, refl, sym, ap, ℕ, Bool, true, false, cond, ℤ, pos, w32, List, [], length, map, take, drop, get_or}
-use Rattle.scan_walks.proofs.Cited.{arith, Some, None, Ok, Err, sum, int_wrap-add_left, map-append, length-scan_of, number_words, checked_scan_of, checked_seg_scan_of, fitting, values_from, fault_at}
-use Rattle.scan_walks.proofs.Cited.{scan_of, sum_of, wrap, is_number, scans_of, scan_of-cons, length-scans_of}
-use Rattle.std.proofs.lemmas.List.Folds.{map_fixed}
-use Rattle.std.proofs.lemmas.List.Sums.{prefix_len_passes}
-use Rattle.cvl_base.specs.declared.fault.FaultNo.TheVariants.{Overflow}
-use Rattle.scan_walks.specs.Fronts.{fitting_front}
+use Rattle.scan_walks.proofs.Cited.{rules, ◌≡◌, ◌∙◌, ◌+◌, ◌<◌, ◌≤◌, ◌+ℤ◌, ◌∷◌, if◌then◌else◌, ◌>>=◌, refl, sym, ap, ℕ, Bool, true, false, cond, ℤ, pos, w32, List, [], length, map, drop, get_or}
+use Rattle.scan_walks.proofs.Cited.{arith, Some, None, Ok, Err, sum, int_wrap-add_left, map-append, length-scan_of, number_words, checked_scan_of, checked_seg_scan_of, fitting, values_from}
+use Rattle.scan_walks.proofs.Cited.{fault_at, scan_of, sum_of, wrap, is_number, scans_of, scan_of-cons, length-scans_of, map_fixed, prefix_len_passes, Overflow, fitting_front}
 use Rattle.scan_walks.proofs.Valued.{scans_valued}
 
 fails_at : (b : Bool) (n : ℕ) (z : ℤ) (zs : List ℤ) → cond b (1 + fitting_front zs) 0 < 1 + length zs
@@ -44,21 +40,14 @@ zero_wrapped = number_words.inverse (pos 0) refl
 
 wrapped_after : (before : ℤ) (xs : List ℤ) → scan_of sum_of (wrap before) xs ≡ map wrap (scan_of ◌+ℤ◌ before xs)
 wrapped_after before [] = refl
-wrapped_after before (x ∷ xs) =
-    scan_of-cons sum_of (wrap before) x xs
-    ∙ ap (λ z. wrap before ∷ scan_of sum_of z xs) (int_wrap-add_left w32 before x)
-    ∙ ap (λ zs. wrap before ∷ zs) (wrapped_after (before +ℤ x) xs)
-    ∙ sym (ap (map wrap) (scan_of-cons ◌+ℤ◌ before x xs))
+wrapped_after before (x ∷ xs) = cc (scan_of-cons sum_of (wrap before) x xs, int_wrap-add_left w32 before x, wrapped_after (before +ℤ x) xs, scan_of-cons ◌+ℤ◌ before x xs)
 
 wrapped_scan : (xs : List ℤ) → scan_of sum_of (pos 0) xs ≡ map wrap (scan_of ◌+ℤ◌ (pos 0) xs)
 wrapped_scan xs = ap (λ z. scan_of sum_of z xs) (sym zero_wrapped) ∙ wrapped_after (pos 0) xs
 
 wrapped_scans : (lengths : List ℕ) (xs : List ℤ) → scans_of sum_of (pos 0) lengths xs ≡ map wrap (scans_of ◌+ℤ◌ (pos 0) lengths xs)
 wrapped_scans [] xs = refl
-wrapped_scans (n ∷ ls) xs =
-    let first = scan_of ◌+ℤ◌ (pos 0) (take n xs) in
-    (λ i. wrapped_scan (take n xs) i ++ wrapped_scans ls (drop n xs) i)
-    ∙ sym (map-append wrap first (scans_of ◌+ℤ◌ (pos 0) ls (drop n xs)))
+wrapped_scans (n ∷ ls) xs = search (rules, wrapped_scan, map-append, wrapped_scans ls (drop n xs))
 
 -- ---- checked scans, where it is known how many results fit from the first one on
 

@@ -1,17 +1,10 @@
 -- How many numbers of a list fit 32 bits, from the first one on: of scans, and of lists one after another.
-use Rattle.scan_walks.proofs.Cited.{◌≡◌, ◌∙◌, ◌+◌, ◌<◌, ◌≤◌, ◌+ℤ◌, ◌++◌, if◌then◌else◌, refl, sym, ap, ℕ, Bool, true, false, cond, ℤ, pos, List, length, take, drop, get_or, arith, Some, None, sum}
-use Rattle.scan_walks.proofs.Cited.{is_some, drop_more, drop-drop, length-drop, length-take, fitting, fold_of, scan_of, is_number, scans_of, length-scan_of, scan_of-cons, length-scans_of}
-use Rattle.std.proofs.Common.{min}
+use Rattle.scan_walks.proofs.Cited.{rules, ◌≡◌, ◌∙◌, ◌+◌, ◌<◌, ◌≤◌, ◌+ℤ◌, ◌++◌, if◌then◌else◌, refl, sym, ap, ℕ, Bool, true, false, cond, ℤ, pos, List, length, take, drop, get_or, arith, Some, None}
+use Rattle.scan_walks.proofs.Cited.{sum, is_some, drop_more, drop-drop, length-drop, length-take, fitting, fold_of, scan_of, is_number, scans_of, length-scan_of, scan_of-cons, length-scans_of, min}
+use Rattle.scan_walks.proofs.Cited.{take-append-drop, prefix_len-append, prefix_len-le-length, continued, range_scan_of, with_starts, scan_of-append, range_left, scans_parted, fitting_front}
 use Rattle.std.proofs.lemmas.Bool.{false_from_ne_true}
-use Rattle.std.proofs.lemmas.List.{take-append-drop}
-use Rattle.std.proofs.lemmas.List.Folds.{prefix_len-append}
-use Rattle.std.proofs.lemmas.List.Sums.{prefix_len-le-length}
 use Rattle.std.proofs.lemmas.Option.{cond_some, none-some}
-use Rattle.range_walks.specs.Ranges.{continued, range_scan_of, with_starts}
 use Rattle.range_walks.proofs.Cut.{parts_scanned}
-use Rattle.scan_walks.specs.Fronts.{fitting_front}
-use Rattle.operators.proofs.FoldLaws.{scan_of-append}
-use Rattle.range_walks.proofs.Segments.{range_left, scans_parted}
 use Rattle.scan_walks.proofs.WholeSums.{all_whole, whole_laws}
 
 some_passed : (z : ℤ) (b : Bool) → is_some (if b then Some z else None) ≡ true → b ≡ true
@@ -32,11 +25,7 @@ none-fits z is = false_from_ne_true (is_number z) (λ number. none-some z (sym i
 module _ (n i : ℕ) (so_far : ℤ) (xs : List ℤ) (is : n ≡ i + fitting_front (scan_of ◌+ℤ◌ so_far (drop i xs))) where
   begun : (b : Bool) → i < length xs → is_number so_far ≡ b
       → n ≡ i + cond b (1 + fitting_front (scan_of ◌+ℤ◌ (so_far +ℤ get_or xs i (pos 0)) (drop (i + 1) xs))) 0
-  begun b lt fits =
-      is
-      ∙ ap (λ ys. i + fitting_front (scan_of ◌+ℤ◌ so_far ys)) (drop_more xs i (pos 0) lt)
-      ∙ ap (λ ys. i + fitting_front ys) (scan_of-cons ◌+ℤ◌ so_far (get_or xs i (pos 0)) (drop (i + 1) xs))
-      ∙ ap (λ c. i + cond c (1 + fitting_front (scan_of ◌+ℤ◌ (so_far +ℤ get_or xs i (pos 0)) (drop (i + 1) xs))) 0) fits
+  begun b lt fits = cc (is, drop_more xs i (pos 0) lt, scan_of-cons ◌+ℤ◌ so_far (get_or xs i (pos 0)) (drop (i + 1) xs), fits)
 
   pub front_goes_on : (y next : ℤ) → i < length xs → fitting so_far ≡ Some y → next ≡ so_far +ℤ get_or xs i (pos 0)
       → n ≡ (i + 1) + fitting_front (scan_of ◌+ℤ◌ next (drop (i + 1) xs))
@@ -60,9 +49,7 @@ front_past zs ys ge = grind (arith, prefix_len-append is_number zs ys, prefix_le
 
 -- of a scan and what follows it
 scan_within : (before : ℤ) (xs ys : List ℤ) (n : ℕ) → n ≡ fitting_front (scan_of ◌+ℤ◌ before xs) → n < length xs → n ≡ fitting_front (scan_of ◌+ℤ◌ before xs ++ ys)
-scan_within before xs ys n is lt =
-    let zs = scan_of ◌+ℤ◌ before xs in
-    is ∙ sym (front_within zs ys (omega (arith, is, lt, length-scan_of ◌+ℤ◌ before xs)))
+scan_within before xs ys n is lt = search (rules, front_within, length-scan_of)
 
 pub scan_past : (before : ℤ) (xs ys : List ℤ) (n : ℕ) → n ≡ fitting_front (scan_of ◌+ℤ◌ before xs) → length xs ≤ n → fitting_front (scan_of ◌+ℤ◌ before xs ++ ys) ≡ length xs + fitting_front ys
 scan_past before xs ys n is ge =
@@ -75,20 +62,14 @@ scan_past before xs ys n is ge =
 module _ (whole done k : ℕ) (so_far : ℤ) (rest block others : List ℤ) (is_block : block ≡ take k rest) (is_others : others ≡ drop k rest)
     (is : whole ≡ done + fitting_front (scan_of ◌+ℤ◌ so_far rest)) where
   parted : whole ≡ done + fitting_front (scan_of ◌+ℤ◌ so_far block ++ scan_of ◌+ℤ◌ (fold_of ◌+ℤ◌ so_far block) others)
-  parted =
-      is
-      ∙ ap (λ ys. done + fitting_front (scan_of ◌+ℤ◌ so_far ys)) (sym (take-append-drop k rest) ∙ (λ i. sym is_block i ++ sym is_others i))
-      ∙ ap (λ zs. done + fitting_front zs) (scan_of-append ◌+ℤ◌ so_far block others)
+  parted = cc (is, take-append-drop k rest, is_block, is_others, scan_of-append ◌+ℤ◌ so_far block others)
 
   pub block_stops : (place : ℕ) → place ≡ fitting_front (scan_of ◌+ℤ◌ so_far block) → place < length block → done + place ≡ whole
   block_stops place met lt = ap (λ j. done + j) (scan_within so_far block (scan_of ◌+ℤ◌ (fold_of ◌+ℤ◌ so_far block) others) place met lt) ∙ sym parted
 
   pub block_passes : (next : ℕ) (sum : ℤ) → fitting_front (scan_of ◌+ℤ◌ so_far block) ≡ length block → sum ≡ fold_of ◌+ℤ◌ so_far block → next ≡ done + length block
       → whole ≡ next + fitting_front (scan_of ◌+ℤ◌ sum others)
-  block_passes next sum fits is_sum is_next =
-      let past = scan_past so_far block (scan_of ◌+ℤ◌ (fold_of ◌+ℤ◌ so_far block) others) (length block) (sym fits) (omega arith) in
-      let same = ap (λ z. fitting_front (scan_of ◌+ℤ◌ z others)) is_sum in
-      omega (arith, parted, past, same, is_next)
+  block_passes next sum fits is_sum is_next = search (rules, scan_past, parted)
 
 -- ---- a walk over segments, of whose scans the first ones, `done` in all, were seen to fit
 
@@ -104,18 +85,14 @@ module _ {lengths : List ℕ} {xs : List ℤ} {s done : ℕ} {rest : List ℤ} (
       ≡ done + fitting_front (scans_of ◌+ℤ◌ (pos 0) (take k (drop s lengths)) group ++ scans_of ◌+ℤ◌ (pos 0) (drop later lengths) others)
   cut_off =
       let behind : drop k (drop s lengths) ≡ drop later lengths = drop-drop k s lengths ∙ ap (λ j. drop j lengths) (sym is_later) in
-      so_far.front
-      ∙ ap (λ zs. done + fitting_front zs) (scans_parted ◌+ℤ◌ (pos 0) k n cut (drop s lengths) rest is_n is_cut)
-      ∙ (λ i. done + fitting_front (scans_of ◌+ℤ◌ (pos 0) (take k (drop s lengths)) (sym is_group i) ++ scans_of ◌+ℤ◌ (pos 0) (behind i) (sym is_others i)))
+      cc (so_far.front, scans_parted ◌+ℤ◌ (pos 0) k n cut (drop s lengths) rest is_n is_cut, is_group, behind, is_others)
 
   long : length (scans_of ◌+ℤ◌ (pos 0) (take k (drop s lengths)) group) ≡ length group
   long = length-scans_of ◌+ℤ◌ (pos 0) (take k (drop s lengths)) group (omega (arith, ap length is_group, length-take cut rest, is_n, is_cut))
 
   module _ (fitting : ℕ) (met : fitting ≡ fitting_front (scans_of ◌+ℤ◌ (pos 0) (take k (drop s lengths)) group)) where
     pub segments_stop : fitting < length group → done + fitting ≡ fitting_front (scans_of ◌+ℤ◌ (pos 0) lengths xs)
-    segments_stop lt =
-        let within = front_within (scans_of ◌+ℤ◌ (pos 0) (take k (drop s lengths)) group) (scans_of ◌+ℤ◌ (pos 0) (drop later lengths) others) (omega (arith, met, lt, long)) in
-        omega (arith, cut_off, within, met)
+    segments_stop lt = search (rules, front_within, long, cut_off)
 
     pub segments_go_on : (next : ℕ) → length group ≤ fitting → next ≡ done + length group → FitSoFar lengths xs later next others
     segments_go_on next ge is_next =
@@ -137,6 +114,4 @@ module _ (lengths : List ℕ) (before : ℤ) (front others : List ℤ) (range : 
 
   pub range_goes_on : (n m : ℕ) → n ≡ fitting_front (scan_of ◌+ℤ◌ before front) → n ≡ length front → m ≡ fitting_front (scans_of ◌+ℤ◌ (pos 0) lengths others)
       → n + m ≡ fitting_front (range_scan_of ◌+ℤ◌ (pos 0) before range)
-  range_goes_on n m is all later =
-      let same = ap fitting_front walked in
-      omega (arith, scan_past before front (scans_of ◌+ℤ◌ (pos 0) lengths others) n is (omega (arith, all)), all, later, same)
+  range_goes_on n m is all later = search (rules, walked, scan_past)

@@ -1,13 +1,9 @@
 -- A list that is written over from its front on: from the place that is next on it is as before.
 -- Source: what the definitions of take, drop and set imply.
-use Rattle.scan_walks.proofs.Cited.{◌≡◌, ◌∙◌, ◌+◌, ◌<◌, ◌≤◌, ◌++◌, ℕ, List, drop, get_or, length, map, take, refl, sym, ap, arith, sum, drop-drop, get_or-drop, length-drop, length-take}
-use Rattle.scan_walks.proofs.Cited.{length-scan_of, scan_of, joined, scans_of}
-use Rattle.std.proofs.Common.{set}
-use Rattle.std.proofs.lemmas.List.{append_assoc, drop-set-lt}
-use Rattle.std.proofs.lemmas.List.Sums.{sum_by-drop_more}
+use Rattle.scan_walks.proofs.Cited.{rules, ◌≡◌, ◌∙◌, ◌+◌, ◌<◌, ◌≤◌, ◌++◌, ℕ, List, drop, get_or, length, take, sym, ap, arith, sum, drop-drop, get_or-drop, length-drop, length-take, length-scan_of}
+use Rattle.scan_walks.proofs.Cited.{scan_of, scans_of, set, append_assoc, drop-set-lt, sum_by-drop_more, cut_more}
 use Rattle.std.proofs.lemmas.Slice.{drop-put_mid, take-put_mid}
 use borrow.Rule.Slice.PartMut.{put_mid}
-use Rattle.range_walks.proofs.Segments.{cut_more}
 
 module _ {X : Type 0} (now before : List X) (i : ℕ) (left : drop i now ≡ drop i before) where
   -- what stands at the place
@@ -35,9 +31,7 @@ module _ {Item : Type 0} {join : Item → Item → Item} {unit : Item} {lengths 
 
   module _ (k : ℕ) (is_k : k ≡ n) (u : Item) (is_u : u ≡ unit) (segment : List Item) (is : segment ≡ scan_of join u (take k (drop start now))) where
     length_segment : length segment ≡ n
-    length_segment =
-        let fits = segment_fits in
-        ap length is ∙ length-scan_of join u (take k (drop start now)) ∙ omega (arith, length-take k (drop start now), length-drop start now, is_k, fits)
+    length_segment = search (rules, segment_fits, length-scan_of, length-take, length-drop)
 
     pub scanning_more : Scanning join unit lengths before (put_mid start k now segment) (start + n) (s + 1)
     scanning_more =
@@ -46,12 +40,7 @@ module _ {Item : Type 0} {join : Item → Item → Item} {unit : Item} {lengths 
         let as_scanned : segment ≡ scan_of join unit (take n (drop start before)) = is ∙ (λ i. scan_of join (is_u i) (take (is_k i) (done.left i))) in
         record {
           total = omega (arith, is_n, done.total, sum_by-drop_more (λ x. x) lengths s 0 lt);
-          whole = ap (λ xs. xs ++ others) (take-put_mid start k now segment (start + n) (omega (arith, length_segment)) (omega (arith, fits)))
-              ∙ append_assoc (take start now) segment others
-              ∙ ap (λ xs. take start now ++ xs)
-              ((λ i. as_scanned i ++ scans_of join unit (drop (s + 1) lengths) (sym (drop-drop n start before) i))
-              ∙ sym (ap (λ lists. joined (map (scan_of join unit) lists)) (cut_more lengths s n (drop start before) _ _ lt is_n refl refl)))
-              ∙ done.whole;
+          whole = search (rules, take-put_mid, length_segment, append_assoc, drop-drop, cut_more);
           left = drop-put_mid start k now segment (start + n) (omega (arith, is_k)) (omega (arith, fits)) (length_segment ∙ sym is_k)
               ∙ sym (drop-drop n start now) ∙ ap (drop n) done.left ∙ drop-drop n start before;
         }

@@ -1,8 +1,6 @@
 -- The arguments of a segment, which starts where those before it end.
 use Rattle.scan_walks.proofs.Cited.{◌≡◌, ◌∙◌, ◌+◌, ◌<◌, ◌≤◌, ℕ, List, [], length, take, drop, get_or, sym, arith, sum, get_or-drop, length-take, length-drop, sum_by_more, cut_of, cut_at, length-cut}
-use Rattle.std.specs.List.{zip}
-use Rattle.std.proofs.lemmas.List.{get_or_default, get_or-take}
-use Rattle.std.proofs.lemmas.List.Sums.{sum_by_more_le}
+use Rattle.scan_walks.proofs.Cited.{zip, get_or_default, get_or-take, sum_by_more_le}
 use Rattle.std.proofs.lemmas.Slice.Zip.{get_or-zip, length-zip}
 
 -- a list has this element at place s

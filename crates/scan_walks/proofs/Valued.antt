@@ -1,15 +1,11 @@
 -- Checked scans and reduces of segments as values of one list of numbers: those that are written where all fit.
 -- Source: what the definitions of CheckedSums and Ranges imply.
-use Rattle.scan_walks.proofs.Cited.{◌≡◌, ◌∙◌, ◌+◌, ◌<◌, ◌+ℤ◌, ◌∷◌, ◌++◌, ◌>>=◌, refl, sym, ap, ℕ, ℤ, pos, List, [], length, map, take, drop, get_or, arith, Some, None, Result, Ok, Err, sum, ok_or}
-use Rattle.scan_walks.proofs.Cited.{drop_more, length-drop, length-map, map-append, sum_by_more, length-scan_of, checked_reduce_of, checked_scan_of, checked_seg_reduce_of, checked_seg_scan_of}
-use Rattle.scan_walks.proofs.Cited.{fitting, total_of, values_from, fault_at, after, joined, cut_of, at_segment, end_to_end, in_vector, moved, one_each, results_from, after-none, sum-cons, cut_at}
-use Rattle.scan_walks.proofs.Cited.{length-cut, nest-fits, reduces_of, scans_of, start_of}
-use Rattle.std.proofs.Common.{Option}
-use Rattle.std.proofs.lemmas.List.{get_or-map, length-take-le}
-use Rattle.cvl_base.specs.CheckedSums.{totals_of}
-use Rattle.cvl_base.specs.declared.fault.Fault.{Fault}
+use Rattle.scan_walks.proofs.Cited.{rules, ◌≡◌, ◌∙◌, ◌+◌, ◌<◌, ◌+ℤ◌, ◌∷◌, ◌++◌, ◌>>=◌, refl, sym, ap, ℕ, ℤ, pos, List, [], length, map, take, drop, get_or, arith, Some, None, Result, Ok, Err, sum}
+use Rattle.scan_walks.proofs.Cited.{ok_or, drop_more, length-drop, length-map, map-append, sum_by_more, length-scan_of, checked_reduce_of, checked_scan_of, checked_seg_reduce_of}
+use Rattle.scan_walks.proofs.Cited.{checked_seg_scan_of, fitting, total_of, values_from, fault_at, after, cut_of, at_segment, end_to_end, in_vector, moved, one_each, results_from, after-none}
+use Rattle.scan_walks.proofs.Cited.{sum-cons, cut_at, length-cut, nest-fits, reduces_of, scans_of, start_of, Option, get_or-map, length-take-le, totals_of, Fault, Overflow}
+use Rattle.cvl_base.specs.Lists.{joined}
 use Rattle.cvl_base.specs.declared.fault.FaultNo.{FaultNo}
-use Rattle.cvl_base.specs.declared.fault.FaultNo.TheVariants.{Overflow}
 
 module _ {Y : Type 0} where
   moved-then : (to : ℕ → ℕ) (y : Y) (r : Result (List Y) Fault) → moved to (r >>= λ ys. Ok (y ∷ ys)) ≡ (moved to r >>= λ ys. Ok (y ∷ ys))
@@ -20,10 +16,7 @@ module _ {Y : Type 0} where
   moved_on : (number : FaultNo) (n k : ℕ) (vs : List (Option Y)) → moved (λ p. n + p) (values_from number k vs) ≡ values_from number (n + k) vs
   moved_on number n k [] = refl
   moved_on number n k (None ∷ vs) = refl
-  moved_on number n k (Some y ∷ vs) =
-      moved-then (λ p. n + p) y (values_from number (k + 1) vs)
-      ∙ ap (λ r. r >>= λ ys. Ok (y ∷ ys)) (moved_on number n (k + 1) vs)
-      ∙ ap (λ p. values_from number p vs >>= λ ys. Ok (y ∷ ys)) (omega arith)
+  moved_on number n k (Some y ∷ vs) = search (rules, moved-then, moved_on number n (k + 1) vs)
 
   chained : (first : Result (List Y) Fault) (others : Result (List (List Y)) Fault)
       → ((first >>= λ r. others >>= λ rs. Ok (r ∷ rs)) >>= λ lists. Ok (joined lists)) ≡ (first >>= λ r. after r (others >>= λ lists. Ok (joined lists)))
@@ -42,11 +35,7 @@ module _ {Y : Type 0} where
       → values_from number n (vs ++ ws) ≡ (values_from number n vs >>= λ ys. after ys (values_from number (n + length vs) ws))
   values-append number n [] ws = sym (after-none (values_from number (n + 0) ws) ∙ ap (λ p. values_from number p ws) (omega arith))
   values-append number n (None ∷ vs) ws = refl
-  values-append number n (Some y ∷ vs) ws =
-      let next : n + 1 + length vs ≡ n + length (Some y ∷ vs) = omega arith in
-      ap (λ r. r >>= λ zs. Ok (y ∷ zs)) (values-append number (n + 1) vs ws)
-      ∙ one_first y (values_from number (n + 1) vs) (values_from number (n + 1 + length vs) ws)
-      ∙ ap (λ p. (values_from number (n + 1) vs >>= λ ys. Ok (y ∷ ys)) >>= λ ys. after ys (values_from number p ws)) next
+  values-append number n (Some y ∷ vs) ws = search (rules, one_first, values-append number (n + 1) vs ws)
 
 heads : (k m : ℕ) (ks ms : List ℕ) → k ∷ ks ≡ m ∷ ms → (k ≡ m) × (ks ≡ ms)
 heads k m ks ms is = (cc, cc)
@@ -93,5 +82,4 @@ sums_valued lengths xs total = ap (one_each at_segment checked_reduce_of) (nest-
 -- the sum of a segment is that of its elements
 pub segment_total : (lengths : List ℕ) (xs : List ℤ) (s : ℕ) → s < length lengths
     → get_or (reduces_of ◌+ℤ◌ (pos 0) lengths xs) s (pos 0) ≡ total_of (take (get_or lengths s 0) (drop (start_of lengths s) xs))
-segment_total lengths xs s lt =
-    get_or-map total_of (cut_of lengths xs) s [] (pos 0) (omega (arith, lt, length-cut lengths xs)) ∙ ap total_of (cut_at lengths xs s lt)
+segment_total lengths xs s lt = cc (get_or-map total_of (cut_of lengths xs) s [] (pos 0) (omega (arith, lt, length-cut lengths xs)), cut_at lengths xs s lt)

@@ -1,12 +1,7 @@
 -- A segmented call, segment by segment: the results so far, and after them what the segments left give.
-use Rattle.scan_walks.proofs.Cited.{◌≡◌, ◌∙◌, ◌+◌, ◌≤◌, ◌∷◌, ◌++◌, ◌>>=◌, ℕ, List, [], length, drop, refl, sym, ap, Result, Ok, Err, after, moved, results_from, after-none}
-use Rattle.std.specs.Prelude.{option_map}
-use Rattle.std.specs.List.{flat_map}
-use Rattle.std.proofs.lemmas.List.{drop_all, map-id}
+use Rattle.scan_walks.proofs.Cited.{◌≡◌, ◌∙◌, ◌+◌, ◌≤◌, ◌∷◌, ◌++◌, ◌>>=◌, ℕ, List, [], length, drop, refl, sym, ap, Result, Ok, Err, after, moved, results_from, after-none, option_map, flat_map}
+use Rattle.scan_walks.proofs.Cited.{drop_all, map-id, Fault, after-after, after-end, uncons}
 use Rattle.std.proofs.lemmas.List.Concat.{flat_map_single}
-use Rattle.cvl_base.specs.declared.fault.Fault.{Fault}
-use Rattle.cvl_base.proofs.Gives.{after-after, after-end}
-use Rattle.cvl_base.proofs.Lists.{uncons}
 use Rattle.scan_walks.proofs.Parts.{StandsAt}
 
 -- how a result stands for some elements: it is one, or is the list of them
@@ -58,10 +53,7 @@ module _ {S R X : Type 0} {elements : R → List X} {place : ℕ → ℕ → ℕ
       one_more r now has grown =
           let others = given elements place call (s + 1) (drop (s + 1) segments) in
           record {
-            so_far = here
-                ∙ ap (after done) (given-more elements place call s x (drop (s + 1) segments) r has)
-                ∙ after-after done (elements r) others
-                ∙ ap (λ d. after d others) (sym grown);
+            so_far = cc (here, given-more elements place call s x (drop (s + 1) segments) r has, after-after done (elements r) others, grown);
           }
 
       pub fails : (f : Fault) → call x ≡ Err f → whole ≡ Err (record { number = f.number; place = option_map (place s) f.place })

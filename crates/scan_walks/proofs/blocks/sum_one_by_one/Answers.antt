@@ -1,13 +1,11 @@
-use Rattle.scan_walks.proofs.Cited.{◌≡◌, ◌∙◌, ◌+ℤ◌, pos, to_z, of_z, w32, w64, get_or, sym, ap, arith, to_z-of_z, fold_more, scan_of}
-use Rattle.scan_walks.specs.Fronts.{fitting_front}
+use Rattle.scan_walks.proofs.Cited.{◌≡◌, ◌∙◌, ◌+ℤ◌, pos, to_z, of_z, w32, w64, get_or, sym, ap, arith, to_z-of_z, fold_more}
 use Rattle.scan_walks.proofs.FrontLaws.{fitting-is, front_goes_on, front_stops}
 use Rattle.scan_walks.proofs.blocks.sum_one_by_one.Goals as goal
 
 pub returns-in-None : goal.returns-in-None
 returns-in-None c =
     let back : to_z w64 (of_z w64 c.args.before) ≡ c.args.before = grind (arith, to_z-of_z) in (
-      front_stops _ _ _ _ c.loop-place.invariant.front c.loop-place-test.true (sym c.fitting.ensures ∙ c.in-None.is)
-          ∙ ap (λ z. fitting_front (scan_of ◌+ℤ◌ z c.args.xs.now)) back,
+      cc (front_stops _ _ _ _ c.loop-place.invariant.front c.loop-place-test.true (sym c.fitting.ensures ∙ c.in-None.is), back),
       c.loop-place-test.true,
     )
 
@@ -20,6 +18,5 @@ loop-place-preserved c =
     let next = wide ∙ c.plus-so_far.ensures ∙ ap (λ z. z +ℤ get_or c.args.xs.now c.loop-place.place (pos 0)) (back ∙ same) in
     record {
       front = front_goes_on _ _ _ _ c.loop-place.invariant.front c.in-Some.sum _ c.loop-place-test.true fits next;
-      sum = next ∙ ap (λ z. z +ℤ get_or c.args.xs.now c.loop-place.place (pos 0)) c.loop-place.invariant.sum
-          ∙ sym (fold_more ◌+ℤ◌ (to_z w64 (of_z w64 c.args.before)) c.args.xs.now c.loop-place.place (pos 0) c.loop-place-test.true);
+      sum = cc (next, c.loop-place.invariant.sum, fold_more ◌+ℤ◌ (to_z w64 (of_z w64 c.args.before)) c.args.xs.now c.loop-place.place (pos 0) c.loop-place-test.true);
     }

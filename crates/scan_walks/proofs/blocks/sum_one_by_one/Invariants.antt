@@ -1,5 +1,4 @@
-use Rattle.scan_walks.proofs.Cited.{◌≡◌, ◌+◌, ◌+ℤ◌, drop, take, fold_of, scan_of}
-use Rattle.scan_walks.specs.Fronts.{fitting_front}
+use Rattle.scan_walks.proofs.Cited.{◌≡◌, ◌+◌, ◌+ℤ◌, drop, take, fold_of, scan_of, fitting_front}
 use Rattle.scan_walks.proofs.blocks.sum_one_by_one.Given as goal
 
 abbrev pub invariant-loop-place : goal.invariant-loop-place

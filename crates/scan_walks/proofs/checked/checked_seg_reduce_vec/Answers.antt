@@ -1,14 +1,11 @@
-use Rattle.scan_walks.proofs.Cited.{◌≡◌, ◌∙◌, ◌∷◌, ◌++◌, [], to_z, of_z, w32, Err, length, drop, refl, sym, take, ap, arith, ok_or, to_z-of_z, drop-drop, length-drop, checked_reduce_of, fitting}
-use Rattle.scan_walks.proofs.Cited.{total_of, fault_at, at_segment, one_each, length-cut, nest-fits, start_of}
-use Rattle.cvl_base.specs.declared.fault.FaultNo.TheVariants.{Overflow}
+use Rattle.scan_walks.proofs.Cited.{rules, ◌≡◌, ◌∙◌, ◌∷◌, ◌++◌, [], to_z, of_z, w32, Err, length, drop, refl, sym, take, ap, arith, ok_or, to_z-of_z, drop-drop, length-drop, checked_reduce_of}
+use Rattle.scan_walks.proofs.Cited.{fitting, total_of, fault_at, at_segment, one_each, length-cut, nest-fits, start_of, Overflow}
 use Rattle.scan_walks.proofs.Parts.{IsSegment, ends_within, part, starts_more}
 use Rattle.scan_walks.proofs.Walk.{all_done, begins, fails, one_more, singles}
 use Rattle.scan_walks.proofs.checked.checked_seg_reduce_vec.Goals as goal
 
 pub split_at-requires : goal.split_at-requires
-split_at-requires g c =
-    let d = c.args.d.now in let s = c.loop-s.s in
-    omega (arith, c.length.ensures, ap length c.loop-s.invariant.rest, length-drop (start_of d s) c.args.a.now, ends_within d s (omega arith), c.in_ok-check_total.ensures.agrees)
+split_at-requires g c = search (rules, length-drop, ends_within)
 
 pub fitting_total-requires : goal.fitting_total-requires
 fitting_total-requires g c = record {

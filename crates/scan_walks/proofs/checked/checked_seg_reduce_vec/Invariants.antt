@@ -1,5 +1,4 @@
-use Rattle.scan_walks.proofs.Cited.{◌≡◌, drop, length, checked_reduce_of, checked_seg_reduce_of, cut_of, at_segment, start_of}
-use Rattle.std.proofs.Common.{vec_len, vec_capacity}
+use Rattle.scan_walks.proofs.Cited.{◌≡◌, drop, length, checked_reduce_of, checked_seg_reduce_of, cut_of, at_segment, start_of, vec_len, vec_capacity}
 use Rattle.scan_walks.proofs.Walk.{Walked, single}
 use Rattle.scan_walks.proofs.checked.checked_seg_reduce_vec.Given as goal
 

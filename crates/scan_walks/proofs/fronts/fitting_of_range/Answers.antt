@@ -1,5 +1,4 @@
-use Rattle.scan_walks.proofs.Cited.{◌≡◌, ◌∙◌, ◌+ℤ◌, to_z, of_z, w64, map, unsigned_abs, ap, arith, to_z-of_z, scan_of}
-use Rattle.scan_walks.specs.Fronts.{fitting_front}
+use Rattle.scan_walks.proofs.Cited.{◌≡◌, ◌∙◌, ◌+ℤ◌, to_z, of_z, w64, map, unsigned_abs, ap, arith, to_z-of_z, scan_of, fitting_front}
 use Rattle.scan_walks.proofs.FrontLaws.{range_goes_on, range_stops}
 use Rattle.scan_walks.proofs.fronts.fitting_of_range.Goals as goal
 

@@ -1,13 +1,11 @@
-use Rattle.scan_walks.proofs.Cited.{◌≡◌, ◌∙◌, ◌+◌, ◌+ℤ◌, to_z, of_z, w64, length, refl, ap, arith, to_z-of_z, scan_of}
-use Rattle.scan_walks.specs.Fronts.{fitting_front}
+use Rattle.scan_walks.proofs.Cited.{◌≡◌, ◌∙◌, ◌+◌, to_z, of_z, w64, length, refl, arith, to_z-of_z}
 use Rattle.scan_walks.proofs.FrontLaws.{block_passes, block_stops}
 use Rattle.scan_walks.proofs.fronts.fitting_of_scan.Goals as goal
 
 pub returns-in-Err-clause-front : goal.returns-in-Err-clause-front
 returns-in-Err-clause-front c =
     let back : to_z w64 (of_z w64 c.args.before) ≡ c.args.before = grind (arith, to_z-of_z) in
-    block_stops _ _ _ _ _ _ _ c.split_at.ensures.front c.split_at.ensures.back c.loop-rest.invariant.front c.in-Err.place c.in-Err.ensures.0 c.in-Err.ensures.1
-    ∙ ap (λ z. fitting_front (scan_of ◌+ℤ◌ z c.args.xs.now)) back
+    cc (block_stops _ _ _ _ _ _ _ c.split_at.ensures.front c.split_at.ensures.back c.loop-rest.invariant.front c.in-Err.place c.in-Err.ensures.0 c.in-Err.ensures.1, back)
 
 pub loop-rest-preserved : goal.loop-rest-preserved
 loop-rest-preserved c =

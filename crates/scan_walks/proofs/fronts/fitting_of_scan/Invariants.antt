@@ -1,5 +1,4 @@
-use Rattle.scan_walks.proofs.Cited.{◌≡◌, ◌+◌, ◌+ℤ◌, length, scan_of}
-use Rattle.scan_walks.specs.Fronts.{fitting_front}
+use Rattle.scan_walks.proofs.Cited.{◌≡◌, ◌+◌, ◌+ℤ◌, length, scan_of, fitting_front}
 use Rattle.scan_walks.proofs.fronts.fitting_of_scan.Given as goal
 
 abbrev pub invariant-loop-rest : goal.invariant-loop-rest

@@ -1,7 +1,4 @@
-use Rattle.scan_walks.proofs.Cited.{◌≡◌, ◌∙◌, ◌<◌, ◌∷◌, ◌++◌, [], IsTrue, arith, true, get_or, length, rules, subst, sym}
-use Rattle.std.proofs.lemmas.List.{take_more_set}
-use Rattle.std.proofs.lemmas.List.Elements.{All-get_or}
-use Rattle.operators.proofs.FoldLaws.{scan_of_more}
+use Rattle.scan_walks.proofs.Cited.{◌≡◌, ◌∙◌, ◌<◌, ◌∷◌, ◌++◌, [], IsTrue, arith, true, get_or, length, rules, subst, sym, take_more_set, All-get_or, scan_of_more}
 use Rattle.range_walks.proofs.Scanned.{joined_more}
 use Rattle.scan_walks.proofs.InPlace.{still_at, still_behind}
 use Rattle.scan_walks.proofs.in_place.scan_in.Goals as goal

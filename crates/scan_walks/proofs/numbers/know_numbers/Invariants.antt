@@ -1,5 +1,4 @@
-use Rattle.scan_walks.proofs.Cited.{◌≡◌, ◌<◌, ℕ, ℤ, true, is_number}
-use Rattle.std.proofs.Common.{slice_index_or}
+use Rattle.scan_walks.proofs.Cited.{◌≡◌, ◌<◌, ℕ, ℤ, true, is_number, slice_index_or}
 use Rattle.scan_walks.proofs.numbers.know_numbers.Given as goal
 
 abbrev pub invariant-loop-x : goal.invariant-loop-x

@@ -1,12 +1,8 @@
-use Rattle.scan_walks.proofs.Cited.{◌≡◌, ◌∙◌, Err, ap, arith, length, sym, scan_of, differs, told, length-scan_of}
+use Rattle.scan_walks.proofs.Cited.{rules, ◌≡◌, ◌∙◌, ap, arith, length, scan_of, differs, told, length-scan_of}
 use Rattle.scan_walks.proofs.over.scan_over.Goals as goal
 
 pub returns-in_err-check_agree : goal.returns-in_err-check_agree
-returns-in_err-check_agree g c =
-    let m = g.M.Monoid in let a = c.args.a.now in let room = length c.args.out.now in
-    let long = length-scan_of m.join c.args.before a in
-    told _ c.from_residual.result c.in_err-check_agree.field-0.0 c.args.out.now c.from_residual.ensures.1
-    (differs room (scan_of m.join c.args.before a) (λ same. c.in_err-check_agree.ensures.1 (omega (arith, long, same))) ∙ ap Err (sym c.in_err-check_agree.ensures.0))
+returns-in_err-check_agree g c = search (rules, length-scan_of, told, differs)
 
 pub fill_slice-requires-clause-full : goal.fill_slice-requires-clause-full
 fill_slice-requires-clause-full g c = λ block run done.

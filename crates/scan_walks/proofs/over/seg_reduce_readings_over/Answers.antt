@@ -1,4 +1,4 @@
-use Rattle.scan_walks.proofs.Cited.{◌≡◌, ◌∙◌, Err, Ok, ap, arith, length, map, sym, unsigned_abs, length-map, in_room, differs, fits, told, reduces_of}
+use Rattle.scan_walks.proofs.Cited.{rules, ◌≡◌, ◌∙◌, Err, ap, arith, length, map, sym, unsigned_abs, length-map, in_room, differs, fits, told, reduces_of}
 use Rattle.scan_walks.proofs.Segmented.{length-reduces_of, seg_reduce-fits}
 use Rattle.scan_walks.proofs.over.seg_reduce_readings_over.Goals as goal
 
@@ -20,10 +20,4 @@ fill_slice-requires-clause-full g c = λ block run done.
     (ap (λ s. s.block) is, ap (λ s. s.first) is, ap (λ s. s.room) is ∙ omega (arith, long), ap (λ s. length s.items) is ∙ long)
 
 pub returns : goal.returns
-returns g c =
-    let m = g.M.Monoid in let item = g.E.Reading.item in let a = c.args.a.now in let d = c.args.d.now in let room = length c.args.out.now in
-    let sums = reduces_of m.join m.unit d (map item a) in
-    let whole : length sums ≡ room = length-reduces_of m.join m.unit (map item a) d ∙ sym c.count.ensures.value ∙ c.in_ok-check_agree.ensures in
-    ap (in_room room) (seg_reduce-fits m.join m.unit (map item a) d (c.in_ok-check_total.ensures.agrees ∙ sym (length-map a item)))
-    ∙ fits room sums whole
-    ∙ ap Ok (sym (c.fill_slice.ensures.3 ∙ ap (λ s. s.items) c.fill_slice.ensures.2.1 ∙ ap (λ ls. reduces_of m.join m.unit ls (map item a)) c.lengths-lengths.ensures.read))
+returns g c = search (rules, length-reduces_of, seg_reduce-fits, length-map, fits)

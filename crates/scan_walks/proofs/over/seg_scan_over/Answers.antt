@@ -1,4 +1,4 @@
-use Rattle.scan_walks.proofs.Cited.{◌≡◌, ◌∙◌, Err, Ok, ap, arith, length, map, sym, unsigned_abs, in_room, differs, fits, told, scans_of, length-scans_of}
+use Rattle.scan_walks.proofs.Cited.{rules, ◌≡◌, ◌∙◌, Err, ap, arith, length, map, sym, unsigned_abs, in_room, differs, fits, told, scans_of, length-scans_of}
 use Rattle.scan_walks.proofs.Segmented.{seg_scan-fits}
 use Rattle.scan_walks.proofs.over.seg_scan_over.Goals as goal
 
@@ -20,8 +20,4 @@ fill_slice-requires-clause-full g c = λ block run done.
     (ap (λ s. s.block) is, ap (λ s. s.first) is, ap (λ s. s.room) is ∙ omega (arith, long), ap (λ s. length s.items) is ∙ long)
 
 pub returns : goal.returns
-returns g c =
-    let m = g.M.Monoid in let a = c.args.a.now in let d = c.args.d.now in let room = length c.args.out.now in let agrees = c.in_ok-check_total.ensures.agrees in
-    let sums = scans_of m.join m.unit d a in
-    ap (in_room room) (seg_scan-fits m.join m.unit a d agrees) ∙ fits room sums (length-scans_of m.join m.unit d a (omega (arith, agrees)) ∙ c.in_ok-check_agree.ensures)
-    ∙ ap Ok (sym (c.fill_slice.ensures.3 ∙ ap (λ s. s.items) c.fill_slice.ensures.2.1 ∙ ap (λ ls. scans_of m.join m.unit ls a) c.lengths-lengths.ensures.read))
+returns g c = search (rules, seg_scan-fits, fits, length-scans_of)

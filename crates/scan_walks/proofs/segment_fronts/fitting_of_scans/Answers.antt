@@ -1,18 +1,12 @@
-use Rattle.scan_walks.proofs.Cited.{◌∙◌, ◌-◌, ◌+ℤ◌, pos, map, unsigned_abs, ap, arith, sum, scans_of}
-use Rattle.range_walks.proofs.Segments.{range_lengths, range_read}
-use Rattle.scan_walks.specs.Fronts.{fitting_front}
+use Rattle.scan_walks.proofs.Cited.{rules, ◌∙◌, ◌-◌, ◌+ℤ◌, pos, map, unsigned_abs, ap, arith, sum, scans_of, range_lengths, range_read, fitting_front}
 use Rattle.scan_walks.proofs.FrontLaws.{segments_go_on, segments_stop}
 use Rattle.scan_walks.proofs.segment_fronts.fitting_of_scans.Goals as goal
 
 pub extent_of-total-requires : goal.extent_of-total-requires
-extent_of-total-requires c =
-    let row = c.args.lengths.now in
-    range_lengths row (map unsigned_abs row) c.loop-first.first (c.min-next.result - c.loop-first.first) c.requires.lengths.none_negative c.requires.lengths
+extent_of-total-requires c = search (rules, range_lengths)
 
 pub fitting_of_group-fitting-requires-clause-lengths : goal.fitting_of_group-fitting-requires-clause-lengths
-fitting_of_group-fitting-requires-clause-lengths c =
-    let row = c.args.lengths.now in
-    range_lengths row (map unsigned_abs row) c.loop-first.first (c.min-next.result - c.loop-first.first) c.requires.lengths.none_negative c.requires.lengths
+fitting_of_group-fitting-requires-clause-lengths c = search (rules, range_lengths)
 
 pub returns-then-fitting-elements-clause-front : goal.returns-then-fitting-elements-clause-front
 returns-then-fitting-elements-clause-front c =

@@ -1,6 +1,4 @@
-use Rattle.scan_walks.proofs.Cited.{◌-◌, ◌∙◌, Ok, arith, drop, length, map, sym, ap, length-map, length-take, reduces_of}
-use Rattle.std.proofs.lemmas.List.{take_all}
-use Rattle.fresh.proofs.Written.{all_written}
+use Rattle.scan_walks.proofs.Cited.{◌-◌, ◌∙◌, Ok, arith, drop, length, map, sym, ap, length-map, length-take, reduces_of, take_all, all_written}
 use Rattle.scan_walks.proofs.Segmented.{length-reduces_of, seg_reduce-fits}
 use Rattle.scan_walks.proofs.vectors.seg_reduce_vec.Goals as goal
 

@@ -1,7 +1,5 @@
-use Rattle.scan_walks.proofs.Cited.{◌≡◌, ◌∙◌, ℕ, [], List, Ok, arith, length, map, sum, sym, ap, length-scans_of, scans_of}
-use Rattle.std.proofs.lemmas.List.{map-id}
+use Rattle.scan_walks.proofs.Cited.{rules, ◌≡◌, ◌∙◌, ℕ, [], List, Ok, arith, length, map, sum, sym, ap, length-scans_of, scans_of, map-id, all_written}
 use Rattle.fresh.specs.Places.{IsAllOf, Site, Stretch, stretch, with_items}
-use Rattle.fresh.proofs.Written.{all_written}
 use Rattle.scan_walks.proofs.Segmented.{seg_scan-fits}
 use Rattle.scan_walks.proofs.vectors.seg_scan_vec.Goals as goal
 
@@ -9,9 +7,7 @@ use Rattle.scan_walks.proofs.vectors.seg_scan_vec.Goals as goal
 scanned : {Item : Type 0} (join : Item → Item → Item) (unit : Item) (ls d : List ℕ) (a : List Item) (site : Site) (run all : Stretch Item) → ls ≡ d → sum d ≡ length a
     → site.places ≡ length a → run ≡ stretch site.block 0 [] (length a) → all ≡ with_items run (scans_of join unit ls (map (λ x. x) a))
     → IsAllOf site all × (all.items ≡ scans_of join unit d a)
-scanned join unit ls d a site run all same agrees places new written =
-    all_written site run all (scans_of join unit d a) (length a) places new (written ∙ (λ i. with_items run (scans_of join unit (same i) (map-id a i))))
-    (omega (arith, length-scans_of join unit d a (omega (arith, agrees))))
+scanned join unit ls d a site run all same agrees places new written = search (rules, all_written, map-id, length-scans_of)
 
 pub into_vec-requires : goal.into_vec-requires
 into_vec-requires g c =

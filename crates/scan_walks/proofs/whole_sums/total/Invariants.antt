@@ -1,5 +1,4 @@
-use Rattle.scan_walks.proofs.Cited.{◌≡◌, ◌≤◌, take, unsigned_abs, total_of}
-use Rattle.std.proofs.Common.{◌*◌}
+use Rattle.scan_walks.proofs.Cited.{◌≡◌, ◌≤◌, take, unsigned_abs, total_of, ◌*◌}
 use Rattle.scan_walks.proofs.whole_sums.total.Given as goal
 
 -- each integer adds at most 2^31
