@@ -1,24 +1,8 @@
 -- An input, read from the front: how many tokens there are, and the numbers so far.
-use Rattle.std.proofs.Common.{◌≡◌, ℕ, ◌+◌, ◌*◌, ◌<◌, ◌≤◌, Bool, true, false, ◌&&◌, List, [], ◌∷◌, length, map, get_or, take}
-use Rattle.std.proofs.Common.{drop, refl, ap, sym, ◌∙◌, arith, Some, ℤ}
-use Rattle.std.specs.Int.{from_bool}
-use Rattle.std.specs.Prelude.{Result, if◌then◌else◌, not, ◌==◌}
-use Rattle.std.specs.List.{list_all}
-use Rattle.std.specs.Char.{is_ascii_digit}
-use Rattle.std.proofs.lemmas.Bool.Decides.{nat_tests}
-use Rattle.std.proofs.lemmas.List.{at_drop_more, take-append-drop}
-use Rattle.cvl_base.specs.declared.fault.Fault.{Fault}
-use Rattle.cvl_base.specs.declared.fault.FaultNo.TheVariants.{BadInput}
-use Rattle.cvl_base.specs.Elementwise.{values_from}
-use Rattle.line_reader.specs.declared.token.ByteClass.{ByteClass}
-use Rattle.line_reader.specs.declared.token.ByteClass.TheVariants.{Blank, InToken}
-use Rattle.line_reader.specs.Tokens.{tokens_by, with_byte, is_in_token, begins_in_token}
-use Rattle.line_reader.specs.Numbers.{positive_of, negative_of, with_sign, written_number}
-use Rattle.call_reader.specs.Inputs.{is_white_space, input_class}
-use Rattle.call_reader.specs.Pieces.{goes_on}
-use Rattle.line_reader.proofs.TokenWalk.{run_first, some_tokens}
-use Rattle.std.proofs.lemmas.Bool.{and_parts}
-use Rattle.line_reader.proofs.NumberWalk.{magnitude_digits}
+use Rattle.call_reader.proofs.Cited.{◌≡◌, ℕ, ◌+◌, ◌*◌, ◌<◌, ◌≤◌, Bool, true, false, ◌&&◌, List, [], ◌∷◌, length, map, get_or, take, drop, refl, ap, sym, ◌∙◌, arith, Some, ℤ, from_bool, Result}
+use Rattle.call_reader.proofs.Cited.{if◌then◌else◌, not, ◌==◌, list_all, is_ascii_digit, nat_tests, at_drop_more, take-append-drop, Fault, BadInput, values_from, ByteClass, Blank, InToken}
+use Rattle.call_reader.proofs.Cited.{tokens_by, with_byte, is_in_token, begins_in_token, positive_of, negative_of, with_sign, written_number, run_first, some_tokens, magnitude_digits}
+use Rattle.call_reader.proofs.Cited.{is_white_space, input_class, goes_on, and_parts}
 
 pub at_most_one : (one : ℕ) (b : Bool) → one ≡ from_bool b → one ≤ 1
 at_most_one one true e = omega arith

@@ -5,3 +5,4 @@ pub mod NestedPieces
 pub mod NestedTokens
 pub mod PieceWalk
 pub mod ReadBack
+pub mod Cited

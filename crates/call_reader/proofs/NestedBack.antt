@@ -1,20 +1,9 @@
 -- The text of a nest, read again.
-use Rattle.std.proofs.Common.{◌≡◌, ℕ, ◌≤◌, List, [], ◌∷◌, ◌++◌, length, map, take, drop, refl, ap, sym, ◌∙◌, arith, Ok, ℤ, FitsSigned, w32}
-use Rattle.std.specs.Prelude.{flat_map, sum, Result}
-use Rattle.cvl_base.specs.declared.fault.Fault.{Fault}
-use Rattle.std.specs.List.{join_with_byte}
-use Rattle.std.specs.Fmt.{signed_decimal}
-use Rattle.std.proofs.lemmas.List.{append-nil, drop_all, map-append, take_all}
+use Rattle.call_reader.proofs.Cited.{◌≡◌, ℕ, ◌≤◌, List, [], ◌∷◌, ◌++◌, length, map, take, drop, refl, ap, sym, ◌∙◌, arith, Ok, ℤ, FitsSigned, w32, flat_map, sum, Result, Fault, join_with_byte}
+use Rattle.call_reader.proofs.Cited.{signed_decimal, append-nil, drop_all, map-append, take_all, ◌>>=◌, most_elements, cut_of, nest-fits, begins_in_token, written_number, cut_at_blank, cut_at_lone}
+use Rattle.call_reader.proofs.Cited.{nested_class, Mark, opening, closing, number, mark_of, marks_of, list_marks, nest_marks, nested_of, IsWithin32, IsNestedText, read_again}
 use Rattle.std.proofs.lemmas.List.Elements.{All-drop, All-head, All-tail, All-take}
-use Rattle.cvl_base.specs.Gives.{◌>>=◌}
-use Rattle.cvl_base.specs.Limits.{most_elements}
-use Rattle.cvl_base.specs.Nests.{cut_of}
-use Rattle.cvl_base.proofs.Nests.{nest-fits}
 use Rattle.value_texts.specs.Texts.{vector_text, nest_text}
-use Rattle.line_reader.specs.Tokens.{begins_in_token}
-use Rattle.line_reader.specs.Numbers.{written_number}
-use Rattle.call_reader.specs.NestedTexts.{nested_class, Mark, opening, closing, number, mark_of, marks_of, list_marks, nest_marks, nested_of, IsWithin32, IsNestedText, read_again}
-use Rattle.line_reader.proofs.TokenWalk.{cut_at_blank, cut_at_lone}
 use Rattle.call_reader.proofs.ReadBack.{read_back}
 use Rattle.call_reader.proofs.NestedTokens.{number_first}
 use Rattle.call_reader.proofs.NestedMarks.{text-read}

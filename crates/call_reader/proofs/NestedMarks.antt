@@ -1,27 +1,15 @@
 -- The marks of a nest: how many there are of each kind, what the grammar gives of them, and that it gives lists of no others.
-use Rattle.std.proofs.Common.{◌≡◌, ℕ, ◌+◌, ◌-◌, ◌*◌, ◌≤◌, Bool, true, false, cond, List, [], ◌∷◌, ◌++◌, length, map, take, drop, refl, ap, sym, ◌∙◌, arith, Ok, Err, ℤ, pos, append_assoc}
-use Rattle.std.proofs.Common.{length-append}
-use Rattle.std.specs.Prelude.{Result, unsigned_abs, sum, count_by, flat_map}
+use Rattle.call_reader.proofs.Cited.{◌≡◌, ℕ, ◌+◌, ◌-◌, ◌*◌, ◌≤◌, Bool, true, false, cond, List, [], ◌∷◌, ◌++◌, length, map, refl, ap, sym, ◌∙◌, arith, Ok, Err, ℤ, pos, append_assoc, length-append}
+use Rattle.call_reader.proofs.Cited.{Result, unsigned_abs, sum, count_by, flat_map, nat_tests, append-nil, flat_map_more, length-map, map_push, sum_by-cons, sum_by-append, Fault, TooLong, BadInput}
+use Rattle.call_reader.proofs.Cited.{fault, fault_at, ◌>>=◌, fault_if, most_elements, cut_of, length-cut, lengths-cut, joined-cut, Mark, opening, closing, number, Where, before, between, inside}
+use Rattle.call_reader.proofs.Cited.{behind, is_opening, is_no_bracket, are_too_many, with_number, lists_from, flat_nest, nested_of, marks_of, list_marks, nest_marks, IsNestedText, is_closing}
+use Rattle.call_reader.proofs.Cited.{is_number, begin_with, is_no_mark, ArePushed, AreListsRead, IsNestRead, IsFaultAt, HasRoom}
 use Rattle.std.proofs.Math.Seq.{take-append_seam, drop-append_seam}
-use Rattle.std.proofs.lemmas.Bool.Decides.{nat_tests}
-use Rattle.std.proofs.lemmas.List.{append-nil, flat_map_more, length-map, map_push}
-use Rattle.std.proofs.lemmas.List.Sums.{sum_by-cons, sum_by-append}
-use Rattle.cvl_base.specs.declared.fault.Fault.{Fault}
-use Rattle.cvl_base.specs.declared.fault.FaultNo.TheVariants.{TooLong, BadInput}
-use Rattle.cvl_base.specs.Faults.{fault, fault_at}
-use Rattle.cvl_base.specs.Gives.{◌>>=◌, fault_if}
 use Rattle.cvl_base.specs.Descriptors.{AreLengths}
 use Rattle.cvl_base.proofs.Descriptors.{abs_pos}
-use Rattle.cvl_base.specs.Limits.{most_elements}
 use Rattle.cvl_base.specs.Lists.{joined}
-use Rattle.cvl_base.specs.Nests.{cut_of}
 use Rattle.cvl_base.proofs.Gives.{after-after, after-none}
-use Rattle.cvl_base.proofs.Nests.{length-cut, lengths-cut, joined-cut}
 use Rattle.segdes.proofs.ListRuns.{length-joined}
-use Rattle.call_reader.specs.NestedTexts.{Mark, opening, closing, number, Where, before, between, inside, behind, is_opening, is_no_bracket, are_too_many}
-use Rattle.call_reader.specs.NestedReads.{is_closing, is_number, begin_with}
-use Rattle.call_reader.specs.NestedTexts.{with_number, lists_from, flat_nest, nested_of, marks_of, list_marks, nest_marks, IsNestedText}
-use Rattle.call_reader.specs.NestedReads.{is_no_mark, ArePushed, AreListsRead, IsNestRead, IsFaultAt, HasRoom}
 
 pub count-cons : (p : Mark → Bool) (m : Mark) (ms : List Mark) → count_by p (m ∷ ms) ≡ cond (p m) 1 0 + count_by p ms
 count-cons p m ms = sum_by-cons (λ x. cond (p x) 1 0) m ms
@@ -169,12 +157,10 @@ sound inside place (closing ∷ ms) lists e =
 sound behind place [] lists e = refl
 sound w place ms lists e = absurd (cc)
 
-cut-joined : (lists : List (List ℤ)) → cut_of (map length lists) (joined lists) ≡ lists
+-- lists that are joined and cut by their lengths are the lists
+pub cut-joined : {X : Type 0} (lists : List (List X)) → cut_of (map length lists) (joined lists) ≡ lists
 cut-joined [] = refl
-cut-joined (xs ∷ lists) =
-    let front : take (length xs) (xs ++ joined lists) ≡ xs = take-append_seam xs (joined lists) in
-    let back : cut_of (map length lists) (drop (length xs) (xs ++ joined lists)) ≡ lists = ap (cut_of (map length lists)) (drop-append_seam xs (joined lists)) ∙ cut-joined lists in
-    cc
+cut-joined (xs ∷ lists) = rw (take-append_seam xs (joined lists), drop-append_seam xs (joined lists), cut-joined lists)
 
 -- the marks of lists within the limits are read as these
 nest-answered : (bytes : List ℕ) (lists : List (List ℤ)) → marks_of bytes ≡ nest_marks lists → length (joined lists) ≤ most_elements → length lists ≤ most_elements

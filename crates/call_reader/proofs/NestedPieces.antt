@@ -1,13 +1,8 @@
 -- Inner lists that are read in two pieces, where no token has a part in both.
 -- Source: the grammar of a nested text.
-use Rattle.std.proofs.Common.{◌≡◌, ℕ, true, false, List, [], ◌∷◌, ◌++◌, length, map, refl, ap, sym, ◌∙◌, subst, ℤ, pos, append_assoc, Option, Some, None, Result, Ok, Err, IfOk, IfSome}
-use Rattle.std.specs.Prelude.{flat_map}
-use Rattle.std.proofs.lemmas.List.{append-nil, map-append}
+use Rattle.call_reader.proofs.Cited.{◌≡◌, ℕ, true, false, List, [], ◌∷◌, ◌++◌, length, map, refl, ap, sym, ◌∙◌, subst, ℤ, pos, append_assoc, Option, Some, None, Result, Ok, Err, IfOk, IfSome}
+use Rattle.call_reader.proofs.Cited.{flat_map, append-nil, map-append, tokens_by, begins_in_token, cut_before, Mark, nested_class, mark_of, marks_of, list_marks, AreListsRead, is_no_mark}
 use Rattle.std.proofs.lemmas.Grind.{flat_map-append}
-use Rattle.line_reader.specs.Tokens.{tokens_by, begins_in_token}
-use Rattle.call_reader.specs.NestedTexts.{Mark, nested_class, mark_of, marks_of, list_marks}
-use Rattle.call_reader.specs.NestedReads.{AreListsRead, is_no_mark}
-use Rattle.line_reader.proofs.TokenWalk.{cut_before}
 
 none_left : (ms : List Mark) → is_no_mark ms ≡ true → ms ≡ []
 none_left [] e = refl

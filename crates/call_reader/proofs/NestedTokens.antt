@@ -1,19 +1,10 @@
 -- What the tokens of a nested text are to its grammar.
-use Rattle.std.proofs.Common.{◌≡◌, ℕ, ◌+◌, ◌≤◌, Bool, true, false, List, [], ◌∷◌, length, map, min, take, drop, refl, ap, sym, ◌∙◌, arith, Option, Some, None, ℤ}
-use Rattle.std.specs.Prelude.{codes, nat_eq, if◌then◌else◌, count_by, not, ◌||◌}
+use Rattle.call_reader.proofs.Cited.{◌≡◌, ℕ, ◌+◌, ◌≤◌, Bool, true, false, List, [], ◌∷◌, length, map, min, take, drop, refl, ap, sym, ◌∙◌, arith, Option, Some, None, ℤ, codes, nat_eq, if◌then◌else◌}
+use Rattle.call_reader.proofs.Cited.{count_by, not, ◌||◌, is_ascii_digit, nat_tests, length-map, count_by-le-length, most_elements, ByteClass, InToken, tokens_by, with_byte, is_in_token}
+use Rattle.call_reader.proofs.Cited.{begins_in_token, IsFirstToken, written_number, nested_class, Mark, opening, closing, number, stray, number_or, mark_of, marks_of, is_opening, is_no_bracket}
+use Rattle.call_reader.proofs.Cited.{is_closing, HasRoom, inl, inr, cases_Bool}
 use Rattle.std.specs.Cmp.Lexicographic.{pointwise}
-use Rattle.std.specs.Char.{is_ascii_digit}
-use Rattle.std.proofs.lemmas.Bool.Decides.{nat_tests}
-use Rattle.std.proofs.lemmas.List.{length-map}
-use Rattle.std.proofs.lemmas.List.Sums.{count_by-le-length}
 use Rattle.std.proofs.lemmas.Slice.Eq.{bytes_eq-Decides}
-use Rattle.cvl_base.specs.Limits.{most_elements}
-use Rattle.line_reader.specs.declared.token.ByteClass.{ByteClass}
-use Rattle.line_reader.specs.declared.token.ByteClass.TheVariants.{InToken}
-use Rattle.line_reader.specs.Tokens.{tokens_by, with_byte, is_in_token, begins_in_token, IsFirstToken}
-use Rattle.line_reader.specs.Numbers.{written_number}
-use Rattle.call_reader.specs.NestedTexts.{nested_class, Mark, opening, closing, number, stray, number_or, mark_of, marks_of, is_opening, is_no_bracket}
-use Rattle.call_reader.specs.NestedReads.{is_closing, HasRoom}
 use Rattle.call_reader.proofs.InputWalk.{number_leads}
 use Rattle.call_reader.proofs.NestedMarks.{count-cons, few}
 
@@ -39,18 +30,18 @@ neither_one None false true e f = absurd (cc)
 neither_one o b c e f = refl
 
 pub opens : (token : List ℕ) → pointwise nat_eq token (codes "[") ≡ is_opening (mark_of token)
-opens token = by_case (pointwise nat_eq token (codes "[")) refl
-  where
-    by_case : (b : Bool) → pointwise nat_eq token (codes "[") ≡ b → b ≡ is_opening (mark_of token)
-    by_case true e = sym (ap is_opening (opening_mark token e))
-    by_case false e = sym (not_opening (written_number token) (pointwise nat_eq token (codes "[")) (pointwise nat_eq token (codes "]")) e)
+opens token =
+    elim (cases_Bool (pointwise nat_eq token (codes "["))) [
+      | inl e ↦ e ∙ sym (ap is_opening (opening_mark token e))
+      | inr e ↦ e ∙ sym (not_opening (written_number token) _ (pointwise nat_eq token (codes "]")) e)
+    ]
 
 pub closes : (token : List ℕ) → pointwise nat_eq token (codes "]") ≡ is_closing (mark_of token)
-closes token = by_case (pointwise nat_eq token (codes "]")) refl
-  where
-    by_case : (b : Bool) → pointwise nat_eq token (codes "]") ≡ b → b ≡ is_closing (mark_of token)
-    by_case true e = sym (ap is_closing (closing_mark token e))
-    by_case false e = sym (not_closing (written_number token) (pointwise nat_eq token (codes "[")) (pointwise nat_eq token (codes "]")) e)
+closes token =
+    elim (cases_Bool (pointwise nat_eq token (codes "]"))) [
+      | inl e ↦ e ∙ sym (ap is_closing (closing_mark token e))
+      | inr e ↦ e ∙ sym (not_closing (written_number token) (pointwise nat_eq token (codes "[")) _ e)
+    ]
 
 pub no_bracket : (token : List ℕ) (one other : Bool) → one ≡ pointwise nat_eq token (codes "[") → other ≡ pointwise nat_eq token (codes "]")
     → not (one || other) ≡ is_no_bracket (mark_of token)

@@ -1,21 +1,7 @@
 -- An input in two pieces: its tokens are those of the pieces, and the first wrong one of all is the first of the pieces' first ones.
-use Rattle.std.proofs.Common.{◌≡◌, ℕ, ◌+◌, ◌<◌, ◌≤◌, false, List, [], ◌∷◌, ◌++◌, length, map, refl, ap, sym, ◌∙◌, arith, Option, Some, None, Ok, Err, ℤ}
-use Rattle.std.specs.Prelude.{Result, nat_lt}
-use Rattle.std.proofs.lemmas.Bool.Decides.{nat_tests}
-use Rattle.cvl_base.specs.Limits.{most_elements}
-use Rattle.std.specs.Option.{option_or}
-use Rattle.std.proofs.lemmas.List.{length-map, map-append}
-use Rattle.cvl_base.specs.declared.fault.Fault.{Fault}
-use Rattle.cvl_base.specs.declared.fault.FaultNo.TheVariants.{BadInput, TooLong}
-use Rattle.cvl_base.specs.Elementwise.{values_from}
-use Rattle.cvl_base.specs.Faults.{fault, fault_at}
-use Rattle.cvl_base.specs.Gives.{◌>>=◌, fault_if}
-use Rattle.line_reader.specs.Tokens.{tokens_by, begins_in_token}
-use Rattle.line_reader.specs.Numbers.{written_number}
-use Rattle.call_reader.specs.Inputs.{input_class, input_of}
-use Rattle.call_reader.specs.Pieces.{numbers_of, or_zero}
-use Rattle.line_reader.proofs.TokenWalk.{cut_before}
-use Rattle.fresh.specs.Found.{first_without}
+use Rattle.call_reader.proofs.Cited.{◌≡◌, ℕ, ◌+◌, ◌<◌, ◌≤◌, false, List, [], ◌∷◌, ◌++◌, length, map, refl, ap, sym, ◌∙◌, arith, Option, Some, None, Ok, Err, ℤ, Result, nat_lt, nat_tests}
+use Rattle.call_reader.proofs.Cited.{most_elements, option_or, length-map, map-append, Fault, BadInput, TooLong, values_from, fault, fault_at, ◌>>=◌, fault_if, tokens_by, begins_in_token}
+use Rattle.call_reader.proofs.Cited.{written_number, cut_before, first_without, input_class, input_of, numbers_of, or_zero}
 use Rattle.fresh.proofs.FirstWithout.{first_of_both}
 
 -- the numbers of two texts, where no token has a part in both, are those of the one and then those of the other

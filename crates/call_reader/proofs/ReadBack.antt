@@ -1,14 +1,8 @@
 -- An integer's text, read again.
-use Rattle.std.proofs.Common.{◌≡◌, ℕ, suc, ◌^◌, ◌<◌, Bool, true, false, List, [], ◌∷◌, length, Some, ℤ, pos, negsuc, refl, ap, ◌∙◌, arith, FitsSigned, w32}
-use Rattle.std.specs.Prelude.{◌==◌}
-use Rattle.std.specs.Char.{is_ascii_digit, digit_value}
-use Rattle.std.specs.Fmt.{decimal, signed_decimal}
-use Rattle.std.specs.List.{list_all}
+use Rattle.call_reader.proofs.Cited.{◌≡◌, ℕ, suc, ◌^◌, ◌<◌, Bool, true, false, List, [], ◌∷◌, length, Some, ℤ, pos, negsuc, refl, ap, ◌∙◌, arith, FitsSigned, w32, ◌==◌, is_ascii_digit, digit_value}
+use Rattle.call_reader.proofs.Cited.{decimal, signed_decimal, list_all, nat_tests, with_sign, written_number, fit, sign_read}
 use Rattle.std.specs.Str.Parse.{AllDigits}
-use Rattle.std.proofs.lemmas.Bool.Decides.{nat_tests}
 use Rattle.std.proofs.lemmas.Fmt.{decimal_is_IsNumeral}
-use Rattle.line_reader.specs.Numbers.{with_sign, written_number}
-use Rattle.line_reader.proofs.NumberWalk.{fit, sign_read}
 
 digit_is : (d : ℕ) → digit_value d < 10 → is_ascii_digit d ≡ true
 digit_is d h = grind (arith, nat_tests)

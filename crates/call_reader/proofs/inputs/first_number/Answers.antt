@@ -1,7 +1,4 @@
-use Rattle.std.proofs.Common.{◌≡◌, drop, false, sym, ap, ◌∙◌}
-use Rattle.line_reader.specs.Tokens.{begins_in_token}
-use Rattle.line_reader.specs.Numbers.{written_number}
-use Rattle.call_reader.specs.Inputs.{input_class}
+use Rattle.call_reader.proofs.Cited.{◌≡◌, drop, false, sym, ap, ◌∙◌, begins_in_token, written_number, input_class}
 use Rattle.call_reader.proofs.InputWalk.{number_first}
 use Rattle.call_reader.proofs.inputs.first_number.Goals as goal
 

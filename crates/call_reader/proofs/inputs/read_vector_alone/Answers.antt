@@ -1,4 +1,4 @@
-use Rattle.std.proofs.Common.{◌≤◌, ap, length, arith}
+use Rattle.call_reader.proofs.Cited.{◌≤◌, ap, length, arith}
 use Rattle.call_reader.proofs.InputWalk.{count_of, room_for_tokens}
 use Rattle.call_reader.proofs.inputs.read_vector_alone.Goals as goal
 

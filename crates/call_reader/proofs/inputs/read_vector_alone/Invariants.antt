@@ -1,8 +1,4 @@
-use Rattle.std.proofs.Common.{◌≡◌, ◌+◌, ◌≤◌, length, vec_len, vec_capacity}
-use Rattle.cvl_base.specs.Gives.{after}
-use Rattle.cvl_base.specs.Limits.{most_elements}
-use Rattle.line_reader.specs.Tokens.{tokens_by}
-use Rattle.call_reader.specs.Inputs.{input_class}
+use Rattle.call_reader.proofs.Cited.{◌≡◌, ◌+◌, ◌≤◌, length, vec_len, vec_capacity, after, most_elements, tokens_by, input_class}
 use Rattle.call_reader.proofs.InputWalk.{count_of, numbers_from}
 use Rattle.call_reader.proofs.inputs.read_vector_alone.Given as goal
 

@@ -1,6 +1,4 @@
-use Rattle.std.proofs.Common.{◌≡◌, ◌+◌, ◌≤◌, length}
-use Rattle.std.specs.Int.{from_bool}
-use Rattle.call_reader.specs.Pieces.{goes_on}
+use Rattle.call_reader.proofs.Cited.{◌≡◌, ◌+◌, ◌≤◌, length, from_bool, goes_on}
 use Rattle.call_reader.proofs.InputWalk.{count_of}
 use Rattle.call_reader.proofs.inputs.token_count.Given as goal
 

@@ -1,8 +1,4 @@
-use Rattle.std.proofs.Common.{◌+◌, ◌<◌, ◌≤◌, length, get_or, ap, ◌∙◌, arith}
-use Rattle.std.specs.Int.{from_bool}
-use Rattle.std.proofs.lemmas.List.{get_or-take}
-use Rattle.call_reader.specs.Inputs.{is_white_space}
-use Rattle.call_reader.specs.Pieces.{goes_on}
+use Rattle.call_reader.proofs.Cited.{◌+◌, ◌<◌, ◌≤◌, length, get_or, ap, ◌∙◌, arith, from_bool, get_or-take, is_white_space, goes_on}
 use Rattle.call_reader.proofs.InputWalk.{at_most_one, count_more, count_of}
 use Rattle.call_reader.proofs.inputs.tokens_begun.Goals as goal
 

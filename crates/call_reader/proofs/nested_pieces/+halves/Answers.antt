@@ -1,6 +1,5 @@
-use Rattle.std.proofs.Common.{subst, IfSome}
+use Rattle.call_reader.proofs.Cited.{subst, IfSome, AreListsRead}
 use Rattle.std.proofs.lemmas.Result.{IfOk-at_ok}
-use Rattle.call_reader.specs.NestedReads.{AreListsRead}
 use Rattle.call_reader.proofs.NestedPieces.{both_read}
 use Rattle.call_reader.proofs.nested_pieces.+halves.Goals as goal
 

@@ -1,4 +1,4 @@
-use Rattle.std.proofs.Common.{◌+◌, ◌*◌}
+use Rattle.call_reader.proofs.Cited.{◌+◌, ◌*◌}
 use Rattle.call_reader.proofs.nested_pieces.+halves.Given as goal
 
 abbrev pub decreases-lists_by_several : goal.decreases-lists_by_several

@@ -1,6 +1,4 @@
-use Rattle.std.proofs.Common.{◌≡◌, not, take, true}
-use Rattle.std.specs.Prelude.{◌==◌}
-use Rattle.std.specs.List.{list_all}
+use Rattle.call_reader.proofs.Cited.{◌≡◌, not, take, true, ◌==◌, list_all}
 use Rattle.call_reader.proofs.nested_pieces.bytes_before_list.Given as goal
 
 abbrev pub invariant-loop-i : goal.invariant-loop-i

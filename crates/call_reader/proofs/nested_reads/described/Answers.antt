@@ -1,5 +1,4 @@
-use Rattle.std.proofs.Common.{ℕ, List, sym, ap, ◌∙◌, arith, Ok}
-use Rattle.std.specs.Prelude.{sum}
+use Rattle.call_reader.proofs.Cited.{ℕ, List, sym, ap, ◌∙◌, arith, Ok, sum}
 use Rattle.call_reader.proofs.NestedMarks.{nest_given, lengths_given, total_given}
 use Rattle.call_reader.proofs.nested_reads.described.Goals as goal
 

@@ -1,4 +1,4 @@
-use Rattle.std.proofs.Common.{sym, ◌∙◌, arith}
+use Rattle.call_reader.proofs.Cited.{sym, ◌∙◌, arith}
 use Rattle.call_reader.proofs.NestedMarks.{behind_fault}
 use Rattle.call_reader.proofs.nested_texts.nest_alone.Goals as goal
 

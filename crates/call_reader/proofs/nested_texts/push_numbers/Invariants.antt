@@ -1,5 +1,4 @@
-use Rattle.std.proofs.Common.{◌≡◌, ◌≤◌, length, vec_len, vec_capacity}
-use Rattle.call_reader.specs.NestedReads.{ArePushed}
+use Rattle.call_reader.proofs.Cited.{◌≡◌, ◌≤◌, length, vec_len, vec_capacity, ArePushed}
 use Rattle.call_reader.proofs.nested_texts.push_numbers.Given as goal
 
 abbrev pub invariant-loop-number : goal.invariant-loop-number

@@ -1,5 +1,4 @@
-use Rattle.std.proofs.Common.{◌≡◌, ◌∙◌, ℤ, ◌-◌, ◌≤◌, ◌++◌, ◌∷◌, [], to_z, of_z, w32, ap, arith, vec_len, vec_capacity}
-use Rattle.std.proofs.lemmas.Int.{to_z-of_z}
+use Rattle.call_reader.proofs.Cited.{◌≡◌, ◌∙◌, ℤ, ◌-◌, ◌≤◌, ◌++◌, ◌∷◌, [], to_z, of_z, w32, ap, arith, vec_len, vec_capacity, to_z-of_z}
 use Rattle.call_reader.proofs.NestedMarks.{lists_full, list_fault, lists_more}
 use Rattle.call_reader.proofs.NestedTokens.{has_room}
 use Rattle.call_reader.proofs.nested_texts.read_lists.Goals as goal

@@ -1,5 +1,4 @@
-use Rattle.std.proofs.Common.{◌≡◌, ◌≤◌, length, vec_len, vec_capacity}
-use Rattle.call_reader.specs.NestedReads.{AreListsRead}
+use Rattle.call_reader.proofs.Cited.{◌≡◌, ◌≤◌, length, vec_len, vec_capacity, AreListsRead}
 use Rattle.call_reader.proofs.nested_texts.read_lists.Given as goal
 
 abbrev pub invariant-loop-inner : goal.invariant-loop-inner

@@ -1,8 +1,5 @@
-use Rattle.std.proofs.Common.{◌≡◌, ℕ, ℤ, List, ◌∷◌, to_z, of_z, w32, arith, drop, map, false, sym, ap, ◌∙◌}
-use Rattle.std.proofs.lemmas.Int.{to_z-of_z}
-use Rattle.line_reader.specs.Tokens.{begins_in_token}
-use Rattle.line_reader.specs.Numbers.{written_number}
-use Rattle.call_reader.specs.NestedTexts.{nested_class, mark_of, marks_of, number}
+use Rattle.call_reader.proofs.Cited.{◌≡◌, ℕ, ℤ, List, ◌∷◌, to_z, of_z, w32, arith, drop, map, false, sym, ap, ◌∙◌, to_z-of_z, begins_in_token, written_number, nested_class, mark_of, marks_of}
+use Rattle.call_reader.proofs.Cited.{number}
 use Rattle.call_reader.proofs.NestedTokens.{number_first}
 use Rattle.call_reader.proofs.nested_tokens.after_number.Goals as goal
 

@@ -1,6 +1,4 @@
-use Rattle.std.proofs.Common.{◌≡◌, ◌+◌, ◌≤◌, length}
-use Rattle.std.specs.Prelude.{count_by}
-use Rattle.call_reader.specs.NestedTexts.{marks_of, is_opening, is_no_bracket}
+use Rattle.call_reader.proofs.Cited.{◌≡◌, ◌+◌, ◌≤◌, length, count_by, marks_of, is_opening, is_no_bracket}
 use Rattle.call_reader.proofs.nested_tokens.counts.Given as goal
 
 abbrev pub invariant-loop-token : goal.invariant-loop-token

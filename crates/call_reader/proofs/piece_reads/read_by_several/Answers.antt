@@ -1,8 +1,5 @@
-use Rattle.std.proofs.Common.{◌≤◌, ◌∙◌, ap, length, sym, arith}
-use Rattle.std.proofs.lemmas.List.{length-map}
+use Rattle.call_reader.proofs.Cited.{◌≤◌, ◌∙◌, ap, length, sym, arith, length-map, most_elements, numbers_of, or_zero}
 use Rattle.std.proofs.Math.Facts.{Fits-below}
-use Rattle.cvl_base.specs.Limits.{most_elements}
-use Rattle.call_reader.specs.Pieces.{numbers_of, or_zero}
 use Rattle.call_reader.proofs.PieceWalk.{wrong_within}
 use Rattle.call_reader.proofs.piece_reads.read_by_several.Goals as goal
 

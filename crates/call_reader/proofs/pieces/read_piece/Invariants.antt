@@ -1,7 +1,4 @@
-use Rattle.std.proofs.Common.{◌≡◌, ◌+◌, ◌++◌, length, map}
-use Rattle.std.specs.Option.{option_or}
-use Rattle.fresh.specs.Found.{first_without}
-use Rattle.call_reader.specs.Pieces.{numbers_of, or_zero}
+use Rattle.call_reader.proofs.Cited.{◌≡◌, ◌+◌, ◌++◌, length, map, option_or, first_without, numbers_of, or_zero}
 use Rattle.fresh.specs.Places.{stretch}
 use Rattle.call_reader.proofs.pieces.read_piece.Given as goal
 
