@@ -1,7 +1,6 @@
 -- What a back permute gives.
 use Rattle.call_laws.proofs.Cited.{◌≡◌, ◌∙◌, ◌↔◌, List, length, map, sym, ap, arith, ℤ, slice_get, option_map, Some, None, Ok, Option, length-map, slice_get-map, element_at, back_of, element}
-use Rattle.cvl_base.specs.declared.fault.FaultNo.TheVariants.{IndexOutOfRange}
-use Rattle.call_laws.specs.Permuted.{IsBackPermute}
+use Rattle.call_laws.proofs.Cited.{IndexOutOfRange, IsBackPermute}
 use Rattle.call_laws.proofs.LeastFaults.{values-meaning}
 use Rattle.call_laws.proofs.Places.{same_elements}
 

@@ -1,8 +1,6 @@
 -- Permutes by ranges of their result.
 use Rattle.call_laws.proofs.Cited.{◌≡◌, ◌≤◌, ◌∙◌, ℕ, List, length, map, sym, ap, arith, ℤ, unwrap_or, Option, Ok, enumerate_from, most_places, first_fault, sent_over, sent_to, sent_to_all, wrongs}
-use Rattle.call_laws.proofs.Cited.{count_destinations, last_senders}
-use Rattle.permute_walks.specs.Senders.{IsStored, count_sent, written_over}
-use Rattle.permute_walks.proofs.LastSent.{lasts_stored}
+use Rattle.call_laws.proofs.Cited.{count_destinations, last_senders, IsStored, count_sent, written_over, lasts_stored}
 use Rattle.permute_walks.proofs.Taken.{taken_over_flat}
 use Rattle.call_laws.proofs.Sending.{all-is_over, unless-Ok}
 

@@ -1,11 +1,8 @@
 -- Segmented scans and reduces of vectors that are cut inside a segment, or between two.
-use Rattle.call_laws.proofs.Cited.{◌≡◌, ◌+◌, ◌∷◌, ◌++◌, ◌∙◌, ◌>>=◌, ℕ, List, [], length, take, drop, map, refl, sym, ap, arith, append_assoc, append-nil, length-append, length-drop, Ok, Err, Result}
-use Rattle.call_laws.proofs.Cited.{sum, drop-append-le, length-map, map-append, same_from_push, take_all, sum_by-append, fold-append, take-append-add, fold_of, scan_of, joined, nest, cut_of}
-use Rattle.call_laws.proofs.Cited.{in_vector, one_each, sum-cons, length-cut, nest-fits, results-ok, length-scan_of, scan_of-append}
-use Rattle.std.proofs.Math.Seq.{drop-append-add}
-use Rattle.cvl_base.specs.declared.fault.Fault.{Fault}
-use Rattle.cvl_base.specs.SegmentedCalls.{seg_reduce_of, seg_scan_of}
-use Rattle.call_laws.specs.Carried.{each_after, seg_scan_after, seg_reduce_after}
+use Rattle.call_laws.proofs.Cited.{rules, ◌≡◌, ◌+◌, ◌∷◌, ◌++◌, ◌∙◌, ◌>>=◌, ℕ, List, [], length, take, drop, map, refl, sym, ap, arith, append_assoc, append-nil, length-append, length-drop, Ok, Err}
+use Rattle.call_laws.proofs.Cited.{Result, sum, drop-append-le, length-map, map-append, same_from_push, take_all, sum_by-append, fold-append, take-append-add, fold_of, scan_of, joined, nest, cut_of}
+use Rattle.call_laws.proofs.Cited.{in_vector, one_each, sum-cons, length-cut, nest-fits, results-ok, length-scan_of, scan_of-append, drop-append-add, Fault, seg_reduce_of, seg_scan_of, each_after}
+use Rattle.call_laws.proofs.Cited.{seg_scan_after, seg_reduce_after}
 use Rattle.call_laws.proofs.Cuts.{nest-meaning}
 use Rattle.call_laws.proofs.Segments.{each-ok}
 use Rattle.call_laws.proofs.SegmentsInTwo.{cut-append, cut-front, nest-between}
@@ -43,19 +40,11 @@ module _ {Item : Type 0} (join : Item → Item → Item) (unit : Item) (xs : Lis
 
 module _ {X : Type 0} (lengths : List ℕ) (m : ℕ) (xs : List X) (total : sum lengths + m ≡ length xs) where
   pub nest-first : nest (lengths ++ m ∷ []) xs ≡ Ok (cut_of lengths xs ++ drop (sum lengths) xs ∷ [])
-  nest-first =
-      nest-fits (lengths ++ m ∷ []) xs (omega (arith, total, sum_by-append (λ (k : ℕ). k) lengths (m ∷ []), sum-cons m []))
-      ∙ ap Ok (cut-append lengths (m ∷ []) xs ∙ rw (take_all m (drop (sum lengths) xs) (omega (arith, total, length-drop (sum lengths) xs))))
+  nest-first = search (rules, nest-fits, sum_by-append, sum-cons, cut-append, take_all, length-drop)
 
   pub nest-inside : (n : ℕ) (more : List ℕ) (ys : List X) → n + sum more ≡ length ys
       → nest (lengths ++ (m + n) ∷ more) (xs ++ ys) ≡ Ok (cut_of lengths xs ++ (drop (sum lengths) xs ++ take n ys) ∷ cut_of more (drop n ys))
-  nest-inside n more ys also_total =
-      let rest = drop (sum lengths) xs in
-      let long : m ≡ length rest = omega (arith, total, length-drop (sum lengths) xs) in
-      nest-fits (lengths ++ (m + n) ∷ more) (xs ++ ys)
-      (omega (arith, total, also_total, sum_by-append (λ (k : ℕ). k) lengths ((m + n) ∷ more), sum-cons (m + n) more, length-append xs ys))
-      ∙ ap Ok (cut-append lengths ((m + n) ∷ more) (xs ++ ys)
-      ∙ rw (cut-front lengths xs ys (omega (arith, total)), drop-append-le (sum lengths) xs ys (omega (arith, total)), long, take-append-add rest ys n, drop-append-add rest ys n))
+  nest-inside n more ys also_total = search (rules, length-drop, nest-fits, sum_by-append, sum-cons, length-append, cut-append, cut-front, drop-append-le, take-append-add, drop-append-add)
 
 pub nest-second : {X : Type 0} (n : ℕ) (more : List ℕ) (ys : List X) → n + sum more ≡ length ys → nest (n ∷ more) ys ≡ Ok (take n ys ∷ cut_of more (drop n ys))
 nest-second n more ys also_total = nest-fits (n ∷ more) ys (omega (arith, also_total, sum-cons n more))
@@ -66,9 +55,7 @@ module _ {Item : Type 0} (join : Item → Item → Item) (unit carry : Item) (be
     (closed : List Item) (out : Item) (reduced : each_after (fold_of join) unit carry (before ++ first ∷ []) ≡ closed ++ out ∷ []) where
   -- the reduces of the segments before it, and the carry
   carried : (each_after (fold_of join) unit carry before ≡ closed) × (fold_of join (before_next unit carry before) first ≡ out)
-  carried =
-      same_from_push (each_after (fold_of join) unit carry before) closed (fold_of join (before_next unit carry before) first) out
-      (sym (each-behind (fold_of join) unit carry before first []) ∙ reduced)
+  carried = search (rules, same_from_push, each-behind)
 
   reduces_inside : each_after (fold_of join) unit carry (before ++ (first ++ second) ∷ behind) ≡ closed ++ each_after (fold_of join) unit out (second ∷ behind)
   reduces_inside =
@@ -76,24 +63,12 @@ module _ {Item : Type 0} (join : Item → Item → Item) (unit carry : Item) (be
 
   scans_inside : joined (each_after (scan_of join) unit carry (before ++ (first ++ second) ∷ behind))
       ≡ joined (each_after (scan_of join) unit carry (before ++ first ∷ [])) ++ joined (each_after (scan_of join) unit out (second ∷ behind))
-  scans_inside =
-      let scans = each_after (scan_of join) unit carry before in
-      let start = before_next unit carry before in
-      rw (each-behind (scan_of join) unit carry before (first ++ second) behind, each-behind (scan_of join) unit carry before first [])
-      (simp (joined-append, scan_of-append join start first second, carried.1, append_assoc, append-nil))
+  scans_inside = search (rules, each-behind, joined-append, scan_of-append, carried, append_assoc, append-nil)
 
 module _ {Item : Type 0} (join : Item → Item → Item) (unit : Item) where
   length-each : (carry : Item) (segments : List (List Item)) → length (joined (each_after (scan_of join) unit carry segments)) ≡ length (joined segments)
   length-each carry [] = refl
-  length-each carry (xs ∷ segments) =
-      omega (
-        arith,
-        length-append (scan_of join carry xs) (joined (map (scan_of join unit) segments)),
-        length-append xs (joined segments),
-        length-scan_of join carry xs,
-        ap (λ lists. length (joined lists)) (each-plain (scan_of join) unit segments),
-        length-each unit segments,
-      )
+  length-each carry (xs ∷ segments) = search (rules, length-append, length-scan_of, each-plain, length-each unit segments)
 
   scans-long : (carry : Item) (xs : List Item) (lengths : List ℕ) (segments : List (List Item)) → nest lengths xs ≡ Ok segments
       → length (joined (each_after (scan_of join) unit carry segments)) ≡ length xs
@@ -103,9 +78,7 @@ module _ {Item : Type 0} (join : Item → Item → Item) (unit carry : Item) (le
     (total : sum lengths + m ≡ length xs) (also_total : n + sum more ≡ length ys)
     (reduced : seg_reduce_after join unit carry xs (lengths ++ m ∷ []) ≡ Ok (closed ++ out ∷ [])) where
   first_reduces : each_after (fold_of join) unit carry (cut_of lengths xs ++ drop (sum lengths) xs ∷ []) ≡ closed ++ out ∷ []
-  first_reduces =
-      let found : Ok (each_after (fold_of join) unit carry (cut_of lengths xs ++ drop (sum lengths) xs ∷ [])) ≡ Ok (closed ++ out ∷ []) = rw (nest-first lengths m xs total) at reduced in
-      cc
+  first_reduces = search (rules, nest-first)
 
   pub scans-inside : AreTwo (seg_scan_after join unit carry (xs ++ ys) (lengths ++ (m + n) ∷ more)) (seg_scan_after join unit carry xs (lengths ++ m ∷ []))
       (seg_scan_after join unit out ys (n ∷ more)) (length xs) (length ys)

@@ -1,8 +1,6 @@
 -- The results of segmented calls, cut again into the flat results of the segments.
-use Rattle.call_laws.proofs.Cited.{◌≡◌, ◌∷◌, ◌∙◌, ◌↔◌, ◌>>=◌, ℕ, Bool, List, [], length, map, refl, sym, ap, zip, Ok, Result, map-map, if_as_long, joined, nest, count_of, beside, end_to_end, one_each}
-use Rattle.call_laws.proofs.Cited.{results_from, seg_count_of}
-use Rattle.std.proofs.lemmas.Slice.Zip.{firsts-zip, seconds-zip}
-use Rattle.cvl_base.specs.declared.fault.Fault.{Fault}
+use Rattle.call_laws.proofs.Cited.{◌≡◌, ◌∷◌, ◌∙◌, ◌↔◌, ◌>>=◌, ℕ, Bool, List, [], length, map, refl, sym, ap, zip, Ok, Result, map-map, if_as_long, joined, nest, count_of, beside, end_to_end}
+use Rattle.call_laws.proofs.Cited.{one_each, results_from, seg_count_of, firsts-zip, seconds-zip, Fault}
 use Rattle.call_laws.specs.CutAgain.{IsCutInto}
 use Rattle.call_laws.proofs.Cuts.{nest-joined, nest-meaning}
 use Rattle.call_laws.proofs.Segments.{counts-of, joined-meaning}

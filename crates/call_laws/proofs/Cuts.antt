@@ -1,14 +1,7 @@
 -- A list cut by lengths has those lengths and is the list again, and no other list of lists is so.
 use Rattle.call_laws.proofs.Cited.{◌≡◌, ◌∷◌, ◌∙◌, ◌↔◌, ℕ, List, [], length, refl, ap, sym, subst, arith, inl, inr, length-append, Ok, map, sum, eqb_tells, joined, nest, cut_of, sum-cons, nest-fits}
-use Rattle.call_laws.proofs.Cited.{nest-misfits}
-use Rattle.std.proofs.Math.Seq.{take-append_seam, drop-append_seam}
-use Rattle.cvl_base.specs.Nests.{IsNest}
-use Rattle.cvl_base.proofs.Nests.{joined-cut, lengths-cut}
-
--- lists that are joined and cut by their lengths are the lists
-cut-joined : {X : Type 0} (lists : List (List X)) → cut_of (map length lists) (joined lists) ≡ lists
-cut-joined [] = refl
-cut-joined (xs ∷ lists) = rw (take-append_seam xs (joined lists), drop-append_seam xs (joined lists), cut-joined lists)
+use Rattle.call_laws.proofs.Cited.{nest-misfits, IsNest, joined-cut, lengths-cut}
+use Rattle.call_reader.proofs.NestedMarks.{cut-joined}
 
 pub sum-lengths : {X : Type 0} (lists : List (List X)) → sum (map length lists) ≡ length (joined lists)
 sum-lengths [] = refl

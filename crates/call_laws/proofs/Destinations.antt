@@ -1,15 +1,9 @@
 -- The destinations of a permute where no place is bad: no two are the same, and each place of a result that has as many is one.
-use Rattle.call_laws.proofs.Cited.{◌≡◌, ◌<◌, ◌≤◌, ◌∷◌, ◌∙◌, ℕ, suc, true, false, List, [], length, refl, sym, ap, arith, inl, inr, ℤ, pos, negsuc, slice_get, Some, None, Option, list_any, false≢true}
-use Rattle.call_laws.proofs.Cited.{false_from_ne_true, ltb-true, or_cases, or_parts, Decides-int_eq, sum_by-cons, slice_get_within, is_place, is_destination, count_destinations}
-use Rattle.std.proofs.Common.{◌||◌, eqb}
-use Rattle.std.specs.List.{IsDistinct, AllByRecursion}
-use Rattle.std.specs.Ordering.{int_eq}
-use Rattle.std.proofs.lemmas.Bool.{cases_order, eqb-true, true_from_ne_false}
-use Rattle.std.proofs.lemmas.Bool.Decides.{same_from_decides, Decides-eqb, Decides-like}
-use Rattle.std.proofs.lemmas.Map.Keys.{IsDistinct-cons}
+use Rattle.call_laws.proofs.Cited.{nat_tests, ◌≡◌, ◌<◌, ◌≤◌, ◌∷◌, ◌∙◌, ℕ, suc, true, false, List, [], length, refl, sym, ap, arith, inl, inr, ℤ, pos, negsuc, slice_get, Some, None, Option, list_any}
+use Rattle.call_laws.proofs.Cited.{false≢true, false_from_ne_true, ltb-true, or_cases, or_parts, Decides-int_eq, sum_by-cons, slice_get_within, is_place, is_destination, count_destinations, ◌||◌}
+use Rattle.call_laws.proofs.Cited.{eqb, AllByRecursion, int_eq, cases_order, eqb-true, true_from_ne_false, same_from_decides, Decides-eqb, Decides-like, IsDistinct-cons, takes_part, IsGoodBefore}
+use Rattle.std.specs.List.{IsDistinct}
 use Rattle.std.proofs.lemmas.Map.Steps.{length-le_from_distinct_below}
-use Rattle.permute_walks.proofs.EachSent.{takes_part}
-use Rattle.call_laws.specs.Permuted.{IsGoodBefore}
 use Rattle.call_laws.proofs.FirstBadPlaces.{destination_there}
 
 abbrev pub IsRight : ℕ → List (Option ℤ) → Type 0
@@ -19,12 +13,7 @@ pub inside : (m : ℕ) (ts : List (Option ℤ)) → IsRight m ts → (k : ℕ) (
 inside m ts right k i here = right.within k i (slice_get_within ts k (Some i) here) here
 
 pub once-from_right : (m : ℕ) (ts : List (Option ℤ)) → IsRight m ts → (j k : ℕ) (i : ℤ) → slice_get ts j ≡ Some (Some i) → slice_get ts k ≡ Some (Some i) → j ≡ k
-once-from_right m ts right j k i first second =
-    elim (cases_order j k) [
-      | inl same ↦ same
-      | inr (inl before) ↦ absurd (right.once j k i before (slice_get_within ts k (Some i) second) first second)
-      | inr (inr after) ↦ absurd (right.once k j i after (slice_get_within ts j (Some i) first) second first)
-    ]
+once-from_right m ts right j k i first second = grind (arith, nat_tests, cases_order, slice_get_within)
 
 pub right-from_once : (m : ℕ) (ts : List (Option ℤ)) → ((k : ℕ) (i : ℤ) → slice_get ts k ≡ Some (Some i) → is_place m i ≡ true)
     → ((j k : ℕ) (i : ℤ) → slice_get ts j ≡ Some (Some i) → slice_get ts k ≡ Some (Some i) → j ≡ k) → IsRight m ts

@@ -1,9 +1,7 @@
 -- Extracts and replaces, place by place.
-use Rattle.call_laws.proofs.Cited.{◌≡◌, ◌≢◌, ◌<◌, ◌∷◌, ◌∙◌, if◌then◌else◌, ◌↔◌, ℕ, zero, suc, Bool, true, false, List, [], length, refl, sym, ap, arith, inl, inr, pos, lt-ltb, nat_lt, slice_get, Some}
-use Rattle.call_laws.proofs.Cited.{None, Ok, Option, ok_or, ltb-true, eqb_tells, slice_get_within, extract_of, replace_of, fault_at}
-use Rattle.std.proofs.Common.{slice_set, get_or-set_same, length-set}
-use Rattle.std.proofs.lemmas.Option.{slice_get_read}
-use Rattle.cvl_base.specs.declared.fault.Fault.{Fault}
+use Rattle.call_laws.proofs.Cited.{◌≡◌, ◌≢◌, ◌<◌, ◌∷◌, ◌∙◌, if◌then◌else◌, ◌↔◌, ℕ, zero, suc, Bool, true, false, List, [], length, refl, sym, ap, arith, inl, inr, pos, lt-ltb, nat_lt, slice_get}
+use Rattle.call_laws.proofs.Cited.{Some, None, Ok, Option, ok_or, ltb-true, eqb_tells, slice_get_within, extract_of, replace_of, fault_at, slice_set, get_or-set_same, length-set, slice_get_read}
+use Rattle.call_laws.proofs.Cited.{Fault}
 use Rattle.cvl_base.specs.declared.fault.FaultNo.TheVariants as no
 use Rattle.call_laws.proofs.Places.{same_elements}
 

@@ -1,13 +1,9 @@
 -- The fault of a permute is that of its first bad place.
-use Rattle.call_laws.proofs.Cited.{◌≡◌, ◌+◌, ◌<◌, if◌then◌else◌, ◌∷◌, ◌∙◌, ℕ, zero, suc, Bool, true, false, not, List, [], length, take, refl, sym, ap, arith, inl, inr, ℤ, slice_get, Some, None}
-use Rattle.call_laws.proofs.Cited.{Option, list_any, both_ways, false≢true, false_from_ne_true, or_cases, Decides-int_eq, get_or_from_slice_get, none-some, same_Some, slice_get-get_or}
-use Rattle.call_laws.proofs.Cited.{slice_get_within, fault_at, first_fault, wrongs, is_place, is_destination, element}
-use Rattle.std.proofs.lemmas.Map.Keys.{any_passes_from_place}
-use Rattle.cvl_base.specs.declared.fault.FaultNo.{FaultNo}
-use Rattle.cvl_base.specs.declared.fault.FaultNo.TheVariants.{IndexOutOfRange, IndexRepeated}
-use Rattle.cvl_base.specs.Permutes.{wrong_at}
+use Rattle.call_laws.proofs.Cited.{rules, ◌≡◌, ◌+◌, ◌<◌, if◌then◌else◌, ◌∷◌, ◌∙◌, ℕ, zero, suc, Bool, true, false, not, List, [], length, take, refl, sym, ap, arith, inl, inr, ℤ, slice_get, Some}
+use Rattle.call_laws.proofs.Cited.{None, Option, list_any, both_ways, false≢true, false_from_ne_true, or_cases, Decides-int_eq, get_or_from_slice_get, none-some, same_Some, slice_get-get_or}
+use Rattle.call_laws.proofs.Cited.{slice_get_within, fault_at, first_fault, wrongs, is_place, is_destination, element, any_passes_from_place, FaultNo, IndexOutOfRange, IndexRepeated, wrong_at}
+use Rattle.call_laws.proofs.Cited.{IsGoodBefore}
 use Rattle.permute_walks.proofs.Sent.{length-wrongs, wrong_here}
-use Rattle.call_laws.specs.Permuted.{IsGoodBefore}
 use Rattle.call_laws.proofs.Places.{slice_get-take, slice_get_in_front}
 
 -- ---- the first fault of a list of faults
@@ -30,13 +26,11 @@ first_fault-at place (None ∷ others) zero number here before = absurd (none-so
 first_fault-at place (Some other ∷ others) zero number here before =
     ap (λ n. Some (fault_at n place)) (same_Some other number (same_Some (Some other) (Some number) here)) ∙ ap (λ p. Some (fault_at number p)) (omega arith)
 first_fault-at place (Some other ∷ others) (suc k) number here before = absurd (none-some other (sym (before zero (Some other) (omega arith) refl)))
-first_fault-at place (None ∷ others) (suc k) number here before =
-    first_fault-at (place + 1) others k number here (λ j w below there. before (suc j) w (omega arith) there)
-    ∙ ap (λ p. Some (fault_at number p)) (omega arith)
+first_fault-at place (None ∷ others) (suc k) number here before = search (rules, first_fault-at (place + 1) others k number here (λ j w below there. before (suc j) w (omega arith) there))
 
 -- ---- whether a place is a destination
 
-is_destination-Some : (i : ℤ) (t : Option ℤ) → is_destination i t ≡ true → t ≡ Some i
+pub is_destination-Some : (i : ℤ) (t : Option ℤ) → is_destination i t ≡ true → t ≡ Some i
 is_destination-Some i None h = absurd (false≢true h)
 is_destination-Some i (Some j) h = ap Some ((Decides-int_eq j i).0 h)
 
@@ -57,8 +51,7 @@ module _ (m : ℕ) (ts : List (Option ℤ)) where
   wrong-here : (k : ℕ) (t : Option ℤ) → slice_get ts k ≡ Some t → slice_get (wrongs m ts) k ≡ Some (wrong_at m (take k ts) t)
   wrong-here k t here =
       let within = slice_get_within ts k t here in
-      slice_get-get_or (wrongs m ts) k None (omega (arith, length-wrongs m ts))
-      ∙ ap Some (wrong_here m ts k within ∙ ap (wrong_at m (take k ts)) (get_or_from_slice_get ts k t None here))
+      cc (slice_get-get_or (wrongs m ts) k None (omega (arith, length-wrongs m ts)), wrong_here m ts k within, get_or_from_slice_get ts k t None here)
 
   right_by_tests : (inside repeated : Bool) → (if not inside then Some IndexOutOfRange else if repeated then Some IndexRepeated else None) ≡ None → (inside ≡ true) × (repeated ≡ false)
   right_by_tests true false right = (refl, refl)

@@ -1,6 +1,5 @@
 -- Lists of values some of which may be missing: all the values, where there are all.
-use Rattle.call_laws.proofs.Cited.{◌≡◌, ◌+◌, ◌∷◌, ◌∙◌, ◌↔◌, ℕ, List, [], map, refl, ap, Some, None, Ok, Option, values_from}
-use Rattle.cvl_base.specs.declared.fault.FaultNo.{FaultNo}
+use Rattle.call_laws.proofs.Cited.{◌≡◌, ◌+◌, ◌∷◌, ◌∙◌, ◌↔◌, ℕ, List, [], map, refl, ap, Some, None, Ok, Option, values_from, FaultNo}
 use Rattle.call_laws.proofs.TwoParts.{from_value}
 
 values-all : {Y : Type 0} (number : FaultNo) (place : ℕ) (ys : List Y) → values_from number place (map (λ y. Some y) ys) ≡ Ok ys

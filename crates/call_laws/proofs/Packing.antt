@@ -1,8 +1,6 @@
 -- A pack is the filter by its flags.
-use Rattle.call_laws.proofs.Cited.{◌≡◌, ◌∷◌, ◌++◌, ◌∙◌, Bool, true, false, cond, List, [], length, map, refl, sym, ap, arith, Ok, zip, map-append, sum_by-cons, count_of, pack_of}
-use Rattle.std.proofs.Common.{filter}
-use Rattle.std.proofs.lemmas.List.Elements.{filter-append}
-use Rattle.call_laws.specs.InParts.{in_two}
+use Rattle.call_laws.proofs.Cited.{rules, ◌≡◌, ◌∷◌, ◌++◌, ◌∙◌, Bool, true, false, cond, List, [], length, map, refl, ap, arith, Ok, zip, map-append, sum_by-cons, count_of, pack_of, filter}
+use Rattle.call_laws.proofs.Cited.{filter-append, in_two}
 use Rattle.call_laws.proofs.PlaceByPlace.{as_long-two}
 use Rattle.call_laws.proofs.Sending.{if_as_long-Ok}
 use Rattle.call_laws.proofs.TwoParts.{zip-append}
@@ -28,12 +26,7 @@ length-kept (x ∷ xs) (false ∷ flags) long = omega (arith, length-kept xs fla
 
 pub pack-two : {X : Type 0} (xs ys : List X) (flags more : List Bool) → length xs ≡ length flags → length ys ≡ length more
     → pack_of (xs ++ ys) (flags ++ more) ≡ in_two (length xs) (pack_of xs flags) (pack_of ys more)
-pack-two xs ys flags more long also_long =
-    as_long-two (length xs) xs flags ys more _ _ _ long also_long (rw (zip-append xs flags ys more long, filter-append (λ p. p.1) (zip xs flags) (zip ys more))
-    (ap Ok (map-append (λ p. p.0) (filter (λ p. p.1) (zip xs flags)) (filter (λ p. p.1) (zip ys more)))))
+pack-two xs ys flags more long also_long = search (rules, as_long-two, zip-append, filter-append, map-append)
 
 pub pack-counted : {X : Type 0} (xs : List X) (flags : List Bool) (kept : List X) → pack_of xs flags ≡ Ok kept → length kept ≡ count_of flags
-pack-counted xs flags kept p =
-    let parts = if_as_long-Ok xs flags (Ok (kept_of xs flags)) kept p in
-    let same : kept_of xs flags ≡ kept = let e = parts.1 in cc in
-    ap length (sym same) ∙ length-kept xs flags parts.0
+pack-counted xs flags kept p = search (rules, if_as_long-Ok, length-kept)

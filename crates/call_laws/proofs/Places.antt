@@ -1,7 +1,5 @@
 -- Elements of lists by their places.
-use Rattle.call_laws.proofs.Cited.{◌≡◌, ◌∙◌, ◌<◌, ◌∷◌, ℕ, zero, suc, List, [], length, take, refl, sym, ap, arith, slice_get, unwrap_or, Some, none-some}
-use Rattle.std.proofs.lemmas.List.{same_lists}
-use Rattle.std.proofs.lemmas.Option.{unwrap_or-slice_get}
+use Rattle.call_laws.proofs.Cited.{◌≡◌, ◌∙◌, ◌<◌, ◌∷◌, ℕ, zero, suc, List, [], length, take, refl, sym, ap, arith, slice_get, unwrap_or, Some, none-some, same_lists, unwrap_or-slice_get}
 
 pub slice_get-take : {A : Type 0} (xs : List A) (n k : ℕ) → k < n → slice_get (take n xs) k ≡ slice_get xs k
 slice_get-take xs zero k below = absurd (omega arith)

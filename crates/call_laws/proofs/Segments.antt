@@ -1,8 +1,7 @@
 -- Segmented calls by their flat calls, and on one segment.
-use Rattle.call_laws.proofs.Cited.{◌≡◌, ◌≢◌, ◌+◌, ◌∷◌, ◌++◌, ◌∙◌, ◌↔◌, ◌>>=◌, ℕ, Bool, List, [], length, map, refl, sym, ap, arith, inl, inr, Ok, Err, Result, eqb_tells, append-nil, take_all, fault}
-use Rattle.call_laws.proofs.Cited.{joined, nest, count_of, beside, of_two, of_three, in_vector, moved, results_from, one_each, end_to_end, seg_count_of, sum-cons, nest-fits, nest-misfits, results-ok}
-use Rattle.std.specs.Prelude.{◌⊎◌}
-use Rattle.cvl_base.specs.declared.fault.Fault.{Fault}
+use Rattle.call_laws.proofs.Cited.{rules, nat_tests, ◌≡◌, ◌≢◌, ◌+◌, ◌∷◌, ◌++◌, ◌∙◌, ◌↔◌, ◌>>=◌, ℕ, Bool, List, [], length, map, refl, sym, ap, arith, inl, inr, Ok, Err, Result, eqb_tells}
+use Rattle.call_laws.proofs.Cited.{append-nil, take_all, fault, joined, nest, count_of, beside, of_two, of_three, in_vector, moved, results_from, one_each, end_to_end, seg_count_of, sum-cons}
+use Rattle.call_laws.proofs.Cited.{nest-fits, nest-misfits, results-ok, ◌⊎◌, Fault}
 use Rattle.cvl_base.specs.declared.fault.FaultNo.TheVariants as no
 use Rattle.call_laws.proofs.TwoParts.{from_value, moved-stays, results-append}
 
@@ -61,11 +60,7 @@ joined-meaning place call segments result = (
 
 -- all of a list, or the lengths differ
 pub one_of : {X : Type 0} (n : ℕ) (xs : List X) → ((n ≡ length xs) × (nest (n ∷ []) xs ≡ Ok (xs ∷ []))) ⊎ ((n ≢ length xs) × (nest (n ∷ []) xs ≡ Err (fault no.LengthMismatch)))
-one_of n xs =
-    elim (eqb_tells n (length xs)) [
-      | inl t ↦ inl (t.1, nest-fits (n ∷ []) xs (omega (arith, sum-cons n [], t.1)) ∙ ap (λ ys. Ok (ys ∷ [])) (take_all n xs (omega (arith, t.1))))
-      | inr t ↦ inr (t.1, nest-misfits (n ∷ []) xs (λ same. t.1 (omega (arith, sum-cons n []))))
-    ]
+one_of n xs = grind (arith, nat_tests, eqb_tells, nest-fits, sum-cons, take_all, nest-misfits)
 
 -- the flat result, alone in its list, is the result
 pub alone : {X : Type 0} (r : Result (List X) Fault) → ((r >>= λ xs. Ok [] >>= λ rs. Ok (xs ∷ rs)) >>= λ lists. Ok (joined lists)) ≡ r
@@ -82,22 +77,10 @@ nest_one xs = elim (one_of (length xs) xs) [ inl t ↦ t.1 | inr t ↦ absurd (t
 pub two-again : {A B X : Type 0} (lengths : List ℕ) (call : List A → List B → Result (List X) Fault) (xs : List A) (n : ℕ) (ys : List B)
     → (n ≢ length ys → call xs ys ≡ Err (fault no.LengthMismatch))
     → end_to_end (in_vector lengths) (of_two call) (beside (nest (length xs ∷ []) xs) (nest (n ∷ []) ys)) ≡ call xs ys
-two-again lengths call xs n ys mismatch =
-    elim (one_of n ys) [
-      | inl t ↦ rw (nest_one xs, t.1) (flat-again lengths (of_two call) (xs, ys))
-      | inr t ↦ rw (nest_one xs, t.1) (sym (mismatch t.0))
-    ]
+two-again lengths call xs n ys mismatch = search (rules, one_of, nest_one, flat-again)
 
 -- and of three
 pub three-again : {A B C X : Type 0} (call : List A → List B → List C → Result (List X) Fault) (xs : List A) (ys : List B) (n : ℕ) (zs : List C)
     → (length xs ≢ length ys → call xs ys zs ≡ Err (fault no.LengthMismatch)) → (length xs ≡ length ys → n ≢ length zs → call xs ys zs ≡ Err (fault no.LengthMismatch))
     → end_to_end (in_vector (length xs ∷ [])) (of_three call) (beside (beside (nest (length xs ∷ []) xs) (nest (length xs ∷ []) ys)) (nest (n ∷ []) zs)) ≡ call xs ys zs
-three-again call xs ys n zs mismatch also_mismatch =
-    elim (one_of (length xs) ys) [
-      | inl t ↦
-          elim (one_of n zs) [
-            | inl u ↦ rw (nest_one xs, t.1, u.1) (flat-again (length xs ∷ []) (of_three call) ((xs, ys), zs))
-            | inr u ↦ rw (nest_one xs, t.1, u.1) (sym (also_mismatch t.0 u.0))
-          ]
-      | inr t ↦ rw (nest_one xs, t.1) (sym (mismatch t.0))
-    ]
+three-again call xs ys n zs mismatch also_mismatch = search (rules, one_of, nest_one, flat-again)

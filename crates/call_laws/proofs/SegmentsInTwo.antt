@@ -1,10 +1,6 @@
 -- Segmented calls on vectors that are cut between two segments.
-use Rattle.call_laws.proofs.Cited.{◌≡◌, ◌+◌, ◌≤◌, ◌∷◌, ◌++◌, ◌∙◌, ℕ, List, [], length, take, drop, refl, sym, ap, arith, length-append, length-drop, Ok, Result, sum, drop-append-le, sum_by-append}
-use Rattle.call_laws.proofs.Cited.{take-append-add, nest, cut_of, at_segment, in_vector, one_each, end_to_end, sum-cons, nest-fits, length-cut}
-use Rattle.std.proofs.Common.{drop-drop}
-use Rattle.std.proofs.lemmas.List.{drop_at, take-append-le}
-use Rattle.cvl_base.specs.declared.fault.Fault.{Fault}
-use Rattle.call_laws.specs.InParts.{in_two}
+use Rattle.call_laws.proofs.Cited.{rules, ◌≡◌, ◌+◌, ◌≤◌, ◌∷◌, ◌++◌, ◌∙◌, ℕ, List, [], length, take, drop, refl, ap, arith, length-append, length-drop, Ok, Result, sum, drop-append-le, sum_by-append}
+use Rattle.call_laws.proofs.Cited.{take-append-add, nest, cut_of, at_segment, in_vector, one_each, end_to_end, sum-cons, nest-fits, length-cut, drop-drop, drop_at, take-append-le, Fault, in_two}
 use Rattle.call_laws.proofs.Segments.{flat-again}
 use Rattle.call_laws.proofs.TwoParts.{AreTwo, at_segment-lists, at_segment-two, joined-two, results-two}
 
@@ -58,22 +54,15 @@ module _ {S : Type 0} {whole first second : Result (List S) Fault} {k l : ℕ} (
 -- the first lengths, and the others of what is left
 pub cut-append : {X : Type 0} (lengths more : List ℕ) (xs : List X) → cut_of (lengths ++ more) xs ≡ cut_of lengths xs ++ cut_of more (drop (sum lengths) xs)
 cut-append [] more xs = refl
-cut-append (n ∷ lengths) more xs =
-    ap (λ lists. take n xs ∷ lists) (cut-append lengths more (drop n xs))
-    ∙ ap (λ rest. take n xs ∷ (cut_of lengths (drop n xs) ++ cut_of more rest)) (drop-drop (sum lengths) n xs ∙ ap (λ d. drop d xs) (omega (arith, sum-cons n lengths)))
+cut-append (n ∷ lengths) more xs = search (rules, drop-drop, sum-cons, cut-append lengths more (drop n xs))
 
 pub cut-front : {X : Type 0} (lengths : List ℕ) (xs ys : List X) → sum lengths ≤ length xs → cut_of lengths (xs ++ ys) ≡ cut_of lengths xs
 cut-front [] xs ys within = refl
-cut-front (n ∷ lengths) xs ys within =
-    let first : n ≤ length xs = omega (arith, sum-cons n lengths) in
-    rw (take-append-le n xs ys first, drop-append-le n xs ys first)
-    (ap (λ lists. take n xs ∷ lists) (cut-front lengths (drop n xs) ys (omega (arith, sum-cons n lengths, length-drop n xs))))
+cut-front (n ∷ lengths) xs ys within = search (rules, sum-cons, take-append-le, drop-append-le, length-drop, cut-front lengths (drop n xs) ys (omega (arith, sum-cons n lengths, length-drop n xs)))
 
 module _ {X : Type 0} (lengths more : List ℕ) (xs ys : List X) (total : sum lengths ≡ length xs) (also_total : sum more ≡ length ys) where
   pub nest-between : nest (lengths ++ more) (xs ++ ys) ≡ Ok (cut_of lengths xs ++ cut_of more ys)
-  nest-between =
-      nest-fits (lengths ++ more) (xs ++ ys) (omega (arith, total, also_total, sum_by-append (λ (n : ℕ). n) lengths more, length-append xs ys))
-      ∙ ap Ok (cut-append lengths more (xs ++ ys) ∙ rw (cut-front lengths xs ys (omega (arith, total)), drop_at xs ys (sum lengths) (sym total)))
+  nest-between = search (rules, nest-fits, sum_by-append, length-append, cut-append, cut-front, drop_at)
 
   pub cut : {k l : ℕ} → length lengths ≡ k → length more ≡ l → AreTwo (nest (lengths ++ more) (xs ++ ys)) (nest lengths xs) (nest more ys) k l
   cut many also_many = record {

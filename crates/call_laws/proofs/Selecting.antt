@@ -1,8 +1,6 @@
 -- What a select permute gives where no place that takes part is bad.
-use Rattle.call_laws.proofs.Cited.{◌≡◌, ◌∷◌, ◌↔◌, ℕ, zero, suc, Bool, true, false, List, [], length, refl, arith, ℤ, pos, slice_get, Some, None, Ok, none-some, same_Some, if_as_long, count_of}
-use Rattle.call_laws.proofs.Cited.{flagged_destinations, select_of, sent_to_all, if_as_long-fits, length-flagged_destinations, flagged_take_part}
-use Rattle.cvl_base.specs.Permutes.{destination_if}
-use Rattle.call_laws.specs.Permuted.{IsSelectPermute}
+use Rattle.call_laws.proofs.Cited.{rules, ◌≡◌, ◌∷◌, ◌↔◌, ℕ, zero, suc, Bool, true, false, List, [], length, refl, arith, ℤ, pos, slice_get, Some, None, Ok, none-some, same_Some, if_as_long}
+use Rattle.call_laws.proofs.Cited.{count_of, flagged_destinations, select_of, sent_to_all, if_as_long-fits, length-flagged_destinations, flagged_take_part, destination_if, IsSelectPermute}
 use Rattle.call_laws.proofs.Sending.{IsSent, if_as_long-Ok, sent_to_all-meaning}
 use Rattle.call_laws.proofs.Destinations.{inside, once-from_right, right-from_once}
 
@@ -36,9 +34,7 @@ sent-from_select : {X : Type 0} (source : List X) (index : List ℤ) (flags : Li
     → IsSent (count_of flags) source (flagged_destinations index flags) result result
 sent-from_select source index flags result is = record {
   as_long = is.as_long;
-  right = right-from_once (count_of flags) (flagged_destinations index flags)
-      (λ k i here. let p = here-flagged index flags k i here in is.within k i p.0 p.1)
-      (λ j k i first second. let p = here-flagged index flags j i first in let q = here-flagged index flags k i second in is.once j k i p.0 q.0 p.1 q.1);
+  right = search (rules, right-from_once, here-flagged);
   sent = λ k d here. let p = here-flagged index flags k (pos d) here in is.sent k d p.0 p.1;
   kept = λ d none. refl;
 }

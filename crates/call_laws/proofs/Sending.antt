@@ -1,14 +1,9 @@
 -- What a permute gives where no place is bad.
-use Rattle.call_laws.proofs.Cited.{◌≡◌, ◌+◌, ◌<◌, ◌≤◌, ◌∷◌, ◌∙◌, ◌↔◌, ℕ, zero, suc, true, false, List, [], length, map, take, refl, sym, ap, subst, arith, inl, inr, ℤ, pos, slice_get, option_map}
-use Rattle.call_laws.proofs.Cited.{Some, None, Ok, Option, Result, unwrap_or, enumerate_from, list_any, range_with_len, none-some, same_Some, slice_get-map, slice_get_within, both_ways}
+use Rattle.call_laws.proofs.Cited.{rules, nat_tests, ◌≡◌, ◌+◌, ◌<◌, ◌≤◌, ◌∷◌, ◌∙◌, ◌↔◌, ℕ, zero, suc, false, List, [], length, map, take, refl, sym, ap, subst, arith, inl, inr, ℤ, pos, slice_get}
+use Rattle.call_laws.proofs.Cited.{option_map, Some, None, Ok, Option, Result, unwrap_or, enumerate_from, list_any, range_with_len, none-some, same_Some, slice_get-map, slice_get_within, both_ways}
 use Rattle.call_laws.proofs.Cited.{false_from_ne_true, ltb-true, or_parts, eqb_tells, Decides-int_eq, length-map, if_as_long, unless, all_destinations, default_of, first_fault, is_destination}
-use Rattle.call_laws.proofs.Cited.{sent_over, sent_to, sent_to_all, simple_of, wrongs, if_as_long-fits, element, length-all_destinations, count_destinations, all_take_part}
-use Rattle.std.proofs.Common.{filter_map}
-use Rattle.std.proofs.lemmas.Bool.{cases_Bool}
-use Rattle.std.proofs.lemmas.Iterator.Adapters.{option_map_id}
-use Rattle.std.proofs.lemmas.List.FromFn.{length-enumerate_from}
-use Rattle.cvl_base.specs.declared.fault.Fault.{Fault}
-use Rattle.call_laws.specs.Permuted.{AreOnce, AreWithin, IsDefaultPermute, IsGoodBefore, IsSimplePermute}
+use Rattle.call_laws.proofs.Cited.{sent_over, sent_to, sent_to_all, simple_of, wrongs, if_as_long-fits, element, length-all_destinations, count_destinations, all_take_part, filter_map, cases_Bool}
+use Rattle.call_laws.proofs.Cited.{option_map_id, length-enumerate_from, Fault, AreOnce, AreWithin, IsDefaultPermute, IsGoodBefore, IsSimplePermute}
 use Rattle.call_laws.proofs.Places.{same_elements}
 use Rattle.call_laws.proofs.Destinations.{IsRight, each_is_destination, inside, once-from_right, right-from_once}
 use Rattle.call_laws.proofs.FirstBadPlaces.{any-from_there, destination_there, fault-none, fresh_before, good-from_no_fault}
@@ -20,11 +15,7 @@ unless-Ok None rest y p = (refl, p)
 unless-Ok (Some f) rest y p = cc
 
 pub if_as_long-Ok : {A B Z : Type 0} (xs : List A) (ys : List B) (rest : Result Z Fault) (z : Z) → if_as_long xs ys rest ≡ Ok z → (length xs ≡ length ys) × (rest ≡ Ok z)
-if_as_long-Ok xs ys rest z p =
-    elim (eqb_tells (length xs) (length ys)) [
-      | inl t ↦ (t.1, rw t.0 at p)
-      | inr t ↦ let bad = rw t.0 at p in cc
-    ]
+if_as_long-Ok xs ys rest z p = grind (arith, nat_tests, eqb_tells)
 
 -- ---- what is sent to one place
 
@@ -33,9 +24,7 @@ sent_to-first : {X : Type 0} (source : List X) (ts : List (Option ℤ)) (k d : �
     → list_any (is_destination (pos d)) (take k ts) ≡ false → sent_to source ts d ≡ Some x
 sent_to-first source [] k d x destination element fresh = absurd (none-some (Some (pos d)) destination)
 sent_to-first [] (t ∷ ts) k d x destination element fresh = absurd (none-some x element)
-sent_to-first (y ∷ source) (t ∷ ts) zero d x destination element fresh =
-    let same : is_destination (pos d) t ≡ true = ap (is_destination (pos d)) (same_Some t (Some (pos d)) destination) ∙ (Decides-int_eq (pos d) (pos d)).1 refl in
-    rw same element
+sent_to-first (y ∷ source) (t ∷ ts) zero d x destination element fresh = search (rules, same_Some, Decides-int_eq, element)
 sent_to-first (y ∷ source) (t ∷ ts) (suc k) d x destination element fresh =
     let parts = or_parts (is_destination (pos d) t) (list_any (is_destination (pos d)) (take k ts)) fresh in
     rw parts.0 (sent_to-first source ts k d x destination element parts.1)
@@ -132,11 +121,7 @@ module _ {X : Type 0} (m : ℕ) (source : List X) (ts : List (Option ℤ)) (long
       (sent.0, sent_to-destination m source ts sender.0 d right long sender.1 ∙ sent.1)
 
   pub all-is_over : (room : List X) → length room ≡ m → sent_to_all source ts m ≡ sent_over source ts room
-  all-is_over room as_long = rw as_long (by (first_fault 0 (wrongs m ts)) refl)
-    where
-      by : (o : Option Fault) → first_fault 0 (wrongs m ts) ≡ o → unless o (Ok (filter_map (sent_to source ts) (range_with_len 0 m))) ≡ unless o (Ok (laid_over (sent_to source ts) 0 room))
-      by (Some f) e = refl
-      by None e = rw (← as_long) (ap Ok (all-over (sent_to source ts) 0 room (λ d low high. each_there e d (omega arith))))
+  all-is_over room as_long = search (rules, all-over, each_there)
 
   pub sent_to_all-meaning : (result : List X) → (sent_to_all source ts m ≡ Ok result) ↔ IsSent m source ts result result
   sent_to_all-meaning result = (

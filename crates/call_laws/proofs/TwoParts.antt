@@ -1,13 +1,9 @@
 -- What two parts give together, and the results on segments and on more segments behind them.
-use Rattle.call_laws.proofs.Cited.{◌≡◌, ◌+◌, ◌<◌, ◌∷◌, ◌++◌, ◌∙◌, ◌>>=◌, ℕ, List, [], length, map, append_assoc, length-append, refl, sym, ap, arith, option_map, zip, Option, Some, None, Ok, Err}
-use Rattle.call_laws.proofs.Cited.{Result, ok_or, length-zip, values_from, fault_at, joined, at_segment, beside, end_to_end, moved, one_each, results_from}
+use Rattle.call_laws.proofs.Cited.{rules, ◌≡◌, ◌+◌, ◌<◌, ◌∷◌, ◌++◌, ◌∙◌, ◌>>=◌, ℕ, List, [], length, map, append_assoc, length-append, refl, sym, ap, arith, option_map, zip, Option, Some, None, Ok}
+use Rattle.call_laws.proofs.Cited.{Err, Result, ok_or, length-zip, values_from, fault_at, joined, at_segment, beside, end_to_end, moved, one_each, results_from, Fault, FaultNo, after, beside-fits}
+use Rattle.call_laws.proofs.Cited.{in_two}
 use Rattle.std.proofs.lemmas.Grind.{flat_map-append}
-use Rattle.cvl_base.specs.declared.fault.Fault.{Fault}
-use Rattle.cvl_base.specs.declared.fault.FaultNo.{FaultNo}
-use Rattle.cvl_base.specs.Gives.{after}
 use Rattle.cvl_base.proofs.Gives.{after-none}
-use Rattle.cvl_base.proofs.Segmented.{beside-fits}
-use Rattle.call_laws.specs.InParts.{in_two}
 
 -- what is done with a result was done with a value, where something came of it
 pub from_value : {X Y : Type 0} (r : Result X Fault) (next : X → Result Y Fault) (y : Y) → (r >>= next) ≡ Ok y → (x : X) × (r ≡ Ok x) × (next x ≡ Ok y)
@@ -96,9 +92,7 @@ module _ {A B : Type 0} {whole first second : Result (List A) Fault} {whole2 fir
       record {
         before = zip p.before q.before;
         others = zip p.others q.others;
-        together = (λ i. beside (p.together i) (q.together i))
-            ∙ beside-fits (p.before ++ p.others) (q.before ++ q.others) (omega (arith, length-append p.before p.others, length-append q.before q.others))
-            ∙ ap Ok (zip-append p.before q.before p.others q.others long);
+        together = search (rules, beside-fits, length-append, zip-append);
         one = (λ i. beside (p.one i) (q.one i)) ∙ beside-fits p.before q.before long;
         other = (λ i. beside (p.other i) (q.other i)) ∙ beside-fits p.others q.others also_long;
         many = omega (arith, length-zip p.before q.before, p.many);
@@ -112,20 +106,13 @@ module _ {S R : Type 0} (call : S → Result R Fault) where
       → results_from place call s (xs ++ ys) ≡ (results_from place call s xs >>= λ rs. after rs (results_from place call (s + length xs) ys))
   results-append place s [] ys =
       ap (λ n. results_from place call n ys) (omega arith) ∙ sym (after-none (results_from place call (s + length {A = S} []) ys))
-  results-append place s (x ∷ xs) ys =
-      ap (λ others. moved (place s) (call x) >>= λ r. others >>= λ rs. Ok (r ∷ rs)) (results-append place (s + 1) xs ys)
-      ∙ onto-after (moved (place s) (call x)) (results_from place call (s + 1) xs) (results_from place call (s + 1 + length xs) ys)
-      ∙ ap (λ n. results_from place call s (x ∷ xs) >>= λ rs. after rs (results_from place call n ys)) (omega arith)
+  results-append place s (x ∷ xs) ys = search (rules, onto-after, results-append place (s + 1) xs ys)
 
   -- the same segments, counted from another number on, whose places are moved
   results-moved : (place other : ℕ → ℕ → ℕ) (move : ℕ → ℕ) (d s : ℕ) (xs : List S) → ((u p : ℕ) → u < s + length xs → place (d + u) p ≡ move (other u p))
       → results_from place call (d + s) xs ≡ moved move (results_from other call s xs)
   results-moved place other move d s [] same = refl
-  results-moved place other move d s (x ∷ xs) same =
-      let first = moved-moved (place (d + s)) (other s) move (λ p. same s p (omega arith)) (call x) in
-      let rest : results_from place call (d + s + 1) xs ≡ moved move (results_from other call (s + 1) xs) =
-      ap (λ n. results_from place call n xs) (omega arith) ∙ results-moved place other move d (s + 1) xs (λ u p lt. same u p (omega arith)) in
-      (λ i. first i >>= λ r. rest i >>= λ rs. Ok (r ∷ rs)) ∙ sym (moved-onto move (moved (other s) (call x)) (results_from other call (s + 1) xs))
+  results-moved place other move d s (x ∷ xs) same = search (rules, moved-moved, moved-onto, results-moved place other move d (s + 1) xs (λ u p lt. same u p (omega arith)))
 
   module _ (place first_place second_place : ℕ → ℕ → ℕ) (n : ℕ) (before others : List S)
       (in_first : (s p : ℕ) → s < length before → place s p ≡ first_place s p)

@@ -1,5 +1,4 @@
-use Rattle.call_laws.proofs.Cited.{◌≡◌, ◌+◌, ◌∷◌, ◌+ℤ◌, ℕ, true, List, [], length, arith, ℤ, pos, fold, AllPass, ints, All-head, All-tail}
-use Rattle.std.proofs.Common.{◌*◌, ◌≤ℤ◌}
+use Rattle.call_laws.proofs.Cited.{◌≡◌, ◌+◌, ◌∷◌, ◌+ℤ◌, ℕ, true, List, [], length, arith, ℤ, pos, fold, AllPass, ints, All-head, All-tail, ◌*◌, ◌≤ℤ◌}
 use Rattle.cvl_base.specs.ItemWords.{is_number}
 use Rattle.operators.specs.NumberLaws.{fits-is_number}
 use Rattle.call_laws.proofs.checked_sums.carry_fits.Goals as goal

@@ -1,10 +1,5 @@
 use Rattle.call_laws.proofs.Cited.{◌≡◌, ◌∷◌, ◌∙◌, ◌+ℤ◌, ◌>>=◌, ℕ, List, [], length, map, refl, sym, ℤ, pos, Ok, Err, Result, map-map, fitting, total_of, fold_of, scan_of, joined, nest, at_segment}
-use Rattle.call_laws.proofs.Cited.{end_to_end, in_vector, one_each, length-scan_of}
-use Rattle.cvl_base.specs.declared.fault.Fault.{Fault}
-use Rattle.cvl_base.specs.declared.fault.FaultNo.TheVariants.{Overflow}
-use Rattle.cvl_base.specs.CheckedSums.{checked_reduce_of, checked_scan_of, totals_of}
-use Rattle.call_laws.specs.Carried.{each_after}
-use Rattle.call_laws.specs.InParts.{in_two}
+use Rattle.call_laws.proofs.Cited.{end_to_end, in_vector, one_each, length-scan_of, Fault, Overflow, checked_reduce_of, checked_scan_of, totals_of, each_after, in_two}
 use Rattle.part_calls.specs.Sums.{all_fitting}
 use Rattle.call_laws.proofs.Carries.{each-plain, reduces-between, reduces-inside, scans-between, scans-inside}
 use Rattle.call_laws.proofs.CutResults.{has-lengths}

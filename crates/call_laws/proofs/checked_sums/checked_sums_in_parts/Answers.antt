@@ -1,6 +1,5 @@
-use Rattle.call_laws.proofs.Cited.{◌≡◌, ◌∷◌, ◌+ℤ◌, List, [], refl, sym, ℤ, pos, fold, fold-append, fitting, total_of, fold_of, scan_of, length-scan_of, scan_of-append}
+use Rattle.call_laws.proofs.Cited.{◌≡◌, ◌∷◌, ◌+ℤ◌, List, [], refl, sym, ℤ, pos, fold, fold-append, fitting, total_of, fold_of, scan_of, length-scan_of, scan_of-append, Overflow}
 use Rattle.std.proofs.Math.IntN.{+ℤ_assoc, +ℤ_idl, +ℤ_idr}
-use Rattle.cvl_base.specs.declared.fault.FaultNo.TheVariants.{Overflow}
 use Rattle.call_laws.proofs.TwoParts.{values-two}
 use Rattle.call_laws.proofs.checked_sums.checked_sums_in_parts.Goals as goal
 

@@ -1,5 +1,4 @@
-use Rattle.call_laws.proofs.Cited.{◌∷◌, ◌∙◌, ◌+◌, [], sym, ap, Ok, sum, in_vector, end_to_end}
-use Rattle.call_laws.specs.InParts.{in_two}
+use Rattle.call_laws.proofs.Cited.{◌∷◌, ◌∙◌, ◌+◌, [], sym, ap, Ok, sum, in_vector, end_to_end, in_two}
 use Rattle.call_laws.proofs.Segments.{flat-again}
 use Rattle.call_laws.proofs.SegmentsInTwo.{lists-between, next-to}
 use Rattle.call_laws.proofs.TwoParts.{in_two-assoc}

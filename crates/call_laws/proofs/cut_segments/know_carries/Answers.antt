@@ -1,8 +1,6 @@
 use Rattle.call_laws.proofs.Cited.{◌≡◌, ◌∷◌, ◌++◌, ◌∙◌, ◌>>=◌, Bool, true, IsTrue, List, [], length, take, drop, map, nat_lt, sym, ap, arith, length-append, inl, inr, Ok, sum, AllPass, lt-ltb}
-use Rattle.call_laws.proofs.Cited.{eqb_tells, fold_of, MonoidLaws, nest, cut_of, in_vector, length-cut, nest-fits, nest-misfits, fold_from}
-use Rattle.std.proofs.lemmas.List.Elements.{All-take}
+use Rattle.call_laws.proofs.Cited.{eqb_tells, fold_of, MonoidLaws, nest, cut_of, in_vector, length-cut, nest-fits, nest-misfits, fold_from, All-take, each_after}
 use Rattle.cvl_base.specs.SegmentMonoid.{seg_join}
-use Rattle.call_laws.specs.Carried.{each_after}
 use Rattle.call_laws.proofs.Segments.{each-ok}
 use Rattle.call_laws.proofs.cut_segments.know_carries.Goals as goal
 

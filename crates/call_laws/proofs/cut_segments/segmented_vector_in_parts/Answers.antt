@@ -1,5 +1,4 @@
-use Rattle.call_laws.proofs.Cited.{◌∙◌, ap, refl, nest, end_to_end, in_vector, one_each}
-use Rattle.call_laws.specs.InParts.{in_two}
+use Rattle.call_laws.proofs.Cited.{◌∙◌, ap, refl, nest, end_to_end, in_vector, one_each, in_two}
 use Rattle.call_laws.proofs.SegmentsInTwo.{cut, in_order, values_in_order}
 use Rattle.call_laws.proofs.cut_segments.segmented_vector_in_parts.Goals as goal
 

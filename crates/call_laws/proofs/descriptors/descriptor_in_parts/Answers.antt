@@ -1,13 +1,7 @@
-use Rattle.call_laws.proofs.Cited.{◌≡◌, ◌+◌, ◌∷◌, ◌++◌, ◌∙◌, ℕ, Bool, true, false, ℤ, List, [], length, map, sum, refl, ap, arith, Some, None, Ok, Option, Result, cond, nat_lt}
-use Rattle.call_laws.proofs.Cited.{option_map, lt-ltb, ltb-true, map-append, sum_by-append, fault, fault_at, unless, fault_if}
-use Rattle.std.proofs.Common.{unsigned_abs}
-use Rattle.std.specs.Prelude.{position}
-use Rattle.std.specs.Int.{is_negative}
-use Rattle.std.specs.List.{position_from}
-use Rattle.std.proofs.lemmas.Iterator.Adapters.{position_from-zero}
-use Rattle.cvl_base.specs.declared.fault.Fault.{Fault}
+use Rattle.call_laws.proofs.Cited.{◌≡◌, ◌+◌, ◌∷◌, ◌++◌, ◌∙◌, ℕ, Bool, true, false, ℤ, List, [], length, map, sum, refl, ap, arith, Some, None, Ok, Option, Result, cond, nat_lt, option_map, lt-ltb}
+use Rattle.call_laws.proofs.Cited.{ltb-true, map-append, sum_by-append, fault, fault_at, unless, fault_if, unsigned_abs, position, is_negative, position_from, position_from-zero, Fault}
+use Rattle.call_laws.proofs.Cited.{descriptor_in_two}
 use Rattle.cvl_base.specs.declared.fault.FaultNo.TheVariants as no
-use Rattle.call_laws.specs.InParts.{descriptor_in_two}
 use Rattle.call_laws.proofs.descriptors.descriptor_in_parts.Goals as goal
 
 -- ---- where the first negative length stands

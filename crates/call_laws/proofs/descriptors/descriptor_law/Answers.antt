@@ -1,17 +1,9 @@
-use Rattle.call_laws.proofs.Cited.{◌≡◌, ◌<◌, ◌≤◌, ◌∙◌, ℕ, Bool, true, false, ℤ, pos, negsuc, List, length, map, sum, refl, sym, ap, arith, Some, None, Ok, Err, Option, Result, cond, nat_lt}
+use Rattle.call_laws.proofs.Cited.{nat_tests, ◌≡◌, ◌<◌, ◌∙◌, ℕ, Bool, true, false, ℤ, pos, negsuc, List, length, map, sum, refl, sym, ap, arith, Some, None, Ok, Err, Option, Result, cond, nat_lt}
 use Rattle.call_laws.proofs.Cited.{option_map, false≢true, lt-ltb, le-ltb, ltb-true, ltb-false, get_or_from_slice_get, slice_get-get_or, slice_get_within, fault, fault_at, unless, fault_if}
-use Rattle.call_laws.proofs.Cited.{most_elements}
-use Rattle.std.proofs.Common.{get_or, unsigned_abs}
-use Rattle.std.specs.Prelude.{position}
-use Rattle.std.specs.Int.{is_negative}
-use Rattle.std.specs.List.{position_or_len}
-use Rattle.std.proofs.lemmas.List.Quantifiers.{position-Some}
-use Rattle.std.proofs.lemmas.List.Sums.{fails_before_first, position_or_len_is}
-use Rattle.cvl_base.specs.declared.fault.Fault.{Fault}
+use Rattle.call_laws.proofs.Cited.{most_elements, get_or, unsigned_abs, position, is_negative, position_or_len, position-Some, fails_before_first, position_or_len_is, Fault, not_found}
 use Rattle.cvl_base.specs.declared.fault.FaultNo.TheVariants as no
 use Rattle.cvl_base.specs.Descriptors.{IsFirstNegative, descriptor_of}
 use Rattle.cvl_base.proofs.Descriptors.{abs_pos, natural, not_negative, position-lengths}
-use Rattle.cvl_base.proofs.Lists.{not_found}
 use Rattle.call_laws.proofs.descriptors.descriptor_law.Goals as goal
 
 -- ---- where the first negative number stands
@@ -45,9 +37,7 @@ position-first numbers k first =
 -- ---- lengths, of which none is negative
 
 none-negative : (numbers : List ℤ) → position is_negative numbers ≡ None → numbers ≡ map pos (map unsigned_abs numbers)
-none-negative numbers e =
-    let behind : length numbers ≤ position_or_len is_negative numbers = ltb-false _ _ (not_found _ (position_or_len is_negative numbers) e) in
-    natural numbers (λ k below. fails_before_first is_negative numbers k (pos 0) (omega arith))
+none-negative numbers e = grind (arith, nat_tests, ltb-false, not_found, natural, fails_before_first)
 
 -- ---- the definition, at the place that was found, whether the total is above the limit, and the lengths
 

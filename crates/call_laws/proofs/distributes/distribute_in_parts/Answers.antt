@@ -1,10 +1,5 @@
 use Rattle.call_laws.proofs.Cited.{◌≡◌, ◌+◌, ◌+ℤ◌, ◌*ℤ◌, ◌∙◌, ℕ, ℤ, map, pos, sym, ap, arith, Ok, range_with_len, ints, map-append, get_or-map-range_with_len, length-map-range_with_len, wrap}
-use Rattle.call_laws.proofs.Cited.{length_within-fits}
-use Rattle.std.proofs.Common.{w32}
-use Rattle.std.proofs.lemmas.Int.{int_wrap-add_left}
-use Rattle.std.proofs.lemmas.List.{replicate-append-replicate}
-use Rattle.std.proofs.lemmas.List.FromFn.{fill_by_all}
-use Rattle.permute_walks.proofs.Listed.{range_both}
+use Rattle.call_laws.proofs.Cited.{length_within-fits, w32, int_wrap-add_left, replicate-append-replicate, fill_by_all, range_both}
 use Rattle.call_laws.proofs.distributes.distribute_in_parts.Goals as goal
 
 -- k steps on from the place m

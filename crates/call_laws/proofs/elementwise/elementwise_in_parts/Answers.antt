@@ -1,9 +1,7 @@
-use Rattle.call_laws.proofs.Cited.{◌≡◌, ◌++◌, ℤ, Bool, List, length, not, refl, ap, arith, zip, Ok, map-append, length-zip}
+use Rattle.call_laws.proofs.Cited.{◌≡◌, ◌++◌, ℤ, Bool, List, length, not, refl, ap, arith, zip, Ok, map-append, length-zip, bools1_of, chosen, ints1_of, not_of}
 use Rattle.call_table.specs.declared.families.Unary.{Unary}
 use Rattle.call_table.specs.declared.families.Unary.TheVariants.{Not, Copy}
 use Rattle.cvl_base.specs.Conversions.{integer_of, boolean_of}
-use Rattle.cvl_base.specs.Elementwise.{bools1_of, chosen, ints1_of}
-use Rattle.cvl_base.specs.Integers.{not_of}
 use Rattle.call_laws.proofs.PlaceByPlace.{as_long-two, bools2-two, compare-two, ints2-two}
 use Rattle.call_laws.proofs.TwoParts.{zip-append}
 use Rattle.call_laws.proofs.elementwise.elementwise_in_parts.Goals as goal

@@ -1,5 +1,4 @@
-use Rattle.call_laws.proofs.Cited.{◌≡◌, ◌+◌, ◌∷◌, ◌++◌, ℕ, List, [], length, map, ap, arith, Some, None, Err, Option, values_from, fault_at}
-use Rattle.cvl_base.specs.declared.fault.FaultNo.{FaultNo}
+use Rattle.call_laws.proofs.Cited.{◌≡◌, ◌+◌, ◌∷◌, ◌++◌, ℕ, List, [], length, map, ap, arith, Some, None, Err, Option, values_from, fault_at, FaultNo}
 use Rattle.call_laws.proofs.LeastFaults.{values-meaning}
 use Rattle.call_laws.proofs.elementwise.least_fault_law.Goals as goal
 

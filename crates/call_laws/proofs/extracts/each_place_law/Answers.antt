@@ -1,7 +1,5 @@
 use Rattle.call_laws.proofs.Cited.{◌≡◌, ◌<◌, ◌∙◌, ◌+ℤ◌, ◌*ℤ◌, ◌↔◌, ℕ, List, length, map, replicate, sym, ap, arith, pos, slice_get, Some, Ok, Result, range_with_len, length-replicate}
-use Rattle.call_laws.proofs.Cited.{get_or-map-range_with_len, length-map-range_with_len, slice_get-get_or, distribute_of, index_of, wrap, as_length-fits}
-use Rattle.std.proofs.lemmas.List.{get_or-replicate}
-use Rattle.cvl_base.specs.declared.fault.Fault.{Fault}
+use Rattle.call_laws.proofs.Cited.{get_or-map-range_with_len, length-map-range_with_len, slice_get-get_or, distribute_of, index_of, wrap, as_length-fits, get_or-replicate, Fault}
 use Rattle.call_laws.proofs.Places.{same_elements}
 use Rattle.call_laws.proofs.extracts.each_place_law.Goals as goal
 

@@ -1,12 +1,7 @@
-use Rattle.call_laws.proofs.Cited.{◌≡◌, ◌+◌, ◌++◌, ◌∙◌, ◌↔◌, ℕ, Bool, true, false, ℤ, pos, negsuc, List, length, refl, sym, ap, arith, ints, nat_lt, Ok, Err, Option, Some, None}
-use Rattle.call_laws.proofs.Cited.{ok_or, le-ltb, ltb-true, ltb-false, length-append, replace_of, fault_at}
-use Rattle.std.proofs.Common.{◌-◌, ◌-ℤ◌}
-use Rattle.std.proofs.lemmas.List.{set-append_left, set-append_right}
-use Rattle.cvl_base.specs.declared.fault.Fault.{Fault}
+use Rattle.call_laws.proofs.Cited.{rules, nat_tests, ◌≡◌, ◌+◌, ◌++◌, ◌∙◌, ◌↔◌, ℕ, Bool, true, false, ℤ, pos, negsuc, List, length, refl, sym, ap, arith, ints, nat_lt, Ok, Err, Option, Some, None}
+use Rattle.call_laws.proofs.Cited.{ok_or, le-ltb, ltb-true, ltb-false, length-append, replace_of, fault_at, ◌-◌, ◌-ℤ◌, set-append_left, set-append_right, Fault, with_element_at, after}
+use Rattle.call_laws.proofs.Cited.{replaced_in_two}
 use Rattle.cvl_base.specs.declared.fault.FaultNo.TheVariants as no
-use Rattle.cvl_base.specs.Extracts.{with_element_at}
-use Rattle.cvl_base.specs.Gives.{after}
-use Rattle.call_laws.specs.InParts.{replaced_in_two}
 use Rattle.call_laws.proofs.ElementPlaces.{replace-inside}
 use Rattle.call_laws.proofs.extracts.replace_in_parts.Goals as goal
 
@@ -27,9 +22,7 @@ module _ {X : Type 0} (xs ys : List X) (x : X) where
 
   at-place : (k : ℕ) (b : Bool) → nat_lt k (length xs) ≡ b
       → replace_of (xs ++ ys) (pos k) x ≡ replaced_in_two xs ys (replace_of xs (pos k) x) (replace_of ys (pos k -ℤ pos (length xs)) x)
-  at-place k true e =
-      let within = ltb-true k (length xs) e in
-      rw (replace-inside xs k x within, replace-inside (xs ++ ys) k x (omega (arith, within, length-append xs ys))) (ap Ok (set-append_left xs ys k x within))
+  at-place k true e = grind (arith, nat_tests, ltb-true, replace-inside, length-append, set-append_left)
   at-place k false e =
       let past = ltb-false k (length xs) e in
       let less : pos k -ℤ pos (length xs) ≡ pos (k - length xs) = omega (arith, ints, past) in
@@ -37,9 +30,7 @@ module _ {X : Type 0} (xs ys : List X) (x : X) where
 
   copied : (index : ℤ) → replace_of (xs ++ ys) index x ≡ replaced_in_two xs ys (replace_of xs index x) (replace_of ys (index -ℤ pos (length xs)) x)
   copied (pos k) = at-place k _ refl
-  copied (negsuc m) =
-      let less : negsuc m -ℤ pos (length xs) ≡ negsuc (m + length xs) = omega (arith, ints) in
-      rw less
+  copied (negsuc m) = search rules
 
 -- an answer of a replace is a vector or the one fault
 neither : {X : Type 0} (xs ys : List X) (first second : Option (List X))

@@ -1,5 +1,4 @@
-use Rattle.call_laws.proofs.Cited.{◌≡◌, ◌∷◌, ◌∙◌, if◌then◌else◌, Bool, true, false, [], length, map, refl, sym, ap, Ok, length-map, pack_of, if_as_long-fits, if_as_long-misfits}
-use Rattle.call_laws.specs.InParts.{in_two}
+use Rattle.call_laws.proofs.Cited.{◌≡◌, ◌∷◌, ◌∙◌, if◌then◌else◌, Bool, true, false, [], length, map, refl, sym, ap, Ok, length-map, pack_of, if_as_long-fits, if_as_long-misfits, in_two}
 use Rattle.call_laws.proofs.Packing.{kept-filter, kept_of, pack-counted, pack-two}
 use Rattle.call_laws.proofs.Sending.{if_as_long-Ok}
 use Rattle.call_laws.proofs.packs.pack_law.Goals as goal

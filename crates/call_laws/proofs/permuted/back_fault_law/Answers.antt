@@ -1,8 +1,5 @@
 use Rattle.call_laws.proofs.Cited.{◌≡◌, ◌+◌, ◌∷◌, ℕ, zero, suc, true, false, List, [], length, map, refl, ap, arith, ℤ, pos, negsuc, slice_get, Some, None, Err, false≢true, ltb-true, ltb-false}
-use Rattle.call_laws.proofs.Cited.{none-some, same_Some, values_from, element_at, fault_at, is_place, element}
-use Rattle.std.proofs.lemmas.Option.{slice_get_past}
-use Rattle.cvl_base.specs.declared.fault.FaultNo.TheVariants.{IndexOutOfRange}
-use Rattle.call_laws.specs.Permuted.{AreWithin}
+use Rattle.call_laws.proofs.Cited.{none-some, same_Some, values_from, element_at, fault_at, is_place, element, slice_get_past, IndexOutOfRange, AreWithin}
 use Rattle.call_laws.proofs.permuted.back_fault_law.Goals as goal
 
 element-within : {X : Type 0} (source : List X) (i : ℤ) → is_place (length source) i ≡ true → (x : X) × (element_at source i ≡ Some x)

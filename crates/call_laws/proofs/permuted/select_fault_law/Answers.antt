@@ -1,5 +1,4 @@
-use Rattle.call_laws.proofs.Cited.{ℕ, ℤ, Bool, List, length, inl, inr, eqb_tells, count_of, flagged_destinations, if_as_long-fits, if_as_long-misfits}
-use Rattle.call_laws.specs.Permuted.{AreOnceFlagged, AreWithinFlagged, IsGoodBefore}
+use Rattle.call_laws.proofs.Cited.{ℕ, ℤ, Bool, List, length, inl, inr, eqb_tells, count_of, flagged_destinations, if_as_long-fits, if_as_long-misfits, AreOnceFlagged, AreWithinFlagged, IsGoodBefore}
 use Rattle.call_laws.proofs.FirstBadPlaces.{fault-again, fault-outside}
 use Rattle.call_laws.proofs.Selecting.{flagged-here, here-flagged}
 use Rattle.call_laws.proofs.permuted.select_fault_law.Goals as goal

@@ -1,5 +1,4 @@
-use Rattle.call_laws.proofs.Cited.{◌≡◌, ℕ, ℤ, List, length, pos, negsuc, slice_get, sym, arith, Some, false≢true, element_at, all_destinations, all_take_part}
-use Rattle.call_laws.specs.Permuted.{IsSimplePermute}
+use Rattle.call_laws.proofs.Cited.{◌≡◌, ℕ, ℤ, List, length, pos, negsuc, slice_get, sym, arith, Some, false≢true, element_at, all_destinations, all_take_part, IsSimplePermute}
 use Rattle.call_laws.proofs.BackPermutes.{back-meaning}
 use Rattle.call_laws.proofs.Destinations.{each_is_destination}
 use Rattle.call_laws.proofs.Sending.{index-here, sent-from_simple, simple-meaning}

@@ -1,5 +1,4 @@
-use Rattle.call_laws.proofs.Cited.{element_at}
-use Rattle.cvl_base.specs.declared.fault.FaultNo.TheVariants.{IndexOutOfRange}
+use Rattle.call_laws.proofs.Cited.{element_at, IndexOutOfRange}
 use Rattle.call_laws.proofs.TwoParts.{values-two}
 use Rattle.call_laws.proofs.permutes_in_parts.back_permute_in_parts.Goals as goal
 

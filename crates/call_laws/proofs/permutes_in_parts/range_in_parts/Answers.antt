@@ -1,5 +1,4 @@
-use Rattle.call_laws.proofs.Cited.{◌+◌, length, length-append, sym, last_senders}
-use Rattle.permute_walks.proofs.LastSent.{lasts_both, length-last_senders}
+use Rattle.call_laws.proofs.Cited.{◌+◌, length, length-append, sym, last_senders, lasts_both, length-last_senders}
 use Rattle.permute_walks.proofs.Written.{count_both, written_both}
 use Rattle.call_laws.proofs.permutes_in_parts.range_in_parts.Goals as goal
 

@@ -1,6 +1,4 @@
-use Rattle.call_laws.proofs.Cited.{◌≡◌, ◌++◌, ◌∷◌, ◌∙◌, [], length, take, refl, sym, ap, arith, Some, slice_get, same_Some, fold_of, scan_of}
-use Rattle.std.proofs.lemmas.List.{take_at, length_push}
-use Rattle.operators.proofs.FoldLaws.{fold_of_push, slice_get-scan_of}
+use Rattle.call_laws.proofs.Cited.{◌≡◌, ◌++◌, ◌∷◌, ◌∙◌, [], length, take, refl, sym, ap, arith, Some, slice_get, same_Some, fold_of, scan_of, take_at, length_push, fold_of_push, slice_get-scan_of}
 use Rattle.call_laws.proofs.scans.know_reduces.Goals as goal
 
 pub returns : goal.returns

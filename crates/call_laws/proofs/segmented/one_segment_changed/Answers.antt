@@ -1,8 +1,6 @@
-use Rattle.call_laws.proofs.Cited.{◌≡◌, ◌∷◌, ◌>>=◌, refl, [], Ok, Err, Result, element_at, extract_of, replace_of}
+use Rattle.call_laws.proofs.Cited.{◌≡◌, ◌∷◌, ◌>>=◌, refl, [], Ok, Err, Result, element_at, extract_of, replace_of, Fault, with_element_at}
 use Rattle.std.specs.Result.{result_map_both}
-use Rattle.cvl_base.specs.declared.fault.Fault.{Fault}
 use Rattle.cvl_base.specs.declared.fault.FaultNo.TheVariants as no
-use Rattle.cvl_base.specs.Extracts.{with_element_at}
 use Rattle.call_laws.proofs.Segments.{alone, nest_one}
 use Rattle.call_laws.proofs.TwoParts.{at_its_place}
 use Rattle.call_laws.proofs.segmented.one_segment_changed.Goals as goal

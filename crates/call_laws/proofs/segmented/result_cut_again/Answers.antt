@@ -1,7 +1,5 @@
 use Rattle.call_laws.proofs.Cited.{◌≡◌, ◌+ℤ◌, ◌*ℤ◌, ◌∙◌, ◌>>=◌, ℕ, ℤ, List, length, map, zip, refl, pos, negsuc, replicate, sym, ap, Bool, true, false, Ok, range_with_len, length-replicate}
-use Rattle.call_laws.proofs.Cited.{length-map-range_with_len, distribute_of, index_of, replace_of, fault_if, wrap, count_of, pack_of, at_segment, in_vector, of_two, of_three}
-use Rattle.std.proofs.lemmas.List.{map-id}
-use Rattle.cvl_base.specs.declared.fault.Fault.{Fault}
+use Rattle.call_laws.proofs.Cited.{length-map-range_with_len, distribute_of, index_of, replace_of, fault_if, wrap, count_of, pack_of, at_segment, in_vector, of_two, of_three, map-id, Fault}
 use Rattle.call_laws.proofs.CutResults.{counts-given, cut-three, cut-two, has-lengths, map-firsts, map-seconds}
 use Rattle.call_laws.proofs.ElementPlaces.{replace-meaning}
 use Rattle.call_laws.proofs.Packing.{pack-counted}

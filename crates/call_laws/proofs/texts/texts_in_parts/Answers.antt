@@ -1,7 +1,5 @@
-use Rattle.call_laws.proofs.Cited.{◌≡◌, ◌+◌, ◌<◌, ◌≤◌, ◌∷◌, ◌++◌, ◌∙◌, if◌then◌else◌, ℕ, IsTrue, List, [], length, map, refl, sym, ap, arith, append_assoc, length-append, map-append, most_elements}
-use Rattle.std.proofs.Common.{codes}
-use Rattle.std.specs.List.{join_with_byte}
-use Rattle.cvl_base.specs.declared.fault.FaultNo.TheVariants.{BadInput}
+use Rattle.call_laws.proofs.Cited.{◌≡◌, ◌+◌, ◌<◌, ◌≤◌, ◌∷◌, ◌++◌, if◌then◌else◌, ℕ, IsTrue, List, [], length, map, refl, sym, ap, arith, append_assoc, length-append, map-append, most_elements}
+use Rattle.call_laws.proofs.Cited.{codes, join_with_byte, BadInput}
 use Rattle.line_reader.specs.declared.token.ByteClass.TheVariants.{Blank, InToken}
 use Rattle.call_reader.specs.Inputs.{input_class, is_white_space}
 use Rattle.call_reader.proofs.PieceWalk.{few_enough}
@@ -23,9 +21,7 @@ text-two : {X : Type 0} (text_of : X → List ℕ) (xs ys : List X) → 0 < leng
     → vector_text text_of (xs ++ ys) ≡ codes "[" ++ ((join_with_byte 32 (map text_of xs) ++ 32 ∷ join_with_byte 32 (map text_of ys)) ++ codes "]")
 text-two text_of [] ys some also_some = absurd (omega arith)
 text-two text_of (x ∷ xs) [] some also_some = absurd (omega arith)
-text-two text_of (x ∷ xs) (y ∷ ys) some also_some =
-    ap (λ texts. codes "[" ++ (join_with_byte 32 texts ++ codes "]")) (map-append text_of (x ∷ xs) (y ∷ ys))
-    ∙ ap (λ text. codes "[" ++ (text ++ codes "]")) (texts-two (text_of x) (map text_of xs) (text_of y) (map text_of ys))
+text-two text_of (x ∷ xs) (y ∷ ys) some also_some = cc (map-append text_of (x ∷ xs) (y ∷ ys), texts-two (text_of x) (map text_of xs) (text_of y) (map text_of ys))
 
 pub returns : goal.returns
 returns g c = record {
