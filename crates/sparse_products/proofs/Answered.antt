@@ -1,36 +1,20 @@
 -- What a product answers, from what was found while its rows were written.
-use Rattle.std.proofs.Common.{◌≡◌, ◌≢◌, ℕ, ◌+◌, Bool, true, false, ℤ, pos, List, [], ◌∷◌, ◌++◌, length, map, refl, sym, subst, ap, ◌∙◌, arith, Option, Some, None, Result, Ok, Err}
-use Rattle.std.specs.Prelude.{◌<◌, ◌≤◌, ◌&&◌, if◌then◌else◌, IfSome, sum, unwrap_or}
-use Rattle.std.specs.List.{list_all, zip}
-use Rattle.std.specs.Option.{ok_or, option_or}
-use Rattle.std.proofs.lemmas.Option.{none-some, same_Some}
-use Rattle.std.proofs.lemmas.Slice.Zip.{length-zip}
+use Rattle.sparse_products.proofs.Cited.{rules, ◌≡◌, ◌≢◌, ℕ, ◌+◌, Bool, true, false, ℤ, pos, List, [], ◌∷◌, ◌++◌, length, map, refl, sym, subst, ap, ◌∙◌, arith, Option, Some, None, Result, Ok, Err}
+use Rattle.sparse_products.proofs.Cited.{◌≤◌, ◌&&◌, if◌then◌else◌, IfSome, sum, unwrap_or, list_all, zip, ok_or, option_or, none-some, same_Some, length-zip, fault, fault_at, ◌>>=◌, Gives, unless}
+use Rattle.sparse_products.proofs.Cited.{cut_of, nest, nest-fits, nest-misfits, first_without, first_outside, rows_product, rows_within, row_product, row_total, are_within, product_by, row_item}
+use Rattle.sparse_products.proofs.Cited.{row_value, wrapping}
 use Rattle.cvl_base.specs.declared.fault.Fault.{Fault}
 use Rattle.cvl_base.specs.declared.fault.FaultNo.{FaultNo}
 use Rattle.cvl_base.specs.declared.fault.FaultNo.TheVariants as no
 use Rattle.cvl_base.specs.Elementwise.{if_as_long, values_from}
-use Rattle.cvl_base.specs.Faults.{fault, fault_at}
 use Rattle.cvl_base.specs.declared.refused.Refused.{Refused}
-use Rattle.cvl_base.specs.Gives.{◌>>=◌, Gives, unless}
-use Rattle.cvl_base.specs.Nests.{cut_of, nest}
 use Rattle.cvl_base.proofs.Elementwise.{if_as_long-fits, if_as_long-misfits}
-use Rattle.cvl_base.proofs.Nests.{nest-fits, nest-misfits}
-use Rattle.fresh.specs.Found.{first_without}
-use Rattle.fresh.proofs.FirstWithout.{first_of_both}
-use Rattle.permute_walks.specs.Indices.{first_outside}
-use Rattle.sparse_products.specs.Answers.{rows_product, rows_within}
-use Rattle.sparse_products.specs.Products.{row_product, row_total}
-use Rattle.sparse_products.specs.Rows.{are_within, product_by, row_item, row_value, wrapping}
+use Rattle.fresh.proofs.FirstWithout.{first_of_both, found_within}
 use Rattle.sparse_products.proofs.Within.{all_inside, by_rule, none_outside, rows_inside}
 
 -- ---- the first place without a value
 
-pub found_within : {X : Type 0} (place w : ℕ) (vs : List (Option X)) → first_without place vs ≡ Some w → w < place + length vs
-found_within place w [] is = absurd (none-some w is)
-found_within place w (None ∷ vs) is = let same : place ≡ w = same_Some place w is in omega (arith, same)
-found_within place w (Some x ∷ vs) is = omega (arith, found_within (place + 1) w vs is)
-
--- so it is no higher than there are items
+-- it is no higher than there are items
 pub found_among : {X : Type 0} (found : Option ℕ) (place most : ℕ) (vs : List (Option X)) → found ≡ first_without place vs → place + length vs ≤ most → IfSome found (λ w. w ≤ most)
 found_among None place most vs is few = tt
 found_among (Some w) place most vs is few = omega (arith, found_within place w vs (sym is), few)
@@ -46,10 +30,7 @@ found_more None now place next (Some x) vs all is after so_far = ap (λ o. optio
 pub found_both : {X : Type 0} (found now here : Option ℕ) (place next : ℕ) (vs ws left : List (Option X)) (all : Option ℕ) → now ≡ option_or found here → here ≡ first_without place vs
     → next ≡ place + length vs → left ≡ vs ++ ws → option_or found (first_without place left) ≡ all → option_or now (first_without next ws) ≡ all
 found_both (Some w) now here place next vs ws left all is is_here after both so_far = ap (λ o. option_or o (first_without next ws)) is ∙ so_far
-found_both None now here place next vs ws left all is is_here after both so_far =
-    ap (λ o. option_or o (first_without next ws)) (is ∙ is_here)
-    ∙ ap (λ p. option_or (first_without place vs) (first_without p ws)) after
-    ∙ sym (ap (first_without place) both ∙ first_of_both place vs ws) ∙ so_far
+found_both None now here place next vs ws left all is is_here after both so_far = cc (is, is_here, after, both, first_of_both place vs ws, so_far)
 
 fails_first : (n p : ℕ) (vs : List (Option ℤ)) → first_without n vs ≡ Some p → values_from no.Overflow n vs ≡ Err (fault_at no.Overflow p)
 fails_first n p [] is = absurd (none-some p is)
@@ -123,10 +104,7 @@ module _ (rule : ℤ → Option ℤ) (lengths : List ℕ) (columns values x : Li
 
   pub first_overflow : (row : ℕ) → None ≡ first_outside 0 (length x) columns → first_without 0 (map (row_value rule x) (cut_of lengths entries)) ≡ Some row
       → product_by rule lengths columns values x ≡ Err (fault_at no.Overflow row)
-  first_overflow row inside found =
-      let ruled = by_rule rule x lengths entries (all_inside 0 (length x) columns values inside) in
-      ap after_rows (are_rows (length x) lengths columns values inside as_many adds_up)
-      ∙ fails_first 0 row (map (λ r. rule (row_total x r)) (cut_of lengths entries)) (ap (first_without 0) (sym ruled) ∙ found)
+  first_overflow row inside found = search (rules, by_rule, all_inside, are_rows, fails_first)
 
 -- ---- sums that wrap have a value always
 

@@ -1,19 +1,8 @@
 -- The value of a row, entry by entry, as the loops have it: from a sum on, and over the entries that are left.
-use Rattle.std.proofs.Common.{◌≡◌, ℕ, ◌+◌, ◌<◌, Bool, true, false, ℤ, pos, negsuc, ◌+ℤ◌, ◌*ℤ◌, List, [], ◌∷◌, length, drop, map, get_or, refl, sym, ap, ◌∙◌, arith, Option, Some, None, inl, inr}
-use Rattle.std.specs.Prelude.{◌&&◌, ◌≤◌, if◌then◌else◌, unwrap_or}
-use Rattle.std.specs.Int.{w32, int_wrap}
-use Rattle.std.specs.List.{fold, zip}
-use Rattle.std.proofs.lemmas.Bool.{le-ltb, lt-ltb}
-use Rattle.std.proofs.lemmas.Int.{int_wrap-add_left, int_wrap-add_right}
-use Rattle.std.proofs.lemmas.List.{drop_all, drop_more}
-use Rattle.std.proofs.lemmas.Option.{slice_get_cases}
-use Rattle.std.proofs.lemmas.Slice.Zip.{get_or-zip, length-zip}
-use Rattle.cvl_base.specs.CheckedSums.{fitting}
-use Rattle.cvl_base.specs.Extracts.{element_at}
-use Rattle.cvl_base.specs.Integers.{wrap}
-use Rattle.cvl_base.specs.Permutes.{is_place}
-use Rattle.sparse_products.specs.Products.{at_column, term}
-use Rattle.sparse_products.specs.Rows.{are_within, row_value, wrapping}
+use Rattle.sparse_products.proofs.Cited.{rules, nat_tests, ◌≡◌, ℕ, ◌+◌, ◌<◌, Bool, true, false, ℤ, pos, negsuc, ◌+ℤ◌, ◌*ℤ◌, List, [], ◌∷◌, length, drop, map, get_or, refl, ap, arith, Option, Some}
+use Rattle.sparse_products.proofs.Cited.{None, ◌&&◌, ◌≤◌, if◌then◌else◌, w32, fold, zip, le-ltb, lt-ltb, int_wrap-add_left, int_wrap-add_right, drop_all, drop_more, slice_get_cases, get_or-zip}
+use Rattle.sparse_products.proofs.Cited.{length-zip, fitting, element_at, wrap, is_place, at_column, term, are_within, row_value, wrapping}
+use Rattle.std.specs.Int.{int_wrap}
 
 -- what follows with the element at a column, if there is one
 abbrev pub with_element : Option ℤ → (ℤ → Option ℤ) → Option ℤ
@@ -28,13 +17,7 @@ value_from add finish x sum (entry ∷ row) = with_element (element_at x entry.0
 -- ---- what it is
 
 pub there : (x : List ℤ) (column : ℤ) → element_at x column ≡ (if is_place (length x) column then Some (at_column x column) else None)
-there x (pos k) =
-    elim ((slice_get_cases x k).1) [
-      | inl t ↦ let is : element_at x (pos k) ≡ Some t.0 = t.2 in
-          let column : at_column x (pos k) ≡ t.0 = ap (λ o. unwrap_or o (pos 0)) is in
-          is ∙ sym (ap Some column) ∙ sym (ap (λ b. if b then Some (at_column x (pos k)) else None) (lt-ltb k (length x) t.1))
-      | inr t ↦ t.1 ∙ sym (ap (λ b. if b then Some (at_column x (pos k)) else None) (le-ltb k (length x) t.0))
-    ]
+there x (pos k) = grind (arith, nat_tests, slice_get_cases, lt-ltb, le-ltb)
 there x (negsuc k) = refl
 
 one_entry : (inside others : Bool) (y : ℤ) (value : Option ℤ) (next : ℤ → Option ℤ) → next y ≡ (if others then value else None)
@@ -45,11 +28,7 @@ one_entry false others y value next is = refl
 pub all_entries : (add : ℤ → ℤ → ℤ) (finish : ℤ → Option ℤ) (x : List ℤ) (sum : ℤ) (row : List (ℤ × ℤ))
     → value_from add finish x sum row ≡ (if are_within (length x) row then finish (fold add sum (map (term x) row)) else None)
 all_entries add finish x sum [] = refl
-all_entries add finish x sum (entry ∷ row) =
-    let y = at_column x entry.0 in
-    ap (λ o. with_element o (λ z. value_from add finish x (add sum (entry.1 *ℤ z)) row)) (there x entry.0)
-    ∙ one_entry (is_place (length x) entry.0) (are_within (length x) row) y (finish (fold add (add sum (term x entry)) (map (term x) row)))
-    (λ z. value_from add finish x (add sum (entry.1 *ℤ z)) row) (all_entries add finish x (add sum (term x entry)) row)
+all_entries add finish x sum (entry ∷ row) = search (rules, there, one_entry, all_entries add finish x (add sum (term x entry)) row)
 
 -- a sum that is wrapped with each product, which is wrapped, too
 abbrev pub add_wrapped : ℤ → ℤ → ℤ
@@ -57,16 +36,14 @@ add_wrapped sum product = wrap (sum +ℤ wrap product)
 
 wrapped_once : (products : List ℤ) (sum : ℤ) → fold add_wrapped (wrap sum) products ≡ wrap (fold ◌+ℤ◌ sum products)
 wrapped_once [] sum = refl
-wrapped_once (t ∷ products) sum =
-    ap (λ s. fold add_wrapped s products) (int_wrap-add_left w32 sum (wrap t) ∙ int_wrap-add_right w32 sum t) ∙ wrapped_once products (sum +ℤ t)
+wrapped_once (t ∷ products) sum = cc (int_wrap-add_left w32 sum (wrap t), int_wrap-add_right w32 sum t, wrapped_once products (sum +ℤ t))
 
 from_zero : (products : List ℤ) → fold add_wrapped (pos 0) products ≡ wrap (fold ◌+ℤ◌ (pos 0) products)
 unfolding int_wrap
 from_zero products = wrapped_once products (pos 0)
 
 pub wrapped_value : (x : List ℤ) (row : List (ℤ × ℤ)) → value_from add_wrapped Some x (pos 0) row ≡ row_value wrapping x row
-wrapped_value x row =
-    all_entries add_wrapped Some x (pos 0) row ∙ ap (λ s. if are_within (length x) row then Some s else None) (from_zero (map (term x) row))
+wrapped_value x row = cc (all_entries add_wrapped Some x (pos 0) row, from_zero (map (term x) row))
 
 pub fitting_value : (x : List ℤ) (row : List (ℤ × ℤ)) → value_from ◌+ℤ◌ fitting x (pos 0) row ≡ row_value fitting x row
 fitting_value x row = all_entries ◌+ℤ◌ fitting x (pos 0) row
@@ -78,9 +55,7 @@ module _ (add : ℤ → ℤ → ℤ) (finish : ℤ → Option ℤ) (x columns va
   left n = drop n (zip columns values)
 
   next : k < length columns → left k ≡ (get_or columns k (pos 0), get_or values k (pos 0)) ∷ left (k + 1)
-  next lt =
-      drop_more (zip columns values) k (pos 0, pos 0) (omega (arith, lt, as_many, length-zip columns values))
-      ∙ ap (λ entry. entry ∷ left (k + 1)) (get_or-zip columns values k (pos 0, pos 0) lt (omega (arith, lt, as_many)))
+  next lt = cc (drop_more (zip columns values) k (pos 0, pos 0) (omega (arith, lt, as_many, length-zip columns values)), get_or-zip columns values k (pos 0, pos 0) lt (omega (arith, lt, as_many)))
 
   entry_read : k < length columns → value_from add finish x sum (left k)
       ≡ with_element (element_at x (get_or columns k (pos 0))) (λ y. value_from add finish x (add sum (get_or values k (pos 0) *ℤ y)) (left (k + 1)))
@@ -89,14 +64,10 @@ module _ (add : ℤ → ℤ → ℤ) (finish : ℤ → Option ℤ) (x columns va
   -- one entry more, and the sum with its product
   pub entry_added : (y now : ℤ) → k < length columns → element_at x (get_or columns k (pos 0)) ≡ Some y → now ≡ add sum (get_or values k (pos 0) *ℤ y)
       → value_from add finish x sum (left k) ≡ value_from add finish x now (left (k + 1))
-  entry_added y now lt is added =
-      entry_read lt
-      ∙ ap (λ o. with_element o (λ z. value_from add finish x (add sum (get_or values k (pos 0) *ℤ z)) (left (k + 1)))) is
-      ∙ ap (λ s. value_from add finish x s (left (k + 1))) (sym added)
+  entry_added y now lt is added = cc (entry_read lt, is, added)
 
   pub entry_outside : k < length columns → element_at x (get_or columns k (pos 0)) ≡ None → value_from add finish x sum (left k) ≡ None
-  entry_outside lt is =
-      entry_read lt ∙ ap (λ o. with_element o (λ z. value_from add finish x (add sum (get_or values k (pos 0) *ℤ z)) (left (k + 1)))) is
+  entry_outside lt is = cc (entry_read lt, is)
 
   pub entries_done : length columns ≤ k → value_from add finish x sum (left k) ≡ finish sum
   entries_done ge = ap (value_from add finish x sum) (drop_all k (zip columns values) (omega (arith, ge, length-zip columns values)))

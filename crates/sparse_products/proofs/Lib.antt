@@ -4,3 +4,4 @@ pub mod Entries
 pub mod RowLengths
 pub mod Totals
 pub mod Within
+pub mod Cited

@@ -1,27 +1,14 @@
 -- Lengths between offsets, of which the first few are known.
-use Rattle.std.proofs.Common.{◌≡◌, ℕ, ◌+◌, ◌<◌, ◌≤◌, true, false, ℤ, pos, ◌-ℤ◌, List, [], ◌∷◌, ◌++◌, length, get_or, sym, ap, ◌∙◌, arith, Some, None, Ok, Err, inl}
-use Rattle.std.proofs.Common.{inr, append-nil, append_assoc, drop, length-append}
-use Rattle.std.specs.Prelude.{◌<ℤ◌, ◌≤ℤ◌, cond, nat_lt, option_map, position}
-use Rattle.std.specs.Int.{is_negative}
-use Rattle.std.specs.List.{position_or_len}
-use Rattle.std.proofs.lemmas.Bool.{lt-ltb}
-use Rattle.std.proofs.lemmas.Bool.Decides.{leb_tells}
-use Rattle.std.proofs.lemmas.Int.{ints}
-use Rattle.std.proofs.lemmas.List.{drop_all, drop_more, get_or_append_left}
-use Rattle.std.proofs.lemmas.List.Sums.{position_or_len_is}
+use Rattle.sparse_products.proofs.Cited.{rules, ◌≡◌, ℕ, ◌+◌, ◌<◌, ◌≤◌, true, false, ℤ, pos, ◌-ℤ◌, List, [], ◌∷◌, ◌++◌, length, get_or, sym, ap, ◌∙◌, arith, Some, None, Ok, Err, inl, inr, append-nil}
+use Rattle.sparse_products.proofs.Cited.{append_assoc, drop, length-append, ◌<ℤ◌, ◌≤ℤ◌, cond, nat_lt, option_map, position, is_negative, position_or_len, lt-ltb, leb_tells, ints, drop_all}
+use Rattle.sparse_products.proofs.Cited.{drop_more, get_or_append_left, position_or_len_is, fault_at, unless, lengths_after, none_negative}
 use Rattle.std.proofs.Math.Seq.{get_or-append_seam}
 use Rattle.cvl_base.specs.declared.fault.FaultNo.TheVariants as no
-use Rattle.cvl_base.specs.Faults.{fault_at}
-use Rattle.cvl_base.specs.Gives.{unless}
 use Rattle.cvl_base.proofs.Descriptors.{position-none}
-use Rattle.sparse_products.specs.Answers.{lengths_after, none_negative}
 
 -- none of the numbers is negative
 pub record AreNatural (numbers : List ℤ) : Type 0 where
   pub natural : (k : ℕ) → k < length numbers → is_negative (get_or numbers k (pos 0)) ≡ false
-
-pub no_number : AreNatural []
-no_number = record { natural = λ k lt. absurd (omega (arith, lt)) }
 
 module _ (numbers : List ℤ) (are : AreNatural numbers) where
   pub one_more : (z : ℤ) → is_negative z ≡ false → AreNatural (numbers ++ z ∷ [])
@@ -67,10 +54,7 @@ module _ (offsets done : List ℤ) (row : ℕ) (before : ℤ) (lt : row < length
   whole = sym (ap (λ os. done ++ lengths_after before os) (drop_more offsets row (pos 0) lt)) ∙ so_far
 
   pub falls_short : length done ≡ row → offset <ℤ before → none_negative (lengths_after (pos 0) offsets) ≡ Err (fault_at no.NegativeLength row)
-  falls_short count less =
-      ap none_negative (sym whole)
-      ∙ first_negative done are (offset -ℤ before) (lengths_after offset (drop (row + 1) offsets)) (negative_between offset before less)
-      ∙ ap (λ k. Err (fault_at no.NegativeLength k)) count
+  falls_short count less = cc (whole, first_negative done are (offset -ℤ before) (lengths_after offset (drop (row + 1) offsets)) (negative_between offset before less), count)
 
   pub one_length_more : (z : ℤ) → before ≤ℤ offset → z ≡ offset -ℤ before
       → ((done ++ z ∷ []) ++ lengths_after offset (drop (row + 1) offsets) ≡ lengths_after (pos 0) offsets) × AreNatural (done ++ z ∷ [])
@@ -81,6 +65,4 @@ module _ (offsets done : List ℤ) (row : ℕ) (before : ℤ) (lt : row < length
 
 pub no_offset_left : (offsets done : List ℤ) (row : ℕ) (before : ℤ) → length offsets ≤ row → done ++ lengths_after before (drop row offsets) ≡ lengths_after (pos 0) offsets → AreNatural done
     → none_negative (lengths_after (pos 0) offsets) ≡ Ok done
-no_offset_left offsets done row before ge so_far are =
-    let all : done ≡ lengths_after (pos 0) offsets = sym (append-nil done) ∙ sym (ap (λ os. done ++ lengths_after before os) (drop_all row offsets ge)) ∙ so_far in
-    ap none_negative (sym all) ∙ all_natural done are
+no_offset_left offsets done row before ge so_far are = search (rules, append-nil, drop_all, all_natural)

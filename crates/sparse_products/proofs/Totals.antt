@@ -1,26 +1,9 @@
 -- Sums of the first entries of some rows: one entry more, and the rows that they give.
-use Rattle.std.proofs.Common.{◌≡◌, ℕ, ◌+◌, ◌<◌, ◌≤◌, Bool, true, false, ℤ, pos, ◌+ℤ◌, ◌*ℤ◌, List, [], ◌∷◌, ◌++◌, length, take, drop, map, get_or, refl, sym, ap, ◌∙◌, arith, Some, None}
-use Rattle.std.proofs.Common.{take-add, inl, inr, get_or-set_other}
-use Rattle.std.specs.Prelude.{◌-ℤ◌, ◌&&◌, if◌then◌else◌, sum, unwrap_or}
-use Rattle.std.specs.Int.{w32}
-use Rattle.std.specs.List.{fold, zip}
-use Rattle.std.proofs.Math.ListN.{set}
-use Rattle.std.proofs.lemmas.Bool.Decides.{leb_tells}
+use Rattle.sparse_products.proofs.Cited.{rules, nat_tests, ◌≡◌, ℕ, ◌+◌, ◌<◌, ◌≤◌, Bool, true, false, ℤ, pos, ◌+ℤ◌, ◌*ℤ◌, List, [], ◌∷◌, ◌++◌, length, take, drop, map, get_or, refl, sym, ap, ◌∙◌}
+use Rattle.sparse_products.proofs.Cited.{arith, Some, None, take-add, get_or-set_other, ◌-ℤ◌, ◌&&◌, if◌then◌else◌, sum, unwrap_or, w32, fold, zip, set, leb_tells, none-some, same_Some, ints}
+use Rattle.sparse_products.proofs.Cited.{int_wrap-add_left, int_wrap-add_right, int_wrap-sub_right, length-drop, map-append, take_more, fold-append, get_or-zip, length-zip, element_at, wrap, cut_of}
+use Rattle.sparse_products.proofs.Cited.{is_place, sum-cons, first_without, AreSums, between, at_column, row_total, term, are_within, row_item, row_value, wrapping}
 use Rattle.std.proofs.lemmas.Grind.{get_or-set_at}
-use Rattle.std.proofs.lemmas.Option.{none-some, same_Some}
-use Rattle.std.proofs.lemmas.Int.{ints, int_wrap-add_left, int_wrap-add_right, int_wrap-sub_right}
-use Rattle.std.proofs.lemmas.List.{length-drop, map-append, take_more}
-use Rattle.std.proofs.lemmas.List.Sums.{fold-append}
-use Rattle.std.proofs.lemmas.Slice.Zip.{get_or-zip, length-zip}
-use Rattle.cvl_base.specs.Extracts.{element_at}
-use Rattle.cvl_base.specs.Integers.{wrap}
-use Rattle.cvl_base.specs.Nests.{cut_of}
-use Rattle.cvl_base.specs.Permutes.{is_place}
-use Rattle.cvl_base.proofs.Lists.{sum-cons}
-use Rattle.fresh.specs.Found.{first_without}
-use Rattle.sparse_products.specs.EntrySums.{AreSums, between}
-use Rattle.sparse_products.specs.Products.{at_column, row_total, term}
-use Rattle.sparse_products.specs.Rows.{are_within, row_item, row_value, wrapping}
 use Rattle.sparse_products.proofs.Entries.{there}
 use Rattle.sparse_products.proofs.Within.{by_rule, halves_within, within_both}
 
@@ -29,10 +12,7 @@ total_from [] before = omega (arith, ints)
 total_from (x ∷ xs) before = omega (arith, ints, total_from xs (before +ℤ x), total_from xs (pos 0 +ℤ x))
 
 pub total-append : (x : List ℤ) (row others : List (ℤ × ℤ)) → row_total x (row ++ others) ≡ row_total x row +ℤ row_total x others
-total-append x row others =
-    ap (fold ◌+ℤ◌ (pos 0)) (map-append (term x) row others)
-    ∙ fold-append ◌+ℤ◌ (pos 0) (map (term x) row) (map (term x) others)
-    ∙ total_from (map (term x) others) (row_total x row)
+total-append x row others = cc (map-append (term x) row others, fold-append ◌+ℤ◌ (pos 0) (map (term x) row) (map (term x) others), total_from (map (term x) others) (row_total x row))
 
 one_total : (x : List ℤ) (entry : ℤ × ℤ) → row_total x (entry ∷ []) ≡ term x entry
 one_total x entry = omega (arith, ints)
@@ -40,10 +20,7 @@ one_total x entry = omega (arith, ints)
 -- the sum with one entry more
 pub total_more : (x : List ℤ) (entries : List (ℤ × ℤ)) (k : ℕ) → k < length entries
     → row_total x (take (k + 1) entries) ≡ row_total x (take k entries) +ℤ term x (get_or entries k (pos 0, pos 0))
-total_more x entries k lt =
-    ap (row_total x) (take_more entries k (pos 0, pos 0) lt)
-    ∙ total-append x (take k entries) (get_or entries k (pos 0, pos 0) ∷ [])
-    ∙ ap (λ t. row_total x (take k entries) +ℤ t) (one_total x (get_or entries k (pos 0, pos 0)))
+total_more x entries k lt = cc (take_more entries k (pos 0, pos 0) lt, total-append x (take k entries) (get_or entries k (pos 0, pos 0) ∷ []), one_total x (get_or entries k (pos 0, pos 0)))
 
 -- ---- the loop over the entries
 
@@ -68,31 +45,18 @@ module _ (x columns values : List ℤ) (as_many : length values ≡ length colum
       let total = row_total x (first_entries k) in (
         within_both (length x) (first_entries k) (entry ∷ []) (first_entries (k + 1))
             (take_more entries k (pos 0, pos 0) within ∙ ap (λ e. first_entries k ++ e ∷ []) read) inside (λ i. is.0 i && true),
-        now_is
-            ∙ ap (λ s. wrap (s +ℤ wrap (entry.1 *ℤ element))) last_is
-            ∙ int_wrap-add_left w32 total (wrap (entry.1 *ℤ element))
-            ∙ int_wrap-add_right w32 total (entry.1 *ℤ element)
-            ∙ ap (λ y. wrap (total +ℤ (entry.1 *ℤ y))) (sym is.1)
-            ∙ ap (λ e. wrap (total +ℤ term x e)) (sym read)
-            ∙ ap wrap (sym (total_more x entries k within)),
+        cc (now_is, last_is, int_wrap-add_left w32 total (wrap (entry.1 *ℤ element)), int_wrap-add_right w32 total (entry.1 *ℤ element), is.1, read, total_more x entries k within),
       )
 
 -- the sum of one entry more is written behind the others
 pub sums_more : (sums : List ℤ) (k : ℕ) (now : ℤ) (total : ℕ → ℤ) → k + 1 < length sums → ((j : ℕ) → j ≤ k → get_or sums j (pos 0) ≡ total j) → now ≡ total (k + 1)
     → (j : ℕ) → j ≤ k + 1 → get_or (set sums (k + 1) now) j (pos 0) ≡ total j
-sums_more sums k now total lt each is j le = elim (leb_tells (k + 1) j) [
-  | inl t ↦ let same : j ≡ k + 1 = omega (arith, t.1, le) in get_or-set_at sums (k + 1) j now (pos 0) same lt ∙ is ∙ ap total (sym same)
-  | inr t ↦ get_or-set_other sums (k + 1) j now (pos 0) (λ same. omega (arith, t.1, same)) ∙ each j (omega (arith, t.1))
-]
+sums_more sums k now total lt each is j le = grind (arith, nat_tests, leb_tells, get_or-set_at, get_or-set_other)
 
 -- ---- a row by the sums at its ends
 
 difference : (before row : ℤ) → wrap (wrap (before +ℤ row) -ℤ wrap before) ≡ wrap row
-difference before row =
-    int_wrap-sub_right w32 (wrap (before +ℤ row)) before
-    ∙ ap wrap (let same : wrap (before +ℤ row) -ℤ before ≡ wrap (before +ℤ row) +ℤ (pos 0 -ℤ before) = omega (arith, ints) in same)
-    ∙ int_wrap-add_left w32 (before +ℤ row) (pos 0 -ℤ before)
-    ∙ ap wrap (let same : (before +ℤ row) +ℤ (pos 0 -ℤ before) ≡ row = omega (arith, ints) in same)
+difference before row = search (rules, int_wrap-sub_right, int_wrap-add_left)
 
 item_inside : (x : List ℤ) (row : List (ℤ × ℤ)) → are_within (length x) row ≡ true → row_item wrapping x row ≡ wrap (row_total x row)
 item_inside x row inside = ap (λ b. unwrap_or (if b then Some (wrap (row_total x row)) else None) (pos 0)) inside

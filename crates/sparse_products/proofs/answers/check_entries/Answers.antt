@@ -1,4 +1,4 @@
-use Rattle.std.proofs.Common.{◌≡◌, ◌∙◌, ap, arith, length, sym, Err}
+use Rattle.sparse_products.proofs.Cited.{◌≡◌, ◌∙◌, ap, arith, length, sym, Err}
 use Rattle.sparse_products.proofs.Answered.{not_as_many, not_the_total}
 use Rattle.sparse_products.proofs.answers.check_entries.Goals as goal
 use Rattle.sparse_products.proofs.answers.check_entries.Goals.{else-values-columns-via-then-values-columns+else-entries-columns, else-values-columns-via-else-values-columns}

@@ -1,5 +1,4 @@
-use Rattle.std.proofs.Common.{◌∙◌, ap, sym, Err, Ok}
-use Rattle.permute_walks.specs.Indices.{first_outside}
+use Rattle.sparse_products.proofs.Cited.{◌∙◌, ap, sym, Err, Ok, first_outside}
 use Rattle.sparse_products.proofs.Answered.{each_has_value, first_overflow}
 use Rattle.sparse_products.proofs.answers.product_or_fault.Goals as goal
 

@@ -1,14 +1,9 @@
-use Rattle.std.proofs.Common.{◌≡◌, ◌+◌, ◌++◌, ◌∙◌, ap, arith, drop, subst, get_or, of_z, pos, sym, to_z, w32, Err}
-use Rattle.std.proofs.lemmas.Int.{ints, to_z-of_z}
-use Rattle.std.specs.Prelude.{◌≤ℤ◌}
-use Rattle.sparse_products.specs.Answers.{lengths_after}
+use Rattle.sparse_products.proofs.Cited.{rules, ◌≡◌, ◌+◌, ◌++◌, ◌∙◌, arith, drop, subst, get_or, of_z, pos, sym, to_z, w32, ints, to_z-of_z, ◌≤ℤ◌, lengths_after}
 use Rattle.sparse_products.proofs.RowLengths.{AreNatural, falls_short, no_offset_left, one_length_more}
 use Rattle.sparse_products.proofs.offsets.lengths_after_0.Goals as goal
 
 pub returns-in-None-clause-lengths : goal.returns-in-None-clause-lengths
-returns-in-None-clause-lengths g c =
-    falls_short c.args.offsets.now c.loop-row.lengths.items c.loop-row.row (to_z w32 c.loop-row.before-bits) c.loop-row-test.true c.loop-row.invariant.whole c.loop-row.invariant.natural
-    (omega (arith, c.loop-row.invariant.count, c.loop-row.lengths.ok)) c.in-None.ensures ∙ ap Err (sym c.at.ensures)
+returns-in-None-clause-lengths g c = search (rules, falls_short)
 
 pub loop-row-preserved : goal.loop-row-preserved
 loop-row-preserved g c =

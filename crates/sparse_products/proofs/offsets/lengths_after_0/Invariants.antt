@@ -1,7 +1,4 @@
-use Rattle.std.proofs.Common.{◌≡◌, ◌≤◌, ◌++◌, drop, length, pos}
-use Rattle.std.specs.Prelude.{◌≤ℤ◌}
-use Rattle.std.specs.Vec.{vec_capacity, vec_len}
-use Rattle.sparse_products.specs.Answers.{lengths_after}
+use Rattle.sparse_products.proofs.Cited.{◌≡◌, ◌≤◌, ◌++◌, drop, length, pos, ◌≤ℤ◌, vec_capacity, vec_len, lengths_after}
 use Rattle.sparse_products.proofs.RowLengths.{AreNatural}
 use Rattle.sparse_products.proofs.offsets.lengths_after_0.Given as goal
 

@@ -1,22 +1,12 @@
-use Rattle.std.proofs.Common.{◌+◌, ◌≤◌, arith, length, map}
-use Rattle.std.specs.List.{zip}
-use Rattle.std.proofs.lemmas.List.{length-map}
-use Rattle.cvl_base.specs.Limits.{most_places}
-use Rattle.cvl_base.specs.Nests.{cut_of}
-use Rattle.cvl_base.proofs.Nests.{length-cut}
-use Rattle.sparse_products.specs.Rows.{row_item, row_value}
+use Rattle.sparse_products.proofs.Cited.{rules, ◌+◌, ◌≤◌, arith, length, map, zip, length-map, most_places, cut_of, length-cut, row_value}
 use Rattle.sparse_products.proofs.Answered.{found_among}
 use Rattle.sparse_products.proofs.products.product_in_runs.Goals as goal
 
 pub write_checked_in_runs-requires-clause-items : goal.write_checked_in_runs-requires-clause-items
-write_checked_in_runs-requires-clause-items g c κs within =
-    let entries = zip c.args.columns.now c.args.values.now in
-    omega (arith, c.count-count.ensures.value, length-map (cut_of c.args.rows.now entries) (row_item g.S.RowWalk.rule c.args.x.now), length-cut c.args.rows.now entries)
+write_checked_in_runs-requires-clause-items g c κs within = search (rules, length-map, length-cut)
 
 pub write_checked_in_runs-requires-clause-values : goal.write_checked_in_runs-requires-clause-values
-write_checked_in_runs-requires-clause-values g c κs within =
-    let entries = zip c.args.columns.now c.args.values.now in
-    omega (arith, c.count-count.ensures.value, length-map (cut_of c.args.rows.now entries) (row_value g.S.RowWalk.rule c.args.x.now), length-cut c.args.rows.now entries)
+write_checked_in_runs-requires-clause-values g c κs within = search (rules, length-map, length-cut)
 
 pub product_or_fault-requires-clause-rows : goal.product_or_fault-requires-clause-rows
 product_or_fault-requires-clause-rows g c =

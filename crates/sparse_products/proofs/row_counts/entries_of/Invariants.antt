@@ -1,5 +1,4 @@
-use Rattle.std.proofs.Common.{◌≡◌, map, take, unsigned_abs}
-use Rattle.std.specs.Prelude.{sum}
+use Rattle.sparse_products.proofs.Cited.{◌≡◌, map, take, unsigned_abs, sum}
 use Rattle.sparse_products.proofs.row_counts.entries_of.Given as goal
 
 abbrev pub invariant-loop-length : goal.invariant-loop-length

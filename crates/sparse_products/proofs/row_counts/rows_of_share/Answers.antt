@@ -1,11 +1,6 @@
-use Rattle.std.proofs.Common.{◌≡◌, ◌∙◌, ℕ, ◌-◌, ◌≤◌, List, length, map, take, unsigned_abs, ap, arith, inl, inr}
-use Rattle.std.specs.Prelude.{sum}
-use Rattle.std.proofs.lemmas.Bool.Decides.{leb_tells}
-use Rattle.std.proofs.lemmas.List.{length-map, take-take, take_all}
-use Rattle.std.proofs.lemmas.List.Sums.{sum_by-take-le, sum_by_more}
+use Rattle.sparse_products.proofs.Cited.{◌≡◌, ◌∙◌, ℕ, ◌-◌, ◌≤◌, List, length, map, take, unsigned_abs, ap, arith, inl, inr, sum, leb_tells, length-map, take-take, take_all, sum_by-take-le, start_of}
+use Rattle.sparse_products.proofs.Cited.{length_here}
 use Rattle.sharing.specs.Shares.{share_of_first}
-use Rattle.segdes.specs.Starts.{start_of}
-use Rattle.range_walks.proofs.Segments.{length_fits, segment_read}
 use Rattle.sparse_products.proofs.row_counts.rows_of_share.Goals as goal
 
 later : (lengths : List ℕ) (a b : ℕ) → a ≤ b → start_of lengths a ≤ start_of lengths b
@@ -16,18 +11,15 @@ all_entries : (lengths : List ℕ) (n entries : ℕ) → n ≡ length lengths �
 all_entries lengths n entries long is = omega (arith, is, ap sum (take_all n lengths (omega (arith, long))))
 
 pub overflow_cast-start : goal.overflow_cast-start
-overflow_cast-start c =
-    let row = c.args.lengths.now in
-    length_fits row (map unsigned_abs row) c.requires.lengths.none_negative c.requires.lengths c.loop-rows.rows (omega arith)
+overflow_cast-start c = (length_here {s = c.loop-rows.rows} c.requires.lengths (omega arith)).fits
 
 pub loop-rows-preserved : goal.loop-rows-preserved
 loop-rows-preserved c =
-    let row = c.args.lengths.now in
-    let lengths = map unsigned_abs row in
+    let lengths = map unsigned_abs c.args.lengths.now in
     let rows = c.loop-rows.rows in
-    let read = segment_read row lengths c.requires.lengths.none_negative c.requires.lengths rows (omega arith) in
+    let here = length_here {s = rows} c.requires.lengths (omega arith) in
     record {
-      begins = omega (arith, read.1, c.loop-rows.invariant.begins, sum_by_more (λ x. x) lengths rows 0 read.0);
+      begins = omega (arith, here.next, c.loop-rows.invariant.begins);
       within = omega arith;
       front = λ s lt. elim (leb_tells rows s) [
         | inl t ↦ let same : s ≡ rows = omega (arith, t.1, lt) in omega (arith, c.loop-rows.invariant.begins, ap (start_of lengths) same)

@@ -1,5 +1,4 @@
-use Rattle.std.proofs.Common.{◌≡◌, ℕ, ◌-◌, ◌<◌, ◌≤◌, length, map, unsigned_abs}
-use Rattle.segdes.specs.Starts.{start_of}
+use Rattle.sparse_products.proofs.Cited.{◌≡◌, ℕ, ◌-◌, ◌<◌, ◌≤◌, length, map, unsigned_abs, start_of}
 use Rattle.sparse_products.proofs.row_counts.rows_of_share.Given as goal
 
 -- all rows so far start before the place

@@ -1,7 +1,4 @@
-use Rattle.std.proofs.Common.{◌≡◌, ◌+◌, ◌-◌, ◌<◌, ◌≤◌, drop, length, map, unsigned_abs}
-use Rattle.std.specs.Prelude.{sum}
-use Rattle.fresh.specs.Places.{with_items}
-use Rattle.sparse_products.specs.EntrySums.{between}
+use Rattle.sparse_products.proofs.Cited.{◌≡◌, ◌+◌, ◌-◌, ◌<◌, ◌≤◌, drop, length, map, unsigned_abs, sum, with_items, between}
 use Rattle.sparse_products.proofs.row_groups.differences_into.Given as goal
 
 -- what is written with the rows that are left is what the whole has

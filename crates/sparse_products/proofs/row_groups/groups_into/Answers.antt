@@ -1,20 +1,11 @@
-use Rattle.std.proofs.Common.{◌≡◌, ◌+◌, ◌-◌, ◌++◌, length, length-append, drop, map, take, unsigned_abs, ap, ◌∙◌, arith}
-use Rattle.std.specs.Prelude.{sum}
-use Rattle.std.specs.List.{zip}
-use Rattle.std.proofs.lemmas.List.{length-map, map-append}
-use Rattle.cvl_base.specs.Nests.{cut_of}
-use Rattle.cvl_base.proofs.Nests.{length-cut}
-use Rattle.range_walks.proofs.Segments.{range_left, range_lengths, range_read}
-use Rattle.range_walks.proofs.Written.{written_more}
-use Rattle.sparse_products.specs.Rows.{row_item, row_value, wrapping}
+use Rattle.sparse_products.proofs.Cited.{rules, ◌≡◌, ◌+◌, ◌-◌, ◌++◌, length, length-append, drop, map, take, unsigned_abs, ap, ◌∙◌, arith, sum, zip, length-map, map-append, cut_of, length-cut}
+use Rattle.sparse_products.proofs.Cited.{range_left, range_lengths, range_read, written_more, row_item, row_value, wrapping, zip_drop, zip_take}
 use Rattle.sparse_products.proofs.Answered.{found_both}
-use Rattle.sparse_products.proofs.Cuts.{cut_group, zip-drop, zip-take}
+use Rattle.sparse_products.proofs.Cuts.{cut_group}
 use Rattle.sparse_products.proofs.row_groups.groups_into.Goals as goal
 
 pub entries_of-entries-requires : goal.entries_of-entries-requires
-entries_of-entries-requires c =
-    let row = c.args.lengths.now in
-    range_lengths row (map unsigned_abs row) c.loop-first.first (c.min-next.result - c.loop-first.first) c.requires.lengths.none_negative c.requires.lengths
+entries_of-entries-requires c = search (rules, range_lengths)
 
 pub split_at-requires : goal.split_at-requires
 split_at-requires c =
@@ -26,9 +17,7 @@ split_at-requires c =
     omega (arith, c.entries_of-entries.ensures, ap sum read, range_left lengths first k c.min-next.result (omega (arith, c.min-next.ensures, c.loop-first-test.true)), c.loop-first.invariant.covered)
 
 pub group_into-written-requires-clause-lengths : goal.group_into-written-requires-clause-lengths
-group_into-written-requires-clause-lengths c =
-    let row = c.args.lengths.now in
-    range_lengths row (map unsigned_abs row) c.loop-first.first (c.min-next.result - c.loop-first.first) c.requires.lengths.none_negative c.requires.lengths
+group_into-written-requires-clause-lengths c = search (rules, range_lengths)
 
 pub loop-first-preserved : goal.loop-first-preserved
 loop-first-preserved c =
@@ -49,10 +38,7 @@ loop-first-preserved c =
     let others = zip c.split_at.result.1.now c.split_at-in-loop-first.result.1.now in
     let rows = cut_of group front in
     let left = cut_of (drop next lengths) others in
-    let cut : cut_of (drop first lengths) (zip cs vs) ≡ rows ++ left =
-    cut_group lengths group first k n next (zip cs vs) front others read c.entries_of-entries.ensures later
-    ((λ i. zip (c.split_at.ensures.front i) (c.split_at-in-loop-first.ensures.front i)) ∙ zip-take cs vs n)
-    ((λ i. zip (c.split_at.ensures.back i) (c.split_at-in-loop-first.ensures.back i)) ∙ zip-drop cs vs n) in
+    let cut : cut_of (drop first lengths) (zip cs vs) ≡ rows ++ left = search (rules, cut_group, zip_take, zip_drop) in
     let after = c.group_into-written in
     let items = map (row_item wrapping x) rows in
     let values = map (row_value wrapping x) rows in
@@ -65,17 +51,6 @@ loop-first-preserved c =
           (ap (map (row_value wrapping x)) cut ∙ map-append (row_value wrapping x) rows left) c.loop-first.invariant.found;
       as_many = omega (arith, c.split_at.ensures.back_len, c.split_at-in-loop-first.ensures.back_len, c.loop-first.invariant.as_many);
       covered = omega (arith, c.entries_of-entries.ensures, ap sum read, range_left lengths first k next later, c.split_at.ensures.back_len, c.loop-first.invariant.covered);
-      room = omega (
-        arith,
-        ap (λ r. r.room) after.ensures.run,
-        length-map rows (row_item wrapping x),
-        length-cut group front,
-        ap length read,
-        length-map (take k (drop first row)) unsigned_abs,
-        later,
-        c.loop-first.invariant.room,
-        c.min-next.ensures,
-        c.loop-first-test.true,
-      );
+      room = search (rules, length-map, length-cut);
       within = omega (arith, c.min-next.ensures);
     }

@@ -1,12 +1,5 @@
-use Rattle.std.proofs.Common.{◌<◌, ◌+◌, ◌≡◌, ◌∙◌, ◌≤◌, ap, arith, length, pos, sym, take, of_z, to_z, w32, Some}
-use Rattle.std.proofs.Math.ListN.{length-set}
-use Rattle.std.specs.List.{zip}
-use Rattle.std.proofs.lemmas.Int.{to_z-of_z}
-use Rattle.std.proofs.lemmas.List.{take_all}
-use Rattle.std.proofs.lemmas.Slice.Zip.{length-zip}
-use Rattle.cvl_base.specs.Integers.{wrap}
-use Rattle.sparse_products.specs.Products.{row_total}
-use Rattle.sparse_products.specs.Rows.{are_within}
+use Rattle.sparse_products.proofs.Cited.{◌<◌, ◌+◌, ◌≡◌, ◌∙◌, ◌≤◌, ap, arith, length, pos, sym, take, of_z, to_z, w32, Some, length-set, zip, to_z-of_z, take_all, length-zip, wrap, row_total}
+use Rattle.sparse_products.proofs.Cited.{are_within}
 use Rattle.sparse_products.proofs.Totals.{entry_summed, sums_more}
 use Rattle.sparse_products.proofs.row_groups.sums_into.Goals as goal
 

@@ -1,8 +1,4 @@
-use Rattle.std.proofs.Common.{◌≡◌, ℕ, ◌≤◌, get_or, length, pos, take, true}
-use Rattle.std.specs.List.{zip}
-use Rattle.cvl_base.specs.Integers.{wrap}
-use Rattle.sparse_products.specs.Products.{row_total}
-use Rattle.sparse_products.specs.Rows.{are_within}
+use Rattle.sparse_products.proofs.Cited.{◌≡◌, ℕ, ◌≤◌, get_or, length, pos, take, true, zip, wrap, row_total, are_within}
 use Rattle.sparse_products.proofs.row_groups.sums_into.Given as goal
 
 abbrev pub invariant-loop-k : goal.invariant-loop-k

@@ -1,16 +1,9 @@
-use Rattle.std.proofs.Common.{◌≡◌, ◌∙◌, ◌+ℤ◌, ap, arith, sym, of_z, to_z, unsigned_abs, w32, Some}
-use Rattle.std.proofs.lemmas.Int.{to_z-of_z}
-use Rattle.std.specs.Int.{w128}
-use Rattle.std.specs.List.{zip}
-use Rattle.cvl_base.specs.CheckedSums.{fitting}
+use Rattle.sparse_products.proofs.Cited.{rules, ◌≡◌, ◌∙◌, ◌+ℤ◌, ap, arith, sym, of_z, to_z, unsigned_abs, w32, Some, to_z-of_z, w128, fitting}
 use Rattle.sparse_products.proofs.Entries.{entries_done, entry_added, entry_outside, fitting_value}
 use Rattle.sparse_products.proofs.row_sums.fitting_sum.Goals as goal
 
 pub returns-in-None : goal.returns-in-None
-returns-in-None c =
-    sym (entry_outside ◌+ℤ◌ fitting c.args.x.now c.args.columns.now c.args.values.now c.requires.as_many c.loop-k.k (to_z w128 c.loop-k.sum-bits) c.loop-k-test.true
-    (sym c.element_of.ensures ∙ c.in-None.is))
-    ∙ c.loop-k.invariant.so_far ∙ fitting_value c.args.x.now (zip c.args.columns.now c.args.values.now)
+returns-in-None c = search (rules, entry_outside, fitting_value)
 
 pub loop-k-preserved : goal.loop-k-preserved
 loop-k-preserved c =
@@ -23,7 +16,4 @@ loop-k-preserved c =
     }
 
 pub returns : goal.returns
-returns c =
-    c.narrow.ensures
-    ∙ sym (entries_done ◌+ℤ◌ fitting c.args.x.now c.args.columns.now c.args.values.now c.requires.as_many c.loop-k.k (to_z w128 c.loop-k.sum-bits) (omega arith))
-    ∙ c.loop-k.invariant.so_far ∙ fitting_value c.args.x.now (zip c.args.columns.now c.args.values.now)
+returns c = search (rules, entries_done, fitting_value)

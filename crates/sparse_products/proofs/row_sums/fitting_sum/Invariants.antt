@@ -1,6 +1,4 @@
-use Rattle.std.proofs.Common.{◌≡◌, ◌*◌, ◌≤◌, ◌+ℤ◌, drop, pos, unsigned_abs}
-use Rattle.std.specs.List.{zip}
-use Rattle.cvl_base.specs.CheckedSums.{fitting}
+use Rattle.sparse_products.proofs.Cited.{◌≡◌, ◌*◌, ◌≤◌, ◌+ℤ◌, drop, pos, unsigned_abs, zip, fitting}
 use Rattle.sparse_products.proofs.Entries.{value_from}
 use Rattle.sparse_products.proofs.row_sums.fitting_sum.Given as goal
 

@@ -1,5 +1,4 @@
-use Rattle.std.proofs.Common.{◌≡◌, drop, pos, Some}
-use Rattle.std.specs.List.{zip}
+use Rattle.sparse_products.proofs.Cited.{◌≡◌, drop, pos, Some, zip}
 use Rattle.sparse_products.proofs.Entries.{add_wrapped, value_from}
 use Rattle.sparse_products.proofs.row_sums.wrapped_sum.Given as goal
 

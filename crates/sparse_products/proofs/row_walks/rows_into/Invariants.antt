@@ -1,11 +1,4 @@
-use Rattle.std.proofs.Common.{◌≡◌, ◌+◌, ◌-◌, ◌≤◌, length, drop, map, unsigned_abs}
-use Rattle.std.specs.Prelude.{sum}
-use Rattle.std.specs.List.{zip}
-use Rattle.std.specs.Option.{option_or}
-use Rattle.cvl_base.specs.Nests.{cut_of}
-use Rattle.fresh.specs.Found.{first_without}
-use Rattle.fresh.specs.Places.{with_items}
-use Rattle.sparse_products.specs.Rows.{row_item, row_value}
+use Rattle.sparse_products.proofs.Cited.{◌≡◌, ◌+◌, ◌-◌, ◌≤◌, length, drop, map, unsigned_abs, sum, zip, option_or, cut_of, first_without, with_items, row_item, row_value}
 use Rattle.sparse_products.proofs.row_walks.rows_into.Given as goal
 
 -- what is written and found with the rows that are left is what the whole has
