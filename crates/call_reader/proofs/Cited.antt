@@ -1,7 +1,7 @@
 -- What the proofs of this crate cite of its specs, of the crates below and of the standard library, passed on from one place. Declares nothing.
 pub use Rattle.std.proofs.Common.{[], if◌then◌else◌, ◌&&◌, ◌*◌, ◌++◌, ◌+◌, ◌-◌, ◌<◌, ◌==◌, ◌^◌, ◌||◌, ◌∙◌, ◌∷◌, ◌≡◌, ◌≤◌, ap, append-nil, append_assoc, arith, Bool, codes, cond, count_by, decimal}
-pub use Rattle.std.proofs.Common.{drop, Err, false, FitsSigned, flat_map, get_or, get_or-take, IfOk, IfSome, inl, inr, length, length-append, List, map, min, nat_eq, nat_lt, negsuc, None, not, of_z}
-pub use Rattle.std.proofs.Common.{Ok, Option, pos, refl, Result, Some, subst, suc, sum, sym, take, take-append-drop, take_all, to_z, true, unsigned_abs, vec_capacity, vec_len, w32, ℕ, ℤ}
+pub use Rattle.std.proofs.Common.{drop, Err, false, FitsSigned, flat_map, get_or, get_or-take, IfOk, IfSome, length, length-append, List, map, min, nat_eq, nat_lt, negsuc, None, not, of_z, Ok}
+pub use Rattle.std.proofs.Common.{Option, pos, refl, Result, rules, Some, subst, suc, sum, sym, take, take-append-drop, take_all, to_z, true, unsigned_abs, vec_capacity, vec_len, w32, ℕ, ℤ}
 pub use Rattle.std.proofs.lemmas.Bool.{and_parts, cases_Bool}
 pub use Rattle.std.proofs.lemmas.Bool.Decides.{nat_tests}
 pub use Rattle.std.proofs.lemmas.Int.{to_z-of_z}

@@ -1,6 +1,6 @@
 -- An input, read from the front: how many tokens there are, and the numbers so far.
-use Rattle.call_reader.proofs.Cited.{◌≡◌, ℕ, ◌+◌, ◌*◌, ◌<◌, ◌≤◌, Bool, true, false, ◌&&◌, List, [], ◌∷◌, length, map, get_or, take, drop, refl, ap, sym, ◌∙◌, arith, Some, ℤ, from_bool, Result}
-use Rattle.call_reader.proofs.Cited.{if◌then◌else◌, not, ◌==◌, list_all, is_ascii_digit, nat_tests, at_drop_more, take-append-drop, Fault, BadInput, values_from, ByteClass, Blank, InToken}
+use Rattle.call_reader.proofs.Cited.{rules, ◌≡◌, ℕ, ◌+◌, ◌*◌, ◌<◌, ◌≤◌, Bool, true, false, ◌&&◌, List, [], ◌∷◌, length, map, get_or, take, drop, refl, ap, sym, ◌∙◌, arith, Some, ℤ, from_bool}
+use Rattle.call_reader.proofs.Cited.{Result, if◌then◌else◌, not, ◌==◌, list_all, is_ascii_digit, nat_tests, at_drop_more, take-append-drop, Fault, BadInput, values_from, ByteClass, Blank, InToken}
 use Rattle.call_reader.proofs.Cited.{tokens_by, with_byte, is_in_token, begins_in_token, positive_of, negative_of, with_sign, written_number, run_first, some_tokens, magnitude_digits}
 use Rattle.call_reader.proofs.Cited.{is_white_space, input_class, goes_on, and_parts}
 
@@ -45,9 +45,7 @@ room_for_run (b ∷ bs) =
 
 -- there is white space between tokens
 pub room_for_tokens : (bytes : List ℕ) → 2 * count_of bytes ≤ length bytes + 1
-room_for_tokens bytes =
-    let small : from_bool (begins_in_token input_class bytes) ≤ 1 = at_most_one _ (begins_in_token input_class bytes) refl in
-    omega (arith, room_for_run bytes)
+room_for_tokens bytes = search (rules, at_most_one, room_for_run)
 
 -- the numbers of the tokens, of which the first stands at the place given
 abbrev pub numbers_from : ℕ → List (List ℕ) → Result (List ℤ) Fault

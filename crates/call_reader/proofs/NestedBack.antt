@@ -1,7 +1,7 @@
 -- The text of a nest, read again.
-use Rattle.call_reader.proofs.Cited.{◌≡◌, ℕ, ◌≤◌, List, [], ◌∷◌, ◌++◌, length, map, take, drop, refl, ap, sym, ◌∙◌, arith, Ok, ℤ, FitsSigned, w32, flat_map, sum, Result, Fault, join_with_byte}
-use Rattle.call_reader.proofs.Cited.{signed_decimal, append-nil, drop_all, map-append, take_all, ◌>>=◌, most_elements, cut_of, nest-fits, begins_in_token, written_number, cut_at_blank, cut_at_lone}
-use Rattle.call_reader.proofs.Cited.{nested_class, Mark, opening, closing, number, mark_of, marks_of, list_marks, nest_marks, nested_of, IsWithin32, IsNestedText, read_again}
+use Rattle.call_reader.proofs.Cited.{rules, ◌≡◌, ℕ, ◌≤◌, List, [], ◌∷◌, ◌++◌, length, map, take, drop, refl, ap, sym, ◌∙◌, arith, Ok, ℤ, FitsSigned, w32, flat_map, sum, join_with_byte}
+use Rattle.call_reader.proofs.Cited.{signed_decimal, append-nil, drop_all, map-append, take_all, most_elements, cut_of, nest-fits, begins_in_token, written_number, cut_at_blank, cut_at_lone}
+use Rattle.call_reader.proofs.Cited.{nested_class, Mark, opening, closing, number, mark_of, marks_of, list_marks, nest_marks, IsWithin32, IsNestedText, read_again}
 use Rattle.std.proofs.lemmas.List.Elements.{All-drop, All-head, All-tail, All-take}
 use Rattle.value_texts.specs.Texts.{vector_text, nest_text}
 use Rattle.call_reader.proofs.ReadBack.{read_back}
@@ -18,8 +18,7 @@ marks-end before = ap (map mark_of) (cut_at_lone nested_class before [] 93 refl)
 marks-joined : (texts : List (List ℕ)) → marks_of (join_with_byte 32 texts) ≡ flat_map marks_of texts
 marks-joined [] = refl
 marks-joined (text ∷ []) = sym (append-nil (marks_of text))
-marks-joined (text ∷ other ∷ texts) =
-    marks-blank text (join_with_byte 32 (other ∷ texts)) ∙ ap (λ (ms : List Mark). marks_of text ++ ms) (marks-joined (other ∷ texts))
+marks-joined (text ∷ other ∷ texts) = cc (marks-blank text (join_with_byte 32 (other ∷ texts)), marks-joined (other ∷ texts))
 
 marks-bracketed : (text : List ℕ) (ms : List Mark) → marks_of text ≡ ms → marks_of (91 ∷ (text ++ (93 ∷ []))) ≡ opening ∷ (ms ++ (closing ∷ []))
 marks-bracketed text ms e = ap (λ (ns : List Mark). opening ∷ ns) (marks-end text ∙ ap (λ (ns : List Mark). ns ++ (closing ∷ [])) e)
@@ -34,9 +33,7 @@ number-marks z fits =
 
 numbers-marks : (xs : List ℤ) → IsWithin32 xs → flat_map marks_of (map signed_decimal xs) ≡ map number xs
 numbers-marks [] fit = refl
-numbers-marks (x ∷ xs) fit =
-    ap (λ (ms : List Mark). ms ++ flat_map marks_of (map signed_decimal xs)) (number-marks x (All-head (FitsSigned w32) x xs fit))
-    ∙ ap (λ (ms : List Mark). number x ∷ ms) (numbers-marks xs (All-tail (FitsSigned w32) x xs fit))
+numbers-marks (x ∷ xs) fit = cc (number-marks x (All-head (FitsSigned w32) x xs fit), numbers-marks xs (All-tail (FitsSigned w32) x xs fit))
 
 -- each number of each list fits 32 bits
 abbrev AllWithin32 : List (List ℤ) → Type 0
@@ -45,15 +42,10 @@ AllWithin32 (xs ∷ lists) = IsWithin32 xs × AllWithin32 lists
 
 lists-marks : (lists : List (List ℤ)) → AllWithin32 lists → flat_map marks_of (map (vector_text signed_decimal) lists) ≡ flat_map list_marks lists
 lists-marks [] fit = refl
-lists-marks (xs ∷ lists) (first, others) =
-    let texts = map signed_decimal xs in
-    let list = marks-bracketed (join_with_byte 32 texts) (map number xs) (marks-joined texts ∙ numbers-marks xs first) in
-    ap (λ (ms : List Mark). ms ++ flat_map marks_of (map (vector_text signed_decimal) lists)) list ∙ ap (λ (ms : List Mark). list_marks xs ++ ms) (lists-marks lists others)
+lists-marks (xs ∷ lists) (first, others) = search (rules, marks-bracketed, marks-joined, numbers-marks, lists-marks lists others)
 
 nest-text-marks : (lists : List (List ℤ)) → AllWithin32 lists → marks_of (nest_text signed_decimal lists) ≡ nest_marks lists
-nest-text-marks lists fit =
-    let texts = map (vector_text signed_decimal) lists in
-    marks-bracketed (join_with_byte 32 texts) (flat_map list_marks lists) (marks-joined texts ∙ lists-marks lists fit)
+nest-text-marks lists fit = search (rules, marks-bracketed, marks-joined, lists-marks)
 
 cut-fits : (lengths : List ℕ) (xs : List ℤ) → IsWithin32 xs → AllWithin32 (cut_of lengths xs)
 cut-fits [] xs fit = tt
@@ -71,6 +63,4 @@ nest-back lengths xs fit total few_numbers few_lists = record {
 
 pub nest_read_back : (lengths : List ℕ) (xs : List ℤ) → IsWithin32 xs → sum lengths ≡ length xs → length xs ≤ most_elements → length lengths ≤ most_elements
     → read_again lengths xs ≡ Ok (xs, lengths)
-nest_read_back lengths xs fit total few_numbers few_lists =
-    ap (λ (r : Result (List (List ℤ)) Fault). r >>= λ lists. nested_of (nest_text signed_decimal lists)) (nest-fits lengths xs total)
-    ∙ text-read (nest_text signed_decimal (cut_of lengths xs)) xs lengths (nest-back lengths xs fit total few_numbers few_lists)
+nest_read_back lengths xs fit total few_numbers few_lists = search (rules, nest-fits, text-read, nest-back)

@@ -1,9 +1,9 @@
 -- The marks of a nest: how many there are of each kind, what the grammar gives of them, and that it gives lists of no others.
-use Rattle.call_reader.proofs.Cited.{◌≡◌, ℕ, ◌+◌, ◌-◌, ◌*◌, ◌≤◌, Bool, true, false, cond, List, [], ◌∷◌, ◌++◌, length, map, refl, ap, sym, ◌∙◌, arith, Ok, Err, ℤ, pos, append_assoc, length-append}
-use Rattle.call_reader.proofs.Cited.{Result, unsigned_abs, sum, count_by, flat_map, nat_tests, append-nil, flat_map_more, length-map, map_push, sum_by-cons, sum_by-append, Fault, TooLong, BadInput}
-use Rattle.call_reader.proofs.Cited.{fault, fault_at, ◌>>=◌, fault_if, most_elements, cut_of, length-cut, lengths-cut, joined-cut, Mark, opening, closing, number, Where, before, between, inside}
-use Rattle.call_reader.proofs.Cited.{behind, is_opening, is_no_bracket, are_too_many, with_number, lists_from, flat_nest, nested_of, marks_of, list_marks, nest_marks, IsNestedText, is_closing}
-use Rattle.call_reader.proofs.Cited.{is_number, begin_with, is_no_mark, ArePushed, AreListsRead, IsNestRead, IsFaultAt, HasRoom}
+use Rattle.call_reader.proofs.Cited.{rules, ◌≡◌, ℕ, ◌+◌, ◌-◌, ◌*◌, ◌≤◌, Bool, true, false, cond, List, [], ◌∷◌, ◌++◌, length, map, refl, ap, sym, ◌∙◌, arith, Ok, Err, ℤ, pos, append_assoc}
+use Rattle.call_reader.proofs.Cited.{length-append, Result, unsigned_abs, sum, count_by, flat_map, nat_tests, append-nil, flat_map_more, length-map, map_push, sum_by-cons, sum_by-append, Fault}
+use Rattle.call_reader.proofs.Cited.{TooLong, BadInput, fault, fault_at, ◌>>=◌, fault_if, most_elements, cut_of, length-cut, lengths-cut, joined-cut, Mark, opening, closing, number, Where, before}
+use Rattle.call_reader.proofs.Cited.{between, inside, behind, is_opening, is_no_bracket, are_too_many, with_number, lists_from, flat_nest, nested_of, marks_of, list_marks, nest_marks, IsNestedText}
+use Rattle.call_reader.proofs.Cited.{is_closing, is_number, begin_with, is_no_mark, ArePushed, AreListsRead, IsNestRead, IsFaultAt, HasRoom}
 use Rattle.std.proofs.Math.Seq.{take-append_seam, drop-append_seam}
 use Rattle.cvl_base.specs.Descriptors.{AreLengths}
 use Rattle.cvl_base.proofs.Descriptors.{abs_pos}
@@ -66,9 +66,7 @@ read-list : (place after : ℕ) (xs : List ℤ) (ms : List Mark) → after ≡ p
 read-list place after [] ms e =
     let same : place + 1 ≡ after = omega arith in
     ap (λ (k : ℕ). lists_from between k ms >>= λ lists. Ok ([] ∷ lists)) same
-read-list place after (x ∷ xs) ms e =
-    ap (λ (r : Result (List (List ℤ)) Fault). r >>= λ lists. Ok (with_number x lists)) (read-list (place + 1) after xs ms (omega arith))
-    ∙ onto x xs (lists_from between after ms)
+read-list place after (x ∷ xs) ms e = cc (read-list (place + 1) after xs ms (omega arith), onto x xs (lists_from between after ms))
 
 seam : (xs : List ℤ) (rest ms : List Mark) → (list_marks xs ++ rest) ++ ms ≡ opening ∷ (map number xs ++ closing ∷ (rest ++ ms))
 seam xs rest ms = simp append_assoc
@@ -93,8 +91,7 @@ pub list-ends : (place after : ℕ) (xs : List ℤ) (ms : List Mark) → begin_w
 list-ends place after [] (closing ∷ ms) e f at = absurd (cc)
 list-ends place after [] (number n ∷ ms) e f at = absurd (cc)
 list-ends place after [] ms e f at = ap (λ (k : ℕ). Err (fault_at BadInput k)) (omega arith)
-list-ends place after (x ∷ xs) ms e f at =
-    ap (λ (r : Result (List (List ℤ)) Fault). r >>= λ lists. Ok (with_number x lists)) (list-ends (place + 1) after xs ms e f (omega arith))
+list-ends place after (x ∷ xs) ms e f at = cc (list-ends (place + 1) after xs ms e f (omega arith))
 
 -- what can't stand between inner lists
 pub between-ends : (place : ℕ) (ms : List Mark) → begin_with is_opening ms ≡ false → begin_with is_closing ms ≡ false → lists_from between place ms ≡ Err (fault_at BadInput place)
@@ -119,9 +116,7 @@ through (Ok x) f y e = (x, refl, (cc))
 through (Err g) f y e = absurd (cc)
 
 inside-some : (place : ℕ) (ms : List Mark) → lists_from inside place ms ≡ Ok [] → ⊥
-inside-some place (closing ∷ ms) e =
-    let back = through (lists_from between (place + 1) ms) (λ (lists : List (List ℤ)). [] ∷ lists) [] e in
-    let never : [] ∷ back.0 ≡ [] = back.2 in cc
+inside-some place (closing ∷ ms) e = search (rules, through)
 inside-some place (number n ∷ ms) e =
     let back = through (lists_from inside (place + 1) ms) (with_number n) [] e in
     never back.0 back.2
@@ -142,12 +137,8 @@ number-shape n (xs ∷ lists) = refl
 -- marks that the grammar reads as lists are the lists' marks
 sound : (w : Where) (place : ℕ) (ms : List Mark) (lists : List (List ℤ)) → lists_from w place ms ≡ Ok lists → ms ≡ shape w lists
 sound before place (opening ∷ ms) lists e = ap (λ (others : List Mark). opening ∷ others) (sound between (place + 1) ms lists e)
-sound between place (opening ∷ ms) lists e =
-    ap (λ (others : List Mark). opening ∷ others) (sound inside (place + 1) ms lists e)
-    ∙ open-shape lists (λ none. inside-some (place + 1) ms (e ∙ ap Ok none))
-sound between place (closing ∷ []) lists e =
-    let none : [] ≡ lists = cc in
-    ap (shape between) none
+sound between place (opening ∷ ms) lists e = cc (sound inside (place + 1) ms lists e, open-shape lists (λ none. inside-some (place + 1) ms (e ∙ ap Ok none)))
+sound between place (closing ∷ []) lists e = search rules
 sound inside place (number n ∷ ms) lists e =
     let back = through (lists_from inside (place + 1) ms) (with_number n) lists e in
     ap (λ (others : List Mark). number n ∷ others) (sound inside (place + 1) ms back.0 back.1) ∙ number-shape n back.0 ∙ ap (shape inside) back.2
@@ -165,34 +156,24 @@ cut-joined (xs ∷ lists) = rw (take-append_seam xs (joined lists), drop-append_
 -- the marks of lists within the limits are read as these
 nest-answered : (bytes : List ℕ) (lists : List (List ℤ)) → marks_of bytes ≡ nest_marks lists → length (joined lists) ≤ most_elements → length lists ≤ most_elements
     → nested_of bytes ≡ Ok (flat_nest lists)
-nest-answered bytes lists is few_numbers few_lists =
-    let count : count_by is_no_bracket (nest_marks lists) ≤ most_elements = omega (arith, counted-on lists (closing ∷ []), count-closing is_no_bracket refl, few_numbers) in
-    let opens : count_by is_opening (nest_marks lists) ≤ most_elements + 1 = omega (arith, opened-on lists (closing ∷ []), count-closing is_opening refl, few_lists) in
-    ap (λ (ms : List Mark). fault_if (are_too_many ms) (fault TooLong) (lists_from before 0 ms >>= λ ls. Ok (flat_nest ls))) is
-    ∙ rw (not_too_many (nest_marks lists) count opens, nest-read lists) refl
+nest-answered bytes lists is few_numbers few_lists = search (rules, counted-on, count-closing, opened-on, not_too_many, nest-read)
 
 -- a nested text of a vector and lengths is read as these
 pub text-read : (bytes : List ℕ) (xs : List ℤ) (lengths : List ℕ) → IsNestedText bytes xs lengths → nested_of bytes ≡ Ok (xs, lengths)
 text-read bytes xs lengths is =
     let same = joined-cut lengths xs is.total in
     let lens = lengths-cut lengths xs (omega (arith, is.total)) in
-    nest-answered bytes (cut_of lengths xs) is.tokens (omega (arith, ap length same, is.few_numbers)) (omega (arith, length-cut lengths xs, is.few_lists))
-    ∙ ap (λ (ys : List ℤ). Ok (ys, map length (cut_of lengths xs))) same ∙ ap (λ (ns : List ℕ). Ok (xs, ns)) lens
+    cc (nest-answered bytes (cut_of lengths xs) is.tokens (omega (arith, ap length same, is.few_numbers)) (omega (arith, length-cut lengths xs, is.few_lists)), same, lens)
 
 limited : (ms : List Mark) (y : List ℤ × List ℕ) → fault_if (are_too_many ms) (fault TooLong) (lists_from before 0 ms >>= λ ls. Ok (flat_nest ls)) ≡ Ok y → are_too_many ms ≡ false
-limited ms y = by_case (are_too_many ms)
-  where
-    by_case : (b : Bool) → fault_if b (fault TooLong) (lists_from before 0 ms >>= λ ls. Ok (flat_nest ls)) ≡ Ok y → b ≡ false
-    by_case true e = absurd (cc)
-    by_case false e = refl
+limited ms y = search rules
 
 -- and what is read is that of a nested text
 pub read-text : (bytes : List ℕ) (xs : List ℤ) (lengths : List ℕ) → nested_of bytes ≡ Ok (xs, lengths) → IsNestedText bytes xs lengths
 read-text bytes xs lengths e =
     let ms = marks_of bytes in
     let in_limit = limited ms (xs, lengths) e in
-    let reads : (lists_from before 0 ms >>= λ ls. Ok (flat_nest ls)) ≡ Ok (xs, lengths) =
-    ap (λ (b : Bool). fault_if b (fault TooLong) (lists_from before 0 ms >>= λ ls. Ok (flat_nest ls))) (sym in_limit) ∙ e in
+    let reads : (lists_from before 0 ms >>= λ ls. Ok (flat_nest ls)) ≡ Ok (xs, lengths) = cc (in_limit, e) in
     let back = through (lists_from before 0 ms) flat_nest (xs, lengths) reads in
     let lists = back.0 in
     let shaped = sound before 0 ms lists back.1 in
@@ -227,8 +208,7 @@ lengths-more lists xs = ap (map pos) (map_push length lists xs) ∙ map_push pos
 open_marks : (bytes rest inner others : List ℕ) (old new lengths : List ℤ) (is : AreListsRead bytes rest old lengths) (in_list : ArePushed inner others old new)
     → marks_of rest ≡ opening ∷ marks_of inner
     → marks_of bytes ≡ flat_map list_marks is.lists ++ (opening ∷ (map number in_list.pushed ++ marks_of others))
-open_marks bytes rest inner others old new lengths is in_list starts =
-    is.marks ∙ ap (λ (ms : List Mark). flat_map list_marks is.lists ++ ms) starts ∙ ap (λ (ms : List Mark). flat_map list_marks is.lists ++ (opening ∷ ms)) in_list.marks
+open_marks bytes rest inner others old new lengths is in_list starts = cc (is.marks, starts, in_list.marks)
 
 -- one list more
 pub lists_more : (bytes rest inner others tail : List ℕ) (old new lengths more : List ℤ) (n : ℕ) → AreListsRead bytes rest old lengths → marks_of rest ≡ opening ∷ marks_of inner
@@ -238,10 +218,8 @@ lists_more bytes rest inner others tail old new lengths more n is starts in_list
     record {
       lists = is.lists ++ (in_list.pushed ∷ []);
       numbers_are = in_list.numbers ∙ ap (λ (xs : List ℤ). xs ++ in_list.pushed) is.numbers_are ∙ sym (joined-more is.lists in_list.pushed);
-      lengths_are = pushed ∙ ap (λ (zs : List ℤ). zs ++ (pos n ∷ [])) is.lengths_are ∙ ap (λ (m : ℕ). map pos (map length is.lists) ++ (pos m ∷ [])) size
-          ∙ sym (lengths-more is.lists in_list.pushed);
-      marks = open_marks bytes rest inner others old new lengths is in_list starts ∙ ap (λ (ms : List Mark). flat_map list_marks is.lists ++ (opening ∷ (map number in_list.pushed ++ ms))) ends
-          ∙ sym (marks-more is.lists in_list.pushed (marks_of tail));
+      lengths_are = cc (pushed, is.lengths_are, size, lengths-more is.lists in_list.pushed);
+      marks = cc (open_marks bytes rest inner others old new lengths is in_list starts, ends, marks-more is.lists in_list.pushed (marks_of tail));
     }
 
 length-lengths : (lists : List (List ℤ)) → length (map pos (map length lists)) ≡ length lists
@@ -304,8 +282,7 @@ pub nest_fault : (bytes inner rest : List ℕ) (numbers lengths : List ℤ) (pla
     → IsFaultAt place before 0 (marks_of bytes) (marks_of bytes)
 nest_fault bytes inner rest numbers lengths place is starts no_list no_end at fine =
     let last = 1 + length numbers + 2 * length lengths in
-    ap (lists_from before 0) starts ∙ after_lists inner rest numbers lengths is
-    ∙ ap (λ (r : Result (List (List ℤ)) Fault). r >>= λ more. Ok (is.lists ++ more)) (between-ends last (marks_of rest) no_list no_end ∙ ap (λ (k : ℕ). Err (fault_at BadInput k)) (sym at))
+    cc (starts, after_lists inner rest numbers lengths is, between-ends last (marks_of rest) no_list no_end, at)
 
 -- a token behind the outer list
 pub behind_fault : (bytes inner rest tail : List ℕ) (numbers lengths : List ℤ) (place : ℕ) → AreListsRead inner rest numbers lengths → marks_of bytes ≡ opening ∷ marks_of inner
@@ -323,11 +300,7 @@ behind_fault bytes inner rest after numbers lengths place is starts ends some at
 -- what was read is what the bytes write
 pub nest_given : (bytes : List ℕ) (numbers lengths : List ℤ) → IsNestRead bytes numbers lengths → length numbers ≤ most_elements → length lengths ≤ most_elements
     → nested_of bytes ≡ Ok (numbers, map unsigned_abs lengths)
-nest_given bytes numbers lengths is few_numbers few_lists =
-    let lists = is.lists in
-    nest-answered bytes lists is.marks (omega (arith, ap length is.numbers_are, few_numbers)) (omega (arith, ap length is.lengths_are, length-lengths lists, few_lists))
-    ∙ ap (λ (xs : List ℤ). Ok (xs, map length lists)) (sym is.numbers_are)
-    ∙ ap (λ (ns : List ℕ). Ok (numbers, ns)) (sym (abs_pos (map length lists)) ∙ ap (map unsigned_abs) (sym is.lengths_are))
+nest_given bytes numbers lengths is few_numbers few_lists = search (rules, nest-answered, length-lengths, abs_pos)
 
 pub lengths_given : (bytes : List ℕ) (numbers lengths : List ℤ) → IsNestRead bytes numbers lengths → length numbers ≤ most_elements → length lengths ≤ most_elements → AreLengths lengths
 lengths_given bytes numbers lengths is few_numbers few_lists =
@@ -340,8 +313,7 @@ lengths_given bytes numbers lengths is few_numbers few_lists =
     }
 
 pub total_given : (bytes : List ℕ) (numbers lengths : List ℤ) → IsNestRead bytes numbers lengths → sum (map unsigned_abs lengths) ≡ length numbers
-total_given bytes numbers lengths is =
-    ap (λ (zs : List ℤ). sum (map unsigned_abs zs)) is.lengths_are ∙ ap sum (abs_pos (map length is.lists)) ∙ sym (length-joined is.lists) ∙ ap length (sym is.numbers_are)
+total_given bytes numbers lengths is = cc (is.lengths_are, abs_pos (map length is.lists), length-joined is.lists, is.numbers_are)
 
 pub one-pair : (bytes : List ℕ) (xs ys : List ℤ) (lengths others : List ℕ) → IsNestedText bytes xs lengths → IsNestedText bytes ys others → (xs ≡ ys) × (lengths ≡ others)
 one-pair bytes xs ys lengths others is too =

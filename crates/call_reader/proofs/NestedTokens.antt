@@ -1,8 +1,8 @@
 -- What the tokens of a nested text are to its grammar.
-use Rattle.call_reader.proofs.Cited.{◌≡◌, ℕ, ◌+◌, ◌≤◌, Bool, true, false, List, [], ◌∷◌, length, map, min, take, drop, refl, ap, sym, ◌∙◌, arith, Option, Some, None, ℤ, codes, nat_eq, if◌then◌else◌}
+use Rattle.call_reader.proofs.Cited.{◌≡◌, ℕ, ◌+◌, ◌≤◌, Bool, true, false, List, [], ◌∷◌, length, map, min, take, drop, refl, ap, sym, arith, Option, Some, None, ℤ, codes, nat_eq, if◌then◌else◌}
 use Rattle.call_reader.proofs.Cited.{count_by, not, ◌||◌, is_ascii_digit, nat_tests, length-map, count_by-le-length, most_elements, ByteClass, InToken, tokens_by, with_byte, is_in_token}
 use Rattle.call_reader.proofs.Cited.{begins_in_token, IsFirstToken, written_number, nested_class, Mark, opening, closing, number, stray, number_or, mark_of, marks_of, is_opening, is_no_bracket}
-use Rattle.call_reader.proofs.Cited.{is_closing, HasRoom, inl, inr, cases_Bool}
+use Rattle.call_reader.proofs.Cited.{is_closing, HasRoom, cases_Bool}
 use Rattle.std.specs.Cmp.Lexicographic.{pointwise}
 use Rattle.std.proofs.lemmas.Slice.Eq.{bytes_eq-Decides}
 use Rattle.call_reader.proofs.InputWalk.{number_leads}
@@ -30,18 +30,10 @@ neither_one None false true e f = absurd (cc)
 neither_one o b c e f = refl
 
 pub opens : (token : List ℕ) → pointwise nat_eq token (codes "[") ≡ is_opening (mark_of token)
-opens token =
-    elim (cases_Bool (pointwise nat_eq token (codes "["))) [
-      | inl e ↦ e ∙ sym (ap is_opening (opening_mark token e))
-      | inr e ↦ e ∙ sym (not_opening (written_number token) _ (pointwise nat_eq token (codes "]")) e)
-    ]
+opens token = grind (arith, nat_tests, cases_Bool, opening_mark, not_opening)
 
 pub closes : (token : List ℕ) → pointwise nat_eq token (codes "]") ≡ is_closing (mark_of token)
-closes token =
-    elim (cases_Bool (pointwise nat_eq token (codes "]"))) [
-      | inl e ↦ e ∙ sym (ap is_closing (closing_mark token e))
-      | inr e ↦ e ∙ sym (not_closing (written_number token) (pointwise nat_eq token (codes "[")) _ e)
-    ]
+closes token = grind (arith, nat_tests, cases_Bool, closing_mark, not_closing)
 
 pub no_bracket : (token : List ℕ) (one other : Bool) → one ≡ pointwise nat_eq token (codes "[") → other ≡ pointwise nat_eq token (codes "]")
     → not (one || other) ≡ is_no_bracket (mark_of token)
@@ -54,8 +46,7 @@ pub first_mark : (bytes token others : List ℕ) → IsFirstToken nested_class b
 first_mark bytes token others is = ap (map mark_of) is
 
 pub number_mark : (token : List ℕ) (n : ℤ) → written_number token ≡ Some n → mark_of token ≡ number n
-number_mark token n e =
-    ap (λ (o : Option ℤ). number_or o (if pointwise nat_eq token (codes "[") then opening else (if pointwise nat_eq token (codes "]") then closing else stray))) e
+number_mark token n e = cc e
 
 digit_in_nested : (b : ℕ) → is_ascii_digit b ≡ true → is_in_token (nested_class b) ≡ true
 digit_in_nested b e = grind (arith, nat_tests)
@@ -63,9 +54,7 @@ digit_in_nested b e = grind (arith, nat_tests)
 -- a number with no part of a run after it is the first token
 pub number_first : (bytes : List ℕ) (k : ℕ) (n : ℤ) → written_number (take k bytes) ≡ Some n → begins_in_token nested_class (drop k bytes) ≡ false
     → marks_of bytes ≡ number n ∷ marks_of (drop k bytes)
-number_first bytes k n e ends =
-    first_mark bytes (take k bytes) (drop k bytes) (number_leads nested_class digit_in_nested refl bytes k n e ends)
-    ∙ ap (λ (m : Mark). m ∷ marks_of (drop k bytes)) (number_mark (take k bytes) n e)
+number_first bytes k n e ends = cc (first_mark bytes (take k bytes) (drop k bytes) (number_leads nested_class digit_in_nested refl bytes k n e ends), number_mark (take k bytes) n e)
 
 one_more : (c : ByteClass) (runs_on : Bool) (b : ℕ) (tokens : List (List ℕ)) → length (with_byte c runs_on b tokens) ≤ 1 + length tokens
 one_more InToken true b [] = omega arith

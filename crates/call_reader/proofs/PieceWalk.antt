@@ -1,13 +1,12 @@
 -- An input in two pieces: its tokens are those of the pieces, and the first wrong one of all is the first of the pieces' first ones.
-use Rattle.call_reader.proofs.Cited.{◌≡◌, ℕ, ◌+◌, ◌<◌, ◌≤◌, false, List, [], ◌∷◌, ◌++◌, length, map, refl, ap, sym, ◌∙◌, arith, Option, Some, None, Ok, Err, ℤ, Result, nat_lt, nat_tests}
-use Rattle.call_reader.proofs.Cited.{most_elements, option_or, length-map, map-append, Fault, BadInput, TooLong, values_from, fault, fault_at, ◌>>=◌, fault_if, tokens_by, begins_in_token}
-use Rattle.call_reader.proofs.Cited.{written_number, cut_before, first_without, input_class, input_of, numbers_of, or_zero}
+use Rattle.call_reader.proofs.Cited.{rules, ◌≡◌, ℕ, ◌+◌, ◌<◌, ◌≤◌, false, List, [], ◌∷◌, ◌++◌, length, map, refl, ◌∙◌, arith, Option, Some, None, Ok, Err, ℤ, Result, nat_lt, nat_tests}
+use Rattle.call_reader.proofs.Cited.{most_elements, option_or, length-map, map-append, Fault, BadInput, TooLong, values_from, fault, fault_at, fault_if, tokens_by, begins_in_token, written_number}
+use Rattle.call_reader.proofs.Cited.{cut_before, first_without, input_class, input_of, numbers_of, or_zero}
 use Rattle.fresh.proofs.FirstWithout.{first_of_both}
 
 -- the numbers of two texts, where no token has a part in both, are those of the one and then those of the other
 pub numbers_of_both : (front back : List ℕ) → begins_in_token input_class back ≡ false → numbers_of (front ++ back) ≡ numbers_of front ++ numbers_of back
-numbers_of_both front back ends =
-    ap (map written_number) (cut_before input_class front back ends) ∙ map-append written_number (tokens_by input_class front) (tokens_by input_class back)
+numbers_of_both front back ends = cc (cut_before input_class front back ends, map-append written_number (tokens_by input_class front) (tokens_by input_class back))
 
 counted : (bytes : List ℕ) → length (map or_zero (numbers_of bytes)) ≡ length (tokens_by input_class bytes)
 counted bytes = length-map (numbers_of bytes) or_zero ∙ length-map (tokens_by input_class bytes) written_number
@@ -20,11 +19,7 @@ answer_of (Some place) numbers = Err (fault_at BadInput place)
 pub answered : (place : ℕ) (vs : List (Option ℤ)) → values_from BadInput place vs ≡ answer_of (first_without place vs) (map or_zero vs)
 answered place [] = refl
 answered place (None ∷ vs) = refl
-answered place (Some n ∷ vs) = ap (λ r. r >>= λ ns. Ok (n ∷ ns)) (answered (place + 1) vs) ∙ onto (first_without (place + 1) vs) (map or_zero vs)
-  where
-    onto : (wrong : Option ℕ) (ns : List ℤ) → (answer_of wrong ns >>= λ ms. Ok (n ∷ ms)) ≡ answer_of wrong (n ∷ ns)
-    onto None ns = refl
-    onto (Some w) ns = refl
+answered place (Some n ∷ vs) = search (rules, answered (place + 1) vs)
 
 pub wrong_within : (place w : ℕ) (vs : List (Option ℤ)) → first_without place vs ≡ Some w → w < place + length vs
 wrong_within place w [] e = cc
@@ -40,14 +35,11 @@ few_enough n rest few = grind (arith, nat_tests)
 -- what is written for the numbers of two texts, where no token has a part in both, and the first that is wrong among them
 pub items_cut : (front others bytes : List ℕ) → front ++ others ≡ bytes → begins_in_token input_class others ≡ false
     → map or_zero (numbers_of front) ++ map or_zero (numbers_of others) ≡ map or_zero (numbers_of bytes)
-items_cut front others bytes whole ends =
-    sym (map-append or_zero (numbers_of front) (numbers_of others)) ∙ ap (map or_zero) (sym (numbers_of_both front others ends) ∙ ap numbers_of whole)
+items_cut front others bytes whole ends = cc (map-append or_zero (numbers_of front) (numbers_of others), numbers_of_both front others ends, whole)
 
 pub found_cut : (front others bytes : List ℕ) (first : ℕ) → front ++ others ≡ bytes → begins_in_token input_class others ≡ false
     → option_or (first_without first (numbers_of front)) (first_without (first + length (map or_zero (numbers_of front))) (numbers_of others)) ≡ first_without first (numbers_of bytes)
-found_cut front others bytes first whole ends =
-    ap (λ n. option_or (first_without first (numbers_of front)) (first_without (first + n) (numbers_of others))) (length-map (numbers_of front) or_zero)
-    ∙ sym (first_of_both first (numbers_of front) (numbers_of others)) ∙ ap (first_without first) (sym (numbers_of_both front others ends) ∙ ap numbers_of whole)
+found_cut front others bytes first whole ends = cc (length-map (numbers_of front) or_zero, first_of_both first (numbers_of front) (numbers_of others), numbers_of_both front others ends, whole)
 
 -- an input of which all numbers are written, and the first wrong one is found
 pub input_is : (bytes : List ℕ) → length (map or_zero (numbers_of bytes)) ≤ most_elements

@@ -1,6 +1,6 @@
 -- An integer's text, read again.
-use Rattle.call_reader.proofs.Cited.{◌≡◌, ℕ, suc, ◌^◌, ◌<◌, Bool, true, false, List, [], ◌∷◌, length, Some, ℤ, pos, negsuc, refl, ap, ◌∙◌, arith, FitsSigned, w32, ◌==◌, is_ascii_digit, digit_value}
-use Rattle.call_reader.proofs.Cited.{decimal, signed_decimal, list_all, nat_tests, with_sign, written_number, fit, sign_read}
+use Rattle.call_reader.proofs.Cited.{rules, ◌≡◌, ℕ, suc, ◌^◌, ◌<◌, Bool, true, false, List, [], ◌∷◌, length, Some, ℤ, pos, negsuc, refl, ◌∙◌, arith, FitsSigned, w32, ◌==◌, is_ascii_digit}
+use Rattle.call_reader.proofs.Cited.{digit_value, decimal, signed_decimal, list_all, nat_tests, with_sign, written_number, fit, sign_read}
 use Rattle.std.specs.Str.Parse.{AllDigits}
 use Rattle.std.proofs.lemmas.Fmt.{decimal_is_IsNumeral}
 
@@ -20,9 +20,7 @@ unsigned (d ∷ ds) some (first, others) = rw (no_sign d first) refl
 
 -- the decimal of a magnitude, after a sign or without one
 magnitude_read : (sign : Bool) (n : ℕ) → n < 2 ^ 64 → with_sign sign (decimal n) (decimal n) ≡ fit sign n
-magnitude_read sign n small =
-    let is = decimal_is_IsNumeral n small in
-    sign_read sign (decimal n) is.0.0 (digits_are (decimal n) is.0.1) ∙ ap (fit sign) is.1
+magnitude_read sign n small = search (rules, decimal_is_IsNumeral, sign_read, digits_are)
 
 pub read_back : (z : ℤ) → FitsSigned w32 z → written_number (signed_decimal z) ≡ Some z
 read_back (pos n) fits =

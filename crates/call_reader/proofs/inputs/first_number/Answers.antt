@@ -7,7 +7,6 @@ returns-then-not-begins_in_token-clause-tokens c =
     let rest = c.split_at.result.1.now in
     let k = c.in-Some.length in
     let back = c.split_at-in-Some.ensures.back in
-    let ends : begins_in_token input_class (drop k rest) ≡ false =
-    ap (begins_in_token input_class) (sym back) ∙ sym c.begins_in_token.ensures ∙ c.if-not-begins_in_token.true in
+    let ends : begins_in_token input_class (drop k rest) ≡ false = cc (back, c.begins_in_token.ensures, c.if-not-begins_in_token.true) in
     let first = number_first rest k _ (ap written_number c.in-Some.ensures.front ∙ sym c.in-Some.ensures.number) ends in
     cc
