@@ -1,4 +1,4 @@
-use Rattle.permute_walks.proofs.Cited.{rules, ◌-◌, append_assoc, All-get_or}
+use Rattle.permute_walks.proofs.Cited.{rules, append_assoc, All-get_or}
 use Rattle.permute_walks.proofs.Outside.{read_index, at_more}
 use Rattle.permute_walks.proofs.backs.write_elements_at.Goals as goal
 

@@ -1,4 +1,4 @@
-use Rattle.range_walks.proofs.Cited.{◌-◌, rules, ap, ◌∙◌, length-take, length-scan_of}
+use Rattle.range_walks.proofs.Cited.{rules, ap, ◌∙◌, length-take, length-scan_of}
 use Rattle.range_walks.proofs.Scanned.{joined_reading, length-read}
 use Rattle.range_walks.proofs.Written.{scan_written}
 use Rattle.range_walks.proofs.plain.scan_into.Goals as goal

@@ -1,4 +1,4 @@
-use Rattle.scan_walks.proofs.Cited.{rules, ◌≡◌, ◌∙◌, ◌∷◌, ◌++◌, [], to_z, of_z, w32, Err, length, drop, refl, sym, take, ap, arith, ok_or, to_z-of_z, drop-drop, length-drop, checked_reduce_of}
+use Rattle.scan_walks.proofs.Cited.{rules, ◌≡◌, ◌∙◌, ◌∷◌, ◌++◌, [], to_z, of_z, w32, Err, drop, refl, sym, take, ap, arith, ok_or, to_z-of_z, drop-drop, length-drop, checked_reduce_of}
 use Rattle.scan_walks.proofs.Cited.{fitting, total_of, fault_at, at_segment, one_each, length-cut, nest-fits, start_of, Overflow}
 use Rattle.scan_walks.proofs.Parts.{IsSegment, ends_within, part, starts_more}
 use Rattle.scan_walks.proofs.Walk.{all_done, begins, fails, one_more, singles}
