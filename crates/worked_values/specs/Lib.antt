@@ -1,3 +1,4 @@
+pub mod OnSegments
 pub mod Segmented
 pub mod Shared
 pub mod Written

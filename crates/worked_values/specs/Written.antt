@@ -22,6 +22,10 @@ lengths text = map (λ word. digits_value 10 word) (words text)
 abbrev pub bools : String → List Bool
 bools text = map (λ word. slice_index word 0 == 84) (words text)
 
+-- the segments where no others are named
+abbrev pub segments : List ℕ
+segments = lengths "2 0 3"
+
 -- lengths that don't agree
 abbrev pub length_mismatch : Fault
 length_mismatch = fault no.LengthMismatch

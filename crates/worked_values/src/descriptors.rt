@@ -24,6 +24,5 @@ pub fn make_long_descriptor()
     ensures made_of_the_limit { descriptor_within most_places (ints "2147483647") ≡ Ok (lengths "2147483647") }
     ensures made_at_limit { descriptor_within most_places (ints "2147483646 1") ≡ Ok (lengths "2147483646 1") }
     ensures above_limit { descriptor_within most_places (ints "2147483647 1") ≡ Err (fault no.TooLong) }
-    ensures negative_before_limit { descriptor_within most_places (ints "2147483647 1 -1")
-        ≡ Err (fault_at no.NegativeLength 2) }
+    ensures negative_before_limit { descriptor_within most_places (ints "2147483647 1 -1") ≡ Err (fault_at no.NegativeLength 2) }
 {}

@@ -1,4 +1,4 @@
-//! Worked values of distribute and index.
+//! Worked values of distribute and index. Unless others are named the segments have 2, 0 and 3 elements.
 
 ghost use Rattle.std.specs.Prelude.{◌≡◌, negsuc, pos, true, ℤ, []};
 ghost use Rattle.cvl_base.specs.declared.fault.FaultNo.TheVariants as no;
@@ -6,7 +6,7 @@ ghost use Rattle.cvl_base.specs.Distributes.{as_length, distribute_of, distribut
 ghost use Rattle.cvl_base.specs.Faults.{fault};
 ghost use Rattle.cvl_base.specs.Limits.{most_places};
 ghost use Rattle.cvl_base.specs.SegmentedCalls.{seg_distribute_of, seg_index_of};
-ghost use Rattle.worked_values.specs.Written.{bools, ints, length_mismatch, lengths};
+ghost use Rattle.worked_values.specs.Written.{bools, ints, length_mismatch, lengths, segments};
 
 /// As many copies of a value as a count says, which may be as great as the limit and is else at fault without a place;
 /// by segments one value for each, the empty one too.
@@ -21,12 +21,12 @@ pub fn distribute()
     ensures too_many_booleans { distribute_of true (pos 4194305) ≡ Err (fault no.TooLong) }
     ensures negative_count_of_integers { distribute_of (pos 7) (negsuc 0) ≡ Err (fault no.NegativeLength) }
     ensures negative_count_of_booleans { distribute_of true (negsuc 0) ≡ Err (fault no.NegativeLength) }
-    ensures integers_in_segments { seg_distribute_of (ints "7 8 9") (lengths "2 0 3") ≡ Ok (ints "7 7 9 9 9") }
-    ensures booleans_in_segments { seg_distribute_of (bools "T T F") (lengths "2 0 3") ≡ Ok (bools "T T F F F") }
+    ensures integers_in_segments { seg_distribute_of (ints "7 8 9") segments ≡ Ok (ints "7 7 9 9 9") }
+    ensures booleans_in_segments { seg_distribute_of (bools "T T F") segments ≡ Ok (bools "T T F F F") }
     ensures no_segments { seg_distribute_of {X = ℤ} [] [] ≡ Ok [] }
-    ensures one_value_short { seg_distribute_of (ints "7 8") (lengths "2 0 3") ≡ Err length_mismatch }
-    ensures one_value_more { seg_distribute_of (ints "7 8 9 9") (lengths "2 0 3") ≡ Err length_mismatch }
-    ensures one_boolean_short { seg_distribute_of (bools "T F") (lengths "2 0 3") ≡ Err length_mismatch }
+    ensures one_value_short { seg_distribute_of (ints "7 8") segments ≡ Err length_mismatch }
+    ensures one_value_more { seg_distribute_of (ints "7 8 9 9") segments ≡ Err length_mismatch }
+    ensures one_boolean_short { seg_distribute_of (bools "T F") segments ≡ Err length_mismatch }
     ensures value_for_no_segment { seg_distribute_of (ints "7") [] ≡ Err length_mismatch }
     ensures no_value_for_an_empty_segment { seg_distribute_of {X = ℤ} [] (lengths "0") ≡ Err length_mismatch }
     ensures nothing_for_empty_segments { seg_distribute_of (ints "7 8") (lengths "0 0") ≡ Ok [] }
@@ -40,16 +40,16 @@ pub fn index()
     ensures wrapped { index_of (pos 2147483647) (pos 1) (pos 2) ≡ Ok (ints "2147483647 -2147483648") }
     ensures too_many_steps { index_of (pos 0) (pos 1) (pos 4194305) ≡ Err (fault no.TooLong) }
     ensures negative_count { index_of (pos 0) (pos 1) (negsuc 0) ≡ Err (fault no.NegativeLength) }
-    ensures steps_in_segments { seg_index_of (ints "0 5 10") (ints "1 1 -2") (lengths "2 0 3") ≡ Ok (ints "0 1 10 8 6") }
-    ensures wrapped_in_segments { seg_index_of (ints "2147483647 0 5") (ints "1 0 -5") (lengths "2 0 3")
+    ensures steps_in_segments { seg_index_of (ints "0 5 10") (ints "1 1 -2") segments ≡ Ok (ints "0 1 10 8 6") }
+    ensures wrapped_in_segments { seg_index_of (ints "2147483647 0 5") (ints "1 0 -5") segments
         ≡ Ok (ints "2147483647 -2147483648 5 0 -5") }
     ensures no_segments { seg_index_of [] [] [] ≡ Ok [] }
-    ensures one_beginning_short { seg_index_of (ints "0 5") (ints "1 1 -2") (lengths "2 0 3") ≡ Err length_mismatch }
-    ensures one_beginning_more { seg_index_of (ints "0 5 10 15") (ints "1 1 -2") (lengths "2 0 3") ≡ Err length_mismatch }
-    ensures one_stride_short { seg_index_of (ints "0 5 10") (ints "1 1") (lengths "2 0 3") ≡ Err length_mismatch }
-    ensures one_stride_more { seg_index_of (ints "0 5 10") (ints "1 1 -2 4") (lengths "2 0 3") ≡ Err length_mismatch }
-    ensures one_of_both_short { seg_index_of (ints "0 5") (ints "1 1") (lengths "2 0 3") ≡ Err length_mismatch }
-    ensures one_of_both_more { seg_index_of (ints "0 5 10 15") (ints "1 1 -2 4") (lengths "2 0 3") ≡ Err length_mismatch }
+    ensures one_beginning_short { seg_index_of (ints "0 5") (ints "1 1 -2") segments ≡ Err length_mismatch }
+    ensures one_beginning_more { seg_index_of (ints "0 5 10 15") (ints "1 1 -2") segments ≡ Err length_mismatch }
+    ensures one_stride_short { seg_index_of (ints "0 5 10") (ints "1 1") segments ≡ Err length_mismatch }
+    ensures one_stride_more { seg_index_of (ints "0 5 10") (ints "1 1 -2 4") segments ≡ Err length_mismatch }
+    ensures one_of_both_short { seg_index_of (ints "0 5") (ints "1 1") segments ≡ Err length_mismatch }
+    ensures one_of_both_more { seg_index_of (ints "0 5 10 15") (ints "1 1 -2 4") segments ≡ Err length_mismatch }
     ensures steps_down { index_of (pos 10) (negsuc 1) (pos 3) ≡ Ok (ints "10 8 6") }
     ensures no_stride { index_of (pos 5) (pos 0) (pos 2) ≡ Ok (ints "5 5") }
     ensures strides_wrapped { index_of (pos 0) (pos 2147483647) (pos 3) ≡ Ok (ints "0 2147483647 -2") }

@@ -5,7 +5,7 @@ ghost use Rattle.cvl_base.specs.declared.families.BoolBinary.TheVariants as trut
 ghost use Rattle.cvl_base.specs.declared.families.IntMonoid.TheVariants.{Add, Mul, Min, Max, And, Ior, Xor};
 ghost use Rattle.cvl_base.specs.Scans.{bool_reduce_of, int_reduce_of};
 ghost use Rattle.worked_values.specs.Segmented.{bool_seg_reduce_of, int_seg_reduce_of};
-ghost use Rattle.worked_values.specs.Written.{bools, ints, length_mismatch, lengths};
+ghost use Rattle.worked_values.specs.Written.{bools, ints, length_mismatch, lengths, segments};
 
 /// All integers in one: sums and products wrap, and the reduce of nothing is the operator's
 /// identity.
@@ -34,17 +34,17 @@ pub fn segmented_reduce()
     ensures sums_of_two_segments { int_seg_reduce_of Add (ints "1 2 3 4 5") (lengths "2 3") ≡ Ok (ints "3 12") }
     ensures sums_of_no_segments { int_seg_reduce_of Add [] [] ≡ Ok [] }
     ensures sums_wrapped { int_seg_reduce_of Add (ints "2147483647 1 1 5 6") (lengths "3 0 2") ≡ Ok (ints "-2147483647 0 11") }
-    ensures products { int_seg_reduce_of Mul (ints "2 3 4 5 6") (lengths "2 0 3") ≡ Ok (ints "6 1 120") }
+    ensures products { int_seg_reduce_of Mul (ints "2 3 4 5 6") segments ≡ Ok (ints "6 1 120") }
     ensures products_of_two_segments { int_seg_reduce_of Mul (ints "1 2 3 4 5") (lengths "2 3") ≡ Ok (ints "2 60") }
     ensures products_of_two_empty_segments { int_seg_reduce_of Mul [] (lengths "0 0") ≡ Ok (ints "1 1") }
     ensures products_wrapped { int_seg_reduce_of Mul (ints "2147483647 2 3 5 6") (lengths "3 0 2") ≡ Ok (ints "-6 1 30") }
-    ensures least { int_seg_reduce_of Min (ints "4 -1 3 9 2") (lengths "2 0 3") ≡ Ok (ints "-1 2147483647 2") }
-    ensures greatest { int_seg_reduce_of Max (ints "4 -1 3 9 2") (lengths "2 0 3") ≡ Ok (ints "4 -2147483648 9") }
-    ensures common_bits { int_seg_reduce_of And (ints "6 3 -4 6 12") (lengths "2 0 3") ≡ Ok (ints "2 -1 4") }
-    ensures bits_of_any { int_seg_reduce_of Ior (ints "6 3 1 4 -8") (lengths "2 0 3") ≡ Ok (ints "7 0 -3") }
-    ensures bits_of_an_odd_number { int_seg_reduce_of Xor (ints "6 3 6 3 -1") (lengths "2 0 3") ≡ Ok (ints "5 0 -6") }
-    ensures shorter_than_segments { int_seg_reduce_of Add (ints "1 2 3 4") (lengths "2 0 3") ≡ Err length_mismatch }
-    ensures longer_than_segments { int_seg_reduce_of Min (ints "1 2 3 4 5 6") (lengths "2 0 3") ≡ Err length_mismatch }
+    ensures least { int_seg_reduce_of Min (ints "4 -1 3 9 2") segments ≡ Ok (ints "-1 2147483647 2") }
+    ensures greatest { int_seg_reduce_of Max (ints "4 -1 3 9 2") segments ≡ Ok (ints "4 -2147483648 9") }
+    ensures common_bits { int_seg_reduce_of And (ints "6 3 -4 6 12") segments ≡ Ok (ints "2 -1 4") }
+    ensures bits_of_any { int_seg_reduce_of Ior (ints "6 3 1 4 -8") segments ≡ Ok (ints "7 0 -3") }
+    ensures bits_of_an_odd_number { int_seg_reduce_of Xor (ints "6 3 6 3 -1") segments ≡ Ok (ints "5 0 -6") }
+    ensures shorter_than_segments { int_seg_reduce_of Add (ints "1 2 3 4") segments ≡ Err length_mismatch }
+    ensures longer_than_segments { int_seg_reduce_of Min (ints "1 2 3 4 5 6") segments ≡ Err length_mismatch }
     ensures nothing_for_a_segment { int_seg_reduce_of Add [] (lengths "1") ≡ Err length_mismatch }
     ensures element_for_no_segment { int_seg_reduce_of Add (ints "1") [] ≡ Err length_mismatch }
 {}
@@ -60,11 +60,10 @@ pub fn bool_reduce()
     ensures all_of_nothing { bool_reduce_of truth.And [] ≡ true }
     ensures any_of_nothing { bool_reduce_of truth.Ior [] ≡ false }
     ensures odd_of_nothing { bool_reduce_of truth.Xor [] ≡ false }
-    ensures all_in_segments { bool_seg_reduce_of truth.And (bools "T T T F T") (lengths "2 0 3") ≡ Ok (bools "T T F") }
-    ensures all_but_in_the_first_segment { bool_seg_reduce_of truth.And (bools "T F T T T") (lengths "2 0 3")
-        ≡ Ok (bools "F T T") }
-    ensures any_in_segments { bool_seg_reduce_of truth.Ior (bools "F T F F F") (lengths "2 0 3") ≡ Ok (bools "T F F") }
-    ensures odd_in_segments { bool_seg_reduce_of truth.Xor (bools "T T T T T") (lengths "2 0 3") ≡ Ok (bools "F F T") }
-    ensures shorter_than_segments { bool_seg_reduce_of truth.Xor (bools "T F T T") (lengths "2 0 3") ≡ Err length_mismatch }
-    ensures longer_than_segments { bool_seg_reduce_of truth.And (bools "T F T T F T") (lengths "2 0 3") ≡ Err length_mismatch }
+    ensures all_in_segments { bool_seg_reduce_of truth.And (bools "T T T F T") segments ≡ Ok (bools "T T F") }
+    ensures all_but_in_the_first_segment { bool_seg_reduce_of truth.And (bools "T F T T T") segments ≡ Ok (bools "F T T") }
+    ensures any_in_segments { bool_seg_reduce_of truth.Ior (bools "F T F F F") segments ≡ Ok (bools "T F F") }
+    ensures odd_in_segments { bool_seg_reduce_of truth.Xor (bools "T T T T T") segments ≡ Ok (bools "F F T") }
+    ensures shorter_than_segments { bool_seg_reduce_of truth.Xor (bools "T F T T") segments ≡ Err length_mismatch }
+    ensures longer_than_segments { bool_seg_reduce_of truth.And (bools "T F T T F T") segments ≡ Err length_mismatch }
 {}

@@ -6,7 +6,7 @@ ghost use Rattle.cvl_base.specs.declared.families.IntMonoid.TheVariants.{Add, Mu
 ghost use Rattle.cvl_base.specs.Nests.{nest};
 ghost use Rattle.cvl_base.specs.Scans.{bool_scan_of, int_scan_of};
 ghost use Rattle.worked_values.specs.Segmented.{bool_seg_scan_of, int_seg_scan_of};
-ghost use Rattle.worked_values.specs.Written.{bools, ints, length_mismatch, lengths};
+ghost use Rattle.worked_values.specs.Written.{bools, ints, length_mismatch, lengths, segments};
 
 /// Of each integer those before it in one, without the integer itself: the first place has the operator's identity, and
 /// sums and products wrap.
@@ -39,16 +39,16 @@ pub fn segmented_scan()
     ensures sums_of_no_segments { int_seg_scan_of Add [] [] ≡ Ok [] }
     ensures sums_wrapped { int_seg_scan_of Add (ints "2147483647 1 1 5 6") (lengths "3 0 2")
         ≡ Ok (ints "0 2147483647 -2147483648 0 5") }
-    ensures products { int_seg_scan_of Mul (ints "2 3 4 5 6") (lengths "2 0 3") ≡ Ok (ints "1 2 1 4 20") }
+    ensures products { int_seg_scan_of Mul (ints "2 3 4 5 6") segments ≡ Ok (ints "1 2 1 4 20") }
     ensures products_wrapped { int_seg_scan_of Mul (ints "2147483647 2 3 5 6") (lengths "3 0 2")
         ≡ Ok (ints "1 2147483647 -2 1 5") }
-    ensures least { int_seg_scan_of Min (ints "4 -1 3 9 2") (lengths "2 0 3") ≡ Ok (ints "2147483647 4 2147483647 3 3") }
-    ensures greatest { int_seg_scan_of Max (ints "4 -1 3 9 2") (lengths "2 0 3") ≡ Ok (ints "-2147483648 4 -2147483648 3 9") }
-    ensures common_bits { int_seg_scan_of And (ints "6 3 -4 6 12") (lengths "2 0 3") ≡ Ok (ints "-1 6 -1 -4 4") }
-    ensures bits_of_any { int_seg_scan_of Ior (ints "6 3 1 4 -8") (lengths "2 0 3") ≡ Ok (ints "0 6 0 1 5") }
-    ensures bits_of_an_odd_number { int_seg_scan_of Xor (ints "6 3 6 3 -1") (lengths "2 0 3") ≡ Ok (ints "0 6 0 6 5") }
-    ensures shorter_than_segments { int_seg_scan_of Add (ints "1 2 3 4") (lengths "2 0 3") ≡ Err length_mismatch }
-    ensures longer_than_segments { int_seg_scan_of Max (ints "1 2 3 4 5 6") (lengths "2 0 3") ≡ Err length_mismatch }
+    ensures least { int_seg_scan_of Min (ints "4 -1 3 9 2") segments ≡ Ok (ints "2147483647 4 2147483647 3 3") }
+    ensures greatest { int_seg_scan_of Max (ints "4 -1 3 9 2") segments ≡ Ok (ints "-2147483648 4 -2147483648 3 9") }
+    ensures common_bits { int_seg_scan_of And (ints "6 3 -4 6 12") segments ≡ Ok (ints "-1 6 -1 -4 4") }
+    ensures bits_of_any { int_seg_scan_of Ior (ints "6 3 1 4 -8") segments ≡ Ok (ints "0 6 0 1 5") }
+    ensures bits_of_an_odd_number { int_seg_scan_of Xor (ints "6 3 6 3 -1") segments ≡ Ok (ints "0 6 0 6 5") }
+    ensures shorter_than_segments { int_seg_scan_of Add (ints "1 2 3 4") segments ≡ Err length_mismatch }
+    ensures longer_than_segments { int_seg_scan_of Max (ints "1 2 3 4 5 6") segments ≡ Err length_mismatch }
     ensures nothing_for_a_segment { int_seg_scan_of Add [] (lengths "1") ≡ Err length_mismatch }
     ensures element_for_no_segment { int_seg_scan_of Add (ints "1") [] ≡ Err length_mismatch }
 {}
@@ -62,10 +62,10 @@ pub fn bool_scan()
     ensures all_of_one { bool_scan_of truth.And (bools "F") ≡ bools "T" }
     ensures any_of_one { bool_scan_of truth.Ior (bools "T") ≡ bools "F" }
     ensures odd_of_one { bool_scan_of truth.Xor (bools "T") ≡ bools "F" }
-    ensures all_in_segments { bool_seg_scan_of truth.And (bools "T F T F T") (lengths "2 0 3") ≡ Ok (bools "T T T T F") }
-    ensures any_in_segments { bool_seg_scan_of truth.Ior (bools "T F F T F") (lengths "2 0 3") ≡ Ok (bools "F T F F T") }
-    ensures any_in_the_last_segment { bool_seg_scan_of truth.Ior (bools "F T F T F") (lengths "2 0 3") ≡ Ok (bools "F F F F T") }
-    ensures odd_in_segments { bool_seg_scan_of truth.Xor (bools "T T T T T") (lengths "2 0 3") ≡ Ok (bools "F T F T F") }
-    ensures shorter_than_segments { bool_seg_scan_of truth.And (bools "T F T T") (lengths "2 0 3") ≡ Err length_mismatch }
-    ensures longer_than_segments { bool_seg_scan_of truth.Ior (bools "T F T T F T") (lengths "2 0 3") ≡ Err length_mismatch }
+    ensures all_in_segments { bool_seg_scan_of truth.And (bools "T F T F T") segments ≡ Ok (bools "T T T T F") }
+    ensures any_in_segments { bool_seg_scan_of truth.Ior (bools "T F F T F") segments ≡ Ok (bools "F T F F T") }
+    ensures any_in_the_last_segment { bool_seg_scan_of truth.Ior (bools "F T F T F") segments ≡ Ok (bools "F F F F T") }
+    ensures odd_in_segments { bool_seg_scan_of truth.Xor (bools "T T T T T") segments ≡ Ok (bools "F T F T F") }
+    ensures shorter_than_segments { bool_seg_scan_of truth.And (bools "T F T T") segments ≡ Err length_mismatch }
+    ensures longer_than_segments { bool_seg_scan_of truth.Ior (bools "T F T T F T") segments ≡ Err length_mismatch }
 {}
