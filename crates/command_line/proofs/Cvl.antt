@@ -1,35 +1,19 @@
 -- What a parse of the program's command holds.
-use Rattle.std.proofs.Common.{◌≡◌, ◌∙◌, ◌<◌, ◌≤◌, ◌==◌, ◌&&◌, ◌||◌, ap, ℕ, Bool, true, false, not, List, [], ◌∷◌, length, map}
-use Rattle.std.proofs.Common.{is_some, IsSome, Option, Some, None, Err, refl, sym, subst, inl, inr, arith, codes}
-use Rattle.std.specs.List.{All, list_all, range_with_len, slice_index_or}
-use Rattle.std.specs.Str.{bytes_eq}
-use Rattle.std.proofs.lemmas.Bool.{false≢true, not-true}
+use Rattle.command_line.proofs.Cited.{◌≡◌, ◌∙◌, ◌<◌, ◌≤◌, ◌==◌, ◌&&◌, ◌||◌, ap, ℕ, Bool, true, false, not, List, [], ◌∷◌, length, map, is_some, IsSome, Option, Some, None, Err, refl, sym, subst}
+use Rattle.command_line.proofs.Cited.{inl, inr, arith, codes, All, list_all, range_with_len, slice_index_or, bytes_eq, false≢true, not-true, All-cons, All-nil, IsAuto, IsParsedFrom, IsPlain}
+use Rattle.command_line.proofs.Cited.{IsPlainArg, args_of, unwrap_or_range, first_value, found_of, one_text, without_minus, Rule, Text, is_free_arg, is_simple_arg, rows_of, rule_of, texts, App}
+use Rattle.command_line.proofs.Cited.{HasMatchesOf, app_of, is_simple, matches_of, HasKind, Kinds, kind_of, takes, Arg, Command, out-Command, ArgMatches, required_has_value, both, longest_tile}
+use Rattle.command_line.proofs.Cited.{most_workers}
 use Rattle.std.proofs.lemmas.Bool.Decides.{nat_tests}
 use Rattle.std.proofs.lemmas.List.{get_or-map, length-map}
-use Rattle.std.proofs.lemmas.List.Elements.{All-cons, All-nil}
 use Rattle.std.proofs.lemmas.List.FromFn.{get_or-range_with_len}
 use Rattle.std.proofs.lemmas.List.Sums.{AllPass-from_list_all}
-use Rattle.clap.specs.Built.{IsAuto, IsParsedFrom, IsPlain, IsPlainArg}
-use Rattle.clap.specs.Facts.{args_of, unwrap_or_range}
 use Rattle.clap.specs.Texts.{items_of}
-use Rattle.clap.specs.Matches.{first_value, found_of, one_text}
-use Rattle.clap.specs.Lexer.{without_minus}
-use Rattle.clap.specs.Walk.{Rule, Text, is_free_arg, is_simple_arg, rows_of, rule_of, texts}
-use Rattle.clap.specs.Simple.{App, HasMatchesOf, app_of, is_simple, matches_of}
 use Rattle.clap.specs.Faults.{fault_of, is_simple_and_free}
-use Rattle.clap.specs.Kinds.{HasKind, Kinds}
-use Rattle.clap.specs.Words.{kind_of, takes}
 use Rattle.clap.specs.declared.error.Error.{Error}
 use Rattle.clap.specs.declared.error.kind.ErrorKind.TheVariants.{OutOfMemory}
-use Rattle.clap.specs.declared.builder.arg.Arg.{Arg}
-use Rattle.clap.specs.declared.builder.command.Command.{Command}
-use Rattle.clap.specs.declared.builder.command.Command.TheViews.{out-Command}
 use Rattle.clap.specs.declared.builder.range.ValueRange.{ValueRange}
-use Rattle.clap.specs.declared.parser.matches.ArgMatches.{ArgMatches}
-use Rattle.clap.proofs.CallerLemmas.{required_has_value}
 use Rattle.clap.proofs.OnLiterals.{clap_on_literals}
-use Rattle.clap.proofs.WalkLemmas.{both}
-use Rattle.cvl_base.specs.Limits.{longest_tile, most_workers}
 use Rattle.command_line.specs.Command.{cvl, inputs_rule, number_rule, script_rule, tile_rule, up_to, workers_rule}
 use Rattle.command_line.specs.Reads.{HasNumber, IsFaultOf, HoldsAllArguments, ReadsBy}
 use Rattle.command_line.specs.declared.fault.WordsFault.{WordsFault}

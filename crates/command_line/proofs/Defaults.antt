@@ -1,13 +1,7 @@
 -- An option that the words leave out has its default.
-use Rattle.std.proofs.Common.{◌≡◌, ◌∙◌, ◌||◌, ℕ, Bool, true, false, cond, not, List, [], ◌∷◌, ◌++◌, Option, Some, None, option_map, refl, ap, codes}
-use Rattle.std.specs.Prelude.{find, option_and_then}
-use Rattle.std.specs.List.{fold, list_all}
-use Rattle.std.specs.Str.{bytes_eq}
-use Rattle.std.specs.Str.Parse.{digits_value, without_leading_plus}
-use Rattle.std.proofs.lemmas.Bool.{and_parts, not-true, or_parts}
-use Rattle.clap.specs.Walk.{Row, Rule, Text, at_row, has_row, one_of, reading_by, row_text, with_default}
-use Rattle.clap.specs.Simple.{argument_words, built, filled, help_rule, version_rule, with_index}
-use Rattle.clap.specs.Values.{read_as}
+use Rattle.command_line.proofs.Cited.{◌≡◌, ◌∙◌, ◌||◌, ℕ, Bool, true, false, cond, not, List, [], ◌∷◌, ◌++◌, Option, Some, None, option_map, refl, ap, codes, find, option_and_then, fold, list_all}
+use Rattle.command_line.proofs.Cited.{bytes_eq, digits_value, without_leading_plus, and_parts, not-true, or_parts, Row, Rule, Text, at_row, has_row, one_of, reading_by, row_text, with_default}
+use Rattle.command_line.proofs.Cited.{argument_words, built, filled, help_rule, version_rule, with_index, read_as}
 use Rattle.clap.specs.declared.parser.matches.ValueSource.TheVariants.{DefaultValue}
 use Rattle.command_line.specs.Command.{cvl, inputs_rule, script_rule, tile_rule, workers_rule}
 use Rattle.command_line.specs.Reads.{is_left_out, number_given, number_in, uses_of}

@@ -1,3 +1,4 @@
 pub mod Cvl
 pub mod Defaults
 pub mod Options
+pub mod Cited

@@ -1,22 +1,11 @@
 -- An option with a default has a value, which passed its parser and is read as that parser says.
-use Rattle.std.proofs.Common.{◌≡◌, ◌∙◌, ◌<◌, ◌≤◌, ap, ℕ, zero, suc, Bool, true, false, List, [], ◌∷◌, length, Some, None, refl, sym, inl, inr, arith}
-use Rattle.std.specs.Prelude.{find}
-use Rattle.std.specs.List.{All, slice_index_or}
-use Rattle.std.specs.Str.{bytes_eq}
-use Rattle.std.proofs.lemmas.List.Elements.{All-head, All-tail}
+use Rattle.command_line.proofs.Cited.{◌≡◌, ◌∙◌, ◌<◌, ◌≤◌, ap, ℕ, zero, suc, Bool, true, false, List, [], ◌∷◌, length, Some, None, refl, sym, inl, inr, arith, find, All, slice_index_or, bytes_eq}
+use Rattle.command_line.proofs.Cited.{All-head, All-tail, IsAuto, IsParsedFrom, IsPlain, SameRules, Entry, EntryPasses, WantsDefault, args_of, least_values, parser_of, parser_of_value, found_of}
+use Rattle.command_line.proofs.Cited.{one_text, Accepts, read_as, reading_of, Arg, Command, out-Command, ArgMatches, default_present, same_rules_by_id}
 use Rattle.std.proofs.lemmas.Option.{slice_get-get_or}
 use Rattle.std.proofs.lemmas.Slice.Eq.{bytes_eq-Decides}
-use Rattle.clap.specs.Built.{IsAuto, IsParsedFrom, IsPlain, SameRules}
-use Rattle.clap.specs.Facts.{Entry, EntryPasses, WantsDefault, args_of, least_values, parser_of, parser_of_value}
-use Rattle.clap.specs.Matches.{found_of, one_text}
-use Rattle.clap.specs.Values.{Accepts, read_as, reading_of}
 use Rattle.clap.specs.declared.builder.action.ArgAction.TheVariants.{Count, Set}
-use Rattle.clap.specs.declared.builder.arg.Arg.{Arg}
-use Rattle.clap.specs.declared.builder.command.Command.{Command}
-use Rattle.clap.specs.declared.builder.command.Command.TheViews.{out-Command}
 use Rattle.clap.specs.declared.builder.value_parser.ValueParser.{ValueParser}
-use Rattle.clap.specs.declared.parser.matches.ArgMatches.{ArgMatches}
-use Rattle.clap.proofs.CallerLemmas.{default_present, same_rules_by_id}
 
 -- no other argument has the id of the one at this place
 abbrev pub IsAlone : List Arg → ℕ → Arg → Type 0

@@ -1,8 +1,4 @@
-use Rattle.std.proofs.Common.{◌≡◌, ◌∙◌, false, ap, ap₂}
-use Rattle.clap.specs.Simple.{app_of_fields}
-use Rattle.clap.specs.Words.{rule_of, with_rule}
-use Rattle.clap.specs.declared.builder.arg.Arg.{Arg}
-use Rattle.cvl_base.specs.Limits.{longest_tile, most_workers}
+use Rattle.command_line.proofs.Cited.{◌≡◌, ◌∙◌, false, ap, ap₂, app_of_fields, rule_of, with_rule, Arg, longest_tile, most_workers}
 use Rattle.command_line.specs.Command.{cvl, tile_rule, workers_rule, up_to, with_version}
 use Rattle.command_line.proofs.command.cvl_command.Goals as goal
 

@@ -1,6 +1,5 @@
-use Rattle.std.proofs.Common.{◌≡◌, ◌≤◌, ◌∙◌, ℕ, Ok, rules, arith}
+use Rattle.command_line.proofs.Cited.{◌≡◌, ◌≤◌, ◌∙◌, ℕ, Ok, rules, arith, longest_tile, most_workers}
 use Rattle.cvl_base.specs.Configs.{config_of}
-use Rattle.cvl_base.specs.Limits.{longest_tile, most_workers}
 use Rattle.command_line.proofs.numbers.config.Goals as goal
 
 config_is : (tile workers : ℕ) → 1 ≤ tile → tile ≤ longest_tile → 1 ≤ workers → workers ≤ most_workers → config_of tile workers ≡ Ok (tile, workers)

@@ -1,8 +1,4 @@
-use Rattle.std.proofs.Common.{◌∙◌, ap, Some, option_map, sym}
-use Rattle.std.specs.Str.Parse.{digits_value, without_leading_plus}
-use Rattle.clap.specs.Lexer.{without_minus}
-use Rattle.clap.specs.Matches.{found_of}
-use Rattle.clap.proofs.WalkLemmas.{one_text-rows}
+use Rattle.command_line.proofs.Cited.{◌∙◌, ap, Some, option_map, sym, digits_value, without_leading_plus, without_minus, found_of, one_text-rows}
 use Rattle.command_line.proofs.numbers.number.Goals as goal
 
 pub returns-clause-value : goal.returns-clause-value

@@ -1,7 +1,4 @@
-use Rattle.std.proofs.Common.{◌≡◌, []}
-use Rattle.clap.specs.Kinds.{HasKind, Kinds}
-use Rattle.clap.specs.Walk.{texts}
-use Rattle.clap.specs.declared.parser.matches.ArgMatches.{ArgMatches}
+use Rattle.command_line.proofs.Cited.{◌≡◌, [], HasKind, Kinds, texts, ArgMatches}
 use Rattle.command_line.proofs.Cvl.{faults_by, matches_by, out_of_memory_by, refused_by, whole}
 use Rattle.command_line.proofs.parse.parsed.Goals as goal
 

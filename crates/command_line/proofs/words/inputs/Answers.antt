@@ -1,8 +1,5 @@
-use Rattle.std.proofs.Common.{◌∙◌, ap, List, Option, [], codes, unwrap_or}
+use Rattle.command_line.proofs.Cited.{◌∙◌, ap, List, Option, [], codes, unwrap_or, found_of, Text, texts, raw_values-rows}
 use Rattle.std.proofs.lemmas.Result.{IfOk-weaker}
-use Rattle.clap.specs.Matches.{found_of}
-use Rattle.clap.specs.Walk.{Text, texts}
-use Rattle.clap.proofs.WalkLemmas.{raw_values-rows}
 use Rattle.command_line.proofs.words.inputs.Goals as goal
 
 pub returns-in-Some : goal.returns-in-Some

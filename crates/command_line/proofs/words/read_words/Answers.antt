@@ -1,5 +1,4 @@
-use Rattle.std.proofs.Common.{◌∙◌, ap, sym, codes}
-use Rattle.clap.specs.Walk.{texts}
+use Rattle.command_line.proofs.Cited.{◌∙◌, ap, sym, codes, texts}
 use Rattle.command_line.specs.Reads.{number_given, number_in}
 use Rattle.command_line.proofs.Defaults.{same_number, tile_by_default, workers_by_default}
 use Rattle.command_line.proofs.words.read_words.Goals as goal

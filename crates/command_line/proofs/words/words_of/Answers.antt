@@ -1,6 +1,4 @@
-use Rattle.std.proofs.Common.{◌∙◌, ap, sym, codes, option_map}
-use Rattle.clap.specs.Matches.{found_of}
-use Rattle.clap.proofs.WalkLemmas.{first_value-rows}
+use Rattle.command_line.proofs.Cited.{◌∙◌, ap, sym, codes, option_map, found_of, first_value-rows}
 use Rattle.command_line.proofs.words.words_of.Goals as goal
 
 pub returns-clause-script : goal.returns-clause-script
