@@ -1,12 +1,9 @@
 -- Checked scans after a number, where it is known how many results fit from the first one on.
 -- Source: what the definitions of CheckedSums and Sums imply.
-use Rattle.std.proofs.Common.{◌≡◌, ◌∙◌, refl, sym, ap, subst, ℕ, ◌+◌, ◌<◌, ◌≤◌, Bool, true, false, cond, ℤ, pos, ◌+ℤ◌, List, [], ◌∷◌, length, map, arith, Ok, Err}
-use Rattle.std.specs.Prelude.{unwrap_or}
+use Rattle.part_calls.proofs.Cited.{◌≡◌, ◌∙◌, refl, sym, ap, subst, ℕ, ◌+◌, ◌<◌, ◌≤◌, Bool, true, false, cond, ℤ, pos, ◌+ℤ◌, List, [], ◌∷◌, length, map, arith, Ok, Err, unwrap_or, fitting, Overflow}
+use Rattle.part_calls.proofs.Cited.{fault_at}
 use Rattle.operators.proofs.FoldLaws.{length-scan_of, scan_of-cons}
 use Rattle.operators.specs.NumberLaws.{number_words}
-use Rattle.cvl_base.specs.CheckedSums.{fitting}
-use Rattle.cvl_base.specs.declared.fault.FaultNo.TheVariants.{Overflow}
-use Rattle.cvl_base.specs.Faults.{fault_at}
 use Rattle.cvl_base.specs.Folds.{fold_of, fronts, scan_of}
 use Rattle.cvl_base.specs.Integers.{sum_of, wrap}
 use Rattle.cvl_base.specs.ItemWords.{is_number}

@@ -1,14 +1,10 @@
 -- The place of an input's fault is that of one of its words, which are no more than a vector may have elements.
-use Rattle.std.specs.Prelude.{nat_lt, IfSome, Result}
-use Rattle.std.proofs.Common.{◌≡◌, ℕ, ◌≤◌, ℤ, Bool, true, false, List, Option, Some, None, Ok, Err, arith, length, map, refl, subst, sym}
-use Rattle.std.proofs.lemmas.Bool.{ltb-false}
+use Rattle.part_calls.proofs.Cited.{nat_lt, IfSome, Result, ◌≡◌, ℕ, ◌≤◌, ℤ, Bool, true, false, List, Option, Some, None, Ok, Err, arith, length, map, refl, subst, sym, ltb-false, BadInput, TooLong}
+use Rattle.part_calls.proofs.Cited.{fault, most_elements}
 use Rattle.std.proofs.lemmas.List.{length-map}
 use Rattle.cvl_base.specs.declared.fault.Fault.{Fault}
-use Rattle.cvl_base.specs.declared.fault.FaultNo.TheVariants.{BadInput, TooLong}
 use Rattle.cvl_base.specs.Elementwise.{values_from}
-use Rattle.cvl_base.specs.Faults.{fault}
 use Rattle.cvl_base.specs.Gives.{fault_if}
-use Rattle.cvl_base.specs.Limits.{most_elements}
 use Rattle.call_reader.specs.Inputs.{input_class, input_of}
 use Rattle.line_reader.specs.Numbers.{written_number}
 use Rattle.call_reader.specs.Pieces.{numbers_of, or_zero}

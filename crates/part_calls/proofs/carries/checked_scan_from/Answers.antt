@@ -1,10 +1,6 @@
-use Rattle.std.proofs.Common.{rules, ◌≡◌, Err, ap, length, pos, refl, sym, w32, w64}
-use Rattle.std.specs.Prelude.{unwrap_or}
-use Rattle.std.proofs.lemmas.Bool.{le-ltb}
+use Rattle.part_calls.proofs.Cited.{rules, ◌≡◌, Err, ap, length, pos, refl, sym, w32, w64, unwrap_or, le-ltb, fitting, most_places}
 use Rattle.std.proofs.lemmas.Int.{to_z-of_z}
 use mir.Val.{SFits}
-use Rattle.cvl_base.specs.CheckedSums.{fitting}
-use Rattle.cvl_base.specs.Limits.{most_places}
 use Rattle.part_calls.proofs.Carried.{after_fits, after_overflows}
 use Rattle.part_calls.proofs.carries.checked_scan_from.Goals as goal
 

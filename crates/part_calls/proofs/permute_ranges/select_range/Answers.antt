@@ -1,8 +1,4 @@
-use Rattle.std.proofs.Common.{◌∙◌, ◌+◌, Ok, arith, eq-eqb, length, sym}
-use Rattle.std.proofs.lemmas.Bool.{le-ltb}
-use Rattle.cvl_base.specs.Limits.{most_places}
-use Rattle.cvl_base.proofs.Permutes.{length-flagged_destinations}
-use Rattle.permute_walks.specs.Marks.{words_for}
+use Rattle.part_calls.proofs.Cited.{◌∙◌, ◌+◌, Ok, arith, eq-eqb, length, sym, le-ltb, most_places, length-flagged_destinations, words_for}
 use Rattle.part_calls.proofs.permute_ranges.select_range.Goals as goal
 
 pub write_counted-requires-clause-sourced : goal.write_counted-requires-clause-sourced

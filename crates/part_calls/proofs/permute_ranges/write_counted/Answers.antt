@@ -1,5 +1,4 @@
-use Rattle.std.proofs.Common.{◌∙◌, ap, count_ones, length, replicate, sum_by, sym}
-use Rattle.permute_walks.specs.Senders.{last_senders, sent_marks}
+use Rattle.part_calls.proofs.Cited.{◌∙◌, ap, count_ones, length, replicate, sum_by, sym, last_senders, sent_marks}
 use Rattle.permute_walks.proofs.MarkWords.{marks_count}
 use Rattle.permute_walks.proofs.Scattered.{count_marked}
 use Rattle.part_calls.proofs.permute_ranges.write_counted.Goals as goal

@@ -1,7 +1,4 @@
-use Rattle.std.proofs.Common.{◌+◌, Ok, arith, eq-eqb, length, sym}
-use Rattle.std.proofs.lemmas.Bool.{le-ltb}
-use Rattle.cvl_base.specs.Limits.{most_places}
-use Rattle.cvl_base.proofs.Permutes.{length-flagged_destinations}
+use Rattle.part_calls.proofs.Cited.{◌+◌, Ok, arith, eq-eqb, length, sym, le-ltb, most_places, length-flagged_destinations}
 use Rattle.part_calls.proofs.sender_ranges.select_senders_range.Goals as goal
 
 pub write_counted-requires-clause-few : goal.write_counted-requires-clause-few

@@ -1,7 +1,4 @@
-use Rattle.std.proofs.Common.{◌+◌, Ok, arith, length, sym}
-use Rattle.std.proofs.lemmas.Bool.{le-ltb}
-use Rattle.cvl_base.specs.Limits.{most_places}
-use Rattle.cvl_base.proofs.Permutes.{length-all_destinations}
+use Rattle.part_calls.proofs.Cited.{◌+◌, Ok, arith, length, sym, le-ltb, most_places, length-all_destinations}
 use Rattle.part_calls.proofs.sender_ranges.senders_range.Goals as goal
 
 pub write_counted-requires-clause-few : goal.write_counted-requires-clause-few
