@@ -2,16 +2,9 @@
 -- Source: what the definitions of Checked and CheckedSums imply.
 use Rattle.checked_tile_scans.proofs.Cited.{◌≡◌, ◌∙◌, ◌+◌, ◌-◌, ◌<◌, ◌≤◌, ◌∷◌, ◌++◌, if◌then◌else◌, refl, sym, ap, ℕ, Bool, true, false, ℤ, pos, List, [], length, map, take, get_or, arith, Option}
 use Rattle.checked_tile_scans.proofs.Cited.{Some, None, Ok, Err, get_or-map, length-map, none-some, number_words, fitting, values_from, fault_at, wrap, is_number, first_without, part, IsWrittenPart}
-use Rattle.checked_tile_scans.proofs.Cited.{next_is}
-use Rattle.std.specs.Option.{option_or}
-use Rattle.std.proofs.lemmas.List.{drop_more}
-use Rattle.std.proofs.lemmas.Option.{same_Some}
-use Rattle.cvl_base.specs.declared.fault.FaultNo.TheVariants.{Overflow}
-use Rattle.cvl_base.specs.Gives.{◌>>=◌}
+use Rattle.checked_tile_scans.proofs.Cited.{next_is, option_or, drop_more, same_Some, Overflow, ◌>>=◌, next_of, more_written}
 use Rattle.fresh.specs.Places.{Stretch, stretch, with_items}
 use Rattle.fresh.proofs.FirstWithout.{found_in_both}
-use Rattle.tile_scans.specs.Written.{next_of}
-use Rattle.tile_scans.proofs.WrittenParts.{more_written}
 
 part_one : {X : Type 0} (whole : List X) (place : ℕ) (d x : X) → place < length whole → x ≡ get_or whole place d → x ∷ [] ≡ part whole place 1
 part_one whole place d x lt is = ap (λ y. y ∷ []) is ∙ ap (take 1) (sym (drop_more whole place d lt))

@@ -1,18 +1,12 @@
 -- The first number of a list that doesn't fit 32 bits, and the first tile that has one.
 -- Source: what the definitions of Checked and CheckedSums imply.
-use Rattle.checked_tile_scans.proofs.Cited.{◌≡◌, ◌∙◌, ◌+◌, ◌<◌, ◌≤◌, ◌∷◌, ◌++◌, if◌then◌else◌, refl, sym, ap, subst, ℕ, Bool, true, false, ℤ, List, length, map, take, drop, arith, Option, Some, None}
-use Rattle.checked_tile_scans.proofs.Cited.{Err, option_map, range_with_len, le-ltb, lt-ltb, length-append, length-take, none-some, fitting, values_from, fault_at, fitting_front, range_of, tile_count}
-use Rattle.checked_tile_scans.proofs.Cited.{tile_of}
-use Rattle.std.proofs.Common.{zero, suc, ◌*◌, min}
-use Rattle.std.proofs.lemmas.Bool.{false_from_ne_true, ltb-false, ltb-true}
-use Rattle.std.proofs.lemmas.List.{append_assoc, take-append-drop, take_all}
-use Rattle.std.proofs.lemmas.Option.{cond_some}
+use Rattle.checked_tile_scans.proofs.Cited.{◌≡◌, ◌∙◌, ◌+◌, ◌<◌, ◌≤◌, ◌∷◌, ◌++◌, if◌then◌else◌, refl, sym, ap, subst, ℕ, Bool, true, false, ℤ, List, length, map, take, drop, arith, Option, Some}
+use Rattle.checked_tile_scans.proofs.Cited.{None, Err, option_map, range_with_len, le-ltb, lt-ltb, length-append, length-take, none-some, fitting, values_from, fault_at, fitting_front, range_of}
+use Rattle.checked_tile_scans.proofs.Cited.{tile_count, tile_of, zero, suc, ◌*◌, min, false_from_ne_true, ltb-false, ltb-true, append_assoc, take-append-drop, take_all, cond_some, Overflow}
+use Rattle.checked_tile_scans.proofs.Cited.{overflows, tiles_more}
 use Rattle.boards.specs.Slots.{least_from}
-use Rattle.cvl_base.specs.declared.fault.FaultNo.TheVariants.{Overflow}
-use Rattle.scan_walks.proofs.Fitted.{overflows}
 use Rattle.scan_walks.proofs.FrontLaws.{front_past, front_within}
 use Rattle.tile_plan.proofs.Numbers.{starts_past, starts_within}
-use Rattle.tile_scans.proofs.SumsOfTiles.{tiles_more}
 use Rattle.checked_tile_scans.specs.Checked.{first_outside, has_outside, tile_outside}
 
 -- ---- one list

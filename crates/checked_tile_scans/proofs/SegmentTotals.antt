@@ -2,20 +2,12 @@
 -- Source: what the definitions of Checked and Exact imply.
 use Rattle.checked_tile_scans.proofs.Cited.{◌≡◌, ◌∙◌, ◌+◌, ◌-◌, ◌<◌, ◌≤◌, ◌+ℤ◌, ◌++◌, sym, ap, subst, ℕ, Bool, true, false, ℤ, pos, w64, FitsSigned, to_z, of_z, List, length, take, drop, get_or}
 use Rattle.checked_tile_scans.proofs.Cited.{slice_range, arith, Option, Some, None, AllPass, length-drop, length-map, length-take, get_or-map-range_with_len, length-map-range_with_len, total_of}
-use Rattle.checked_tile_scans.proofs.Cited.{InWords, word-in}
-use Rattle.checked_tile_scans.proofs.Cited.{is_number, most_elements, continued_summed, all_whole, whole_laws, range_of, tile_count, flagged}
-use Rattle.std.proofs.Common.{take-add}
-use Rattle.std.proofs.lemmas.List.{drop-drop}
-use Rattle.std.proofs.lemmas.List.Elements.{All-drop, All-take}
-use Rattle.std.proofs.lemmas.List.Sums.{sum_by_more}
-use Rattle.operators.proofs.ExactFolds.{total-is_word}
+use Rattle.checked_tile_scans.proofs.Cited.{InWords, word-in, is_number, most_elements, continued_summed, all_whole, whole_laws, range_of, tile_count, flagged, take-add, drop-drop, All-drop}
+use Rattle.checked_tile_scans.proofs.Cited.{All-take, sum_by_more, total-is_word, continued, segment_total, continued_slice}
 use Rattle.operators.proofs.FoldLaws.{fold_of-append}
 use Rattle.segdes.specs.Starts.{start_of}
-use Rattle.scan_walks.specs.Ranges.{continued}
 use Rattle.scan_walks.proofs.Segmented.{length-reduces_of}
-use Rattle.scan_walks.proofs.Valued.{segment_total}
 use Rattle.tile_scans.proofs.OpenSegments.{since_start}
-use Rattle.tile_scans.proofs.RangeScans.{continued_slice}
 use Rattle.checked_tile_scans.specs.Checked.{segment_totals, total_since, totals_before}
 use Rattle.checked_tile_scans.proofs.WideSums.{wide_fits, wide_sum}
 

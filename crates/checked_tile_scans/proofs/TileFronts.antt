@@ -1,16 +1,11 @@
 -- The results of a tile, and the first of them that doesn't fit 32 bits, as a walk over the tile finds it; and the scan that is written
 -- where all results fit.
 -- Source: what the definitions of Checked imply.
-use Rattle.checked_tile_scans.proofs.Cited.{◌≡◌, ◌∙◌, ◌+◌, ◌-◌, ◌<◌, ◌≤◌, ◌+ℤ◌, if◌then◌else◌, refl, sym, ap, subst, ℕ, Bool, false, ℤ, pos, to_z, of_z, w64, FitsSigned, List, length, map, take, drop}
-use Rattle.checked_tile_scans.proofs.Cited.{get_or, arith, Option, Some, None, Ok, option_map, le-ltb, lt-ltb, to_z-of_z, length-drop, length-take, get_or-map-range_with_len}
+use Rattle.checked_tile_scans.proofs.Cited.{◌≡◌, ◌∙◌, ◌+◌, ◌-◌, ◌<◌, ◌≤◌, ◌+ℤ◌, if◌then◌else◌, refl, sym, ap, subst, ℕ, Bool, false, ℤ, pos, to_z, of_z, w64, FitsSigned, List, length, map, take}
+use Rattle.checked_tile_scans.proofs.Cited.{drop, get_or, arith, Option, Some, None, Ok, option_map, le-ltb, lt-ltb, to_z-of_z, length-drop, length-take, get_or-map-range_with_len}
 use Rattle.checked_tile_scans.proofs.Cited.{length-map-range_with_len, exact_laws, word-in, fitting, values_from, sum_of, is_number, is_word, fitting_front, range_scan_of, zero_wrapped, range_of}
-use Rattle.checked_tile_scans.proofs.Cited.{tile_count, tile_of, IsTiled}
-use Rattle.std.proofs.Common.{IsTrue}
-use Rattle.cvl_base.specs.declared.fault.FaultNo.TheVariants.{Overflow}
-use Rattle.scan_walks.proofs.Fitted.{none_overflows}
+use Rattle.checked_tile_scans.proofs.Cited.{tile_count, tile_of, IsTiled, IsTrue, Overflow, none_overflows, range_scan-drop, range_scan-take, front_is_item}
 use Rattle.scan_walks.proofs.RangeParts.{length-range_scan_of}
-use Rattle.tile_scans.proofs.RangeScans.{range_scan-drop, range_scan-take}
-use Rattle.tile_scans.proofs.SumsOfTiles.{front_is_item}
 use Rattle.checked_tile_scans.specs.Checked.{first_outside, slots_of_tiles, tile_outside, total_scan, total_since, totals_before}
 use Rattle.checked_tile_scans.proofs.Outsides.{none_outside}
 use Rattle.checked_tile_scans.proofs.SegmentTotals.{before_there}

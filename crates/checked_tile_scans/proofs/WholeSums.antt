@@ -1,18 +1,12 @@
 -- What the tiles of a vector of integers join to: exactly their sum over whole numbers, and, wrapped to 32 bits, their wrapped sum.
 -- Source: what the definitions of Exact and Integers imply.
-use Rattle.checked_tile_scans.proofs.Cited.{◌≡◌, ◌∙◌, ◌+◌, ◌≤◌, ◌+ℤ◌, ◌∷◌, ◌++◌, refl, sym, ap, ℕ, Bool, true, false, ℤ, pos, w32, List, [], length, map, take, get_or, arith, AllPass, range_with_len}
-use Rattle.checked_tile_scans.proofs.Cited.{ints, length-append, length-take, exact_sum_of, total_of, exact_laws, number_words, sum_of, wrap, is_number, is_word, range_scan_of, zero_wrapped, range_of}
-use Rattle.checked_tile_scans.proofs.Cited.{tile_count, sums_of, befores_of, IsTiled}
-use Rattle.std.proofs.lemmas.Int.{int_wrap-add_left}
-use Rattle.std.proofs.lemmas.List.Elements.{All-append, All-cons, All-head, All-nil, All-tail}
-use Rattle.std.proofs.lemmas.List.Sums.{fold-append}
+use Rattle.checked_tile_scans.proofs.Cited.{◌≡◌, ◌∙◌, ◌+◌, ◌≤◌, ◌+ℤ◌, ◌∷◌, ◌++◌, refl, sym, ap, ℕ, Bool, true, false, ℤ, pos, w32, List, [], length, map, take, get_or, arith, AllPass}
+use Rattle.checked_tile_scans.proofs.Cited.{range_with_len, ints, length-append, length-take, exact_sum_of, total_of, exact_laws, number_words, sum_of, wrap, is_number, is_word, range_scan_of}
+use Rattle.checked_tile_scans.proofs.Cited.{zero_wrapped, range_of, tile_count, sums_of, befores_of, IsTiled, int_wrap-add_left, All-append, All-cons, All-head, All-nil, All-tail, fold-append}
+use Rattle.checked_tile_scans.proofs.Cited.{exact_fold_on, sum_laws, fold_of, befores_are, front_passes}
 use Rattle.std.proofs.lemmas.Simd.{map-map}
-use Rattle.operators.proofs.ExactFolds.{exact_fold_on}
-use Rattle.operators.specs.NumberLaws.{sum_laws}
 use Rattle.cvl_base.specs.Booleans.{either}
-use Rattle.cvl_base.specs.Folds.{fold_of}
 use Rattle.cvl_base.specs.SegmentMonoid.{is_seg_item, seg_join, seg_unit}
-use Rattle.tile_scans.proofs.SumsOfTiles.{befores_are, front_passes}
 use Rattle.checked_tile_scans.specs.Checked.{total_since, totals_before}
 
 -- numbers are words

@@ -1,5 +1,4 @@
-use Rattle.checked_tile_scans.proofs.Cited.{◌+ℤ◌, ◌∙◌, pos, map, ap, subst, fitting, values_from, Gives, flagged, continued_range_scan}
-use Rattle.cvl_base.specs.declared.fault.FaultNo.TheVariants.{Overflow}
+use Rattle.checked_tile_scans.proofs.Cited.{◌+ℤ◌, ◌∙◌, pos, map, ap, subst, fitting, values_from, Gives, flagged, continued_range_scan, Overflow}
 use Rattle.checked_tile_scans.specs.Checked.{total_scan}
 use Rattle.checked_tile_scans.proofs.checked.checked_scan_gated.Goals as goal
 

@@ -1,6 +1,4 @@
-use Rattle.checked_tile_scans.proofs.Cited.{◌∙◌, ℤ, List, map, sym, ap, subst, fitting, values_from, Gives}
-use Rattle.cvl_base.specs.declared.fault.FaultNo.TheVariants.{Overflow}
-use Rattle.scan_walks.proofs.Valued.{sums_valued}
+use Rattle.checked_tile_scans.proofs.Cited.{◌∙◌, ℤ, List, map, sym, ap, subst, fitting, values_from, Gives, Overflow, sums_valued}
 use Rattle.checked_tile_scans.specs.Checked.{segment_totals}
 use Rattle.checked_tile_scans.proofs.checked.checked_seg_reduce_gated.Goals as goal
 

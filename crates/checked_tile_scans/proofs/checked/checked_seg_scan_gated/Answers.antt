@@ -1,7 +1,5 @@
-use Rattle.checked_tile_scans.proofs.Cited.{◌∙◌, pos, map, sym, ap, subst, fitting, values_from, Gives, all_whole, whole_laws, flagged}
-use Rattle.cvl_base.specs.declared.fault.FaultNo.TheVariants.{Overflow}
+use Rattle.checked_tile_scans.proofs.Cited.{◌∙◌, pos, map, sym, ap, subst, fitting, values_from, Gives, all_whole, whole_laws, flagged, Overflow, scans_valued}
 use Rattle.scan_walks.proofs.Cut.{segments_scanned}
-use Rattle.scan_walks.proofs.Valued.{scans_valued}
 use Rattle.checked_tile_scans.specs.Checked.{total_scan}
 use Rattle.checked_tile_scans.proofs.checked.checked_seg_scan_gated.Goals as goal
 

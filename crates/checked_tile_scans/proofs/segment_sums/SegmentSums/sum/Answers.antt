@@ -1,6 +1,4 @@
-use Rattle.checked_tile_scans.proofs.Cited.{◌≡◌, ◌+◌, ◌∙◌, to_z, of_z, w64, length, arith, to_z-of_z, option_copied}
-use Rattle.std.specs.Prelude.{sum}
-use Rattle.tile_scans.proofs.Flagged.{total_agrees}
+use Rattle.checked_tile_scans.proofs.Cited.{◌≡◌, ◌+◌, ◌∙◌, to_z, of_z, w64, length, arith, to_z-of_z, option_copied, sum, total_agrees}
 use Rattle.checked_tile_scans.proofs.SegmentTotals.{segment_open, segment_ranged}
 use Rattle.checked_tile_scans.proofs.segment_sums.SegmentSums.sum.Goals as goal
 

@@ -10,17 +10,7 @@ sum-sum-requires g c =
     let sums = c.args.self.now in
     let totals = segment_totals sums.segments.now sums.vector.now.elements.now in
     let at = next_is (map wrap totals) c.args.run c.requires.within c.loop-run.run c.loop-run.invariant.written in
-    omega (
-      arith,
-      at,
-      c.next_place-place.ensures.place,
-      c.requires.within,
-      length-map totals wrap,
-      c.loop-run.invariant.written.left,
-      c.loop-run-test.true,
-      c.room.ensures,
-      length-segment_totals sums.segments.now sums.vector.now.elements.now,
-    )
+    omega (arith, length-map totals wrap, c.loop-run-test.true, c.room.ensures, length-segment_totals sums.segments.now sums.vector.now.elements.now)
 
 pub loop-run-preserved : goal.loop-run-preserved
 loop-run-preserved g c =

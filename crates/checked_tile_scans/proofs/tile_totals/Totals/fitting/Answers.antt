@@ -1,7 +1,5 @@
 use Rattle.checked_tile_scans.proofs.Cited.{◌≡◌, ◌∙◌, ◌+ℤ◌, pos, to_z, of_z, w64, slice_range, ap, sym, arith, option_copied, to_z-of_z, fitting_front, range_scan_of, flagged, cut_range, flat_range}
-use Rattle.checked_tile_scans.proofs.Cited.{continued_range_scan}
-use Rattle.cvl_base.specs.Folds.{scan_of}
-use Rattle.scan_walks.specs.Ranges.{range_between}
+use Rattle.checked_tile_scans.proofs.Cited.{continued_range_scan, scan_of, range_between}
 use Rattle.checked_tile_scans.proofs.tile_totals.Totals.fitting.Goals as goal
 
 pub returns-in-None : goal.returns-in-None

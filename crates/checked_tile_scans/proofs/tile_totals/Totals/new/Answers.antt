@@ -1,6 +1,4 @@
-use Rattle.checked_tile_scans.proofs.Cited.{is_number}
-use Rattle.std.proofs.Common.{rules}
-use Rattle.std.proofs.lemmas.List.Sums.{list_all-from_AllPass}
+use Rattle.checked_tile_scans.proofs.Cited.{is_number, rules, list_all-from_AllPass}
 use Rattle.checked_tile_scans.proofs.tile_totals.Totals.new.Goals as goal
 
 pub invariant_of-result : goal.invariant_of-result

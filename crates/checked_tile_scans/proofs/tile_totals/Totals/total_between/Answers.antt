@@ -1,5 +1,4 @@
-use Rattle.checked_tile_scans.proofs.Cited.{◌∙◌, length, ap, arith, option_copied, is_number, flagged}
-use Rattle.std.proofs.lemmas.List.Sums.{AllPass-from_list_all}
+use Rattle.checked_tile_scans.proofs.Cited.{◌∙◌, length, ap, arith, option_copied, is_number, flagged, AllPass-from_list_all}
 use Rattle.checked_tile_scans.proofs.SegmentTotals.{length-totals_before, parts_summed}
 use Rattle.checked_tile_scans.proofs.tile_totals.Totals.total_between.Goals as goal
 

@@ -1,5 +1,4 @@
-use Rattle.checked_tile_scans.proofs.Cited.{◌∙◌, arith, sym, pos, option_copied, exact_laws, exact_sum_of, is_number, tiled, flagged, length-sums_of}
-use Rattle.tile_scans.proofs.SumsOfTiles.{sums_pass}
+use Rattle.checked_tile_scans.proofs.Cited.{◌∙◌, arith, sym, pos, option_copied, exact_laws, exact_sum_of, is_number, tiled, flagged, length-sums_of, sums_pass}
 use Rattle.checked_tile_scans.proofs.WholeSums.{worded}
 use Rattle.checked_tile_scans.proofs.tile_totals.TotalsTiles.count.Goals as goal
 

@@ -1,6 +1,5 @@
 use Rattle.checked_tile_scans.proofs.Cited.{◌-◌, ◌<◌, ◌≤◌, ◌∙◌, arith, sym, length, pos, drop, option_copied, length-drop, length-take, exact_sum_of, is_number, range_of, tile_count, tiled, flagged}
-use Rattle.checked_tile_scans.proofs.Cited.{tile_of, length-sums_of}
-use Rattle.tile_scans.proofs.SumsOfTiles.{sum_at, tile_passes}
+use Rattle.checked_tile_scans.proofs.Cited.{tile_of, length-sums_of, sum_at, tile_passes}
 use Rattle.checked_tile_scans.proofs.WholeSums.{exact_total}
 use Rattle.checked_tile_scans.proofs.tile_totals.TotalsTiles.sum.Goals as goal
 
