@@ -1,14 +1,9 @@
 -- The walks from segment to segment: what the first has found, and what the second has written.
-use Rattle.std.proofs.Common.{◌≡◌, ◌∙◌, ℕ, ◌+◌, ◌-◌, ◌<◌, ◌≤◌, List, [], ◌∷◌, ◌++◌, length, length-drop, map, sum, take, drop, get_or, sym, ap, append-nil, append_assoc, arith, ℤ, Option, Some}
-use Rattle.std.proofs.Common.{None}
+use Rattle.first_senders.proofs.Cited.{◌≡◌, ◌∙◌, ℕ, ◌+◌, ◌-◌, ◌<◌, ◌≤◌, List, [], ◌∷◌, ◌++◌, length, length-drop, map, sum, take, drop, get_or, sym, ap, append-nil, append_assoc, arith, ℤ, Option}
+use Rattle.first_senders.proofs.Cited.{Some, None, drop_all, drop-drop, drop_more, length-take-le, take_all, length-map-range_with_len, sum_by_more, sum_by-take-le, put_mid, same_len_mid, Fault}
+use Rattle.first_senders.proofs.Cited.{first_fault}
 use Rattle.std.specs.Option.{option_or}
-use Rattle.std.proofs.lemmas.List.{drop_all, drop-drop, drop_more, length-take-le, take_all}
-use Rattle.std.proofs.lemmas.List.FromFn.{length-map-range_with_len}
-use Rattle.std.proofs.lemmas.List.Sums.{sum_by_more, sum_by-take-le}
 use Rattle.std.proofs.lemmas.Slice.{take-put_mid}
-use borrow.Rule.Slice.PartMut.{put_mid, same_len_mid}
-use Rattle.cvl_base.specs.declared.fault.Fault.{Fault}
-use Rattle.cvl_base.specs.Permutes.{first_fault}
 use Rattle.first_senders.specs.FirstSenders.{first_sender, first_senders, wrong_in}
 use Rattle.first_senders.specs.Walks.{fault_by, senders_by}
 

@@ -1,13 +1,8 @@
 -- The walk that looks whether destinations are places of the result: the first that is none is at fault.
-use Rattle.std.proofs.Common.{◌≡◌, ◌∙◌, ℕ, ◌+◌, ◌<◌, ◌≤◌, Bool, true, false, if◌then◌else◌, List, ◌∷◌, length, length-drop, map, drop, take, get_or, refl, sym, ap, arith, ℤ, unsigned_abs}
-use Rattle.std.proofs.Common.{Option, Some, None}
-use Rattle.std.proofs.lemmas.List.{at_drop_all, at_drop_more, get_or-drop, get_or-take, length-take-le}
+use Rattle.first_senders.proofs.Cited.{◌≡◌, ◌∙◌, ℕ, ◌+◌, ◌<◌, ◌≤◌, Bool, true, false, if◌then◌else◌, List, ◌∷◌, length, length-drop, map, drop, take, get_or, refl, sym, ap, arith, ℤ, unsigned_abs}
+use Rattle.first_senders.proofs.Cited.{Option, Some, None, at_drop_more, get_or-drop, get_or-take, length-take-le, Fault, IndexOutOfRange, fault_at, first_fault, is_place, place_among}
 use Rattle.std.proofs.lemmas.Option.{none-some}
-use Rattle.cvl_base.specs.declared.fault.Fault.{Fault}
 use Rattle.cvl_base.specs.declared.fault.FaultNo.{FaultNo}
-use Rattle.cvl_base.specs.declared.fault.FaultNo.TheVariants.{IndexOutOfRange}
-use Rattle.cvl_base.specs.Faults.{fault_at}
-use Rattle.cvl_base.specs.Permutes.{first_fault, is_place, place_among}
 use Rattle.first_senders.specs.FirstSenders.{wrong_in}
 
 -- some neighbouring places among all
@@ -59,7 +54,3 @@ module _ (m first k : ℕ) (ts : List (Option ℤ)) (lt : k < length ts) (so_far
   fails_outside i is none =
       sym (next ∙ failed (first + k) (wrong_in m (get_or ts k None)) (map (wrong_in m) (drop (k + 1) ts)) IndexOutOfRange
       (ap (wrong_in m) is ∙ ap (λ b. if b then None else Some IndexOutOfRange) (outside (is_place m i) (unsigned_abs i) none)))
-
--- all of them
-pub past_all : (m first k : ℕ) (ts : List (Option ℤ)) → length ts ≤ k → fault_in m first ts ≡ fault_in m (first + k) (drop k ts) → None ≡ fault_in m first ts
-past_all m first k ts ge so_far = sym (so_far ∙ at_drop_all (fault_in m (first + k)) ts k ge)

@@ -2,3 +2,4 @@ mod Found
 mod Faults
 mod BySegments
 mod Meaning
+pub mod Cited

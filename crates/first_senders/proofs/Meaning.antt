@@ -1,18 +1,14 @@
 -- The segmented definition, told by the two walks through the segments.
-use Rattle.std.proofs.Common.{◌≡◌, ◌≢◌, ◌∙◌, ℕ, ◌+◌, List, [], ◌∷◌, length, map, sum, take, drop, refl, sym, ap, length-append, arith, ℤ, Option, Ok, Err}
-use Rattle.std.specs.List.{zip}
-use Rattle.std.proofs.lemmas.List.FromFn.{length-map-range_with_len}
-use Rattle.cvl_base.specs.declared.fault.FaultNo.TheVariants.{LengthMismatch}
+use Rattle.first_senders.proofs.Cited.{◌≡◌, ◌≢◌, ◌∙◌, ℕ, ◌+◌, List, [], ◌∷◌, length, map, sum, take, drop, refl, sym, ap, length-append, arith, ℤ, Option, Ok, Err, zip, length-map-range_with_len}
+use Rattle.first_senders.proofs.Cited.{LengthMismatch, fault, IsTold}
 use Rattle.cvl_base.specs.Elementwise.{if_as_long}
-use Rattle.cvl_base.specs.Faults.{fault}
 use Rattle.cvl_base.specs.Gives.{◌>>=◌, unless}
 use Rattle.cvl_base.specs.Lists.{joined}
 use Rattle.cvl_base.specs.Nests.{cut_of, nest}
 use Rattle.cvl_base.specs.Segmented.{beside, end_to_end, in_vector, of_two, results_from}
 use Rattle.cvl_base.proofs.Elementwise.{if_as_long-fits, if_as_long-misfits}
 use Rattle.cvl_base.proofs.Lists.{sum-cons}
-use Rattle.cvl_base.proofs.Nests.{length-cut, nest-fits, nest-misfits}
-use Rattle.permute_walks.proofs.Told.{IsTold}
+use Rattle.cvl_base.proofs.Nests.{length-cut, nest-fits}
 use Rattle.permute_walks.proofs.EndToEnd.{front, left_more}
 use Rattle.first_senders.specs.FirstSenders.{first_sender, first_senders, first_senders_to, seg_first_senders_to, wrong_in}
 use Rattle.first_senders.specs.Walks.{fault_by, senders_by}
@@ -38,24 +34,20 @@ senders_long (n ∷ ns) (m ∷ ms) ts count =
     length-append (first_senders (take n ts) 0 m) (senders_by ns ms (drop n ts))
     ∙ omega (arith, length-map-range_with_len (first_sender (take n ts)) 0 m, senders_long ns ms (drop n ts) (omega (arith, count)), sum-cons m ms)
 
-module _ (lengths ms : List ℕ) (ts : List (Option ℤ)) where
-  -- where the lengths are not those of the vector, or the segments not equally many
-  pub total-differs : sum lengths ≢ length ts → seg_first_senders_to ts lengths ms ≡ Err (fault LengthMismatch)
-  total-differs differ = ap (λ lists. end_to_end (in_vector lengths) (of_two first_senders_to) (beside lists (Ok ms))) (nest-misfits lengths ts differ)
+-- where the lengths are those of the vector
+module _ (lengths ms : List ℕ) (ts : List (Option ℤ)) (total : sum lengths ≡ length ts) where
+  nested : beside (nest lengths ts) (Ok ms) ≡ if_as_long (cut_of lengths ts) ms (Ok (zip (cut_of lengths ts) ms))
+  nested = ap (λ lists. beside lists (Ok ms)) (nest-fits lengths ts total)
 
-  module _ (total : sum lengths ≡ length ts) where
-    nested : beside (nest lengths ts) (Ok ms) ≡ if_as_long (cut_of lengths ts) ms (Ok (zip (cut_of lengths ts) ms))
-    nested = ap (λ lists. beside lists (Ok ms)) (nest-fits lengths ts total)
+  pub count-differs : length lengths ≢ length ms → seg_first_senders_to ts lengths ms ≡ Err (fault LengthMismatch)
+  count-differs differ =
+      ap (end_to_end (in_vector lengths) (of_two first_senders_to))
+      (nested ∙ if_as_long-misfits (cut_of lengths ts) ms (Ok (zip (cut_of lengths ts) ms)) (λ same. differ (sym (length-cut lengths ts) ∙ same)))
 
-    pub count-differs : length lengths ≢ length ms → seg_first_senders_to ts lengths ms ≡ Err (fault LengthMismatch)
-    count-differs differ =
-        ap (end_to_end (in_vector lengths) (of_two first_senders_to))
-        (nested ∙ if_as_long-misfits (cut_of lengths ts) ms (Ok (zip (cut_of lengths ts) ms)) (λ same. differ (sym (length-cut lengths ts) ∙ same)))
-
-    pub seg_told : length lengths ≡ length ms → IsTold (seg_first_senders_to ts lengths ms) (fault_by 0 lengths ms ts) (senders_by lengths ms ts) (sum ms)
-    seg_told count = record {
-      is = ap (end_to_end (in_vector lengths) (of_two first_senders_to))
-          (nested ∙ if_as_long-fits (cut_of lengths ts) ms (Ok (zip (cut_of lengths ts) ms)) (length-cut lengths ts ∙ count))
-          ∙ walked lengths 0 0 lengths ms ts refl refl count;
-      long = λ none. senders_long lengths ms ts count;
-    }
+  pub seg_told : length lengths ≡ length ms → IsTold (seg_first_senders_to ts lengths ms) (fault_by 0 lengths ms ts) (senders_by lengths ms ts) (sum ms)
+  seg_told count = record {
+    is = ap (end_to_end (in_vector lengths) (of_two first_senders_to))
+        (nested ∙ if_as_long-fits (cut_of lengths ts) ms (Ok (zip (cut_of lengths ts) ms)) (length-cut lengths ts ∙ count))
+        ∙ walked lengths 0 0 lengths ms ts refl refl count;
+    long = λ none. senders_long lengths ms ts count;
+  }

@@ -1,5 +1,4 @@
-use Rattle.std.proofs.Common.{arith}
-use Rattle.cvl_base.proofs.Permutes.{length-flagged_destinations}
+use Rattle.first_senders.proofs.Cited.{arith, length-flagged_destinations}
 use Rattle.first_senders.proofs.flat.select_first_senders_over.Goals as goal
 
 pub both_walks-requires : goal.both_walks-requires

@@ -1,7 +1,6 @@
-use Rattle.std.proofs.Common.{◌≡◌, ◌∙◌, ap, length, sum, sym, Err, Ok}
+use Rattle.first_senders.proofs.Cited.{◌≡◌, ◌∙◌, ap, length, sum, sym, Err, Ok, fits_in_room, mismatch, told_err}
 use Rattle.cvl_base.specs.Rooms.{in_room}
 use Rattle.cvl_base.proofs.Rooms.{told}
-use Rattle.permute_walks.proofs.Told.{fits_in_room, mismatch, told_err}
 use Rattle.first_senders.proofs.Meaning.{count-differs, seg_told}
 use Rattle.first_senders.proofs.segments.both_walks.Goals as goal
 

@@ -1,5 +1,4 @@
-use Rattle.std.proofs.Common.{◌∙◌, ◌<◌, arith, length}
-use Rattle.permute_walks.proofs.Sent.{told_again}
+use Rattle.first_senders.proofs.Cited.{◌∙◌, ◌<◌, arith, length, told_again}
 use Rattle.first_senders.proofs.BySegments.{end_of, end_within, segment_failed, segment_passed}
 use Rattle.first_senders.proofs.segments.check_segments.Goals as goal
 

@@ -1,4 +1,4 @@
-use Rattle.std.proofs.Common.{◌≡◌, drop, sum, take}
+use Rattle.first_senders.proofs.Cited.{◌≡◌, drop, sum, take}
 use Rattle.first_senders.specs.Walks.{fault_by}
 use Rattle.first_senders.proofs.segments.check_segments.Given as goal
 

@@ -1,6 +1,4 @@
-use Rattle.std.proofs.Common.{◌≡◌, ◌∙◌, ◌+◌, ◌-◌, ◌<◌, ◌≤◌, ap, arith, drop, length, length-drop, refl, rules, sum, take}
-use Rattle.std.proofs.lemmas.List.{length-take-le, take_all}
-use borrow.Rule.Slice.PartMut.{put_mid}
+use Rattle.first_senders.proofs.Cited.{◌≡◌, ◌∙◌, ◌+◌, ◌-◌, ◌<◌, ◌≤◌, ap, arith, drop, length, length-drop, refl, rules, sum, take, length-take-le, take_all, put_mid}
 use Rattle.first_senders.specs.FirstSenders.{first_senders}
 use Rattle.first_senders.proofs.BySegments.{end_of, end_within, room_all, room_long, room_more}
 use Rattle.first_senders.proofs.segments.write_segments.Goals as goal

@@ -1,4 +1,4 @@
-use Rattle.std.proofs.Common.{◌≡◌, ◌++◌, drop, length, sum, take}
+use Rattle.first_senders.proofs.Cited.{◌≡◌, ◌++◌, drop, length, sum, take}
 use Rattle.first_senders.specs.Walks.{senders_by}
 use Rattle.first_senders.proofs.segments.write_segments.Given as goal
 

@@ -1,5 +1,4 @@
-use Rattle.std.proofs.Common.{◌∙◌, ◌<◌, Some, ap, arith, drop, length, sym, take}
-use Rattle.cvl_base.specs.Permutes.{destination_if}
+use Rattle.first_senders.proofs.Cited.{◌∙◌, ◌<◌, Some, ap, arith, drop, length, sym, take, destination_if}
 use Rattle.first_senders.proofs.Faults.{fails_outside, part_at, part_long, past_inside, past_skip}
 use Rattle.first_senders.proofs.walks.check_indices.Goals as goal
 use Rattle.first_senders.proofs.walks.check_indices.Goals.{then-takes_part+in-Some, else-takes_part}

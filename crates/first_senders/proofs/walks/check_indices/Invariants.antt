@@ -1,4 +1,4 @@
-use Rattle.std.proofs.Common.{◌≡◌, ◌+◌, drop, take}
+use Rattle.first_senders.proofs.Cited.{◌≡◌, ◌+◌, drop, take}
 use Rattle.first_senders.proofs.Faults.{fault_in}
 use Rattle.first_senders.proofs.walks.check_indices.Given as goal
 
