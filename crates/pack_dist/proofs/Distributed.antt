@@ -1,23 +1,11 @@
 -- The lists of a distribute and of an index, one for each segment: each is as long as its segment.
-use Rattle.std.proofs.Common.{◌≡◌, ◌≢◌, ◌∙◌, ℕ, ◌+◌, ◌<◌, ◌≤◌, ℤ, pos, ◌+ℤ◌, ◌*ℤ◌, List, [], ◌∷◌, length, map, get_or, replicate, refl, sym, ap, arith, Result, Ok, Err}
-use Rattle.std.specs.Prelude.{sum}
-use Rattle.std.specs.List.{zip}
-use Rattle.std.proofs.lemmas.List.{get_or-map, length-map, length-replicate}
-use Rattle.std.proofs.lemmas.List.FromFn.{length-map-range_with_len}
-use Rattle.std.proofs.lemmas.List.Sums.{sum_by_more_le}
-use Rattle.std.proofs.lemmas.Slice.Zip.{get_or-zip, length-zip}
-use Rattle.cvl_base.specs.declared.fault.Fault.{Fault}
+use Rattle.pack_dist.proofs.Cited.{◌≡◌, ◌≢◌, ◌∙◌, ℕ, ◌+◌, ◌<◌, ◌≤◌, ℤ, pos, ◌+ℤ◌, ◌*ℤ◌, List, [], ◌∷◌, length, map, get_or, replicate, refl, sym, ap, arith, Result, Ok, Err, sum, zip, get_or-map}
+use Rattle.pack_dist.proofs.Cited.{length-map, length-replicate, length-map-range_with_len, sum_by_more_le, get_or-zip, length-zip, Fault, fault, ◌>>=◌, wrap, beside, of_two, of_three, in_vector}
+use Rattle.pack_dist.proofs.Cited.{end_to_end, moved, results_from, seg_index_within, sum-cons, beside-fits, beside-misfits}
 use Rattle.cvl_base.specs.declared.fault.FaultNo.TheVariants as no
 use Rattle.cvl_base.specs.Distributes.{distribute_within, index_within}
-use Rattle.cvl_base.specs.Faults.{fault}
-use Rattle.cvl_base.specs.Gives.{◌>>=◌}
-use Rattle.cvl_base.specs.Integers.{wrap}
 use Rattle.cvl_base.specs.Lists.{joined}
-use Rattle.cvl_base.specs.Segmented.{beside, of_two, of_three, in_vector, end_to_end, moved, results_from}
-use Rattle.cvl_base.specs.SegmentedCalls.{seg_index_within}
 use Rattle.cvl_base.proofs.Distributes.{length_within-fits}
-use Rattle.cvl_base.proofs.Lists.{sum-cons}
-use Rattle.cvl_base.proofs.Segmented.{beside-fits, beside-misfits}
 use Rattle.pack_dist.specs.Lists.{progressions_of}
 use Rattle.pack_dist.specs.Progressions.{progression}
 use Rattle.segdes.proofs.ListRuns.{whole-long}

@@ -8,3 +8,4 @@ pub mod Pushed
 pub mod Replaced
 pub mod Segments
 pub mod Tiles
+pub mod Cited

@@ -1,20 +1,10 @@
 -- The sum of flags that are read as 1 and 0 is the number of true ones.
-use Rattle.std.proofs.Common.{◌≡◌, ℕ, ◌+◌, ◌*◌, ◌≤◌, ℤ, pos, w32, Bool, true, false, cond, List, [], ◌∷◌, length, take, map, refl, ap, ◌∙◌, arith, None}
-use Rattle.std.specs.List.{list_all, range_with_len}
-use Rattle.std.proofs.lemmas.Int.{int_wrap_fits, fits_signed_from_abs}
-use Rattle.std.proofs.lemmas.List.{length-take, take-map}
-use Rattle.cvl_base.specs.Conversions.{integer_of}
-use Rattle.cvl_base.specs.Folds.{fold_of}
-use Rattle.cvl_base.specs.Integers.{sum_of, wrap}
+use Rattle.pack_dist.proofs.Cited.{◌≡◌, ℕ, ◌+◌, ◌*◌, ◌≤◌, ℤ, pos, w32, Bool, true, false, cond, List, [], ◌∷◌, length, take, map, refl, ap, ◌∙◌, arith, None, list_all, range_with_len, int_wrap_fits}
+use Rattle.pack_dist.proofs.Cited.{fits_signed_from_abs, length-take, take-map, integer_of, fold_of, sum_of, wrap, most_elements, most_places, count_of, count-cons, continued, tile_count}
 use Rattle.cvl_base.specs.ItemWords.{is_number}
-use Rattle.cvl_base.specs.Limits.{most_elements, most_places}
 use Rattle.cvl_base.specs.Monoid.{MonoidLaws}
-use Rattle.cvl_base.specs.Packs.{count_of}
 use Rattle.cvl_base.specs.SegmentMonoid.{seg_join, seg_unit}
-use Rattle.cvl_base.proofs.Packs.{count-cons}
-use Rattle.scan_walks.specs.Ranges.{continued}
 use Rattle.scan_walks.proofs.LastStart.{continued_summed}
-use Rattle.tile_plan.specs.Ranges.{tile_count}
 use Rattle.tile_scans.specs.TiledSums.{flagged, sums_of}
 use Rattle.tile_scans.specs.Written.{befores_of}
 use Rattle.tile_scans.proofs.Flagged.{tiled_read}

@@ -1,12 +1,8 @@
 -- What a pack keeps of the first elements, of one more, and of those that a run is made of.
-use Rattle.std.proofs.Common.{◌≡◌, ℕ, zero, suc, ◌+◌, ◌<◌, ◌≤◌, Bool, true, false, cond, List, [], ◌∷◌, ◌++◌, length, take, drop, get_or, set, refl, sym, ap, ◌∙◌, arith, append-nil, append_assoc}
+use Rattle.pack_dist.proofs.Cited.{◌≡◌, ℕ, zero, suc, ◌+◌, ◌<◌, ◌≤◌, Bool, true, false, cond, List, [], ◌∷◌, ◌++◌, length, take, drop, get_or, set, refl, sym, ap, ◌∙◌, arith, append-nil}
+use Rattle.pack_dist.proofs.Cited.{append_assoc, drop-take, drop_more, length-append, length-take, take-take, take_more_set, take-set, sum_by-take-drop, sum_by_more, count_of, part, count-cons}
 use Rattle.std.proofs.Math.Seq.{drop-append_seam, take-append_seam}
-use Rattle.std.proofs.lemmas.List.{drop-take, drop_more, length-append, length-take, take-take, take_more_set, take-set}
-use Rattle.std.proofs.lemmas.List.Sums.{sum_by-take-drop, sum_by_more}
-use Rattle.cvl_base.specs.Packs.{count_of}
-use Rattle.fresh.specs.Parts.{part}
 use Rattle.pack_dist.specs.Kept.{kept_of}
-use Rattle.cvl_base.proofs.Packs.{count-cons}
 
 -- the true flags in front, and the others
 pub count-split : (flags : List Bool) (n : ℕ) → count_of (take n flags) + count_of (drop n flags) ≡ count_of flags

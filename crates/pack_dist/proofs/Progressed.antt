@@ -1,11 +1,7 @@
 -- The step of an arithmetic progression, and its parts.
-use Rattle.std.proofs.Common.{◌≡◌, ◌∙◌, ℕ, zero, suc, ◌+◌, ◌^◌, ◌<◌, ◌≤◌, ℤ, pos, ◌+ℤ◌, ◌*ℤ◌, to_z, w32, [], ◌∷◌, ◌++◌, map, take, drop, add-one, sym, ap, arith}
-use Rattle.std.specs.List.{range_with_len}
+use Rattle.pack_dist.proofs.Cited.{◌≡◌, ◌∙◌, ℕ, zero, suc, ◌+◌, ◌^◌, ◌<◌, ◌≤◌, ℤ, pos, ◌+ℤ◌, ◌*ℤ◌, to_z, w32, [], ◌∷◌, ◌++◌, map, take, drop, add-one, sym, ap, arith, range_with_len}
+use Rattle.pack_dist.proofs.Cited.{int_wrap-add_left, to_z_pos, map-range_with_len_more, take-map-range_with_len, wrap, part}
 use Rattle.std.proofs.Math.IntN.{+ℤ_assoc, +ℤ_comm, suc_ℤ-*ℤ}
-use Rattle.std.proofs.lemmas.Int.{int_wrap-add_left, to_z_pos}
-use Rattle.std.proofs.lemmas.List.FromFn.{map-range_with_len_more, take-map-range_with_len}
-use Rattle.cvl_base.specs.Integers.{wrap}
-use Rattle.fresh.specs.Parts.{part}
 use Rattle.pack_dist.specs.Progressions.{numbers_from, progression}
 
 step_more : (init stride : ℤ) (k : ℕ) → (init +ℤ pos k *ℤ stride) +ℤ stride ≡ init +ℤ pos (k + 1) *ℤ stride

@@ -1,6 +1,5 @@
 -- Runs to which items are pushed one by one.
-use Rattle.std.proofs.Common.{◌≡◌, ◌∙◌, ℕ, ◌+◌, ◌-◌, List, [], ◌∷◌, ◌++◌, append_assoc, append-nil, sym, ap, arith}
-use Rattle.fresh.specs.Places.{Stretch, stretch}
+use Rattle.pack_dist.proofs.Cited.{◌≡◌, ◌∙◌, ℕ, ◌+◌, ◌-◌, List, [], ◌∷◌, ◌++◌, append_assoc, append-nil, sym, ap, arith, Stretch, stretch}
 
 -- nothing is pushed yet
 pub none_pushed : {X : Type 0} (old : Stretch X) → old ≡ stretch old.block old.first (old.items ++ []) (old.room - 0)

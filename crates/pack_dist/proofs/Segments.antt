@@ -1,31 +1,18 @@
 -- Counts and packs of segments, one segment after another.
-use Rattle.std.proofs.Common.{◌≡◌, ◌≢◌, ℕ, ◌+◌, ◌≤◌, ℤ, pos, Bool, List, [], ◌∷◌, length, take, drop, map, zip, refl, subst, sym, ap, ◌∙◌, arith, inl, inr, Result, Ok, Err, IfOk}
-use Rattle.std.specs.Prelude.{sum, unsigned_abs}
+use Rattle.pack_dist.proofs.Cited.{◌≡◌, ◌≢◌, ℕ, ◌+◌, ◌≤◌, ℤ, pos, Bool, List, [], ◌∷◌, length, take, drop, map, zip, refl, subst, sym, ap, ◌∙◌, arith, inl, inr, Result, Ok, Err, IfOk, sum}
+use Rattle.pack_dist.proofs.Cited.{unsigned_abs, drop-map, length-drop, length-map, length-take, nil_from_length, take-map, count_by-le-length, Fault, integer_of, fault, fold_of, after, Gives}
+use Rattle.pack_dist.proofs.Cited.{sum_of, most_elements, count_of, pack_of, beside, end_to_end, in_vector, of_two, one_each, seg_count_of, seg_pack_of, seg_reduce_of, sum-cons, beside-fits}
+use Rattle.pack_dist.proofs.Cited.{results-ok, reduces_of}
 use Rattle.std.proofs.lemmas.Bool.Decides.{eqb_tells}
-use Rattle.std.proofs.lemmas.List.{drop-map, length-drop, length-map, length-take, nil_from_length, take-map}
-use Rattle.std.proofs.lemmas.List.Sums.{count_by-le-length}
-use Rattle.cvl_base.specs.declared.fault.Fault.{Fault}
 use Rattle.cvl_base.specs.declared.fault.FaultNo.TheVariants as no
 use Rattle.cvl_base.specs.declared.refused.Refused.{Refused}
 use Rattle.cvl_base.specs.declared.refused.Refused.TheVariants as refused
-use Rattle.cvl_base.specs.Conversions.{integer_of}
 use Rattle.cvl_base.specs.Descriptors.{AreLengths}
-use Rattle.cvl_base.specs.Faults.{fault}
-use Rattle.cvl_base.specs.Folds.{fold_of}
-use Rattle.cvl_base.specs.Gives.{after, Gives}
-use Rattle.cvl_base.specs.Integers.{sum_of}
-use Rattle.cvl_base.specs.Limits.{most_elements}
 use Rattle.cvl_base.specs.Nests.{cut_of, nest}
-use Rattle.cvl_base.specs.Packs.{count_of, pack_of}
-use Rattle.cvl_base.specs.Segmented.{beside, end_to_end, in_vector, of_two, one_each}
-use Rattle.cvl_base.specs.SegmentedCalls.{seg_count_of, seg_pack_of, seg_reduce_of}
 use Rattle.cvl_base.proofs.Descriptors.{abs_pos}
 use Rattle.cvl_base.proofs.Elementwise.{if_as_long-fits}
-use Rattle.cvl_base.proofs.Lists.{sum-cons}
 use Rattle.cvl_base.proofs.Nests.{length-cut, nest-fits, nest-misfits}
-use Rattle.cvl_base.proofs.Segmented.{beside-fits, results-ok}
 use Rattle.scan_walks.proofs.Segmented.{seg_reduce-fits, seg_reduce-misfits}
-use Rattle.scan_walks.specs.Ranges.{reduces_of}
 use Rattle.pack_dist.specs.Kept.{kept_of}
 use Rattle.pack_dist.proofs.Ones.{ones_counted}
 use Rattle.pack_dist.proofs.Packing.{kept-split}
@@ -56,14 +43,9 @@ ones-misfit flags lengths misfits =
 sum-counts : (lengths : List ℕ) (flags : List Bool) → sum (map count_of (cut_of lengths flags)) ≤ length flags
 sum-counts [] flags = omega arith
 sum-counts (n ∷ lengths) flags =
-    omega (
-      arith,
-      sum-cons (count_of (take n flags)) (map count_of (cut_of lengths (drop n flags))),
-      count_by-le-length (λ (flag : Bool). flag) (take n flags),
-      sum-counts lengths (drop n flags),
-      length-take n flags,
-      length-drop n flags,
-    )
+    let front = count_by-le-length (λ (flag : Bool). flag) (take n flags) in
+    let all = sum-cons (count_of (take n flags)) (map count_of (cut_of lengths (drop n flags))) in
+    omega (arith, all, front, sum-counts lengths (drop n flags), length-take n flags, length-drop n flags)
 
 -- the counts are the lengths of a descriptor
 are_counts : (counts : List ℕ) → length counts ≤ most_elements → sum counts ≤ most_elements → AreLengths (map pos counts)

@@ -1,15 +1,10 @@
 -- Flags in tiles: how many are true before each tile, and where what is kept of some of them is put.
 -- Source: what the definitions of Kept imply.
-use Rattle.std.proofs.Common.{◌≡◌, ◌∙◌, ℕ, zero, suc, ◌+◌, ◌-◌, ◌*◌, ◌<◌, ◌≤◌, min, ℤ, pos, to_z, of_z, w32, w64, Fits, T, nat_abs, Bool, cond, List, length, get_or, take, drop, sym, subst, ap, arith}
+use Rattle.pack_dist.proofs.Cited.{◌≡◌, ◌∙◌, ℕ, ◌+◌, ◌-◌, ◌*◌, ◌<◌, ◌≤◌, min, ℤ, pos, to_z, of_z, w32, w64, Fits, T, nat_abs, Bool, cond, List, length, get_or, take, drop, sym, subst, ap}
+use Rattle.pack_dist.proofs.Cited.{arith, fits_signed_from_abs, ints, to_z-of_z, take-take, take_all, take_min, get_or-map-range_with_len, length-map-range_with_len, count_by-le-length}
+use Rattle.pack_dist.proofs.Cited.{sum_by-take-le, most_elements, count_of, tile_count}
 use Rattle.std.specs.Int.Signed.{non_neg}
 use Rattle.std.proofs.Math.Nat.{mul-le-mul_right}
-use Rattle.std.proofs.lemmas.Int.{fits_signed_from_abs, ints, to_z-of_z}
-use Rattle.std.proofs.lemmas.List.{take-take, take_all, take_min}
-use Rattle.std.proofs.lemmas.List.FromFn.{get_or-map-range_with_len, length-map-range_with_len}
-use Rattle.std.proofs.lemmas.List.Sums.{count_by-le-length, sum_by-take-le}
-use Rattle.cvl_base.specs.Limits.{most_elements}
-use Rattle.cvl_base.specs.Packs.{count_of}
-use Rattle.tile_plan.specs.Ranges.{tile_count}
 use Rattle.tile_plan.proofs.Numbers.{starts_past}
 use Rattle.pack_dist.specs.Kept.{ArePlacesOf, count_before, counts_before}
 use Rattle.pack_dist.proofs.Packing.{count-split, length-kept}
@@ -28,15 +23,7 @@ count_at_start flags tile t = ap count_of (take_min (t * tile) flags)
 pub starts_rise : (tile n s t : ℕ) → s ≤ t → min (s * tile) n ≤ min (t * tile) n
 starts_rise tile n s t le = omega (arith, mul-le-mul_right tile le)
 
--- where there are elements, there is a tile
-pub some_tile : (n tile len : ℕ) → len ≤ n * tile → 0 < len → 0 < n
-some_tile zero tile len all some = absurd (omega arith)
-some_tile (suc n) tile len all some = omega arith
-
 module _ (flags : List Bool) (tile : ℕ) (some : 1 ≤ tile) where
-  pub some_tiles : 0 < length flags → 0 < tile_count (length flags) tile
-  some_tiles filled = some_tile (tile_count (length flags) tile) tile (length flags) (starts_past (length flags) tile some) filled
-
   -- before no tile but all of them
   count_before_all : count_before flags tile (tile_count (length flags) tile) ≡ count_of flags
   count_before_all = ap count_of (take_all (tile_count (length flags) tile * tile) flags (starts_past (length flags) tile some))

@@ -1,4 +1,4 @@
-use Rattle.first_senders.proofs.Cited.{◌≡◌, ◌∙◌, ◌+◌, ◌-◌, ◌<◌, Some, ap, arith, drop, length, set, subst, sym, take, to_z, w32, destination_if}
+use Rattle.first_senders.proofs.Cited.{◌≡◌, ◌∙◌, ◌+◌, ◌-◌, Some, ap, arith, drop, length, set, subst, sym, take, to_z, w32, destination_if}
 use Rattle.std.proofs.lemmas.Int.{to_z_pos}
 use Rattle.first_senders.proofs.Faults.{part_long}
 use Rattle.first_senders.proofs.Found.{IsWrittenBehind, walked_on, written_all, written_below, written_beyond, written_here, written_none, written_skip}

@@ -1,4 +1,4 @@
-use Rattle.std.proofs.Common.{◌≡◌, IfOk, arith, subst}
+use Rattle.pack_dist.proofs.Cited.{◌≡◌, IfOk, arith, subst}
 use Rattle.pack_dist.proofs.Ones.{tiles_counted}
 use Rattle.pack_dist.proofs.counts.counts_before.Goals as goal
 

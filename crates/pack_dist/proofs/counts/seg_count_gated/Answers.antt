@@ -1,4 +1,4 @@
-use Rattle.std.proofs.Common.{arith}
+use Rattle.pack_dist.proofs.Cited.{arith}
 use Rattle.pack_dist.proofs.Segments.{reduced}
 use Rattle.pack_dist.proofs.counts.seg_count_gated.Goals as goal
 

@@ -1,4 +1,4 @@
-use Rattle.std.proofs.Common.{◌∙◌}
+use Rattle.pack_dist.proofs.Cited.{◌∙◌}
 use Rattle.pack_dist.proofs.Distributed.{copies, lists-fit, lists-whole}
 use Rattle.pack_dist.proofs.distributes.segment_copies.Goals as goal
 

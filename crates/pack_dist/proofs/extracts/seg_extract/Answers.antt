@@ -1,6 +1,5 @@
-use Rattle.std.proofs.Common.{◌∙◌, rules, arith, refl}
+use Rattle.pack_dist.proofs.Cited.{◌∙◌, rules, arith, refl, IsSegment, ends_within, starts_more}
 use Rattle.pack_dist.proofs.Extracted.{extract-begins, extract-ends, extract-fails, extract-misfits, extract-more}
-use Rattle.scan_walks.proofs.Parts.{IsSegment, ends_within, starts_more}
 use Rattle.pack_dist.proofs.extracts.seg_extract.Goals as goal
 
 pub returns-in_err-check_agree-clause-values : goal.returns-in_err-check_agree-clause-values

@@ -1,5 +1,4 @@
-use Rattle.std.proofs.Common.{◌≡◌, length, take, vec_len, vec_capacity}
-use Rattle.std.specs.Prelude.{sum}
+use Rattle.pack_dist.proofs.Cited.{◌≡◌, length, take, vec_len, vec_capacity, sum}
 use Rattle.pack_dist.proofs.Extracted.{Extracting}
 use Rattle.pack_dist.proofs.extracts.seg_extract.Given as goal
 

@@ -1,4 +1,4 @@
-use Rattle.std.proofs.Common.{sym}
+use Rattle.pack_dist.proofs.Cited.{sym}
 use Rattle.pack_dist.proofs.Distributed.{progression-long}
 use Rattle.pack_dist.proofs.indexes.index.Goals as goal
 

@@ -1,5 +1,4 @@
-use Rattle.std.proofs.Common.{rules}
-use Rattle.std.proofs.lemmas.Int.{wraps}
+use Rattle.pack_dist.proofs.Cited.{rules, wraps}
 use Rattle.pack_dist.proofs.Progressed.{next_first, next_more, numbers-more}
 use Rattle.pack_dist.proofs.Pushed.{none_pushed, pushed}
 use Rattle.pack_dist.proofs.indexes.push_progression.Goals as goal

@@ -1,6 +1,4 @@
-use Rattle.std.proofs.Common.{◌≡◌, ◌+◌, ◌-◌, ◌++◌, ◌+ℤ◌, ◌*ℤ◌, pos}
-use Rattle.cvl_base.specs.Integers.{wrap}
-use Rattle.fresh.specs.Places.{stretch}
+use Rattle.pack_dist.proofs.Cited.{◌≡◌, ◌+◌, ◌-◌, ◌++◌, ◌+ℤ◌, ◌*ℤ◌, pos, wrap, stretch}
 use Rattle.pack_dist.specs.Progressions.{numbers_from}
 use Rattle.pack_dist.proofs.indexes.push_progression.Given as goal
 

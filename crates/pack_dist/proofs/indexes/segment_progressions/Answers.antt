@@ -1,5 +1,4 @@
-use Rattle.std.proofs.Common.{◌∙◌, sym, rules}
-use Rattle.std.specs.List.{zip}
+use Rattle.pack_dist.proofs.Cited.{◌∙◌, sym, rules, zip}
 use Rattle.pack_dist.proofs.Distributed.{index-fits, index-misfits, lists-whole, numbers, steps-long}
 use Rattle.pack_dist.proofs.indexes.segment_progressions.Goals as goal
 

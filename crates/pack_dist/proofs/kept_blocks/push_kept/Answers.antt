@@ -1,8 +1,5 @@
-use Rattle.std.proofs.Common.{◌∙◌, ◌≡◌, ◌-◌, ◌++◌, ◌<◌, ℕ, Bool, true, false, cond, length, take, get_or, refl, ap, arith, take_all}
-use Rattle.std.proofs.lemmas.List.{length-drop, length-set, length-take}
-use Rattle.std.proofs.lemmas.List.Sums.{count_by-le-length}
-use Rattle.cvl_base.specs.Packs.{count_of}
-use Rattle.fresh.specs.Places.{stretch}
+use Rattle.pack_dist.proofs.Cited.{◌∙◌, ◌≡◌, ◌-◌, ◌++◌, ◌<◌, ℕ, Bool, true, false, cond, length, take, get_or, refl, ap, arith, take_all, length-drop, length-set, length-take, count_by-le-length}
+use Rattle.pack_dist.proofs.Cited.{count_of, stretch}
 use Rattle.pack_dist.specs.Kept.{kept_of}
 use Rattle.pack_dist.proofs.Packing.{block_more, count-split, counted, stored}
 use Rattle.pack_dist.proofs.kept_blocks.push_kept.Goals as goal
@@ -23,16 +20,7 @@ loop-k-preserved g c =
     let as_long : length values ≡ length flags = omega (arith, c.split_at.ensures.front_len, c.split_at-in-loop-values.ensures.front_len) in
     let one = c.from-count.ensures ∙ byte_one (get_or flags k false) in
     let room : count < length buffer =
-    omega (
-      arith,
-      c.loop-k-test.true,
-      c.min-block.ensures,
-      c.split_at-in-loop-values.ensures.front_len,
-      c.loop-k.invariant.long,
-      c.loop-k.invariant.count,
-      count_by-le-length (λ flag. flag) (take k flags),
-      length-take k flags,
-    ) in
+    omega (arith, c.loop-k-test.true, c.min-block.ensures, c.split_at-in-loop-values.ensures.front_len, c.loop-k.invariant, count_by-le-length (λ flag. flag) (take k flags), length-take k flags) in
     record {
       long = length-set buffer count x ∙ c.loop-k.invariant.long;
       count = counted flags k count c.from-count.result c.loop-k-test.true c.loop-k.invariant.count one;
@@ -46,17 +34,8 @@ push-requires g c =
     let some = c.split_at-in-loop-values.result.0.now in
     let room : c.loop-place.run.room ≡ c.loop-values.run.room - c.loop-place.place = ap (λ r. r.room) c.loop-place.invariant in
     let all : take c.loop-k.k some ≡ some = take_all c.loop-k.k some c.loop-k-test.false in
-    omega (
-      arith,
-      room,
-      c.loop-place-test.true,
-      c.loop-k.invariant.count,
-      ap count_of all,
-      ap count_of c.split_at-in-loop-values.ensures.front,
-      count-split flags block,
-      c.loop-values.invariant.room,
-      c.requires.room,
-    )
+    let front = ap count_of c.split_at-in-loop-values.ensures.front in
+    omega (arith, c.loop-place-test.true, c.loop-k.invariant.count, ap count_of all, front, count-split flags block, c.loop-values.invariant.room, c.requires.room)
 
 pub loop-values-preserved : goal.loop-values-preserved
 loop-values-preserved g c =
@@ -85,15 +64,7 @@ loop-values-preserved g c =
           ∙ block_more values flags block run.items c.loop-place.run.items
           (ap (λ r. r.items) is ∙ λ i. run.items ++ kept_of (of_values.front i) (of_flags.front i))
           ∙ c.loop-values.invariant.items;
-      room = omega (
-        arith,
-        ap (λ r. r.room) is,
-        ap count_of of_flags.front,
-        ap count_of of_flags.back,
-        count-split flags block,
-        c.loop-values.invariant.room,
-        c.requires.room,
-      );
+      room = omega (arith, ap (λ r. r.room) is, ap count_of of_flags.front, ap count_of of_flags.back, count-split flags block, c.loop-values.invariant.room, c.requires.room);
       as_long = omega (arith, ap length of_values.back, ap length of_flags.back, length-drop block values, length-drop block flags, c.loop-values.invariant.as_long);
       long = c.loop-k.invariant.long;
     }

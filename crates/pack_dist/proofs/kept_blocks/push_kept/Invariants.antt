@@ -1,6 +1,4 @@
-use Rattle.std.proofs.Common.{◌≡◌, ◌+◌, ◌-◌, ◌++◌, length, take}
-use Rattle.cvl_base.specs.Packs.{count_of}
-use Rattle.fresh.specs.Places.{stretch}
+use Rattle.pack_dist.proofs.Cited.{◌≡◌, ◌+◌, ◌-◌, ◌++◌, length, take, count_of, stretch}
 use Rattle.pack_dist.specs.Kept.{kept_of}
 use Rattle.pack_dist.proofs.kept_blocks.push_kept.Given as goal
 

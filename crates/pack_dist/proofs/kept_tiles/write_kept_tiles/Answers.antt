@@ -1,5 +1,4 @@
-use Rattle.std.proofs.Common.{◌∙◌, arith}
-use Rattle.std.proofs.lemmas.List.{take_all}
+use Rattle.pack_dist.proofs.Cited.{◌∙◌, arith, take_all}
 use Rattle.pack_dist.specs.Kept.{kept_of}
 use Rattle.pack_dist.proofs.Packing.{length-kept}
 use Rattle.pack_dist.proofs.Tiles.{whole_placed}

@@ -1,7 +1,5 @@
-use Rattle.std.proofs.Common.{◌≡◌, ◌∙◌, ◌++◌, ◌-◌, ap, arith, length, sym}
-use Rattle.fresh.specs.Places.{stretch, with_items}
+use Rattle.pack_dist.proofs.Cited.{◌≡◌, ◌∙◌, ◌++◌, ◌-◌, ap, arith, length, sym, stretch, with_items, count_of}
 use Rattle.fresh.proofs.Written.{all_written}
-use Rattle.cvl_base.specs.Packs.{count_of}
 use Rattle.pack_dist.specs.Kept.{kept_of}
 use Rattle.pack_dist.proofs.Packing.{length-kept}
 use Rattle.pack_dist.proofs.packs.kept_alone.Goals as goal

@@ -1,4 +1,4 @@
-use Rattle.std.proofs.Common.{◌≡◌, ◌∙◌, Err, ap, arith, length, refl, sym}
+use Rattle.pack_dist.proofs.Cited.{◌≡◌, ◌∙◌, Err, ap, arith, length, refl, sym}
 use Rattle.cvl_base.proofs.Rooms.{at_front-short}
 use Rattle.pack_dist.specs.Kept.{kept_of}
 use Rattle.pack_dist.proofs.Packing.{length-kept}

@@ -1,4 +1,4 @@
-use Rattle.std.proofs.Common.{◌≡◌, ◌∙◌, ap, arith, length, sym}
+use Rattle.pack_dist.proofs.Cited.{◌≡◌, ◌∙◌, ap, arith, length, sym}
 use Rattle.pack_dist.specs.Kept.{kept_of}
 use Rattle.pack_dist.proofs.Packing.{length-kept}
 use Rattle.pack_dist.proofs.packs.write_kept.Goals as goal

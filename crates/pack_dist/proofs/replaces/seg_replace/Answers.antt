@@ -1,6 +1,4 @@
-use Rattle.std.proofs.Common.{◌∙◌, rules, arith, ap, refl, take_all}
-use Rattle.std.specs.Prelude.{sum}
-use Rattle.scan_walks.proofs.Parts.{IsSegment, ends_within, starts_more}
+use Rattle.pack_dist.proofs.Cited.{◌∙◌, rules, arith, ap, refl, take_all, sum, IsSegment, ends_within, starts_more}
 use Rattle.pack_dist.proofs.Replaced.{index-misfits, replace-begins, replace-ends, replace-fails, replace-more, values-misfit}
 use Rattle.pack_dist.proofs.replaces.seg_replace.Goals as goal
 

@@ -1,5 +1,4 @@
-use Rattle.std.proofs.Common.{◌≡◌, length, take, vec_len}
-use Rattle.std.specs.Prelude.{sum}
+use Rattle.pack_dist.proofs.Cited.{◌≡◌, length, take, vec_len, sum}
 use Rattle.pack_dist.proofs.Replaced.{Replacing}
 use Rattle.pack_dist.proofs.replaces.seg_replace.Given as goal
 

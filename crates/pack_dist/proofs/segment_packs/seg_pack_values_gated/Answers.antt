@@ -1,4 +1,4 @@
-use Rattle.std.proofs.Common.{◌∙◌, Ok, sym, ap}
+use Rattle.pack_dist.proofs.Cited.{◌∙◌, Ok, sym, ap}
 use Rattle.pack_dist.proofs.Segments.{seg_pack-fits}
 use Rattle.pack_dist.proofs.segment_packs.seg_pack_values_gated.Goals as goal
 

@@ -1,4 +1,4 @@
-use Rattle.std.proofs.Common.{subst, sym}
+use Rattle.pack_dist.proofs.Cited.{subst, sym}
 use Rattle.cvl_base.specs.Rooms.{OverwritesFront}
 use Rattle.pack_dist.proofs.Segments.{seg_pack-fits}
 use Rattle.pack_dist.proofs.segment_packs.seg_pack_values_over.Goals as goal

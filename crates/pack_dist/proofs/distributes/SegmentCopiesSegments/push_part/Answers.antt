@@ -1,6 +1,4 @@
-use Rattle.std.proofs.Common.{◌∙◌, ◌+◌, ◌-◌, ◌++◌, get_or, sym, ap, rules}
-use Rattle.fresh.specs.Parts.{part}
-use Rattle.fresh.specs.Places.{stretch}
+use Rattle.pack_dist.proofs.Cited.{◌∙◌, ◌+◌, ◌-◌, ◌++◌, get_or, sym, ap, rules, part, stretch}
 use Rattle.fresh.proofs.Copied.{part_of_copies}
 use Rattle.pack_dist.proofs.Distributed.{copies, in-both, list-at, list-within}
 use Rattle.pack_dist.proofs.distributes.SegmentCopiesSegments.push_part.Goals as goal

@@ -1,4 +1,4 @@
-use Rattle.std.proofs.Common.{◌∙◌, sym, arith}
+use Rattle.pack_dist.proofs.Cited.{◌∙◌, sym, arith}
 use Rattle.pack_dist.specs.Progressions.{numbers_from}
 use Rattle.pack_dist.proofs.Distributed.{progression-long}
 use Rattle.pack_dist.proofs.Progressed.{progression-part}

@@ -1,4 +1,4 @@
-use Rattle.std.specs.List.{zip}
+use Rattle.pack_dist.proofs.Cited.{zip}
 use Rattle.pack_dist.proofs.Distributed.{lists-long, numbers}
 use Rattle.pack_dist.proofs.indexes.SegmentProgressionsSegments.descriptor.Goals as goal
 

@@ -1,8 +1,4 @@
-use Rattle.std.proofs.Common.{◌∙◌, ◌≡◌, ◌+◌, ◌-◌, ◌++◌, get_or, pos, sym, ap, arith}
-use Rattle.std.specs.List.{zip}
-use Rattle.std.proofs.lemmas.Slice.Zip.{get_or-zip}
-use Rattle.fresh.specs.Parts.{part}
-use Rattle.fresh.specs.Places.{stretch}
+use Rattle.pack_dist.proofs.Cited.{◌∙◌, ◌≡◌, ◌+◌, ◌-◌, ◌++◌, get_or, pos, sym, ap, arith, zip, get_or-zip, part, stretch}
 use Rattle.pack_dist.specs.Progressions.{progression}
 use Rattle.pack_dist.proofs.Distributed.{in-steps, list-at, list-within, numbers}
 use Rattle.pack_dist.proofs.Progressed.{progression-part}

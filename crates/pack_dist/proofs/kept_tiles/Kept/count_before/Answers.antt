@@ -1,4 +1,4 @@
-use Rattle.std.proofs.Common.{pos}
+use Rattle.pack_dist.proofs.Cited.{pos}
 use Rattle.pack_dist.proofs.Tiles.{count_at, read_count}
 use Rattle.pack_dist.proofs.kept_tiles.Kept.count_before.Goals as goal
 

@@ -1,4 +1,4 @@
-use Rattle.std.proofs.Common.{◌≡◌, ◌+◌, ◌-◌, ◌≤◌, ◌∙◌, ap, arith}
+use Rattle.pack_dist.proofs.Cited.{◌≡◌, ◌+◌, ◌-◌, ◌≤◌, ◌∙◌, ap, arith}
 use Rattle.sharing.specs.Shares.{share_of_first}
 use Rattle.fresh.proofs.Halves.{parts_both}
 use Rattle.pack_dist.specs.Kept.{count_before, kept_of}

@@ -1,5 +1,4 @@
-use Rattle.std.proofs.Common.{◌≤◌, ◌∙◌, length, take, drop, sym, ap, arith}
-use Rattle.cvl_base.specs.Packs.{count_of}
+use Rattle.pack_dist.proofs.Cited.{◌≤◌, ◌∙◌, length, take, drop, sym, ap, arith, count_of}
 use Rattle.pack_dist.specs.Kept.{kept_of}
 use Rattle.pack_dist.proofs.Packing.{section-count, section-kept}
 use Rattle.pack_dist.proofs.Pushed.{filled_up}
