@@ -1,14 +1,7 @@
 -- The elements of a vector, each with whether a segment starts at it, flat or segmented: as many, items, and a range of them.
-use Rattle.std.proofs.Common.{◌≡◌, ℕ, ◌≤◌, Bool, false, true, List, length, map, sym, ap, ◌∙◌, arith, Option, Some, None}
-use Rattle.std.specs.Prelude.{slice_range, sum}
-use Rattle.std.specs.List.{AllPass, list_all}
-use Rattle.std.proofs.lemmas.List.{length-map}
+use Rattle.tile_scans.proofs.Cited.{◌≡◌, ℕ, ◌≤◌, Bool, false, true, List, length, map, sym, ap, ◌∙◌, arith, Option, Some, None, slice_range, sum, AllPass, list_all, length-map}
+use Rattle.tile_scans.proofs.Cited.{AllPass-from_list_all, most_elements, is_seg_item, continued, range_between, range_scan_of, length-with_starts}
 use Rattle.std.proofs.lemmas.List.Folds.{list_all-map}
-use Rattle.std.proofs.lemmas.List.Sums.{AllPass-from_list_all}
-use Rattle.cvl_base.specs.Limits.{most_elements}
-use Rattle.cvl_base.specs.SegmentMonoid.{is_seg_item}
-use Rattle.scan_walks.specs.Ranges.{continued, range_between, range_scan_of}
-use Rattle.scan_walks.proofs.LastStart.{length-with_starts}
 use Rattle.scan_walks.proofs.RangeParts.{length-range_scan_of}
 use Rattle.tile_scans.specs.TiledSums.{elements_of, flagged}
 use Rattle.tile_scans.proofs.RangeScans.{continued_passes, continued_slice, range_is_slice, with_starts_passes}

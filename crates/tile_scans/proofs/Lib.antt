@@ -4,3 +4,4 @@ pub mod RangeScans
 pub mod SumsOfTiles
 pub mod Telling
 pub mod WrittenParts
+pub mod Cited

@@ -1,12 +1,7 @@
 -- Which segments are open at a place of a segmented vector, and what stands before the place then.
-use Rattle.std.proofs.Common.{◌≡◌, ℕ, ◌+◌, ◌<◌, ◌≤◌, Bool, List, length, take, slice_range, ap, ◌∙◌, arith}
-use Rattle.std.specs.List.{AllPass}
-use Rattle.cvl_base.specs.Folds.{fold_of}
-use Rattle.cvl_base.specs.Monoid.{MonoidLaws}
-use Rattle.cvl_base.specs.SegmentMonoid.{seg_unit, seg_join}
+use Rattle.tile_scans.proofs.Cited.{◌≡◌, ℕ, ◌+◌, ◌<◌, ◌≤◌, Bool, List, length, take, slice_range, ap, ◌∙◌, arith, AllPass, fold_of, MonoidLaws, seg_unit, seg_join, with_starts, IsOpenAt}
+use Rattle.tile_scans.proofs.Cited.{started_range_summed}
 use Rattle.segdes.specs.Starts.{start_of}
-use Rattle.scan_walks.specs.Ranges.{with_starts, IsOpenAt}
-use Rattle.scan_walks.proofs.LastStart.{started_range_summed}
 use Rattle.tile_scans.proofs.RangeScans.{with_starts-take}
 
 module _ {Item : Type 0} {is_item : Item → Bool} {unit : Item} {join : Item → Item → Item} (laws : MonoidLaws is_item unit join) (lengths : List ℕ) (xs : List Item) (items : AllPass is_item xs) where

@@ -1,16 +1,8 @@
 -- A part of a scan is the scan of that part, after what stands before it.
-use Rattle.std.proofs.Common.{◌≡◌, ℕ, zero, suc, ◌-◌, Bool, true, false, List, [], ◌∷◌, ◌++◌, take, drop, slice_range, refl, sym, ap, ◌∙◌, arith}
-use Rattle.std.specs.Prelude.{if◌then◌else◌}
-use Rattle.std.specs.List.{AllPass}
-use Rattle.std.proofs.lemmas.List.{drop-map, take-map, take_all}
+use Rattle.tile_scans.proofs.Cited.{◌≡◌, ℕ, zero, suc, ◌-◌, Bool, true, false, List, [], ◌∷◌, ◌++◌, take, drop, slice_range, refl, sym, ap, ◌∙◌, arith, if◌then◌else◌, AllPass, drop-map, take-map}
+use Rattle.tile_scans.proofs.Cited.{take_all, All-nil, All-cons, All-head, All-tail, All-append, All-take, All-drop, All-map, either, fold_of, scan_of, is_seg_item, seg_join, seg_unit, part}
+use Rattle.tile_scans.proofs.Cited.{continued, started, with_starts, range_between, range_scan_of, scan_of-cons}
 use Rattle.std.proofs.lemmas.Slice.{between_is}
-use Rattle.std.proofs.lemmas.List.Elements.{All-nil, All-cons, All-head, All-tail, All-append, All-take, All-drop, All-map}
-use Rattle.cvl_base.specs.Booleans.{either}
-use Rattle.cvl_base.specs.Folds.{fold_of, scan_of}
-use Rattle.cvl_base.specs.SegmentMonoid.{is_seg_item, seg_join, seg_unit}
-use Rattle.fresh.specs.Parts.{part}
-use Rattle.scan_walks.specs.Ranges.{continued, started, with_starts, range_between, range_scan_of}
-use Rattle.operators.proofs.FoldLaws.{scan_of-cons}
 
 module _ {Item : Type 0} (join : Item → Item → Item) (unit : Item) where
   pub range_scan-take : (before : Item) (n : ℕ) (run : List (Bool × Item)) → take n (range_scan_of join unit before run) ≡ range_scan_of join unit before (take n run)

@@ -1,20 +1,9 @@
 -- What each tile of a list sums up to, and what stands before a tile and before a place of it.
-use Rattle.std.specs.Prelude.{if◌then◌else◌}
-use Rattle.std.proofs.Common.{◌≡◌, ℕ, zero, suc, ◌+◌, ◌-◌, ◌*◌, ◌<◌, ◌≤◌, min, Bool, false, true, IsTrue, List, [], ◌∷◌, ◌++◌, length, map, take, get_or, slice_range, refl, sym, ap, ◌∙◌, arith}
-use Rattle.std.proofs.Common.{take-add}
-use Rattle.std.specs.List.{AllPass, range_with_len}
-use Rattle.std.proofs.lemmas.List.Elements.{All-from_get_or, All-map, All-take, All-drop}
-use Rattle.std.proofs.lemmas.List.FromFn.{fill_by_all, get_or-map-range_with_len, length-map-range_with_len}
-use Rattle.std.proofs.lemmas.List.Sums.{fold-append, fold_more}
-use Rattle.operators.proofs.FoldLaws.{fold_of_is_item, fold_of-append}
+use Rattle.tile_scans.proofs.Cited.{if◌then◌else◌, ◌≡◌, ℕ, zero, suc, ◌+◌, ◌-◌, ◌*◌, ◌<◌, ◌≤◌, min, Bool, false, true, IsTrue, List, [], ◌∷◌, ◌++◌, length, map, take, get_or, slice_range, refl, sym}
+use Rattle.tile_scans.proofs.Cited.{ap, ◌∙◌, arith, take-add, AllPass, range_with_len, All-from_get_or, All-map, All-take, All-drop, fill_by_all, get_or-map-range_with_len}
+use Rattle.tile_scans.proofs.Cited.{length-map-range_with_len, fold-append, fold_more, fold_of_is_item, fold_of-append, either, fold_of, most_elements, MonoidLaws, is_seg_item, seg_unit, seg_join}
+use Rattle.tile_scans.proofs.Cited.{before_tile, tile_count, range_of}
 use Rattle.operators.specs.SegmentMonoidLaws.{seg_laws}
-use Rattle.cvl_base.specs.Booleans.{either}
-use Rattle.cvl_base.specs.Folds.{fold_of}
-use Rattle.cvl_base.specs.Limits.{most_elements}
-use Rattle.cvl_base.specs.Monoid.{MonoidLaws}
-use Rattle.cvl_base.specs.SegmentMonoid.{is_seg_item, seg_unit, seg_join}
-use Rattle.cvl_base.specs.TileSums.{before_tile}
-use Rattle.tile_plan.specs.Ranges.{tile_count, range_of}
 use Rattle.tile_plan.proofs.Numbers.{starts_within}
 use Rattle.tile_scans.specs.TiledSums.{tile_of, sums_of}
 use Rattle.tile_scans.specs.Written.{befores_of}

@@ -1,7 +1,6 @@
 -- What a worker told of a tile is told from then on.
 -- Source: what the definitions of Told imply.
-use Rattle.std.proofs.Common.{◌≡◌, refl, sym, subst, ap, ℕ, suc, ◌<◌, ◌≤◌, arith}
-use Rattle.boards.specs.Boards.{ScanSeated}
+use Rattle.tile_scans.proofs.Cited.{◌≡◌, refl, sym, subst, ap, ℕ, suc, ◌<◌, ◌≤◌, arith, ScanSeated}
 use Rattle.boards.specs.Passes.{WasTold, told_state}
 use Rattle.tile_scans.specs.Told.{HasToldAround}
 

@@ -1,9 +1,6 @@
 -- A scan of which it is known what stands before each tile, while it is written.
 -- Source: what the definitions of Written imply.
-use Rattle.std.proofs.Common.{◌≡◌, ℕ, ◌+◌, ◌-◌, ◌≤◌, List, ◌++◌, length, take, drop, sym, ap, ◌∙◌, arith, take-add}
-use Rattle.std.proofs.lemmas.List.{drop-drop}
-use Rattle.fresh.specs.Parts.{length_part, part}
-use Rattle.fresh.specs.Places.{Stretch, stretch}
+use Rattle.tile_scans.proofs.Cited.{◌≡◌, ℕ, ◌+◌, ◌-◌, ◌≤◌, List, ◌++◌, length, take, drop, sym, ap, ◌∙◌, arith, take-add, drop-drop, length_part, part, Stretch, stretch}
 use Rattle.tile_scans.specs.Written.{next_of, written_on}
 
 -- what was written of the run is that part of the whole

@@ -1,7 +1,4 @@
-use Rattle.std.proofs.Common.{ℕ, ◌++◌, ◌∷◌, [], arith, map, sym, ap, ◌∙◌, rules}
-use Rattle.std.specs.List.{range_with_len}
-use Rattle.std.proofs.lemmas.List.FromFn.{map-range_with_len_more}
-use Rattle.cvl_base.specs.TileSums.{before_tile}
+use Rattle.tile_scans.proofs.Cited.{ℕ, ◌++◌, ◌∷◌, [], arith, map, sym, ap, ◌∙◌, rules, range_with_len, map-range_with_len_more, before_tile}
 use Rattle.tile_scans.proofs.race.befores.Goals as goal
 
 pub loop-t-preserved : goal.loop-t-preserved

@@ -1,7 +1,4 @@
-use Rattle.std.proofs.Common.{◌≡◌, map, vec_len, vec_capacity}
-use Rattle.std.specs.List.{range_with_len}
-use Rattle.boards.specs.Boards.{IsSeatOf}
-use Rattle.cvl_base.specs.TileSums.{before_tile}
+use Rattle.tile_scans.proofs.Cited.{◌≡◌, map, vec_len, vec_capacity, range_with_len, IsSeatOf, before_tile}
 use Rattle.tile_scans.proofs.race.befores.Given as goal
 
 abbrev pub invariant-loop-t : goal.invariant-loop-t

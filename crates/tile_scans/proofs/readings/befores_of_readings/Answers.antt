@@ -1,4 +1,4 @@
-use Rattle.std.proofs.Common.{◌≡◌, ◌∙◌, IfOk, length, map, ap, subst}
+use Rattle.tile_scans.proofs.Cited.{◌≡◌, ◌∙◌, IfOk, length, map, ap, subst}
 use Rattle.tile_scans.specs.TiledSums.{flagged, sums_of}
 use Rattle.tile_scans.specs.Written.{befores_of}
 use Rattle.tile_scans.proofs.readings.befores_of_readings.Goals as goal

@@ -1,9 +1,4 @@
-use Rattle.std.proofs.Common.{◌≤◌, false, arith, length, map, take, refl, ap, ◌∙◌, None}
-use Rattle.std.proofs.lemmas.List.{length-map, map-id, take_all}
-use Rattle.cvl_base.specs.Folds.{fold_of}
-use Rattle.cvl_base.specs.SegmentMonoid.{seg_join, seg_unit}
-use Rattle.scan_walks.specs.Ranges.{continued}
-use Rattle.scan_walks.proofs.LastStart.{continued_summed}
+use Rattle.tile_scans.proofs.Cited.{◌≤◌, false, arith, length, map, take, refl, ap, ◌∙◌, None, length-map, map-id, take_all, fold_of, seg_join, seg_unit, continued, continued_summed}
 use Rattle.tile_scans.specs.TiledSums.{flagged}
 use Rattle.tile_scans.proofs.Flagged.{length-flagged}
 use Rattle.tile_scans.proofs.reduces.reduce_gated.Goals as goal

@@ -1,7 +1,4 @@
-use Rattle.std.proofs.Common.{Ok, map, sym, ap, ◌∙◌}
-use Rattle.std.proofs.lemmas.List.{length-map}
-use Rattle.scan_walks.specs.Ranges.{reduces_of}
-use Rattle.scan_walks.proofs.Segmented.{seg_reduce-fits}
+use Rattle.tile_scans.proofs.Cited.{Ok, map, sym, ap, ◌∙◌, length-map, reduces_of, seg_reduce-fits}
 use Rattle.tile_scans.proofs.reduces.seg_reduce_readings_gated.Goals as goal
 
 pub returns-clause-values : goal.returns-clause-values

@@ -1,5 +1,4 @@
-use Rattle.std.proofs.Common.{ap, arith, length, map, sym, ◌∙◌}
-use Rattle.scan_walks.proofs.Segmented.{length-reduces_of}
+use Rattle.tile_scans.proofs.Cited.{ap, arith, length, map, sym, ◌∙◌, length-reduces_of}
 use Rattle.tile_scans.proofs.reduces_after_befores.reduces_known.Goals as goal
 
 pub write_in_runs-requires-after_bounds : goal.write_in_runs-requires-after_bounds

@@ -1,6 +1,4 @@
-use Rattle.std.proofs.Common.{map, ap, ◌∙◌}
-use Rattle.cvl_base.specs.Folds.{scan_of}
-use Rattle.scan_walks.specs.Ranges.{range_scan_of}
+use Rattle.tile_scans.proofs.Cited.{map, ap, ◌∙◌, scan_of, range_scan_of}
 use Rattle.tile_scans.specs.TiledSums.{flagged}
 use Rattle.tile_scans.proofs.RangeScans.{continued_range_scan}
 use Rattle.tile_scans.proofs.scans.scan_readings_gated.Goals as goal

@@ -1,8 +1,5 @@
-use Rattle.std.proofs.Common.{Ok, map, sym, ap, ◌∙◌}
-use Rattle.std.proofs.lemmas.List.{map-id}
-use Rattle.scan_walks.specs.Ranges.{range_scan_of, with_starts}
+use Rattle.tile_scans.proofs.Cited.{Ok, map, sym, ap, ◌∙◌, map-id, range_scan_of, with_starts, seg_scan-fits}
 use Rattle.scan_walks.proofs.Cut.{segments_scanned}
-use Rattle.scan_walks.proofs.Segmented.{seg_scan-fits}
 use Rattle.tile_scans.specs.TiledSums.{flagged}
 use Rattle.tile_scans.proofs.scans.seg_scan_gated.Goals as goal
 

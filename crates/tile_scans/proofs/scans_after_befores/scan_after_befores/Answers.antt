@@ -1,5 +1,4 @@
-use Rattle.std.proofs.Common.{◌≡◌, length, map, sym, ap, ◌∙◌}
-use Rattle.std.proofs.lemmas.List.{map-id}
+use Rattle.tile_scans.proofs.Cited.{◌≡◌, length, map, sym, ap, ◌∙◌, map-id}
 use Rattle.tile_scans.specs.TiledSums.{flagged, sums_of}
 use Rattle.tile_scans.specs.Written.{befores_of}
 use Rattle.tile_scans.proofs.scans_after_befores.scan_after_befores.Goals as goal

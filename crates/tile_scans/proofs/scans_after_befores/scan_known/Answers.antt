@@ -1,5 +1,4 @@
-use Rattle.std.proofs.Common.{ap, arith, length, sym}
-use Rattle.std.specs.Option.{option_copied}
+use Rattle.tile_scans.proofs.Cited.{ap, arith, length, sym, option_copied}
 use Rattle.tile_scans.proofs.Flagged.{length-scanned}
 use Rattle.tile_scans.proofs.scans_after_befores.scan_known.Goals as goal
 
@@ -11,9 +10,5 @@ write_in_runs-requires-after_bounds g c κs within =
 pub returns-clause-as_long : goal.returns-clause-as_long
 returns-clause-as_long g c =
     let v = c.args.known.now.vector.now in
-    omega (
-      arith,
-      c.in_ok-sums.sums.ok,
-      ap length c.in_ok-sums.ensures,
-      length-scanned g.E.Reading.item (option_copied v.segments) v.elements.now v.agrees g.M.Monoid.join g.M.Monoid.unit,
-    )
+    let long = length-scanned g.E.Reading.item (option_copied v.segments) v.elements.now v.agrees g.M.Monoid.join g.M.Monoid.unit in
+    omega (arith, c.in_ok-sums.sums.ok, ap length c.in_ok-sums.ensures, long)

@@ -1,24 +1,17 @@
-use Rattle.std.proofs.Common.{◌≡◌, ◌-◌, ◌<◌, ◌≤◌, ◌∙◌, true, length, map, take, ap, arith}
-use Rattle.std.proofs.lemmas.List.{length-map}
-use Rattle.std.proofs.lemmas.List.Elements.{All-map}
-use Rattle.std.proofs.lemmas.List.Sums.{AllPass-from_list_all, sum_by_more}
-use Rattle.cvl_base.specs.Folds.{fold_of}
-use Rattle.cvl_base.specs.SegmentMonoid.{seg_join, seg_unit}
-use Rattle.scan_walks.proofs.Segmented.{length-reduces_of}
+use Rattle.tile_scans.proofs.Cited.{◌≡◌, ◌-◌, ◌<◌, ◌≤◌, ◌∙◌, true, length, map, take, ap, arith, length-map, All-map, AllPass-from_list_all, sum_by_more, fold_of, seg_join, seg_unit}
+use Rattle.tile_scans.proofs.Cited.{length-reduces_of}
 use Rattle.tile_scans.specs.TiledSums.{flagged}
 use Rattle.tile_scans.proofs.OpenSegments.{is_open}
 use Rattle.tile_scans.proofs.reduces_after_befores.KnownReducesStepsItem.write_on.Goals as goal
 
 pub start-start-requires : goal.start-start-requires
 start-start-requires g c =
-    let m = g.M.Monoid in
-    let long = length-reduces_of m.join m.unit (map g.E.Reading.item c.args.self.now.known.now.vector.now.elements.now) c.args.self.now.segments.now in
+    let long = length-reduces_of g.M.Monoid.join g.M.Monoid.unit (map g.E.Reading.item c.args.self.now.known.now.vector.now.elements.now) c.args.self.now.segments.now in
     omega (arith, c.next_place-first.ensures.place, c.requires.some, c.requires.within, long)
 
 pub length-requires : goal.length-requires
 length-requires g c =
-    let m = g.M.Monoid in
-    let long = length-reduces_of m.join m.unit (map g.E.Reading.item c.args.self.now.known.now.vector.now.elements.now) c.args.self.now.segments.now in
+    let long = length-reduces_of g.M.Monoid.join g.M.Monoid.unit (map g.E.Reading.item c.args.self.now.known.now.vector.now.elements.now) c.args.self.now.segments.now in
     omega (arith, c.next_place-first.ensures.place, c.requires.some, c.requires.within, long)
 
 pub seg_reduces_into-requires-clause-begun : goal.seg_reduces_into-requires-clause-begun
@@ -45,6 +38,5 @@ seg_reduces_into-requires-clause-begun g c =
 
 pub seg_reduces_into-requires-2-clause-within : goal.seg_reduces_into-requires-2-clause-within
 seg_reduces_into-requires-2-clause-within g c =
-    let m = g.M.Monoid in
-    let long = length-reduces_of m.join m.unit (map g.E.Reading.item c.args.self.now.known.now.vector.now.elements.now) c.args.self.now.segments.now in
+    let long = length-reduces_of g.M.Monoid.join g.M.Monoid.unit (map g.E.Reading.item c.args.self.now.known.now.vector.now.elements.now) c.args.self.now.segments.now in
     omega (arith, c.next_place-first.ensures.place, c.min-next.ensures, c.room.ensures, c.requires.within, long)

@@ -1,8 +1,4 @@
-use Rattle.std.proofs.Common.{◌-◌, ◌≤◌, map, arith, rules, sym, ap, ◌∙◌}
-use Rattle.std.specs.Option.{option_copied}
-use Rattle.fresh.specs.Parts.{part}
-use Rattle.fresh.specs.Places.{with_items}
-use Rattle.scan_walks.specs.Ranges.{range_scan_of}
+use Rattle.tile_scans.proofs.Cited.{◌-◌, ◌≤◌, map, arith, rules, sym, ap, ◌∙◌, option_copied, part, with_items, range_scan_of}
 use Rattle.tile_scans.specs.TiledSums.{flagged}
 use Rattle.tile_scans.proofs.Flagged.{length-scanned}
 use Rattle.tile_scans.proofs.RangeScans.{part_scanned}
@@ -10,17 +6,15 @@ use Rattle.tile_scans.proofs.scans_after_befores.KnownBeforesStepsItem.write_on.
 
 pub overflow_cast-at : goal.overflow_cast-at
 overflow_cast-at g c =
-    let m = g.M.Monoid in
     let v = c.args.self.now.vector.now in
-    let long = length-scanned g.E.Reading.item (option_copied v.segments) v.elements.now v.agrees m.join m.unit in
+    let long = length-scanned g.E.Reading.item (option_copied v.segments) v.elements.now v.agrees g.M.Monoid.join g.M.Monoid.unit in
     let small : c.next_place-at.result ≤ 4194304 = omega (arith, c.next_place-at.ensures.place, c.requires.within, long, v.whole, v.few) in
     search (rules, small)
 
 pub tile_at-t-requires : goal.tile_at-t-requires
 tile_at-t-requires g c =
-    let m = g.M.Monoid in
     let v = c.args.self.now.vector.now in
-    let long = length-scanned g.E.Reading.item (option_copied v.segments) v.elements.now v.agrees m.join m.unit in
+    let long = length-scanned g.E.Reading.item (option_copied v.segments) v.elements.now v.agrees g.M.Monoid.join g.M.Monoid.unit in
     omega (arith, c.next_place-at.ensures.place, c.requires.some, c.requires.within, long, v.whole)
 
 pub returns : goal.returns

@@ -1,4 +1,4 @@
-use Rattle.std.proofs.Common.{ap, arith}
+use Rattle.tile_scans.proofs.Cited.{ap, arith}
 use Rattle.tile_scans.proofs.Telling.{told_around, told_around_still}
 use Rattle.tile_scans.proofs.tile_work.TileWorkWork.tile.Goals as goal
 

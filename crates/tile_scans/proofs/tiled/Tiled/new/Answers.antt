@@ -1,5 +1,4 @@
-use Rattle.std.proofs.Common.{rules}
-use Rattle.std.proofs.lemmas.List.Sums.{list_all-from_AllPass}
+use Rattle.tile_scans.proofs.Cited.{rules, list_all-from_AllPass}
 use Rattle.tile_scans.proofs.tiled.Tiled.new.Goals as goal
 
 pub invariant_of-result : goal.invariant_of-result

@@ -1,9 +1,4 @@
-use Rattle.std.proofs.Common.{◌-◌, ap, map, slice_range, sym, ◌∙◌}
-use Rattle.std.specs.Option.{option_copied}
-use Rattle.cvl_base.specs.Folds.{scan_of}
-use Rattle.fresh.specs.Places.{with_items}
-use Rattle.scan_walks.specs.Ranges.{range_scan_of}
-use Rattle.scan_walks.proofs.Scanned.{part_read}
+use Rattle.tile_scans.proofs.Cited.{◌-◌, ap, map, slice_range, sym, ◌∙◌, option_copied, scan_of, with_items, range_scan_of, part_read}
 use Rattle.tile_scans.proofs.Flagged.{cut_range, flat_range}
 use Rattle.tile_scans.proofs.RangeScans.{continued_range_scan}
 use Rattle.tile_scans.proofs.tiled.Tiled.scan_between.Goals as goal

@@ -1,9 +1,4 @@
-use Rattle.std.proofs.Common.{◌-◌, ap, false, map, slice_range, sym, ◌∙◌}
-use Rattle.std.specs.Option.{option_copied}
-use Rattle.cvl_base.specs.Folds.{fold_of}
-use Rattle.cvl_base.specs.SegmentMonoid.{seg_join}
-use Rattle.scan_walks.proofs.LastStart.{continued_summed}
-use Rattle.scan_walks.proofs.Scanned.{part_read}
+use Rattle.tile_scans.proofs.Cited.{◌-◌, ap, false, map, slice_range, sym, ◌∙◌, option_copied, fold_of, seg_join, continued_summed, part_read}
 use Rattle.tile_scans.proofs.Flagged.{cut_range, flat_range}
 use Rattle.tile_scans.proofs.tiled.Tiled.sum_between.Goals as goal
 

@@ -1,5 +1,4 @@
-use Rattle.std.proofs.Common.{arith, map, sym, ◌∙◌}
-use Rattle.std.specs.Option.{option_copied}
+use Rattle.tile_scans.proofs.Cited.{arith, map, sym, ◌∙◌, option_copied}
 use Rattle.tile_scans.specs.TiledSums.{flagged}
 use Rattle.tile_scans.proofs.Flagged.{tiled_read}
 use Rattle.tile_scans.proofs.SumsOfTiles.{length-sums_of, sums_pass}

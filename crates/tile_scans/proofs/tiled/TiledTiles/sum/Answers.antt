@@ -1,17 +1,12 @@
-use Rattle.std.proofs.Common.{◌<◌, arith, false, map, sym, ap, slice_range, ◌∙◌}
-use Rattle.std.specs.Option.{option_copied}
-use Rattle.cvl_base.specs.Folds.{fold_of}
-use Rattle.cvl_base.specs.SegmentMonoid.{seg_join}
-use Rattle.tile_plan.specs.Ranges.{tile_count}
+use Rattle.tile_scans.proofs.Cited.{◌<◌, arith, false, map, sym, ap, slice_range, ◌∙◌, option_copied, fold_of, seg_join, tile_count}
 use Rattle.tile_scans.specs.TiledSums.{flagged}
 use Rattle.tile_scans.proofs.SumsOfTiles.{length-sums_of, sum_at}
 use Rattle.tile_scans.proofs.tiled.TiledTiles.sum.Goals as goal
 
 pub range-from-requires : goal.range-from-requires
 range-from-requires g c =
-    let m = g.M.Monoid in
     let v = c.args.self.now in
-    omega (arith, c.requires, length-sums_of m.join m.unit v.plan.0 v.plan.1 (flagged (option_copied v.segments) (map g.E.Reading.item v.elements.now)))
+    omega (arith, c.requires, length-sums_of g.M.Monoid.join g.M.Monoid.unit v.plan.0 v.plan.1 (flagged (option_copied v.segments) (map g.E.Reading.item v.elements.now)))
 
 pub returns : goal.returns
 returns g c =
