@@ -1,7 +1,5 @@
 -- A line cut at the first byte that passes a test.
-use Rattle.std.proofs.Common.{◌≡◌, ℕ, Bool, List, length, take, Some, None, ap, sym, nat_lt}
-use Rattle.std.specs.List.{position, position_or_len, before_first}
-use Rattle.std.proofs.lemmas.Bool.{ltb-false}
+use Rattle.line_reader.proofs.Cited.{◌≡◌, ℕ, Bool, List, length, take, Some, None, ap, sym, nat_lt, position, position_or_len, before_first, ltb-false}
 use Rattle.std.proofs.lemmas.Option.{cond_some}
 use Rattle.std.proofs.Math.Seq.{take_all}
 use Rattle.cvl_base.proofs.Lists.{not_found}

@@ -1,20 +1,11 @@
 -- Sixteen bytes as lanes: how many digits they begin with, and the lanes moved towards the end.
-use Rattle.std.proofs.Common.{◌≡◌, ℕ, zero, suc, ◌+◌, ◌-◌, ◌*◌, ◌^◌, ◌/◌, ◌%◌, ◌<◌, ◌≤◌, Bool, true, not, get_or, Fits, nat_lt, nat_le, List, []}
-use Rattle.std.proofs.Common.{◌∷◌, ◌++◌, length, take, map, replicate, refl, ap, sym, subst, ◌∙◌, arith, cond, w8}
-use Rattle.std.proofs.lemmas.Bool.Decides.{nat_tests}
-use Rattle.std.proofs.lemmas.Bool.{agree_below_at, and_parts}
-use Rattle.std.proofs.lemmas.Simd.{tops_compared, zip2_splat, zip2_splat_left, mask_l-mod, leading_from_mask_l, trailing_mask_l}
-use Rattle.std.proofs.lemmas.List.{get_or-map, get_or-take, length-map, length-take-le, take-take, take-map}
-use Rattle.std.proofs.lemmas.List.Sums.{prefix_len_is, prefix_len_passes, prefix_len_stops}
-use Rattle.std.proofs.lemmas.Int.Digits.{number_lt, digits_value_is}
-use Rattle.std.specs.Int.Digits.{number_from_digits, AllBelowBase}
+use Rattle.line_reader.proofs.Cited.{◌≡◌, ℕ, zero, suc, ◌+◌, ◌-◌, ◌*◌, ◌^◌, ◌/◌, ◌%◌, ◌<◌, ◌≤◌, Bool, true, not, get_or, Fits, nat_lt, nat_le, List, [], ◌∷◌, ◌++◌, length, take, map, replicate}
+use Rattle.line_reader.proofs.Cited.{refl, ap, sym, subst, ◌∙◌, arith, cond, w8, nat_tests, agree_below_at, and_parts, tops_compared, zip2_splat, zip2_splat_left, mask_l-mod, leading_from_mask_l}
+use Rattle.line_reader.proofs.Cited.{trailing_mask_l, get_or-take, length-take-le, take-take, prefix_len_is, prefix_len_passes, prefix_len_stops, number_lt, digits_value_is, number_from_digits}
+use Rattle.line_reader.proofs.Cited.{AllBelowBase, pow-add, prefix_len, list_all, is_ascii_digit, digit_value, digits_value, Each1, zip2, mask_l, top, number_l, digits_l}
+use Rattle.std.proofs.lemmas.List.{get_or-map, length-map, take-map}
 use Rattle.std.proofs.Math.Nat.{pow-succ', pow-le-pow_right}
-use Rattle.std.proofs.lemmas.Nat.{pow-add}
-use Rattle.std.specs.List.{prefix_len, list_all}
-use Rattle.std.specs.Char.{is_ascii_digit, digit_value}
-use Rattle.std.specs.Str.Parse.{digits_value}
 use Rattle.line_reader.proofs.NumberWalk.{all_digits}
-use lib.Lanes.{Each1, zip2, mask_l, top, number_l, digits_l}
 use lib.Count.{count_trailing_zeros}
 
 -- the first bytes of a number, from the lowest

@@ -3,3 +3,4 @@ pub mod Comments
 pub mod DigitLanes
 pub mod NumberWalk
 pub mod TokenWalk
+pub mod Cited

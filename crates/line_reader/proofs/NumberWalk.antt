@@ -1,18 +1,11 @@
 -- The number of a token's digits, read from the front. The walk ends where the number has grown too great.
-use Rattle.std.proofs.Common.{◌≡◌, ℕ, zero, suc, ◌+◌, ◌-◌, ◌*◌, ◌^◌, ◌<◌, ◌≤◌, Bool, true, false, List, [], ◌∷◌, length, get_or, take, drop, refl, ap}
-use Rattle.std.proofs.Common.{sym, ◌∙◌, arith, Option, Some, None, ℤ, ◌≤ℤ◌, ◌<ℤ◌, pos, neg_ℤ, cond, nat_lt, FitsSigned, w32}
-use Rattle.std.specs.Prelude.{option_and_then, if◌then◌else◌, ◌==◌}
-use Rattle.std.proofs.lemmas.List.{get_or-take, length-take-le, take_all}
-use Rattle.std.proofs.lemmas.Bool.Decides.{nat_tests}
-use Rattle.std.specs.List.{list_all, take_while, prefix_len}
+use Rattle.line_reader.proofs.Cited.{◌≡◌, ℕ, zero, suc, ◌+◌, ◌-◌, ◌*◌, ◌^◌, ◌<◌, ◌≤◌, Bool, true, false, List, [], ◌∷◌, length, get_or, take, drop, refl, ap, sym, ◌∙◌, arith, Option, Some, None, ℤ}
+use Rattle.line_reader.proofs.Cited.{◌≤ℤ◌, ◌<ℤ◌, pos, neg_ℤ, cond, nat_lt, FitsSigned, w32, option_and_then, if◌then◌else◌, ◌==◌, get_or-take, length-take-le, take_all, nat_tests, list_all}
+use Rattle.line_reader.proofs.Cited.{take_while, prefix_len, is_ascii_digit, digit_value, digits_value, digits_value_after, AllPass-from_list_all, list_all-from_AllPass, prefix_len_is}
+use Rattle.line_reader.proofs.Cited.{prefix_len_passes, take_while-cons, digits_value_more, and_parts}
 use Rattle.std.specs.Int.{from_bool}
-use Rattle.std.specs.Char.{is_ascii_digit, digit_value}
-use Rattle.std.specs.Str.Parse.{digits_value, digits_value_after}
 use Rattle.std.proofs.lemmas.List.Folds.{length-prefix_len, list_all_more}
-use Rattle.std.proofs.lemmas.List.Sums.{AllPass-from_list_all, list_all-from_AllPass, prefix_len_is, prefix_len_passes, take_while-cons}
-use Rattle.std.proofs.lemmas.Int.Digits.{digits_value_more}
 use Rattle.line_reader.specs.Numbers.{magnitude_of, positive_of, negative_of, with_sign, written_number, signed_digits}
-use Rattle.std.proofs.lemmas.Bool.{and_parts}
 
 digit_value_is : (d : ℕ) → is_ascii_digit d ≡ true → digit_value d ≡ d - 48
 digit_value_is d e = grind (arith, nat_tests)

@@ -1,9 +1,6 @@
 -- The tokens of bytes, found from the front: blanks are skipped, and a longest run or a lone byte is a token.
-use Rattle.std.proofs.Common.{◌≡◌, ℕ, ◌<◌, ◌≤◌, Bool, true, false, List, [], ◌∷◌, ◌++◌, length, take, drop, refl, ap, sym, ◌∙◌, arith, ◌⊎◌, inl, inr, suc, zero}
-use Rattle.std.proofs.lemmas.List.{append-nil, take-append-drop}
-use Rattle.std.proofs.lemmas.Bool.{and_parts, false≢true}
-use Rattle.std.specs.Prelude.{not, if◌then◌else◌, filter}
-use Rattle.std.specs.List.{concat, list_all}
+use Rattle.line_reader.proofs.Cited.{◌≡◌, ℕ, ◌<◌, ◌≤◌, Bool, true, false, List, [], ◌∷◌, ◌++◌, length, take, drop, refl, ap, sym, ◌∙◌, arith, ◌⊎◌, inl, inr, suc, zero, append-nil, take-append-drop}
+use Rattle.line_reader.proofs.Cited.{and_parts, false≢true, not, if◌then◌else◌, filter, concat, list_all}
 use Rattle.line_reader.specs.Numbers.{is_empty}
 use Rattle.line_reader.specs.declared.token.ByteClass.{ByteClass}
 use Rattle.line_reader.specs.declared.token.ByteClass.TheVariants.{Blank, Alone, InToken}

@@ -1,4 +1,4 @@
-use Rattle.std.proofs.Common.{◌≡◌, length}
+use Rattle.line_reader.proofs.Cited.{◌≡◌, length}
 use Rattle.line_reader.specs.Lines.{args_of, line_tokens}
 use Rattle.line_reader.proofs.Arguments.{behind}
 use Rattle.line_reader.proofs.args.read_args.Given as goal

@@ -1,8 +1,4 @@
-use Rattle.std.proofs.Common.{◌≡◌, get_or, refl, ap, ◌∙◌, arith, Fits, w8}
-use Rattle.std.proofs.lemmas.List.{take_all}
-use Rattle.std.proofs.lemmas.Int.Digits.{number_more}
-use Rattle.std.proofs.lemmas.Simd.{Each1-get_or}
-use Rattle.std.specs.Int.Digits.{number_from_digits}
+use Rattle.line_reader.proofs.Cited.{◌≡◌, get_or, refl, ap, ◌∙◌, arith, Fits, w8, take_all, number_more, Each1-get_or, number_from_digits}
 use Rattle.line_reader.proofs.DigitLanes.{few_small}
 use Rattle.line_reader.proofs.digits.decimal.Goals as goal
 

@@ -1,5 +1,4 @@
-use Rattle.std.proofs.Common.{◌≡◌, take}
-use Rattle.std.specs.Int.Digits.{number_from_digits}
+use Rattle.line_reader.proofs.Cited.{◌≡◌, take, number_from_digits}
 use Rattle.line_reader.proofs.digits.decimal.Given as goal
 
 abbrev pub invariant-loop-digit : goal.invariant-loop-digit

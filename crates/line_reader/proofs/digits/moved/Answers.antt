@@ -1,7 +1,5 @@
-use Rattle.std.proofs.Common.{◌≡◌, ◌+◌, ◌*◌, ◌/◌, ◌%◌, ◌^◌, ℕ, ap, ◌∙◌, arith, w8, bit_and}
+use Rattle.line_reader.proofs.Cited.{◌≡◌, ◌+◌, ◌*◌, ◌/◌, ◌%◌, ◌^◌, ℕ, ap, ◌∙◌, arith, w8, bit_and, below_from_Fits, digits_l}
 use Rattle.std.proofs.lemmas.Nat.{and_mask}
-use Rattle.std.proofs.lemmas.Simd.{below_from_Fits}
-use lib.Lanes.{digits_l}
 use Rattle.line_reader.proofs.DigitLanes.{moved_by, joined_halves}
 use Rattle.line_reader.proofs.digits.moved.Goals as goal
 

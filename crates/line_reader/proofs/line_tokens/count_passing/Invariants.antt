@@ -1,5 +1,4 @@
-use Rattle.std.proofs.Common.{◌≡◌, length, ◌+◌, ◌≤◌}
-use Rattle.std.specs.List.{list_all}
+use Rattle.line_reader.proofs.Cited.{◌≡◌, length, ◌+◌, ◌≤◌, list_all}
 use Rattle.line_reader.specs.Lines.{line_tokens}
 use Rattle.line_reader.proofs.line_tokens.count_passing.Given as goal
 

@@ -1,4 +1,4 @@
-use Rattle.std.proofs.Common.{◌∙◌, arith}
+use Rattle.line_reader.proofs.Cited.{◌∙◌, arith}
 use Rattle.line_reader.proofs.DigitLanes.{lanes_read}
 use Rattle.line_reader.proofs.number.leading_digits.Goals as goal
 

@@ -1,4 +1,4 @@
-use Rattle.std.proofs.Common.{◌≡◌, ◌^◌, ◌≤◌, refl, sym, ◌∙◌, ap, arith, Some, pos, neg_ℤ, ◌≤ℤ◌, ◌<ℤ◌, rules, to_z, of_z, w32, FitsSigned, option_map}
+use Rattle.line_reader.proofs.Cited.{◌≡◌, ◌^◌, ◌≤◌, refl, sym, ◌∙◌, ap, arith, Some, pos, neg_ℤ, ◌≤ℤ◌, ◌<ℤ◌, rules, to_z, of_z, w32, FitsSigned, option_map}
 use Rattle.line_reader.proofs.NumberWalk.{digits_read, signed_read, signed_front, fits, unfit_outside, within_32}
 use Rattle.line_reader.proofs.number.leading_number.Goals as goal
 

@@ -1,6 +1,4 @@
-use Rattle.std.proofs.Common.{◌≡◌, ℕ, ◌+◌, ◌*◌, get_or, true, sym, ap, ◌∙◌, arith}
-use Rattle.std.specs.Char.{is_ascii_digit}
-use Rattle.std.proofs.lemmas.List.Sums.{prefix_len-drop_yes}
+use Rattle.line_reader.proofs.Cited.{◌≡◌, ℕ, ◌+◌, ◌*◌, get_or, true, sym, ap, ◌∙◌, arith, is_ascii_digit, prefix_len-drop_yes}
 use Rattle.line_reader.proofs.NumberWalk.{digits_more, value_more}
 use Rattle.line_reader.proofs.number.walked_digits.Goals as goal
 

@@ -1,7 +1,4 @@
-use Rattle.std.proofs.Common.{◌≡◌, ◌+◌, ◌*◌, ◌<◌, ◌^◌, take, drop, true}
-use Rattle.std.specs.List.{list_all, prefix_len}
-use Rattle.std.specs.Char.{is_ascii_digit}
-use Rattle.std.specs.Str.Parse.{digits_value}
+use Rattle.line_reader.proofs.Cited.{◌≡◌, ◌+◌, ◌*◌, ◌<◌, ◌^◌, take, drop, true, list_all, prefix_len, is_ascii_digit, digits_value}
 use Rattle.line_reader.proofs.number.walked_digits.Given as goal
 
 abbrev pub invariant-loop-i : goal.invariant-loop-i

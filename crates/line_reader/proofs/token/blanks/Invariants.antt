@@ -1,4 +1,4 @@
-use Rattle.std.proofs.Common.{◌≡◌, drop}
+use Rattle.line_reader.proofs.Cited.{◌≡◌, drop}
 use Rattle.line_reader.specs.Tokens.{tokens_by}
 use Rattle.line_reader.proofs.token.blanks.Given as goal
 

@@ -1,4 +1,4 @@
-use Rattle.std.proofs.Common.{◌≡◌, sym, ap, ◌∙◌, false}
+use Rattle.line_reader.proofs.Cited.{◌≡◌, sym, ap, ◌∙◌, false}
 use Rattle.line_reader.specs.Tokens.{begins_with_blank}
 use Rattle.line_reader.proofs.TokenWalk.{run_taken, lone_taken}
 use Rattle.line_reader.proofs.token.first_token.Goals as goal

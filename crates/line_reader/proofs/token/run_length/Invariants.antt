@@ -1,5 +1,4 @@
-use Rattle.std.proofs.Common.{◌≡◌, take, true}
-use Rattle.std.specs.List.{list_all}
+use Rattle.line_reader.proofs.Cited.{◌≡◌, take, true, list_all}
 use Rattle.line_reader.specs.Tokens.{is_in_token}
 use Rattle.line_reader.proofs.token.run_length.Given as goal
 
