@@ -1,13 +1,7 @@
 -- The least place at which an operator has no value: a walk over the places until the first one.
-use Rattle.std.specs.Prelude.{Option, Some, None}
-use Rattle.std.specs.List.{zip}
-use Rattle.std.specs.Option.{is_some}
-use Rattle.std.proofs.Common.{◌≡◌, ◌∙◌, refl, sym, ap, ℕ, zero, suc, ◌+◌, ◌-◌, ◌<◌, ◌≤◌, ℤ, pos, true, false, List, ◌∷◌, length, min, drop, get_or, arith, drop-cons}
+use Rattle.elementwise.proofs.Cited.{Option, Some, None, zip, is_some, ◌≡◌, ◌∙◌, refl, sym, ap, ℕ, zero, suc, ◌+◌, ◌-◌, ◌<◌, ◌≤◌, ℤ, pos, true, false, List, ◌∷◌, length, min, drop, get_or, arith}
+use Rattle.elementwise.proofs.Cited.{drop-cons, true≢false, get_or-map, length-map, get_or-zip, length-zip, least_from}
 use Rattle.std.proofs.Math.ListN.{drop_of_length-le}
-use Rattle.std.proofs.lemmas.Bool.{true≢false}
-use Rattle.std.proofs.lemmas.List.{get_or-map, length-map}
-use Rattle.std.proofs.lemmas.Slice.Zip.{get_or-zip, length-zip}
-use Rattle.boards.specs.Slots.{least_from}
 use Rattle.elementwise.specs.Valueless.{least_without, slot_without, slots_without}
 
 -- the slot of a place, by whether the operator has a value there

@@ -1,10 +1,7 @@
 -- A list that is written over place by place: the places before one hold the result, and the others what stood there.
 -- Source: what the definitions of map and zip imply.
-use Rattle.std.proofs.Common.{◌≡◌, ◌∙◌, ℕ, ◌+◌, ◌<◌, ◌≤◌, List, [], ◌∷◌, get_or, length, map, set, refl, sym, ap, arith, below_more, get_or-set_other, get_or-set_same}
-use Rattle.std.specs.List.{zip}
-use Rattle.std.proofs.lemmas.List.{get_or-map}
-use Rattle.std.proofs.lemmas.Slice.Zip.{get_or-zip, length-zip}
-use Rattle.element_walks.proofs.Places.{all_same}
+use Rattle.elementwise.proofs.Cited.{◌≡◌, ◌∙◌, ℕ, ◌+◌, ◌<◌, ◌≤◌, List, [], ◌∷◌, get_or, length, map, set, refl, sym, ap, arith, below_more, get_or-set_other, get_or-set_same, zip, get_or-map}
+use Rattle.elementwise.proofs.Cited.{get_or-zip, length-zip, all_same}
 
 pub record IsWritten {X : Type 0} (whole before now : List X) (place : ℕ) : Type 0 where
   pub done : (d : X) (k : ℕ) → k < place → get_or now k d ≡ get_or whole k d

@@ -1,15 +1,10 @@
 -- The values of a call, by the least place that has none.
-use Rattle.std.specs.Prelude.{Option, Some, None, Ok, Err}
-use Rattle.std.specs.List.{zip}
-use Rattle.std.specs.Option.{unwrap_or}
-use Rattle.std.proofs.Common.{◌≡◌, ◌∙◌, refl, sym, ap, ℕ, ◌+◌, ℤ, pos, List, [], ◌∷◌, length, map}
+use Rattle.elementwise.proofs.Cited.{Option, Some, None, Ok, Err, zip, unwrap_or, ◌≡◌, ◌∙◌, refl, sym, ap, ℕ, ◌+◌, ℤ, pos, List, [], ◌∷◌, length, map, least_from, on_pairs_or, values_from}
+use Rattle.elementwise.proofs.Cited.{if_as_long-fits}
 use Rattle.std.proofs.lemmas.Option.{none-some, same_Some}
-use Rattle.boards.specs.Slots.{least_from}
 use Rattle.cvl_base.specs.declared.fault.FaultNo.{FaultNo}
-use Rattle.cvl_base.specs.Elementwise.{on_pairs_or, values_from}
 use Rattle.cvl_base.specs.Faults.{fault_at}
 use Rattle.cvl_base.specs.Gives.{◌>>=◌}
-use Rattle.cvl_base.proofs.Elementwise.{if_as_long-fits}
 use Rattle.elementwise.specs.Valueless.{least_without, slot_without}
 
 module _ {Z Y : Type 0} (number : FaultNo) (f : Z → Option Y) (d : Y) where

@@ -1,3 +1,4 @@
 pub mod FirstWithout
 pub mod InPlace
 pub mod LeastFaults
+pub mod Cited

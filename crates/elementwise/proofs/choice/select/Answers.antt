@@ -1,8 +1,4 @@
-use Rattle.std.proofs.Common.{arith}
-use Rattle.std.specs.List.{zip}
-use Rattle.std.proofs.lemmas.List.{length-map}
-use Rattle.std.proofs.lemmas.Slice.Zip.{length-zip}
-use Rattle.cvl_base.specs.Elementwise.{chosen}
+use Rattle.elementwise.proofs.Cited.{arith, zip, length-map, length-zip, chosen}
 use Rattle.elementwise.proofs.choice.select.Goals as goal
 
 pub written_by_rayon-requires-after_bounds : goal.written_by_rayon-requires-after_bounds

@@ -1,5 +1,4 @@
-use Rattle.std.proofs.Common.{arith, map}
-use Rattle.std.proofs.lemmas.List.{length-map}
+use Rattle.elementwise.proofs.Cited.{arith, map, length-map}
 use Rattle.elementwise.proofs.InPlace.{ends}
 use Rattle.elementwise.proofs.in_place.on_each_in.Goals as goal
 

@@ -1,4 +1,4 @@
-use Rattle.std.proofs.Common.{map}
+use Rattle.elementwise.proofs.Cited.{map}
 use Rattle.elementwise.proofs.InPlace.{IsWritten}
 use Rattle.elementwise.proofs.in_place.on_each_in.Given as goal
 

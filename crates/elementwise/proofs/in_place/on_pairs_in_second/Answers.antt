@@ -1,5 +1,4 @@
-use Rattle.std.proofs.Common.{◌∙◌, Ok, ap, arith, sym}
-use Rattle.cvl_base.proofs.Elementwise.{if_as_long-fits}
+use Rattle.elementwise.proofs.Cited.{◌∙◌, Ok, ap, arith, sym, if_as_long-fits}
 use Rattle.elementwise.proofs.InPlace.{flipped}
 use Rattle.elementwise.proofs.in_place.on_pairs_in_second.Goals as goal
 

@@ -1,5 +1,4 @@
-use Rattle.std.proofs.Common.{subst, sym}
-use Rattle.cvl_base.specs.Rooms.{Overwrites}
+use Rattle.elementwise.proofs.Cited.{subst, sym, Overwrites}
 use Rattle.elementwise.proofs.in_place.on_pairs_or_in_second.Goals as goal
 
 pub returns : goal.returns

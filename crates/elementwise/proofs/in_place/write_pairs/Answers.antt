@@ -1,6 +1,4 @@
-use Rattle.std.proofs.Common.{◌<◌, arith, length, map}
-use Rattle.std.specs.List.{zip}
-use Rattle.element_walks.proofs.Places.{values_long}
+use Rattle.elementwise.proofs.Cited.{◌<◌, arith, length, map, zip, values_long}
 use Rattle.elementwise.proofs.InPlace.{ends, step, value_pair}
 use Rattle.elementwise.proofs.in_place.write_pairs.Goals as goal
 

@@ -1,5 +1,4 @@
-use Rattle.std.proofs.Common.{map}
-use Rattle.std.specs.List.{zip}
+use Rattle.elementwise.proofs.Cited.{map, zip}
 use Rattle.elementwise.proofs.InPlace.{IsWritten}
 use Rattle.elementwise.proofs.in_place.write_pairs.Given as goal
 

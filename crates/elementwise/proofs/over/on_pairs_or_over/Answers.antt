@@ -1,6 +1,4 @@
-use Rattle.std.proofs.Common.{ap, length, subst, sym}
-use Rattle.cvl_base.specs.Rooms.{Overwrites, in_room}
-use Rattle.cvl_base.proofs.Rooms.{told}
+use Rattle.elementwise.proofs.Cited.{ap, length, subst, sym, Overwrites, in_room, told}
 use Rattle.elementwise.proofs.over.on_pairs_or_over.Goals as goal
 
 pub returns-in_err-check_values : goal.returns-in_err-check_values

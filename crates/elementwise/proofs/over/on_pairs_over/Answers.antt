@@ -1,9 +1,4 @@
-use Rattle.std.proofs.Common.{◌∙◌, Err, Ok, ap, arith, length, map, sym}
-use Rattle.std.specs.List.{zip}
-use Rattle.cvl_base.specs.Rooms.{in_room}
-use Rattle.cvl_base.proofs.Elementwise.{if_as_long-fits}
-use Rattle.cvl_base.proofs.Rooms.{differs, told}
-use Rattle.element_walks.proofs.Places.{values_long}
+use Rattle.elementwise.proofs.Cited.{◌∙◌, Err, Ok, ap, arith, length, map, sym, zip, in_room, if_as_long-fits, differs, told, values_long}
 use Rattle.elementwise.proofs.over.on_pairs_over.Goals as goal
 
 pub returns-in_err-check_agree-2 : goal.returns-in_err-check_agree-2

@@ -1,7 +1,4 @@
-use Rattle.std.proofs.Common.{◌∙◌, Ok, ap, arith, length, map, pos, sym}
-use Rattle.std.specs.List.{zip}
-use Rattle.std.specs.Option.{unwrap_or}
-use Rattle.element_walks.proofs.Places.{values_long}
+use Rattle.elementwise.proofs.Cited.{◌∙◌, Ok, ap, arith, length, map, pos, sym, zip, unwrap_or, values_long}
 use Rattle.elementwise.proofs.LeastFaults.{pairs_fail, pairs_succeed}
 use Rattle.elementwise.proofs.races.values_or_fault.Goals as goal
 

@@ -1,5 +1,4 @@
-use Rattle.std.proofs.Common.{◌≡◌, ◌∙◌, ◌≤◌, Bool, ◌&&◌, true, false, None, arith, below_more, get_or, refl, sym}
-use Rattle.std.proofs.lemmas.Bool.{true≢false}
+use Rattle.elementwise.proofs.Cited.{◌≡◌, ◌∙◌, ◌≤◌, Bool, ◌&&◌, true, false, None, arith, below_more, get_or, refl, sym, true≢false}
 use Rattle.elementwise.specs.Valueless.{slots_without}
 use Rattle.elementwise.proofs.FirstWithout.{no_slot}
 use Rattle.elementwise.proofs.valueless.all_have_values.Goals as goal

@@ -1,4 +1,4 @@
-use Rattle.std.specs.Prelude.{◌≡◌, ◌<◌, ◌≤◌, ℕ, IsTrue, None, slice_index_or}
+use Rattle.elementwise.proofs.Cited.{◌≡◌, ◌<◌, ◌≤◌, ℕ, IsTrue, None, slice_index_or}
 use Rattle.elementwise.specs.Valueless.{slots_without}
 use Rattle.elementwise.proofs.valueless.all_have_values.Given as goal
 

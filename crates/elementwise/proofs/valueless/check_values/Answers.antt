@@ -1,5 +1,4 @@
-use Rattle.std.proofs.Common.{◌∙◌, sym}
-use Rattle.cvl_base.proofs.Elementwise.{if_as_long-fits}
+use Rattle.elementwise.proofs.Cited.{◌∙◌, sym, if_as_long-fits}
 use Rattle.elementwise.proofs.LeastFaults.{pairs_fail, pairs_succeed}
 use Rattle.elementwise.proofs.valueless.check_values.Goals as goal
 

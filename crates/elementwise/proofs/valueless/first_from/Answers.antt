@@ -1,4 +1,4 @@
-use Rattle.std.proofs.Common.{◌∙◌, arith, sym}
+use Rattle.elementwise.proofs.Cited.{◌∙◌, arith, sym}
 use Rattle.elementwise.proofs.FirstWithout.{found, none_left, passed}
 use Rattle.elementwise.proofs.valueless.first_from.Goals as goal
 

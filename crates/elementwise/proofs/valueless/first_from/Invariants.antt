@@ -1,4 +1,4 @@
-use Rattle.std.proofs.Common.{◌≡◌}
+use Rattle.elementwise.proofs.Cited.{◌≡◌}
 use Rattle.elementwise.specs.Valueless.{least_without}
 use Rattle.elementwise.proofs.valueless.first_from.Given as goal
 

@@ -1,4 +1,4 @@
-use Rattle.std.proofs.Common.{◌∙◌, ◌≤◌, arith, length, sym}
+use Rattle.elementwise.proofs.Cited.{◌∙◌, ◌≤◌, arith, length, sym}
 use Rattle.elementwise.proofs.FirstWithout.{none_left, passed_up_to}
 use Rattle.elementwise.proofs.valueless.first_without.Goals as goal
 

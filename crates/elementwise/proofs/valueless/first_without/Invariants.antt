@@ -1,5 +1,4 @@
-use Rattle.std.proofs.Common.{◌≡◌, ◌≤◌, length}
-use Rattle.std.specs.Prelude.{◌-◌}
+use Rattle.elementwise.proofs.Cited.{◌≡◌, ◌≤◌, length, ◌-◌}
 use Rattle.elementwise.specs.Valueless.{least_without}
 use Rattle.elementwise.proofs.valueless.first_without.Given as goal
 

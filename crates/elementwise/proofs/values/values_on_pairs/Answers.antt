@@ -1,5 +1,4 @@
-use Rattle.std.proofs.Common.{sym}
-use Rattle.element_walks.proofs.Places.{values_long}
+use Rattle.elementwise.proofs.Cited.{sym, values_long}
 use Rattle.elementwise.proofs.values.values_on_pairs.Goals as goal
 
 pub written_by_rayon-requires-after_bounds : goal.written_by_rayon-requires-after_bounds

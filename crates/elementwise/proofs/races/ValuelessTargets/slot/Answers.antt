@@ -1,7 +1,4 @@
-use Rattle.std.proofs.Common.{◌∙◌, ◌<◌, arith, length, sym}
-use Rattle.std.specs.List.{zip}
-use Rattle.std.proofs.lemmas.List.{length-map}
-use Rattle.std.proofs.lemmas.Slice.Zip.{length-zip}
+use Rattle.elementwise.proofs.Cited.{◌∙◌, ◌<◌, arith, length, sym, zip, length-map, length-zip}
 use Rattle.elementwise.specs.Valueless.{slot_without}
 use Rattle.elementwise.proofs.FirstWithout.{in_slot, no_slot}
 use Rattle.elementwise.proofs.races.ValuelessTargets.slot.Goals as goal
