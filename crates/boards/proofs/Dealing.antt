@@ -1,12 +1,6 @@
 -- What one pass has that gathers several of a scan board.
 -- Source: what the definitions of Joined imply.
-use Rattle.std.proofs.Common.{◌≡◌, refl, sym, ap, subst, List, [], ◌∷◌, ◌++◌, arith}
-use Rattle.status_word.specs.declared.pass.Pass.{Pass}
-use Rattle.status_word.specs.Passes.{passes_joined, seen_at, told_at}
-use Rattle.status_word.specs.RuleSteps.{JoinAdds}
-use Rattle.status_word.proofs.Places.{highest_push}
-use Rattle.least_boards.specs.Seats.{Seated}
-use Rattle.least_boards.proofs.Dealing.{IsSeatPass, hands_first, hands_more}
+use Rattle.boards.proofs.Cited.{◌≡◌, refl, sym, ap, subst, List, [], ◌∷◌, ◌++◌, arith, Pass, passes_joined, seen_at, told_at, JoinAdds, highest_push, Seated, IsSeatPass, hands_first, hands_more}
 use Rattle.boards.specs.Joined.{AreJoined}
 
 module _ {Item : Type 0} where

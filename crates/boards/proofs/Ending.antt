@@ -1,14 +1,6 @@
 -- What the seats of a scan board did in all, from the rule and from the one pass that stands for all of them.
 -- Source: the laws of the crate `status_word` on the pass that stands for all workers.
-use Rattle.std.proofs.Common.{◌≡◌, ap, ◌∙◌, ℕ, ◌≤◌, min, Bool, List, [], length, get_or, arith}
-use mathlib.Core.Option.{some}
-use lib.ListN.{get_elem?}
-use Rattle.atomic_table.specs.Table.{State}
-use Rattle.status_word.specs.declared.pass.Pass.{Pass}
-use Rattle.status_word.specs.Codings.{Coding, code}
-use Rattle.status_word.specs.RuleSteps.{WholeKnows}
-use Rattle.status_word.proofs.Places.{read_at}
-use Rattle.least_boards.specs.Seats.{Seated}
+use Rattle.boards.proofs.Cited.{◌≡◌, ap, ◌∙◌, ℕ, ◌≤◌, min, Bool, List, [], length, get_or, arith, some, get_elem?, State, Pass, Coding, code, WholeKnows, read_at, Seated}
 use Rattle.least_boards.proofs.Ending.{given_once, one_done}
 use Rattle.boards.specs.Answers.{IsEnd}
 use Rattle.boards.specs.Joined.{AreJoined}

@@ -3,3 +3,4 @@ pub mod Telling
 pub mod Dealing
 pub mod Ending
 pub mod Walking
+pub mod Cited

@@ -1,17 +1,11 @@
 -- Each step of a seat keeps the rule of the board's table, in the form that the table asks for.
 -- Source: the laws of the crate `status_word` on the kinds of step.
-use Rattle.std.proofs.Common.{◌≡◌, refl, sym, ap, ◌∙◌, subst, ℕ, ◌+◌, ◌<◌, ◌≤◌, max, Bool, List, length, get_or, set, arith, length-set}
-use mathlib.Core.Option.{none}
-use Rattle.std.proofs.lemmas.List.{get_or-set_other, set-get_or}
+use Rattle.boards.proofs.Cited.{◌≡◌, refl, sym, ap, ◌∙◌, subst, ℕ, ◌+◌, ◌<◌, ◌≤◌, max, Bool, List, length, get_or, set, arith, length-set, none, get_or-set_other, Allows, step, keeps, Pass, Coding}
+use Rattle.boards.proofs.Cited.{code, AllowsClaims, IsRuleKept, highest, looked, told_at, told_state, AreRaised, AreSame, Ascends, ClaimKeeps, DoneKeeps, FewClaimed, LookKeeps, TellKeeps}
+use Rattle.std.proofs.lemmas.List.{set-get_or}
 use Rattle.std.proofs.lemmas.Grind.{get_or-set_at}
-use Rattle.atomic_table.specs.Table.{Allows, step, keeps}
-use Rattle.status_word.specs.declared.pass.Pass.{Pass}
-use Rattle.status_word.specs.Codings.{Coding, code}
 use Rattle.boards.specs.Boards.{on_hand}
 use Rattle.boards.specs.Rules.{PassOf, IsRuled, LookGives, TellGives}
-use Rattle.least_boards.proofs.Claiming.{AllowsClaims}
-use Rattle.status_word.specs.Passes.{IsRuleKept, highest, looked, told_at, told_state}
-use Rattle.status_word.specs.RuleSteps.{AreRaised, AreSame, Ascends, ClaimKeeps, DoneKeeps, FewClaimed, LookKeeps, TellKeeps}
 
 module _ {Item : Type 0} (m : Coding Item) (sums : List (Bool × Item)) (workers : ℕ) where
   same_but_last : (words : List ℕ) (v : ℕ) → AreSame (length sums) (λ x. get_or words x 0) (λ x. get_or (set words (length sums) v) x 0)

@@ -1,10 +1,8 @@
 -- What a look reads in a word, and a seat after a step.
 -- Source: the laws of the crate `status_word` on words.
-use Rattle.std.proofs.Common.{◌≡◌, sym, ap, ◌∙◌, ℕ, ◌≤◌, Bool, List}
+use Rattle.boards.proofs.Cited.{◌≡◌, sym, ap, ◌∙◌, ℕ, ◌≤◌, Bool, List, CodeLaws, Coding, code, told_of, state_of}
 use Rattle.atomic_table.specs.Seated.{TableId}
 use Rattle.status_word.specs.declared.status.Status.{Status}
-use Rattle.status_word.specs.Codings.{CodeLaws, Coding, code, told_of}
-use Rattle.status_word.specs.Words.{state_of}
 use Rattle.boards.specs.Boards.{Seated, with_pass}
 
 -- a step changes the pass alone

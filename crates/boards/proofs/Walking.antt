@@ -1,10 +1,9 @@
 -- What a look-back has done after each of its looks.
 -- Source: what the definitions of Walks imply.
-use Rattle.std.proofs.Common.{◌≡◌, refl, ◌∙◌, ℕ, suc, ◌+◌, ◌-◌, ◌<◌, ◌≤◌, ◌≢◌, ◌⊎◌, inl, inr, max, arith, ⊎_elim, sym, ap, subst, cond, eqb, eq-eqb, false, List, ◌∷◌}
-use Rattle.std.proofs.lemmas.Bool.{cases_eq, ne_eqb}
+use Rattle.boards.proofs.Cited.{◌≡◌, refl, ◌∙◌, ℕ, suc, ◌+◌, ◌-◌, ◌<◌, ◌≤◌, ◌≢◌, ◌⊎◌, inl, inr, max, arith, ⊎_elim, sym, ap, subst, cond, eqb, eq-eqb, false, List, ◌∷◌, ne_eqb, Pass, highest_mark}
+use Rattle.boards.proofs.Cited.{known_at, looked, seen_at, told_at, told_state}
+use Rattle.std.proofs.lemmas.Bool.{cases_eq}
 use Rattle.status_word.specs.declared.pass.Mark.{Mark}
-use Rattle.status_word.specs.declared.pass.Pass.{Pass}
-use Rattle.status_word.specs.Passes.{highest_mark, known_at, looked, seen_at, told_at, told_state}
 use Rattle.boards.specs.Answers.{IsLookBack, IsOutside}
 use Rattle.boards.specs.Walks.{IsOneLook, IsWalk}
 

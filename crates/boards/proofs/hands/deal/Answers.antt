@@ -1,6 +1,4 @@
-use Rattle.std.proofs.Common.{◌≡◌, sym, ap, ◌∙◌, arith}
-use Rattle.status_word.specs.Passes.{first_pass, new_pass}
-use Rattle.least_boards.proofs.Dealing.{last_dealt}
+use Rattle.boards.proofs.Cited.{◌≡◌, sym, ap, ◌∙◌, arith, first_pass, new_pass, last_dealt}
 use Rattle.boards.proofs.hands.deal.Goals as goal
 
 pub split_seat-seat-requires : goal.split_seat-seat-requires

@@ -1,6 +1,5 @@
-use Rattle.std.proofs.Common.{◌≡◌, ◌≤◌, ◌+◌, ◌-◌, [], length, replicate}
+use Rattle.boards.proofs.Cited.{◌≡◌, ◌≤◌, ◌+◌, ◌-◌, [], length, replicate, first_pass}
 use Rattle.boards.specs.Boards.{new_seat}
-use Rattle.status_word.specs.Passes.{first_pass}
 use Rattle.boards.proofs.hands.deal.Given as goal
 
 -- so many seats are left to be dealt out, and the seat that is cut stands for all of them

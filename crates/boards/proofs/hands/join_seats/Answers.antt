@@ -1,4 +1,4 @@
-use Rattle.std.proofs.Common.{sym, ap, ◌∙◌, cond, arith, Some}
+use Rattle.boards.proofs.Cited.{sym, ap, ◌∙◌, cond, arith, Some}
 use Rattle.std.proofs.lemmas.List.Elements.{All-pop}
 use Rattle.boards.specs.Boards.{IsSeatOf}
 use Rattle.boards.proofs.Dealing.{joined_first, joined_more}

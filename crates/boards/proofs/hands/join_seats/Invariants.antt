@@ -1,5 +1,4 @@
-use Rattle.std.proofs.Common.{◌≡◌, ◌≤◌, []}
-use Rattle.std.specs.List.{All}
+use Rattle.boards.proofs.Cited.{◌≡◌, ◌≤◌, [], All}
 use Rattle.boards.specs.Boards.{IsSeatOf}
 use Rattle.boards.specs.Joined.{AreJoined}
 use Rattle.boards.proofs.hands.join_seats.Given as goal

@@ -1,6 +1,4 @@
-use Rattle.std.proofs.Common.{◌≡◌, ℕ, Bool, cond, sym, ap, ◌∙◌, arith, length}
-use Rattle.status_word.specs.Codings.{coding_of}
-use Rattle.least_boards.proofs.Claiming.{claim_allowed}
+use Rattle.boards.proofs.Cited.{◌≡◌, ℕ, Bool, cond, sym, ap, ◌∙◌, arith, length, coding_of, claim_allowed}
 use Rattle.boards.proofs.Moves.{allows_claims}
 use Rattle.boards.proofs.board.ScanBoard.claim.Goals as goal
 

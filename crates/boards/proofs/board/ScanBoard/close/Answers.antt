@@ -1,6 +1,4 @@
-use Rattle.std.proofs.Common.{◌≡◌, sym, ap, ◌∙◌, subst, arith, length}
-use mathlib.Core.Option.{some}
-use lib.ListN.{get_elem?}
+use Rattle.boards.proofs.Cited.{◌≡◌, sym, ap, ◌∙◌, subst, arith, length, some, get_elem?}
 use Rattle.std.specs.Slots.{slots_items}
 use Rattle.boards.specs.Answers.{IsEnd}
 use Rattle.boards.proofs.Ending.{all_ended}

@@ -1,6 +1,4 @@
-use Rattle.std.proofs.Common.{◌∙◌, ap, ◌≤◌, arith}
-use Rattle.status_word.specs.Passes.{known_at, told_state}
-use Rattle.status_word.specs.Words.{state_of}
+use Rattle.boards.proofs.Cited.{◌∙◌, ap, ◌≤◌, arith, known_at, told_state, state_of}
 use Rattle.boards.proofs.Walking.{find_silent}
 use Rattle.boards.proofs.board.ScanBoard.find.Goals as goal
 

@@ -1,5 +1,4 @@
-use Rattle.std.proofs.Common.{ap, subst}
-use Rattle.cvl_base.specs.TileSums.{SumsLaws}
+use Rattle.boards.proofs.Cited.{ap, subst, SumsLaws}
 use Rattle.boards.proofs.board.ScanBoard.know_sums.Goals as goal
 
 pub returns : goal.returns

@@ -1,6 +1,4 @@
-use Rattle.std.proofs.Common.{◌≡◌, refl, sym, ap, ◌∙◌, subst, ◌+◌, ◌-◌, arith, IsTrue}
-use Rattle.cvl_base.specs.SegmentMonoid.{is_seg_item, seg_join}
-use Rattle.cvl_base.specs.TileSums.{between_tiles, own_sum}
+use Rattle.boards.proofs.Cited.{◌≡◌, refl, sym, ap, ◌∙◌, subst, ◌+◌, ◌-◌, arith, IsTrue, is_seg_item, seg_join, between_tiles, own_sum}
 use Rattle.boards.proofs.Walking.{walk_met, walk_more}
 use Rattle.boards.proofs.board.ScanBoard.look_back.Goals as goal
 

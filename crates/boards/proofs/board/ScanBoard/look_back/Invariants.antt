@@ -1,5 +1,4 @@
-use Rattle.std.proofs.Common.{◌≡◌, ◌≤◌}
-use Rattle.cvl_base.specs.TileSums.{between_tiles}
+use Rattle.boards.proofs.Cited.{◌≡◌, ◌≤◌, between_tiles}
 use Rattle.boards.specs.Boards.{IsSeatOf}
 use Rattle.boards.specs.Walks.{IsWalk}
 use Rattle.boards.proofs.board.ScanBoard.look_back.Given as goal

@@ -1,8 +1,4 @@
-use Rattle.std.proofs.Common.{◌≡◌, ◌+◌, sym, ap, ◌∙◌, arith, length}
-use Rattle.cvl_base.specs.SegmentMonoid.{seg_join}
-use Rattle.status_word.specs.declared.status.Status.TheVariants.{Prefix}
-use Rattle.cvl_base.specs.TileSums.{before_tile, own_sum}
-use Rattle.status_word.specs.Codings.{coding_of}
+use Rattle.boards.proofs.Cited.{◌≡◌, ◌+◌, sym, ap, ◌∙◌, arith, length, seg_join, Prefix, before_tile, own_sum, coding_of}
 use Rattle.boards.proofs.Moves.{tell_allowed}
 use Rattle.boards.proofs.board.ScanBoard.tell_known_prefix.Goals as goal
 

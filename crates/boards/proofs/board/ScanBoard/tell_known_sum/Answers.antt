@@ -1,7 +1,4 @@
-use Rattle.std.proofs.Common.{◌≡◌, sym, ap, ◌∙◌, arith, length}
-use Rattle.status_word.specs.declared.status.Status.TheVariants.{Sum}
-use Rattle.cvl_base.specs.TileSums.{own_sum}
-use Rattle.status_word.specs.Codings.{coding_of}
+use Rattle.boards.proofs.Cited.{◌≡◌, sym, ap, ◌∙◌, arith, length, Sum, own_sum, coding_of}
 use Rattle.boards.proofs.Moves.{tell_allowed}
 use Rattle.boards.proofs.board.ScanBoard.tell_known_sum.Goals as goal
 
