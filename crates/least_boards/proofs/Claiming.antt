@@ -1,12 +1,7 @@
 -- The step on the claim word, by whether a tile was left: for the passes of any board, each of which has a hand that may change alone.
 -- Source: what the definitions of the rule's steps imply.
-use Rattle.std.proofs.Common.{◌≡◌, refl, sym, subst, ℕ, ◌+◌, ◌%◌, ◌^◌, ◌<◌, ◌≤◌, ltb, get_or, set, ltb-true, arith}
-use mathlib.Core.Option.{none, some}
-use lib.ListN.{get_elem?}
-use Rattle.std.proofs.lemmas.Bool.{cond_both, ltb-false}
-use Rattle.atomic_table.specs.Table.{Allows, Me, State, step, keeps}
-use Rattle.status_word.specs.declared.pass.Hand.{Hand}
-use Rattle.status_word.specs.Hands.{hand_done, hand_given, times}
+use Rattle.least_boards.proofs.Cited.{◌≡◌, refl, sym, subst, ℕ, ◌+◌, ◌%◌, ◌^◌, ◌<◌, ◌≤◌, ltb, get_or, set, ltb-true, arith, none, some, get_elem?, cond_both, ltb-false, Allows, Me, State, step}
+use Rattle.least_boards.proofs.Cited.{keeps, Hand, hand_done, hand_given, times}
 use Rattle.least_boards.specs.ClaimSteps.{ClaimGives, after_claim}
 
 module _ {P : Type 0} (hand : P → Hand) (on_hand : (Hand → Hand) → P → P) where

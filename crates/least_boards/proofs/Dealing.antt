@@ -1,12 +1,8 @@
 -- How the seats of a board are dealt out, and what one pass has that gathers several: for the passes of any board, and for a least board's.
 -- Source: what the definitions of Joined imply.
-use Rattle.std.proofs.Common.{◌≡◌, refl, sym, ap, ◌∙◌, subst, ℕ, ◌+◌, ◌≤◌, false, cond, List, [], ◌∷◌, ◌++◌, length, replicate, arith, length-append}
-use Rattle.std.proofs.lemmas.List.{length_push, replicate_more}
-use Rattle.std.proofs.lemmas.List.Sums.{sum_by_push}
-use Rattle.std.specs.List.{sum_by}
+use Rattle.least_boards.proofs.Cited.{◌≡◌, refl, sym, ap, ◌∙◌, subst, ℕ, ◌+◌, ◌≤◌, false, cond, List, [], ◌∷◌, ◌++◌, length, replicate, arith, length-append, length_push, replicate_more}
+use Rattle.least_boards.proofs.Cited.{sum_by_push, sum_by, Hand, hands_joined, times}
 use Rattle.atomic_table.specs.Seated.{TableId}
-use Rattle.status_word.specs.declared.pass.Hand.{Hand}
-use Rattle.status_word.specs.Hands.{hands_joined, times}
 use Rattle.status_word.proofs.Dealt.{times-append}
 use Rattle.least_boards.specs.declared.least_pass.LeastPass.{LeastPass}
 use Rattle.least_boards.specs.Joined.{AreHandsJoined, AreLeastsJoined}

@@ -1,10 +1,6 @@
 -- What the seats of any board did in all, from the one pass that stands for all of them.
 -- Source: the laws of the crate `status_word` on the hand that stands for all workers.
-use Rattle.std.proofs.Common.{◌≡◌, ap, ◌∙◌, ℕ, ◌≤◌, Bool, cond, List, [], get_or, IsTrue, arith}
-use Rattle.std.specs.List.{Any, count_by}
-use Rattle.std.proofs.lemmas.List.Sums.{get_or-le-sum_by}
-use Rattle.status_word.specs.declared.pass.Hand.{Hand}
-use Rattle.status_word.specs.Hands.{IsWhole}
+use Rattle.least_boards.proofs.Cited.{◌≡◌, ap, ◌∙◌, ℕ, ◌≤◌, Bool, cond, List, [], get_or, IsTrue, arith, Any, count_by, get_or-le-sum_by, Hand, IsWhole}
 use Rattle.least_boards.specs.Claims.{AreGivenOnce}
 use Rattle.least_boards.specs.Joined.{AreHandsJoined}
 use Rattle.least_boards.specs.Seats.{Seated}

@@ -1,15 +1,9 @@
 -- What the words of a closed least board tell, from the rule and from the one pass that stands for all seats.
 -- Source: the laws of the crate `status_word` on the hand that stands for all workers.
-use Rattle.std.proofs.Common.{◌≡◌, refl, sym, ap, ◌∙◌, ℕ, ◌+◌, ◌<◌, ◌≤◌, min, ltb, List, [], length, map, take, get_or, Option, Some, None, arith, ⊎_elim}
-use Rattle.std.proofs.lemmas.Bool.{cases_lt, cond_both, ltb-false, ltb-true}
-use Rattle.std.proofs.lemmas.List.{get_or-map, get_or-take, get_or_past, length-map, length-take, length-take-le}
+use Rattle.least_boards.proofs.Cited.{◌≡◌, refl, sym, ap, ◌∙◌, ℕ, ◌+◌, ◌<◌, ◌≤◌, min, ltb, List, [], length, map, take, get_or, Option, Some, None, arith, ⊎_elim, cases_lt, cond_both, ltb-false}
+use Rattle.least_boards.proofs.Cited.{ltb-true, get_or-map, get_or-take, get_or_past, length-map, length-take, length-take-le, some, get_elem?, State, WholeDeals, element_at, one_alone, others_none}
 use Rattle.std.proofs.lemmas.Option.{cond_some, none-some}
-use mathlib.Core.Option.{some}
-use lib.ListN.{get_elem?}
-use Rattle.atomic_table.specs.Table.{State}
 use Rattle.cvl_base.specs.Limits.{most_elements}
-use Rattle.status_word.specs.RuleSteps.{WholeDeals}
-use Rattle.status_word.proofs.Places.{element_at, one_alone, others_none}
 use Rattle.least_boards.specs.declared.least_pass.LeastPass.{LeastPass}
 use Rattle.least_boards.specs.Seats.{Seated}
 use Rattle.least_boards.specs.Joined.{AreLeastsJoined}

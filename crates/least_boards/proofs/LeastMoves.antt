@@ -1,12 +1,8 @@
 -- Each step of a seat keeps the rule of a least board's table, in the form that the table asks for.
 -- Source: the steps of a least board's rule, and the law of the crate `status_word` on hands.
-use Rattle.std.proofs.Common.{◌≡◌, refl, sym, subst, ℕ, ◌+◌, ◌<◌, ◌≤◌, min, List, get_or, set, length-set, Option, Some, None, arith}
-use mathlib.Core.Option.{none}
-use Rattle.std.proofs.lemmas.List.{get_or-set_other, set-get_or}
+use Rattle.least_boards.proofs.Cited.{◌≡◌, refl, sym, subst, ℕ, ◌+◌, ◌<◌, ◌≤◌, min, List, get_or, set, length-set, Option, Some, None, arith, none, get_or-set_other, set-get_or, Allows, State, step}
+use Rattle.least_boards.proofs.Cited.{keeps, hand_done, hand_given, ClaimDeals, DoneDeals, FewClaims, SameDeals}
 use Rattle.std.proofs.lemmas.Grind.{get_or-set_at}
-use Rattle.atomic_table.specs.Table.{Allows, State, step, keeps}
-use Rattle.status_word.specs.Hands.{hand_done, hand_given}
-use Rattle.status_word.specs.RuleSteps.{ClaimDeals, DoneDeals, FewClaims, SameDeals}
 use Rattle.least_boards.specs.declared.least_pass.LeastPass.{LeastPass}
 use Rattle.least_boards.specs.LeastPasses.{on_least_hand, place_lowered, place_seen}
 use Rattle.least_boards.specs.LeastRules.{IsLeastKept, IsLeastRuled, IsOfSlot, LeastGives, LeastPassOf, LowerGives}

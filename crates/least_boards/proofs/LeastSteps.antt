@@ -1,22 +1,15 @@
 -- The least board's rule is kept by each kind of step, and what it implies of a word.
 -- Source: what the definitions of LeastRules and LeastPasses imply.
-use Rattle.std.proofs.Common.{◌≡◌, ◌≢◌, refl, sym, ap, ◌∙◌, subst, ℕ, ◌<◌, ◌≤◌, min, cond, eqb, inl, inr, List, [], ◌∷◌, ◌++◌, get_or, set, Option, Some, None, arith, ⊎_elim}
-use Rattle.std.specs.List.{All}
-use Rattle.std.proofs.lemmas.Bool.{cond_both, eqb-false, eqb-true}
+use Rattle.least_boards.proofs.Cited.{◌≡◌, ◌≢◌, refl, sym, ap, ◌∙◌, subst, ℕ, ◌<◌, ◌≤◌, min, cond, eqb, inl, inr, List, [], ◌∷◌, ◌++◌, get_or, set, Option, Some, None, arith, ⊎_elim, All, cond_both}
+use Rattle.least_boards.proofs.Cited.{eqb-false, eqb-true, All-nil, All-cons, All-append, All-head, All-push, All-set, All-tail, some, get_elem?, AreDealt, Hand, FirstDeals, JoinDeals, SameDeals}
+use Rattle.least_boards.proofs.Cited.{SplitDeals, element_at, set_else}
 use Rattle.std.proofs.lemmas.Bool.Decides.{leb_tells}
-use Rattle.std.proofs.lemmas.List.Elements.{All-nil, All-cons, All-append, All-head, All-push, All-set, All-tail}
-use mathlib.Core.Option.{some}
-use lib.ListN.{get_elem?}
-use Rattle.status_word.specs.Hands.{AreDealt}
-use Rattle.status_word.specs.declared.pass.Hand.{Hand}
-use Rattle.status_word.specs.RuleSteps.{FirstDeals, JoinDeals, SameDeals, SplitDeals}
 use Rattle.least_boards.specs.declared.least_pass.LeastPass.{LeastPass}
 use Rattle.least_boards.specs.declared.least_pass.Low.{Low}
 use Rattle.least_boards.specs.LeastPasses.{first_least_pass, known_in, least_passes_joined, lowered_in, lowest, lowest_of, no_place, on_least_hand, place_lowered, place_seen, seen_in}
 use Rattle.least_boards.specs.LeastPasses.{spent_least_pass, split_least_left, split_least_right}
 use Rattle.least_boards.specs.LeastRules.{IsLeastFair, IsLeastKept, IsOfSlot, IsPlaced}
 use Rattle.least_boards.proofs.Lowest.{lowest_at, lowest_joined, lowest_most, lowest_push, lowest_same, lowest_set, lows-append}
-use Rattle.status_word.proofs.Places.{element_at, set_else}
 
 module _ (targets : List (Option ℕ)) (slots tiles workers : ℕ) where
   abbrev Kept : ℕ → (ℕ → ℕ) → List LeastPass → Type 0

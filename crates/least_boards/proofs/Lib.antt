@@ -5,3 +5,4 @@ pub mod Ending
 pub mod LeastEnding
 pub mod Claiming
 pub mod Dealing
+pub mod Cited

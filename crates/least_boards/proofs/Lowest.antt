@@ -1,9 +1,6 @@
 -- The least of a measure over a list, where one element changes, where one is appended, and where one takes in another.
 -- Source: what the definition of the least of a measure implies.
-use Rattle.std.proofs.Common.{◌≡◌, ◌≢◌, sym, ap, ◌∙◌, ℕ, zero, suc, ◌≤◌, min, List, [], ◌∷◌, ◌++◌, set, arith}
-use mathlib.Core.Option.{some, some-injective, some-ne-none}
-use lib.ListN.{get_elem?}
-use Rattle.status_word.proofs.Places.{set_else, set_here}
+use Rattle.least_boards.proofs.Cited.{◌≡◌, ◌≢◌, sym, ap, ◌∙◌, ℕ, zero, suc, ◌≤◌, min, List, [], ◌∷◌, ◌++◌, set, arith, some, some-injective, some-ne-none, get_elem?, set_else, set_here}
 use Rattle.least_boards.specs.declared.least_pass.Low.{Low}
 use Rattle.least_boards.specs.LeastPasses.{lowest, lowest_of, no_place}
 

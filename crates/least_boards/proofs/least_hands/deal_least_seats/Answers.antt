@@ -1,4 +1,4 @@
-use Rattle.std.proofs.Common.{◌≡◌, sym, ap, ◌∙◌, arith}
+use Rattle.least_boards.proofs.Cited.{◌≡◌, sym, ap, ◌∙◌, arith}
 use Rattle.least_boards.specs.LeastPasses.{first_least_pass, new_least_pass}
 use Rattle.least_boards.proofs.Dealing.{last_dealt}
 use Rattle.least_boards.proofs.LeastSteps.{split_keeps}

@@ -1,4 +1,4 @@
-use Rattle.std.proofs.Common.{◌≡◌, ◌≤◌, ◌+◌, ◌-◌, [], length, replicate}
+use Rattle.least_boards.proofs.Cited.{◌≡◌, ◌≤◌, ◌+◌, ◌-◌, [], length, replicate}
 use Rattle.least_boards.specs.LeastBoards.{new_least_seat}
 use Rattle.least_boards.specs.LeastPasses.{first_least_pass}
 use Rattle.least_boards.proofs.least_hands.deal_least_seats.Given as goal

@@ -1,5 +1,4 @@
-use Rattle.std.proofs.Common.{sym, ap, ◌∙◌, cond, arith, Some}
-use Rattle.std.proofs.lemmas.List.Elements.{All-pop}
+use Rattle.least_boards.proofs.Cited.{sym, ap, ◌∙◌, cond, arith, Some, All-pop}
 use Rattle.least_boards.specs.LeastBoards.{IsLeastSeatOf}
 use Rattle.least_boards.proofs.Dealing.{leasts_first, leasts_more}
 use Rattle.least_boards.proofs.LeastSteps.{join_keeps}

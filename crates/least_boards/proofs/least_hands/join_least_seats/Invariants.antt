@@ -1,5 +1,4 @@
-use Rattle.std.proofs.Common.{◌≡◌, ◌≤◌, []}
-use Rattle.std.specs.List.{All}
+use Rattle.least_boards.proofs.Cited.{◌≡◌, ◌≤◌, [], All}
 use Rattle.least_boards.specs.Joined.{AreLeastsJoined}
 use Rattle.least_boards.specs.LeastBoards.{IsLeastSeatOf}
 use Rattle.least_boards.proofs.least_hands.join_least_seats.Given as goal

@@ -1,4 +1,4 @@
-use Rattle.std.proofs.Common.{◌≡◌, ℕ, Bool, cond, sym, ap, ◌∙◌, arith}
+use Rattle.least_boards.proofs.Cited.{◌≡◌, ℕ, Bool, cond, sym, ap, ◌∙◌, arith}
 use Rattle.least_boards.proofs.Claiming.{claim_allowed}
 use Rattle.least_boards.proofs.LeastMoves.{allows_claims}
 use Rattle.least_boards.proofs.least_board.LeastBoard.claim.Goals as goal

@@ -1,5 +1,4 @@
-use Rattle.std.proofs.Common.{sym, ap, ◌∙◌, subst}
-use Rattle.std.specs.Slots.{slots_items}
+use Rattle.least_boards.proofs.Cited.{sym, ap, ◌∙◌, subst, slots_items}
 use Rattle.least_boards.specs.LeastBoards.{IsLeastEnd, LeastView}
 use Rattle.least_boards.specs.LeastRules.{IsLeastRuled}
 use Rattle.least_boards.proofs.LeastEnding.{least_ended}

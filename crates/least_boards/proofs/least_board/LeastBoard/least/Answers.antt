@@ -1,4 +1,4 @@
-use Rattle.std.proofs.Common.{◌≡◌, sym, ap, ◌∙◌, arith}
+use Rattle.least_boards.proofs.Cited.{◌≡◌, sym, ap, ◌∙◌, arith}
 use Rattle.least_boards.proofs.LeastMoves.{least_allowed}
 use Rattle.least_boards.proofs.least_board.LeastBoard.least.Goals as goal
 

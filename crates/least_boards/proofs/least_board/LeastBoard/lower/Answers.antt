@@ -1,4 +1,4 @@
-use Rattle.std.proofs.Common.{◌≡◌, sym, ap, ◌∙◌, get_or, None, arith}
+use Rattle.least_boards.proofs.Cited.{◌≡◌, sym, ap, ◌∙◌, get_or, None, arith}
 use Rattle.least_boards.proofs.LeastMoves.{lower_allowed}
 use Rattle.least_boards.proofs.least_board.LeastBoard.lower.Goals as goal
 

@@ -1,8 +1,5 @@
-use Rattle.std.proofs.Common.{None, sym, ap, ◌∙◌, length, get_or, take, arith}
-use Rattle.std.proofs.lemmas.List.{length-map, length-take}
-use Rattle.std.specs.Slots.{slots_counts, slots_items}
+use Rattle.least_boards.proofs.Cited.{None, sym, ap, ◌∙◌, length, get_or, take, arith, length-map, length-take, slots_counts, slots_items, read_at}
 use Rattle.least_boards.specs.LeastPasses.{place_of_word}
-use Rattle.status_word.proofs.Places.{read_at}
 use Rattle.least_boards.proofs.LeastEnding.{told_at_slot}
 use Rattle.least_boards.proofs.leasts.Leasts.get.Goals as goal
 
