@@ -1,10 +1,6 @@
 -- The lawful words of a tile, by the state: they ascend, and each is read again.
 -- Source: what the definitions of Codings imply.
-use Rattle.std.proofs.Common.{◌≡◌, refl, ap, ℕ, zero, suc, ◌+◌, ◌<◌, ◌≤◌, max, min, Bool, List, IsTrue, arith, ⊎_elim}
-use Rattle.std.specs.List.{AllPass}
-use Rattle.std.proofs.lemmas.Bool.{cases_lt}
-use Rattle.cvl_base.specs.TileSums.{SumsLaws}
-use Rattle.cvl_base.specs.SegmentMonoid.{is_seg_item}
+use Rattle.status_word.proofs.Cited.{◌≡◌, refl, ap, ℕ, zero, suc, ◌+◌, ◌<◌, ◌≤◌, max, min, Bool, List, IsTrue, arith, ⊎_elim, AllPass, cases_lt, SumsLaws, is_seg_item}
 use Rattle.status_word.specs.Codings.{Coding, CodingLaws, told_of, code, CodeLaws}
 use Rattle.status_word.specs.Locals.{is_item_status}
 use Rattle.status_word.specs.Words.{state_of}

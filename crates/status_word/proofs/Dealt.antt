@@ -1,12 +1,7 @@
 -- The rule of the hands is kept by each kind of step, and what it implies.
 -- Source: what the definitions of Hands imply.
-use Rattle.std.proofs.Common.{◌≡◌, ◌≢◌, refl, sym, ap, ◌∙◌, subst, ℕ, ◌+◌, ◌-◌, ◌<◌, ◌≤◌, min, List, [], ◌∷◌, ◌++◌, length, set, arith}
-use Rattle.std.specs.List.{sum_by}
-use Rattle.std.proofs.lemmas.Bool.Decides.{nat_tests}
-use Rattle.std.proofs.lemmas.List.Sums.{sum_by-cons, sum_by_push}
-use Rattle.std.proofs.lemmas.List.{length-append}
-use mathlib.Core.Option.{some, some-ne-none}
-use lib.ListN.{get_elem?}
+use Rattle.status_word.proofs.Cited.{◌≡◌, ◌≢◌, refl, sym, ap, ◌∙◌, subst, ℕ, ◌+◌, ◌-◌, ◌<◌, ◌≤◌, min, List, [], ◌∷◌, ◌++◌, length, set, arith, sum_by, nat_tests, sum_by-cons, sum_by_push}
+use Rattle.status_word.proofs.Cited.{length-append, some, some-ne-none, get_elem?}
 use Rattle.status_word.specs.declared.pass.Hand.{Hand}
 use Rattle.status_word.specs.Hands.{times, once_claimed, new_hand, hand_given, hand_done, hand_dealt, hands_joined, IsFairHand, AreDealt}
 use Rattle.status_word.specs.RuleSteps.{FirstDeals, ClaimDeals, DoneDeals, SameDeals, SplitDeals, JoinDeals, FewClaims, WholeDeals}

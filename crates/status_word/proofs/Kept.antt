@@ -1,10 +1,7 @@
 -- The scan board's rule is kept by each kind of step, and what it implies.
 -- Source: what the definitions of Passes imply.
-use Rattle.std.proofs.Common.{◌≡◌, refl, sym, ap, ◌∙◌, subst, ℕ, ◌≤◌, max, Bool, cond, eqb, List, [], ◌∷◌, ◌++◌, length, set, arith}
-use Rattle.std.proofs.lemmas.Bool.{cond_both, eqb-false, eqb-true}
-use Rattle.std.proofs.lemmas.List.{length-append}
-use mathlib.Core.Option.{some, some-ne-none}
-use lib.ListN.{get_elem?}
+use Rattle.status_word.proofs.Cited.{◌≡◌, refl, sym, ap, ◌∙◌, subst, ℕ, ◌≤◌, max, Bool, cond, eqb, List, [], ◌∷◌, ◌++◌, length, set, arith, cond_both, eqb-false, eqb-true, length-append, some}
+use Rattle.status_word.proofs.Cited.{some-ne-none, get_elem?}
 use Rattle.status_word.specs.declared.pass.Mark.{Mark}
 use Rattle.status_word.specs.declared.pass.Pass.{Pass}
 use Rattle.status_word.specs.Hands.{AreDealt}

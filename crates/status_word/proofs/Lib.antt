@@ -7,3 +7,4 @@ pub mod Places
 pub mod Runs
 pub mod Stands
 pub mod Reaching
+pub mod Cited

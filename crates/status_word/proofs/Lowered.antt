@@ -1,19 +1,13 @@
 -- Each step taken lowers the number of steps that are left.
 -- Source: what the definitions of Worlds imply.
-use Rattle.std.proofs.Common.{◌≡◌, refl, sym, ap, subst, ℕ, zero, suc, ◌+◌, ◌-◌, ◌*◌, ◌<◌, ◌≤◌, Bool, true, false, cond, ltb, Option, Some, None, List, [], ◌∷◌, length, get_or, set, arith, length-set}
-use Rattle.std.specs.List.{All, sum_by}
-use Rattle.std.proofs.lemmas.Bool.{ltb-true, ltb-false}
-use Rattle.std.proofs.lemmas.List.Elements.{All-head, All-tail}
-use Rattle.std.proofs.lemmas.List.Folds.{sum_by-replicate}
-use Rattle.std.proofs.lemmas.List.Sums.{sum_by-set}
-use Rattle.cvl_base.specs.SegmentMonoid.{seg_unit, seg_join}
+use Rattle.status_word.proofs.Cited.{◌≡◌, refl, sym, ap, subst, ℕ, zero, suc, ◌+◌, ◌-◌, ◌*◌, ◌<◌, ◌≤◌, Bool, true, false, cond, ltb, Option, Some, None, List, [], ◌∷◌, length, get_or, set, arith}
+use Rattle.status_word.proofs.Cited.{length-set, All, sum_by, ltb-true, ltb-false, All-head, All-tail, sum_by-replicate, sum_by-set, seg_unit, seg_join, own_sum}
 use Rattle.status_word.specs.declared.status.Status.{Status}
 use Rattle.status_word.specs.declared.status.Status.TheVariants.{Silent, Sum, Prefix}
 use Rattle.status_word.specs.declared.action.Action.{Action}
 use Rattle.status_word.specs.declared.action.Answer.TheVariants.{Tile, Done}
 use Rattle.status_word.specs.declared.local.Local.{Local}
 use Rattle.status_word.specs.declared.local.Local.TheVariants.{Ready, Summing, Looking, Helping, Publishing, Stopped}
-use Rattle.cvl_base.specs.TileSums.{own_sum}
 use Rattle.status_word.specs.Codings.{Coding}
 use Rattle.status_word.specs.Locals.{action_of, next_of, added_up_to, after_look}
 use Rattle.status_word.specs.Worlds.{Scene, new_scene, local_at, acted, step_of, scene_after, answer_of, left_of, left_of_local, left_of_tiles, takes, steps_of}

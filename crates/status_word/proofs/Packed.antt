@@ -1,6 +1,6 @@
 -- The words of a monoid whose items have words.
 -- Source: what the definitions of Codings and Words imply.
-use Rattle.std.proofs.Common.{◌≡◌, refl, ap, ◌∙◌, ◌<◌, ◌^◌, ℤ, Bool, IsTrue, Some, arith}
+use Rattle.status_word.proofs.Cited.{◌≡◌, refl, ap, ◌∙◌, ◌<◌, ◌^◌, ℤ, Bool, IsTrue, Some, arith}
 use Rattle.cvl_base.specs.ItemWords.{WordLaws}
 use Rattle.status_word.specs.declared.status.Status.{Status}
 use Rattle.status_word.specs.declared.status.Status.TheVariants.{Silent, Sum, Prefix}

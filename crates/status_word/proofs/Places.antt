@@ -1,14 +1,8 @@
 -- Lists by their places: what a sum and a highest value become where one place changes, where one element is appended, and where all others are 0.
 -- Source: what the definitions of sums and of the highest value imply.
-use Rattle.std.proofs.Common.{◌≡◌, ◌≢◌, refl, sym, ap, ◌∙◌, subst, ℕ, zero, suc, ◌+◌, ◌<◌, ◌≤◌, max, List, [], ◌∷◌, ◌++◌, length, get_or, set, arith, length-set}
-use Rattle.std.specs.List.{All, sum_by}
-use Rattle.std.proofs.lemmas.Grind.{in_remove}
-use Rattle.std.proofs.lemmas.List.{get_or-set_same}
-use Rattle.std.proofs.lemmas.List.Elements.{All-push, All-set}
+use Rattle.status_word.proofs.Cited.{◌≡◌, ◌≢◌, refl, sym, ap, ◌∙◌, subst, ℕ, zero, suc, ◌+◌, ◌<◌, ◌≤◌, max, List, [], ◌∷◌, ◌++◌, length, get_or, set, arith, length-set, All, sum_by, in_remove}
+use Rattle.status_word.proofs.Cited.{get_or-set_same, All-push, All-set, get_or-le-sum_by, sum_by-cons, sum_by-remove, sum_by-set, some, some-injective, some-ne-none, get_elem?}
 use Rattle.std.proofs.lemmas.List.Recursion.{max_bounds, max_push}
-use Rattle.std.proofs.lemmas.List.Sums.{get_or-le-sum_by, sum_by-cons, sum_by-remove, sum_by-set}
-use mathlib.Core.Option.{some, some-injective, some-ne-none}
-use lib.ListN.{get_elem?}
 use Rattle.status_word.specs.Passes.{highest}
 
 module _ {X : Type 0} where

@@ -1,13 +1,8 @@
 -- What a step needs in a world that its workers reached, and that a step reaches another.
 -- Source: what the definitions of Reached imply.
-use Rattle.std.proofs.Common.{◌≡◌, refl, sym, ap, ◌∙◌, subst, ℕ, ◌+◌, ◌<◌, ◌≤◌, ◌^◌, Bool, ltb, Option, Some, None, List, [], ◌∷◌, ◌++◌, length, get_or, set}
-use Rattle.std.proofs.Common.{replicate, IsTrue, arith, drop}
-use Rattle.std.specs.List.{All, AllPass}
-use Rattle.std.proofs.lemmas.Bool.{cond_both}
-use Rattle.std.proofs.lemmas.List.{drop_more, get_or_read, length-replicate}
-use Rattle.std.proofs.lemmas.List.Elements.{All-nil, All-push}
+use Rattle.status_word.proofs.Cited.{◌≡◌, refl, sym, ap, ◌∙◌, subst, ℕ, ◌+◌, ◌<◌, ◌≤◌, ◌^◌, Bool, ltb, Option, Some, None, List, [], ◌∷◌, ◌++◌, length, get_or, set, replicate, IsTrue, arith, drop}
+use Rattle.status_word.proofs.Cited.{All, AllPass, cond_both, drop_more, get_or_read, length-replicate, All-nil, All-push, is_seg_item, own_sum, between_tiles, SumsLaws}
 use Rattle.cvl_base.specs.Limits.{most_elements}
-use Rattle.cvl_base.specs.SegmentMonoid.{is_seg_item}
 use Rattle.status_word.specs.declared.action.Action.{Action}
 use Rattle.status_word.specs.declared.action.Answer.{Answer}
 use Rattle.status_word.specs.declared.action.Answer.TheVariants.{Tile, Done}
@@ -15,7 +10,6 @@ use Rattle.status_word.specs.declared.local.Local.{Local}
 use Rattle.status_word.specs.declared.local.Local.TheVariants.{Ready, Summing, Looking, Helping, Publishing, Stopped}
 use Rattle.status_word.specs.declared.world.Stepped.{Stepped}
 use Rattle.status_word.specs.declared.world.Stepped.TheVariants.{Took, Idle}
-use Rattle.cvl_base.specs.TileSums.{own_sum, between_tiles, SumsLaws}
 use Rattle.status_word.specs.Codings.{Coding, CodingLaws}
 use Rattle.status_word.specs.Locals.{action_of, next_of, holds_item, tells_item, is_item_status}
 use Rattle.status_word.specs.declared.pass.Pass.{Pass}

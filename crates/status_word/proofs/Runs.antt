@@ -1,16 +1,8 @@
 -- What holds after any list of workers took their steps in a new world.
 -- Source: what the definitions of Worlds and Passes imply.
-use mathlib.Core.Option.{some}
-use lib.ListN.{get_elem?}
-use Rattle.std.proofs.Common.{◌≡◌, refl, sym, ap, ◌∙◌, subst, ℕ, zero, suc, ◌*◌, ◌<◌, ◌≤◌, Bool, List, [], ◌∷◌, length, get_or, replicate, arith, ⊎_elim}
-use Rattle.std.specs.List.{All, AllPass, sum_by}
-use Rattle.std.proofs.lemmas.List.{get_or-replicate, length-replicate}
-use Rattle.std.proofs.lemmas.List.Folds.{sum_by-replicate}
-use Rattle.std.proofs.lemmas.List.Sums.{get_or-le-sum_by, sum_by-cons, sum_by-le}
-use Rattle.std.proofs.lemmas.List.Elements.{All-from_get_or, All-head, All-replicate, All-tail}
-use Rattle.std.proofs.lemmas.Bool.{cases_lt}
-use Rattle.cvl_base.specs.TileSums.{SumsLaws}
-use Rattle.cvl_base.specs.SegmentMonoid.{is_seg_item}
+use Rattle.status_word.proofs.Cited.{some, get_elem?, ◌≡◌, refl, sym, ap, ◌∙◌, subst, ℕ, zero, suc, ◌*◌, ◌<◌, ◌≤◌, Bool, List, [], ◌∷◌, length, get_or, replicate, arith, ⊎_elim, All, AllPass}
+use Rattle.status_word.proofs.Cited.{sum_by, get_or-replicate, length-replicate, sum_by-replicate, get_or-le-sum_by, sum_by-cons, sum_by-le, All-from_get_or, All-head, All-replicate, All-tail}
+use Rattle.status_word.proofs.Cited.{cases_lt, SumsLaws, is_seg_item}
 use Rattle.status_word.specs.declared.local.Local.{Local}
 use Rattle.status_word.specs.declared.local.Local.TheVariants.{Ready, Stopped}
 use Rattle.status_word.specs.Codings.{Coding, CodingLaws, code}

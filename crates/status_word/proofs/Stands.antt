@@ -1,23 +1,15 @@
 -- A world and its passes stand: each worker agrees with its pass, and the passes keep the board's rule. Each step keeps this.
 -- Source: what the definitions of Worlds and Passes imply.
-use mathlib.Core.Option.{some}
-use lib.ListN.{get_elem?}
-use Rattle.std.proofs.Common.{◌≡◌, ◌≢◌, refl, sym, ap, ◌∙◌, subst, ℕ, zero, suc, ◌+◌, ◌-◌, ◌<◌, ◌≤◌, max, Bool, true, false, cond, eqb, ltb, List, length, take, get_or, set, arith}
-use Rattle.std.proofs.Common.{length-set, ⊎_elim}
-use Rattle.std.specs.List.{AllPass}
-use Rattle.std.proofs.lemmas.List.{get_or-set_other, get_or-set_same}
-use Rattle.std.proofs.lemmas.Grind.{get_or-set_at}
-use Rattle.std.proofs.lemmas.Bool.{ltb-true, ltb-false}
-use Rattle.std.proofs.lemmas.Bool.Decides.{eqb_tells}
+use Rattle.status_word.proofs.Cited.{some, get_elem?, ◌≡◌, ◌≢◌, refl, sym, ap, ◌∙◌, subst, ℕ, zero, suc, ◌+◌, ◌-◌, ◌<◌, ◌≤◌, max, Bool, true, false, cond, eqb, ltb, List, length, take, get_or, set}
+use Rattle.status_word.proofs.Cited.{arith, length-set, ⊎_elim, AllPass, get_or-set_other, get_or-set_same, get_or-set_at, ltb-true, ltb-false, eqb_tells, is_seg_item, seg_unit, seg_join, own_sum}
+use Rattle.status_word.proofs.Cited.{before_tile, between_tiles, SumsLaws}
 use Rattle.cvl_base.specs.Folds.{fold_of}
-use Rattle.cvl_base.specs.SegmentMonoid.{is_seg_item, seg_unit, seg_join}
 use Rattle.status_word.specs.declared.status.Status.{Status}
 use Rattle.status_word.specs.declared.status.Status.TheVariants.{Silent}
 use Rattle.status_word.specs.declared.action.Action.TheVariants.{Claim, TellSum, TellPrefix}
 use Rattle.status_word.specs.declared.action.Answer.TheVariants.{Tile, Done}
 use Rattle.status_word.specs.declared.local.Local.{Local}
 use Rattle.status_word.specs.declared.local.Local.TheVariants.{Ready, Summing, Looking, Helping, Publishing, Stopped}
-use Rattle.cvl_base.specs.TileSums.{own_sum, before_tile, between_tiles, SumsLaws}
 use Rattle.status_word.specs.Codings.{Coding, CodingLaws, told_of, code}
 use Rattle.status_word.specs.Locals.{action_of, next_of, after_look, added_up_to}
 use Rattle.status_word.specs.declared.pass.Pass.{Pass}

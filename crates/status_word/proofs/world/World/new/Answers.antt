@@ -1,4 +1,4 @@
-use Rattle.std.proofs.Common.{rules, ◌≡◌, ◌∙◌, ap, length, replicate}
+use Rattle.status_word.proofs.Cited.{rules, ◌≡◌, ◌∙◌, ap, length, replicate}
 use Rattle.status_word.proofs.Reaching.{reached_first}
 use Rattle.status_word.proofs.world.World.new.Goals as goal
 

@@ -1,5 +1,4 @@
-use Rattle.std.proofs.Common.{◌≡◌, refl, sym, ap, ◌∙◌, length, get_or, arith}
-use Rattle.std.proofs.lemmas.List.{drop_all}
+use Rattle.status_word.proofs.Cited.{◌≡◌, refl, sym, ap, ◌∙◌, length, get_or, arith, drop_all}
 use Rattle.status_word.specs.Codings.{coding_of}
 use Rattle.status_word.specs.Locals.{action_of}
 use Rattle.status_word.specs.Worlds.{local_at, left_of, scene_after, steps_of}

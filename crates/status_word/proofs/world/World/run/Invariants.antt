@@ -1,4 +1,4 @@
-use Rattle.std.proofs.Common.{◌≡◌, ◌+◌, ◌≤◌, length, drop}
+use Rattle.status_word.proofs.Cited.{◌≡◌, ◌+◌, ◌≤◌, length, drop}
 use Rattle.status_word.specs.Codings.{coding_of}
 use Rattle.status_word.specs.Worlds.{scene_after, steps_of}
 use Rattle.status_word.proofs.world.World.run.Given as goal

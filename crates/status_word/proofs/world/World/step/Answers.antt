@@ -1,4 +1,4 @@
-use Rattle.std.proofs.Common.{rules}
+use Rattle.status_word.proofs.Cited.{rules}
 use Rattle.status_word.proofs.Reaching.{step_allowed, reached_by, room}
 use Rattle.status_word.proofs.world.World.step.Goals as goal
 
