@@ -1,11 +1,7 @@
 -- The front of a list of numbers that was checked: none of it is negative, and its total is known.
-use Rattle.std.proofs.Common.{◌≡◌, ℕ, ◌*◌, ◌<◌, ◌≤◌, Bool, true, false, ℤ, pos, List, length, get_or, take, map, sum, unsigned_abs, refl, ap, ◌∙◌, subst, arith}
-use Rattle.std.specs.Prelude.{position, Option, Some, None, Ok, Err, cond, nat_lt, option_map}
-use Rattle.std.specs.Int.{is_negative}
+use Rattle.segdes.proofs.Cited.{◌≡◌, ℕ, ◌*◌, ◌<◌, ◌≤◌, Bool, true, false, ℤ, pos, List, length, get_or, take, map, sum, unsigned_abs, refl, ap, ◌∙◌, subst, arith, position, Option, Some, None, Ok}
+use Rattle.segdes.proofs.Cited.{Err, cond, nat_lt, option_map, is_negative, lt-ltb, le-ltb, position_or_len_is, take-length}
 use Rattle.std.specs.List.{position_or_len}
-use Rattle.std.proofs.lemmas.Bool.{lt-ltb, le-ltb}
-use Rattle.std.proofs.lemmas.List.Sums.{position_or_len_is}
-use Rattle.std.proofs.Math.Seq.{take-length}
 use Rattle.cvl_base.specs.declared.fault.FaultNo.TheVariants as no
 use Rattle.cvl_base.specs.Descriptors.{AreLengthsWithin, descriptor_within}
 use Rattle.cvl_base.specs.Faults.{fault, fault_at}

@@ -1,9 +1,6 @@
 -- Runs of lists that stand one after another.
-use Rattle.std.proofs.Common.{◌≡◌, ◌∙◌, ℕ, zero, suc, ◌+◌, ◌-◌, ◌<◌, ◌≤◌, List, [], ◌∷◌, ◌++◌, length, map, take, drop, get_or, refl, sym, ap, arith}
-use Rattle.std.specs.Prelude.{sum}
-use Rattle.std.proofs.Math.Seq.{drop-append-add, take-add}
-use Rattle.std.proofs.lemmas.List.{drop-append-le, drop-drop, get_or-map, length-append, length-drop, length-map, take-append-le}
-use Rattle.std.proofs.lemmas.List.Sums.{sum_by_more}
+use Rattle.segdes.proofs.Cited.{◌≡◌, ◌∙◌, ℕ, zero, suc, ◌+◌, ◌-◌, ◌<◌, ◌≤◌, List, [], ◌∷◌, ◌++◌, length, map, take, drop, get_or, refl, sym, ap, arith, sum, drop-append-add, take-add}
+use Rattle.segdes.proofs.Cited.{drop-append-le, drop-drop, get_or-map, length-append, length-drop, length-map, take-append-le, sum_by_more}
 use Rattle.cvl_base.specs.Lists.{joined}
 use Rattle.cvl_base.proofs.Lists.{sum-cons}
 use Rattle.fresh.specs.Parts.{part}
@@ -94,18 +91,7 @@ module _ {X : Type 0} (lists : List (List X)) (d : List ℕ) (lengths : d ≡ ma
     module _ (now : Stretch X) (s after : ℕ) (lt : s < last) (w : Written lists d old s after now) where
       pub part-fits : get_or d s 0 - after ≤ now.room
       part-fits =
-          omega (
-            arith,
-            ap (λ r. r.room) w.held,
-            w.few,
-            w.at,
-            w.inside,
-            here,
-            all,
-            span.some,
-            next_start s (omega (arith, span.within)),
-            start_of_mono d (s + 1) last (omega arith),
-          )
+          omega (arith, ap (λ r. r.room) w.held, next_start s (omega (arith, span.within)), start_of_mono d (s + 1) last (omega arith))
 
       -- all the rest of it
       pub written-more : (next : Stretch X) (count : ℕ) → count ≡ get_or d s 0 - after → next ≡ stretch now.block now.first (now.items ++ part (get_or lists s []) after count) (now.room - count)

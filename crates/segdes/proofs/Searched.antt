@@ -1,10 +1,8 @@
 -- A binary search among the starts, which do not fall.
-use Rattle.std.proofs.Common.{◌≡◌, ℕ, ◌+◌, ◌-◌, ◌<◌, ◌≤◌, true, false, List, length, get_or, take, ap, subst, arith, ltb, ltb-true, ltb-false, inl, inr}
-use Rattle.std.specs.Prelude.{sum}
+use Rattle.segdes.proofs.Cited.{◌≡◌, ℕ, ◌+◌, ◌-◌, ◌<◌, ◌≤◌, true, false, List, length, get_or, take, ap, subst, arith, ltb, ltb-true, ltb-false, inl, inr, sum, nil_from_length, take-take, take_all}
+use Rattle.segdes.proofs.Cited.{sum_by-take-le, sum_by_more}
 use Rattle.std.specs.List.Sorted.{IsNonDecreasingBy, IsPartitionPoint}
 use Rattle.std.proofs.lemmas.Bool.{cases_lt}
-use Rattle.std.proofs.lemmas.List.{nil_from_length, take-take, take_all}
-use Rattle.std.proofs.lemmas.List.Sums.{sum_by-take-le, sum_by_more}
 use Rattle.std.proofs.lemmas.Grind.{get_or_default_zero}
 use Rattle.segdes.specs.Starts.{AreStarts, Spans, start_of}
 

@@ -1,11 +1,7 @@
 -- Lengths as they lie in memory, and the starts of the segments so far.
-use Rattle.std.proofs.Common.{◌≡◌, ℕ, ◌+◌, ◌<◌, ◌≤◌, List, [], ◌∷◌, ◌++◌, length, get_or, take, map, ℤ, pos, w32, Fits, to_z, of_z, ap, sym, ◌∙◌, subst, arith, below_more}
-use Rattle.std.specs.Prelude.{sum, unsigned_abs}
-use Rattle.std.specs.Int.{Width, IsNonNegative}
+use Rattle.segdes.proofs.Cited.{◌≡◌, ℕ, ◌+◌, ◌<◌, ◌≤◌, List, [], ◌∷◌, ◌++◌, length, get_or, take, map, ℤ, pos, w32, Fits, to_z, of_z, ap, sym, ◌∙◌, subst, arith, below_more, sum, unsigned_abs}
+use Rattle.segdes.proofs.Cited.{Width, IsNonNegative, get_or-map, length-map, get_or_append_left, sum_by-take-le, sum_by_more, sum_by_more_le, take-length, get_or-append_seam}
 use Rattle.std.proofs.lemmas.Int.{to_z-of_z, fits_signed_from_abs}
-use Rattle.std.proofs.lemmas.List.{get_or-map, length-map, get_or_append_left}
-use Rattle.std.proofs.lemmas.List.Sums.{sum_by-take-le, sum_by_more, sum_by_more_le}
-use Rattle.std.proofs.Math.Seq.{take-length, get_or-append_seam}
 use Rattle.cvl_base.specs.Limits.{most_places}
 use Rattle.segdes.specs.Starts.{IsKept}
 

@@ -1,5 +1,4 @@
-use Rattle.std.proofs.Common.{◌≡◌, true, pos, get_or, arith}
-use Rattle.std.specs.Int.{is_negative}
+use Rattle.segdes.proofs.Cited.{◌≡◌, true, pos, get_or, arith, is_negative}
 use Rattle.segdes.proofs.Checked.{negative_at, too_long, in_limit, are-lengths}
 use Rattle.segdes.proofs.check.check_lengths.Goals as goal
 

@@ -1,4 +1,4 @@
-use Rattle.std.proofs.Common.{arith}
+use Rattle.segdes.proofs.Cited.{arith}
 use Rattle.segdes.proofs.Searched.{none_spanned, spanned}
 use Rattle.segdes.proofs.segment_runs.span.Goals as goal
 

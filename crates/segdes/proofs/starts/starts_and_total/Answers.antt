@@ -1,6 +1,4 @@
-use Rattle.std.proofs.Common.{arith, ap, w32}
-use Rattle.std.specs.Prelude.{unsigned_abs}
-use Rattle.std.proofs.Math.Facts.{Fits-below}
+use Rattle.segdes.proofs.Cited.{arith, ap, w32, unsigned_abs, Fits-below}
 use Rattle.segdes.proofs.Sums.{cast_fits, length_at, starts_more, starts_all}
 use Rattle.segdes.proofs.starts.starts_and_total.Goals as goal
 

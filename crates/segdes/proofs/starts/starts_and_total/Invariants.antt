@@ -1,4 +1,4 @@
-use Rattle.std.proofs.Common.{◌≡◌, length, map, unsigned_abs, vec_len, vec_capacity}
+use Rattle.segdes.proofs.Cited.{◌≡◌, length, map, unsigned_abs, vec_len, vec_capacity}
 use Rattle.segdes.proofs.Sums.{AreStartsTo}
 use Rattle.segdes.proofs.starts.starts_and_total.Given as goal
 

@@ -1,4 +1,4 @@
-use Rattle.std.proofs.Common.{ℕ, List, arith, subst}
+use Rattle.segdes.proofs.Cited.{ℕ, List, arith, subst}
 use Rattle.segdes.specs.Starts.{AreStarts}
 use Rattle.segdes.proofs.Searched.{at_start}
 use Rattle.segdes.proofs.Sums.{segment_within}

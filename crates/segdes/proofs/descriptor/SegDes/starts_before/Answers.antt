@@ -1,4 +1,4 @@
-use Rattle.std.proofs.Common.{ℕ, List, map, unsigned_abs, sym, subst, ltb, arith, rules}
+use Rattle.segdes.proofs.Cited.{ℕ, List, map, unsigned_abs, sym, subst, ltb, arith, rules}
 use Rattle.std.proofs.lemmas.List.Sorted.{IsPartitionPoint-from_clause, IsPartitionedBy-ltb}
 use Rattle.segdes.specs.Starts.{AreStarts}
 use Rattle.segdes.proofs.Searched.{starts_rise, before_found, after_found}

@@ -1,5 +1,4 @@
-use Rattle.std.proofs.Common.{arith, w64}
-use Rattle.std.proofs.Math.Facts.{Fits-below}
+use Rattle.segdes.proofs.Cited.{arith, w64, Fits-below}
 use Rattle.segdes.proofs.Sums.{cast_fits, in_row}
 use Rattle.segdes.proofs.seg_lengths.SegLengths.length.Goals as goal
 

@@ -1,4 +1,4 @@
-use Rattle.std.proofs.Common.{◌≡◌, length, ap, arith, subst}
+use Rattle.segdes.proofs.Cited.{◌≡◌, length, ap, arith, subst}
 use Rattle.segdes.proofs.ListRuns.{Written, last-within, list-long, part-fits, whole-long, written-all, written-first, written-more, written-none}
 use Rattle.segdes.proofs.segment_runs.EndToEndWriterItem.write.Goals as goal
 
@@ -16,12 +16,8 @@ push_part-requires-clause-within g c =
     let lists = g.S.Segments.lists c.args.self.now.segments in let d = c.descriptor-d.result.now in let run = c.args.run in let span = c.in-Some.ensures in
     let here : c.next_place-first.result ≡ run.first = omega (arith, c.next_place-first.ensures.place, ap length c.requires.empty) in
     let w = subst (λ s. Written lists d run s c.in-Some.from run) c.if-begin-last.true (written-first lists d c.descriptor-d.ensures span run here (omega (arith, c.room.ensures)) c.requires.empty) in
-    omega (
-      arith,
-      last-within lists d c.descriptor-d.ensures span run here (omega (arith, c.room.ensures)) run c.in-Some.from w,
-      list-long lists d c.descriptor-d.ensures c.in-Some.last span.within,
-      c.room-count.ensures,
-    )
+    let fits = last-within lists d c.descriptor-d.ensures span run here (omega (arith, c.room.ensures)) run c.in-Some.from w in
+    omega (arith, fits, list-long lists d c.descriptor-d.ensures c.in-Some.last span.within, c.room-count.ensures)
 
 pub returns-then-begin-last : goal.returns-then-begin-last
 returns-then-begin-last g c =
@@ -57,12 +53,8 @@ push_part-requires-2-clause-within g c =
     let here : c.next_place-first.result ≡ run.first = omega (arith, c.next_place-first.ensures.place, ap length c.requires.empty) in
     let at_last : c.loop-s.s ≡ c.in-Some.last = omega (arith, c.loop-s-test.false, c.loop-s.auto.s, c.loop-s.auto.s-end, span.in_order, c.if-begin-last.false) in
     let w = subst (λ s. Written lists d run s 0 c.loop-s.run) at_last c.loop-s.invariant in
-    omega (
-      arith,
-      last-within lists d c.descriptor-d.ensures span run here (omega (arith, c.room.ensures)) c.loop-s.run 0 w,
-      list-long lists d c.descriptor-d.ensures c.in-Some.last span.within,
-      c.room-room.ensures,
-    )
+    let fits = last-within lists d c.descriptor-d.ensures span run here (omega (arith, c.room.ensures)) c.loop-s.run 0 w in
+    omega (arith, fits, list-long lists d c.descriptor-d.ensures c.in-Some.last span.within, c.room-room.ensures)
 
 pub returns : goal.returns
 returns g c =
