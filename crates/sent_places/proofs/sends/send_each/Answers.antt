@@ -36,12 +36,7 @@ loop-k-preserved g c =
           (c.at-takes_part.ensures ∙ ap (destination_if c.at-takes_part.result.0.now) w.if-takes_part.false))
     ]
 
-pub returns-clause-fault : goal.returns-clause-fault
-returns-clause-fault g c =
-    (sent_all c.args.first (g.T.Destinations.destinations c.args.destinations.now) _ c.loop-k.k _ c.loop-k.invariant
-    (omega (arith, c.count-k-end.ensures, c.loop-k-test.false))).0
-
-pub returns-clause-sent : goal.returns-clause-sent
-returns-clause-sent g c =
-    (sent_all c.args.first (g.T.Destinations.destinations c.args.destinations.now) _ c.loop-k.k _ c.loop-k.invariant
-    (omega (arith, c.count-k-end.ensures, c.loop-k-test.false))).1
+pub returns : goal.returns
+returns g c =
+    let all = sent_all c.args.first (g.T.Destinations.destinations c.args.destinations.now) _ c.loop-k.k _ c.loop-k.invariant (omega (arith, c.count-k-end.ensures, c.loop-k-test.false)) in
+    record { fault = all.0; sent = all.1 }
