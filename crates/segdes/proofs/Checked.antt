@@ -1,12 +1,19 @@
 -- The front of a list of numbers that was checked: none of it is negative, and its total is known.
-use Rattle.segdes.proofs.Cited.{◌≡◌, ℕ, ◌*◌, ◌<◌, ◌≤◌, Bool, true, false, ℤ, pos, List, length, get_or, take, map, sum, unsigned_abs, refl, ap, ◌∙◌, subst, arith, position, Option, Some, None, Ok}
-use Rattle.segdes.proofs.Cited.{Err, cond, nat_lt, option_map, is_negative, lt-ltb, le-ltb, position_or_len_is, take-length}
+use Rattle.std.proofs.Common.{◌≡◌, ℕ, ◌+◌, ◌*◌, ◌<◌, ◌≤◌, Bool, true, false, ℤ, pos, negsuc, List, length, get_or, take, map, sum, unsigned_abs, refl, sym, ap, ◌∙◌, subst, arith, below_more}
+use Rattle.std.proofs.Common.{w32, to_z, of_z, FitsSigned}
+use Rattle.std.specs.Prelude.{position, Option, Some, None, Ok, Err, cond, nat_lt, option_map}
+use Rattle.std.specs.Int.{is_negative}
 use Rattle.std.specs.List.{position_or_len}
+use Rattle.std.proofs.lemmas.Bool.{lt-ltb, le-ltb}
+use Rattle.std.proofs.lemmas.Int.{ints, to_z-of_z}
+use Rattle.std.proofs.lemmas.List.Sums.{position_or_len_is, sum-map, sum_by_more}
+use Rattle.std.proofs.Math.Seq.{take-length}
 use Rattle.cvl_base.specs.declared.fault.FaultNo.TheVariants as no
 use Rattle.cvl_base.specs.Descriptors.{AreLengthsWithin, descriptor_within}
 use Rattle.cvl_base.specs.Faults.{fault, fault_at}
 use Rattle.cvl_base.specs.Gives.{unless, fault_if}
-use Rattle.cvl_base.proofs.Descriptors.{natural, position-none}
+use Rattle.cvl_base.specs.Limits.{most_places}
+use Rattle.cvl_base.proofs.Descriptors.{natural, not_negative, position-lengths, position-none}
 
 pub record IsCheckedTo (i : ℕ) (numbers : List ℤ) (total : ℕ) : Type 0 where
   pub none_negative : (k : ℕ) → k < i → is_negative (get_or numbers k (pos 0)) ≡ false
@@ -36,7 +43,7 @@ module _ (i : ℕ) (numbers : List ℤ) (total : ℕ) (checked : IsCheckedTo i n
   all : IsCheckedTo (length numbers) numbers total
   all = let same : i ≡ length numbers = omega arith in subst (λ (n : ℕ). IsCheckedTo n numbers total) same checked
 
-  whole : total ≡ sum (map unsigned_abs numbers)
+  pub whole : total ≡ sum (map unsigned_abs numbers)
   whole = all.is_total ∙ ap (λ ns. sum (map unsigned_abs ns)) (take-length numbers)
 
   none : position is_negative numbers ≡ None
@@ -54,3 +61,34 @@ module _ (i : ℕ) (numbers : List ℤ) (total : ℕ) (checked : IsCheckedTo i n
     few = few;
     in_limit = omega (arith, whole);
   }
+
+-- ---- the numbers read without their signs
+
+-- the total of the first i of them: where it is a length, so is each
+pub record IsUnsignedTotal (i : ℕ) (numbers : List ℤ) (total : ℕ) : Type 0 where
+  pub small : total ≤ i * 4294967296
+  pub checked : total ≤ most_places → IsCheckedTo i numbers total
+
+unsigned_is : (number : ℤ) (n : ℕ) → FitsSigned w32 number → n ≡ of_z w32 (to_z w32 (of_z w32 number)) → n ≤ most_places → number ≡ pos n
+unsigned_is (pos a) n fits cast small = ap (λ k. pos k) (sym (cast ∙ ap (of_z w32) (to_z-of_z w32 (pos a) fits)))
+unsigned_is (negsuc a) n fits cast small = let same : n ≡ of_z w32 (negsuc a) = cast ∙ ap (of_z w32) (to_z-of_z w32 (negsuc a) fits) in absurd (omega (arith, ints))
+
+module _ (i : ℕ) (numbers : List ℤ) (total n : ℕ) (lt : i < length numbers) where
+  checked_more : IsCheckedTo i numbers total → get_or numbers i (pos 0) ≡ pos n → n ≤ most_places → IsCheckedTo (i + 1) numbers (total + n)
+  checked_more checked is small = record {
+    none_negative = below_more (λ k. is_negative (get_or numbers k (pos 0)) ≡ false) i checked.none_negative (ap is_negative is ∙ not_negative n);
+    is_total = omega (arith, checked.is_total, sum-map unsigned_abs (take (i + 1) numbers), sum-map unsigned_abs (take i numbers), sum_by_more unsigned_abs numbers i (pos 0) lt, ap unsigned_abs is);
+    small = omega (arith, checked.small, small);
+  }
+
+  pub unsigned_more : IsUnsignedTotal i numbers total → n < 4294967296 → FitsSigned w32 (get_or numbers i (pos 0)) → n ≡ of_z w32 (to_z w32 (of_z w32 (get_or numbers i (pos 0))))
+      → IsUnsignedTotal (i + 1) numbers (total + n)
+  unsigned_more to below fits cast = record {
+    small = omega (arith, to.small, below);
+    checked = λ small. checked_more (to.checked (omega (arith, small))) (unsigned_is (get_or numbers i (pos 0)) n fits cast (omega (arith, small))) (omega (arith, small));
+  }
+
+-- lengths make a descriptor
+pub lengths_made : (most : ℕ) (numbers : List ℤ) → numbers ≡ map pos (map unsigned_abs numbers) → sum (map unsigned_abs numbers) ≤ most → descriptor_within most numbers ≡ Ok (map unsigned_abs numbers)
+lengths_made most numbers are small =
+    made most numbers None false (ap (position is_negative) are ∙ position-lengths (map unsigned_abs numbers)) (le-ltb most (sum (map unsigned_abs numbers)) small)

@@ -14,9 +14,23 @@ fn is_below_zero(number: &i32) -> bool
     *number < 0
 }
 
-/// Checks in one pass that the numbers are the lengths of a descriptor: none is negative, else NegativeLength at the
-/// first that is, and their total is at most `most`, else TooLong. The answer is the total.
-pub(crate) fn check_lengths(numbers: &[i32], most: usize) -> Result<u32, Fault>
+/// The total of numbers that are read without their signs. A negative number is then at least 2,147,483,648, so that in a total
+/// below that there is none.
+// The total of fewer than 2^31 numbers below 2^32 fits 64 bits. The loop leaves nothing to a branch, so that vector code takes
+// several numbers at once.
+fn unsigned_total(numbers: &[i32]) -> u64
+    requires few { length numbers.now ≤ most_places }
+    ensures { result ≤ most_places → AreLengthsWithin most_places numbers.now × (result ≡ sum (map unsigned_abs numbers.now)) }
+{
+    let mut total: u64 = 0;
+    for number in numbers {
+        total += number.cast_unsigned() as u64;
+    }
+    total
+}
+
+/// `check_lengths` by each number in turn.
+fn check_each(numbers: &[i32], most: usize) -> Result<u32, Fault>
     requires limit { most ≤ most_places }
     requires few { length numbers.now ≤ most }
     ensures meaning { MatchResult result (λ _. descriptor_within most numbers.now ≡ Ok (map unsigned_abs numbers.now))
@@ -36,4 +50,21 @@ pub(crate) fn check_lengths(numbers: &[i32], most: usize) -> Result<u32, Fault>
         return Err(Fault::new(FaultNo::TooLong));
     }
     Ok(total as u32)
+}
+
+/// Checks that the numbers are the lengths of a descriptor: none is negative, else NegativeLength at the first that is, and their
+/// total is at most `most`, else TooLong. The answer is the total.
+pub(crate) fn check_lengths(numbers: &[i32], most: usize) -> Result<u32, Fault>
+    requires limit { most ≤ most_places }
+    requires few { length numbers.now ≤ most }
+    ensures meaning { MatchResult result (λ _. descriptor_within most numbers.now ≡ Ok (map unsigned_abs numbers.now))
+        (λ f. descriptor_within most numbers.now ≡ Err f) }
+    ensures lengths { IfOk result (λ _. AreLengthsWithin most numbers.now) }
+    ensures total { IfOk result (λ total. total ≡ sum (map unsigned_abs numbers.now)) }
+{
+    let total = unsigned_total(numbers);
+    if total <= most as u64 {
+        return Ok(total as u32);
+    }
+    check_each(numbers, most)
 }

@@ -87,6 +87,14 @@ impl<A: Memory> SegDes<A> {
         let lengths = Lengths::from_vec(Vec::from_slice(alloc, lengths.as_slice())?);
         SegDes::new(alloc, lengths)
     }
+
+    /// The descriptor of segments with lengths that lie elsewhere, which are copied.
+    #[tactic(auto, using(cvl_base::proofs::Descriptors::abs_pos))]
+    pub fn of_lengths(alloc: A, d: &SegLengths) -> Result<SegDes<A>, NoResources>
+        ensures { IfOk result (λ kept. kept ≡ d.now) }
+    {
+        SegDes::keeping(alloc, Vec::from_slice(alloc, d.lengths())?)
+    }
 }
 
 impl<A: Allocator> SegDes<A> {
