@@ -521,7 +521,7 @@ FAMILIES = (
         ("seg_back_permute_int", "seg_back_permute_bool"), "permutes of segments",
         lambda kind: (items(kind, "source"), ints("index", "m"), lengths(), lengths("index_lengths", "m"), room(kind, "m")),
         "At each place the element at the place's index in the same segment of the source.",
-        limit="m", faults=(TOO_LONG, SUMS_OF_INDEX, BAD_IN_SOURCE), asks=True, cut=("segments", "m"),
+        limit="m", faults=(TOO_LONG, SUMS_OF_INDEX, BAD_IN_SOURCE), cut=("segments", "m"),
         shape="The source has n elements in segments with the lengths; index and out have m, in as many segments with the index lengths.",
     ),
     # ---- first senders ----

@@ -1487,11 +1487,8 @@ CvlStatus cvl_seg_back_permute_int_alone(const int32_t *source, size_t source_le
     if (!cvl_seg_back_permute_int_agrees(source_len, index_len, lengths, index_lengths, out_len)) {
         return seg_back_permute_int_asked(source_len, index_len, lengths, index_lengths, out_len);
     }
-    const CvlStatus status = cvl_proved_seg_back_permute_int(source, source_len, index, index_len,
-        lengths.lengths, lengths.segments, index_lengths.lengths, index_lengths.segments, out, out_len);
-    if (!cvl_is_late(status)) return status;
-    const CvlStatus before = seg_back_permute_int_asked(source_len, index_len, lengths, index_lengths, out_len);
-    return before.number == CVL_DONE ? status : before;
+    return cvl_proved_seg_back_permute_int(source, source_len, index, index_len, lengths.lengths, lengths.segments,
+        index_lengths.lengths, index_lengths.segments, out, out_len);
 }
 
 CvlStatus cvl_seg_back_permute_int(const int32_t *source, size_t source_len, const int32_t *index, size_t index_len,
@@ -1538,11 +1535,8 @@ CvlStatus cvl_seg_back_permute_bool_alone(const bool *source, size_t source_len,
     if (!cvl_proved_are_flags(source, source_len)) {
         return seg_back_permute_bool_copied(source, source_len, index, index_len, lengths, index_lengths, out, out_len);
     }
-    const CvlStatus status = cvl_proved_seg_back_permute_bool(source, source_len, index, index_len,
-        lengths.lengths, lengths.segments, index_lengths.lengths, index_lengths.segments, out, out_len);
-    if (!cvl_is_late(status)) return status;
-    const CvlStatus before = seg_back_permute_bool_asked(source_len, index_len, lengths, index_lengths, out_len);
-    return before.number == CVL_DONE ? status : before;
+    return cvl_proved_seg_back_permute_bool(source, source_len, index, index_len, lengths.lengths, lengths.segments,
+        index_lengths.lengths, index_lengths.segments, out, out_len);
 }
 
 CvlStatus cvl_seg_back_permute_bool(const bool *source, size_t source_len, const int32_t *index, size_t index_len,

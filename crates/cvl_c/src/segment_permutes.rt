@@ -5,7 +5,7 @@ ghost use Rattle.cvl_base.specs.SegmentedCalls.{seg_back_of, seg_default_of, seg
 ghost use Rattle.c_calls.specs.Calls.{by_segments, in_limit};
 ghost use Rattle.c_calls.specs.Told.{ToldOr, in_room};
 
-use c_calls::checks::{check_limit, descriptor};
+use c_calls::checks::{check_limit, descriptor, segments};
 use c_calls::or_tell;
 use c_calls::status::{CvlStatus, told_over, told_over_or};
 use segmented_permutes::{seg_back_over, seg_default_into_over, seg_select_over, seg_simple_over};
@@ -23,7 +23,7 @@ pub extern "C" fn cvl_seg_permute_int(
     ensures { ToldOr (in_room (length out.old) (by_segments lengths.now
         (λ d. in_limit index.now (seg_simple_of source.now index.now d)))) result out.old out.new }
 {
-    let d = or_tell!(descriptor(alloc, lengths));
+    let d = or_tell!(segments(lengths));
     or_tell!(check_limit(index));
     told_over_or::<i32>(seg_simple_over(alloc, source, index, &d, out))
 }
@@ -40,7 +40,7 @@ pub extern "C" fn cvl_seg_permute_bool(
     ensures { ToldOr (in_room (length out.old) (by_segments lengths.now
         (λ d. in_limit index.now (seg_simple_of source.now index.now d)))) result out.old out.new }
 {
-    let d = or_tell!(descriptor(alloc, lengths));
+    let d = or_tell!(segments(lengths));
     or_tell!(check_limit(index));
     told_over_or::<bool>(seg_simple_over(alloc, source, index, &d, out))
 }
@@ -124,7 +124,6 @@ pub extern "C" fn cvl_seg_default_permute_bool(
 /// At each place the integer at the place's index in the same segment of the source: `bck_pez`.
 #[unsafe(no_mangle)]
 pub extern "C" fn cvl_seg_back_permute_int(
-    alloc: Global,
     source: &[i32],
     index: &[i32],
     lengths: &[i32],
@@ -134,8 +133,8 @@ pub extern "C" fn cvl_seg_back_permute_int(
     ensures { ToldOr (in_room (length out.old) (by_segments lengths.now (λ d. by_segments index_lengths.now
         (λ e. in_limit index.now (seg_back_of source.now index.now d e))))) result out.old out.new }
 {
-    let d = or_tell!(descriptor(alloc, lengths));
-    let e = or_tell!(descriptor(alloc, index_lengths));
+    let d = or_tell!(segments(lengths));
+    let e = or_tell!(segments(index_lengths));
     or_tell!(check_limit(index));
     told_over::<i32>(seg_back_over(source, index, &d, &e, out))
 }
@@ -143,7 +142,6 @@ pub extern "C" fn cvl_seg_back_permute_int(
 /// At each place the boolean at the place's index in the same segment of the source: `bck_peb`.
 #[unsafe(no_mangle)]
 pub extern "C" fn cvl_seg_back_permute_bool(
-    alloc: Global,
     source: &[bool],
     index: &[i32],
     lengths: &[i32],
@@ -153,8 +151,8 @@ pub extern "C" fn cvl_seg_back_permute_bool(
     ensures { ToldOr (in_room (length out.old) (by_segments lengths.now (λ d. by_segments index_lengths.now
         (λ e. in_limit index.now (seg_back_of source.now index.now d e))))) result out.old out.new }
 {
-    let d = or_tell!(descriptor(alloc, lengths));
-    let e = or_tell!(descriptor(alloc, index_lengths));
+    let d = or_tell!(segments(lengths));
+    let e = or_tell!(segments(index_lengths));
     or_tell!(check_limit(index));
     told_over::<bool>(seg_back_over(source, index, &d, &e, out))
 }

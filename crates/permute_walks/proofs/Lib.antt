@@ -12,3 +12,4 @@ pub mod Told
 pub mod Written
 pub use Rattle.sent_places.proofs.Sent
 pub mod Cited
+pub use Rattle.sent_places.proofs.Stored

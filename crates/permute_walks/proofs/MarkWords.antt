@@ -17,7 +17,7 @@ with_bit word b = bit_or word (1 * 2 ^ b % 4294967296)
 abbrev pub with_mark : List ℕ → ℕ → List ℕ
 with_mark words d = set words (d / 32) (with_bit (get_or words (d / 32) 0) (d % 32))
 
-mask_set : (ms : List Bool) (b : ℕ) → b < length ms → b < 32 → mask_l (set ms b true) ≡ with_bit (mask_l ms) b
+pub mask_set : (ms : List Bool) (b : ℕ) → b < length ms → b < 32 → mask_l (set ms b true) ≡ with_bit (mask_l ms) b
 mask_set ms b within below = same_from_bits (mask_l (set ms b true)) (with_bit (mask_l ms) b) (λ i. bit_mask_l (set ms b true) i ∙ elim (cases_eq i b) [
   | inl same ↦
       ap (λ j. cond (get_or (set ms b true) j false) 1 0) same ∙ ap (λ m. cond m 1 0) (get_or-set_same ms b true false within)

@@ -1,4 +1,5 @@
 pub mod AllSent
+pub mod OneSegment
 pub mod Ranges
 pub mod Scatters
 pub mod Shared

@@ -22,7 +22,7 @@ use Rattle.segment_sends.specs.Parts.{destinations_in, fault_from, parts_of, pla
 use Rattle.segment_sends.specs.Shares.{fault_behind, part_at, permuted}
 use Rattle.segment_sends.proofs.Ranges.{length-range, part_of_range}
 use Rattle.segment_sends.proofs.Shared.{fault_at_end, fault_next, fault_passed, length-permuted, permuted_at}
-use Rattle.segment_sends.proofs.Through.{destinations_ahead, length-parts, places_ahead, places-parts, segment_within, start_more}
+use Rattle.segment_sends.proofs.Through.{destinations_ahead, length-parts, places_ahead, places-parts, segment_within}
 use Rattle.segment_sends.proofs.AllSent.{neither, length-senders_from, segments_sent}
 
 -- ---- what is wrong hangs on no place
@@ -130,15 +130,14 @@ module _ (lengths : List ℕ) (index : List ℤ) (total : sum lengths ≡ length
       -- one more segment is written
       pub room_more : (out new : List X) → length out ≡ length index → take first out ≡ take first whole
           → new ≡ put_mid first (first + n - first) out (filter_map (slice_get ys) (senders_of 0 (all_destinations js) (length js)))
-          → (length new ≡ length index) × (take (sum (take (s + 1) lengths)) new ≡ take (sum (take (s + 1) lengths)) whole)
+          → (length new ≡ length index) × (take (first + n) new ≡ take (first + n) whole)
       room_more out new long done put =
           let segment = filter_map (slice_get ys) (senders_of 0 (all_destinations js) (length js)) in
-          let wide : length segment ≡ n = ap length segment_of_whole ∙ length_part whole first n (omega (arith, room_within, whole_long)) in
-          let next : first + n ≡ sum (take (s + 1) lengths) = omega (arith, start_more lengths s lt, there, is) in (
+          let wide : length segment ≡ n = ap length segment_of_whole ∙ length_part whole first n (omega (arith, room_within, whole_long)) in (
             ap length put ∙ same_len_mid first (first + n - first) out segment (omega (arith, wide, length_part out first (first + n - first) (omega (arith, room_within, sourced, long)))) ∙ long,
-            ap (λ k. take k new) (sym next) ∙ ap (take (first + n)) put
+            ap (take (first + n)) put
                 ∙ take-put_mid first (first + n - first) out segment (first + n) (omega (arith, wide)) (omega (arith, room_within, sourced, long))
-                ∙ (λ i. done i ++ segment_of_whole i) ∙ sym (take-add first n whole) ∙ ap (λ k. take k whole) next,
+                ∙ (λ i. done i ++ segment_of_whole i) ∙ sym (take-add first n whole),
           )
 
     pub room_all : (s : ℕ) (out : List X) → length out ≡ length index → take (sum (take s lengths)) out ≡ take (sum (take s lengths)) whole → length lengths ≤ s

@@ -1,31 +1,31 @@
 //! The two walks of a simple permute by segments straight into a room. The first marks the place that each index names, segment
-//! by segment in the same bytes. The second writes each element to its index.
+//! by segment in the same bytes, and those of a short segment in a word. The second writes each element to its index.
 
 ghost use Rattle.std.specs.Prelude.{◌≡◌, ◌≤◌, ◌↔◌, filter_map, length, slice_get, slice_index, sum, ℕ, ◌<◌, IfOk, IsTrue, None};
 ghost use Rattle.cvl_base.specs.Limits.{most_places};
 ghost use Rattle.segment_sends.specs.Parts.{fault_from, parts_of, senders_from};
 
+use crate::one_segment::{is_segment_permutation, scatter_segment_over};
 use crate::segments::longest;
 use cvl_base::{Memory, NoResources};
-use permute_walks::{is_permutation_by, scatter_over};
-use segdes::SegDes;
-use std::alloc::Allocator;
+use segdes::SegLengths;
 
 /// Whether the indices of each segment are a permutation of its places. There are as many marks as the longest segment has
 /// places.
-fn are_permutations_by<A: Allocator>(marks: &mut [bool], index: &[i32], d: &SegDes<A>) -> bool
+fn are_permutations_by(marks: &mut [bool], index: &[i32], d: &SegLengths) -> bool
     requires total { sum d.now ≡ length index.now }
     requires wide { (s : ℕ) → s < length d.now → slice_index d.now s ≤ length marks.old }
     requires in_limit { length index.now ≤ most_places }
     ensures { IsTrue result ↔ None ≡ fault_from 0 (parts_of d.now d.now index.now) }
 {
+    let mut first = 0;
     for s in 0..d.count() {
-        let first = d.start(s);
         let places = d.length(s);
         let (some_marks, _) = marks.split_at_mut(places);
-        if !is_permutation_by(some_marks, &index[first..first + places]) {
+        if !is_segment_permutation(some_marks, &index[first..first + places]) {
             return false;
         }
+        first += places;
     }
     true
 }
@@ -35,7 +35,7 @@ fn are_permutations_by<A: Allocator>(marks: &mut [bool], index: &[i32], d: &SegD
 pub fn are_permutations<A: Memory>(
     alloc: A,
     index: &[i32],
-    d: &SegDes<A>,
+    d: &SegLengths,
 ) -> Result<bool, NoResources>
     requires total { sum d.now ≡ length index.now }
     requires in_limit { length index.now ≤ most_places }
@@ -47,25 +47,21 @@ pub fn are_permutations<A: Memory>(
 
 /// The second walk: writes the element of each place to its index, where the indices of each segment are a permutation of its
 /// places.
-pub fn scatter_segments_over<T: Copy, A: Allocator>(
-    source: &[T],
-    index: &[i32],
-    d: &SegDes<A>,
-    out: &mut [T],
-)
+pub fn scatter_segments_over<T: Copy>(source: &[T], index: &[i32], d: &SegLengths, out: &mut [T])
     requires total { sum d.now ≡ length index.now }
     requires as_long { (length source.now ≡ length index.now) × (length out.old ≡ length index.now) }
     requires in_limit { length index.now ≤ most_places }
     requires apart { None ≡ fault_from 0 (parts_of d.now d.now index.now) }
     ensures { out.new ≡ filter_map (slice_get source.now) (senders_from 0 (parts_of d.now d.now index.now)) }
 {
+    let mut first = 0;
     for s in 0..d.count() {
-        let first = d.start(s);
         let last = first + d.length(s);
-        scatter_over(
+        scatter_segment_over(
             &source[first..last],
             &index[first..last],
             &mut out[first..last],
         );
+        first = last;
     }
 }

@@ -9,7 +9,7 @@ ghost use Rattle.permute_walks.specs.Senders.{nobody, fault_told};
 
 use cvl_base::{Fault, Memory, true_count};
 use permute_walks::{AllDestinations, Destinations, FlaggedDestinations, send_places};
-use segdes::SegDes;
+use segdes::{SegDes, SegLengths};
 use std::alloc::Allocator;
 
 /// The parts of a segmented permute, one for each segment.
@@ -69,7 +69,7 @@ pub(crate) fn destinations_before<P: Parts>(parts: &P, s: usize) -> usize
 
 /// The length of the longest segment.
 // Without their signs, which are none, vector code takes several lengths at once.
-pub(crate) fn longest<A: Allocator>(d: &SegDes<A>) -> usize
+pub(crate) fn longest(d: &SegLengths) -> usize
     ensures { (s : ℕ) → s < length d.now → slice_index d.now s ≤ result }
 {
     let mut longest = 0;
@@ -120,7 +120,7 @@ impl<'a, A: Memory> Parts for AllParts<'a, A> {
     }
 
     fn widest(&self) -> usize {
-        longest(self.result_d)
+        longest(&self.result_d.as_lengths())
     }
 }
 
@@ -171,7 +171,7 @@ impl<'a, A: Memory> Parts for FlaggedParts<'a, A> {
 
     // Of its flags no segment has more that are true.
     fn widest(&self) -> usize {
-        longest(self.d)
+        longest(&self.d.as_lengths())
     }
 }
 

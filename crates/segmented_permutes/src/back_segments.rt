@@ -1,41 +1,19 @@
 //! The walk of a segmented back permute, which several threads may share: each looks at indices and writes the elements there at
-//! once, segment by segment. Over a room all indices are looked at before.
+//! once, segment by segment.
 
-ghost use Rattle.std.specs.Prelude.{◌≡◌, ◌+◌, ◌-◌, ◌<◌, ◌≤◌, [], length, min, sum};
+ghost use Rattle.std.specs.Prelude.{◌≡◌, ◌+◌, ◌-◌, ◌<◌, ◌≤◌, [], length, min};
 ghost use Rattle.fresh.specs.Found.{first_without};
 ghost use Rattle.fresh.specs.Parts.{part};
 ghost use Rattle.fresh.specs.Places.{stretch, with_items};
-ghost use Rattle.cvl_base.specs.Limits.{most_places};
 ghost use Rattle.permute_walks.specs.Indices.{each_or};
-ghost use Rattle.permute_walks.specs.Senders.{fault_told};
 ghost use Rattle.segdes.specs.Starts.{start_of};
-ghost use Rattle.segmented_permutes.specs.Backs.{IsSegmentedBack, outside_from, values_at};
+ghost use Rattle.segmented_permutes.specs.Backs.{IsSegmentedBack, values_at};
 
-use cvl_base::Fault;
 use fresh::{CheckedWriter, Run};
-use permute_walks::{check_places_alone, push_elements_at};
+use permute_walks::push_elements_at;
 use segdes::SegDes;
 use sharing::share_of_first;
 use std::alloc::Allocator;
-
-/// Looks at one segment after another: `IndexOutOfRange` at the first place whose index is no place of its segment of the source.
-pub(crate) fn check_segments<A: Allocator>(
-    index: &[i32],
-    source_d: &SegDes<A>,
-    index_d: &SegDes<A>,
-) -> Result<(), Fault>
-    requires total { sum index_d.now ≡ length index.now }
-    requires count { length source_d.now ≡ length index_d.now }
-    requires in_limit { length index.now ≤ most_places }
-    ensures { fault_told result ≡ outside_from 0 source_d.now index_d.now index.now }
-{
-    for s in 0..index_d.count() {
-        let first = index_d.start(s);
-        let segment = &index[first..first + index_d.length(s)];
-        check_places_alone(segment, source_d.length(s), first)?;
-    }
-    Ok(())
-}
 
 /// Takes the element at each index, segment by segment.
 #[derive(Drop)]

@@ -12,13 +12,15 @@
 //!
 //! Each call has a form without a runtime too, `.._over`: both walks by the thread that calls, the second over a room of the
 //! caller's. Nothing is written before it is known that there is no fault. A simple permute looks for senders there only where
-//! there is a fault: its first walk marks each index, and its second writes each element to its index.
+//! there is a fault: its first walk marks each index, and its second writes each element to its index. The two walks of a back
+//! permute are in `segment_gathers`.
 #![tactic(auto)]
 
 mod back_segments;
 mod backs;
 mod flat_indices;
 mod over;
+mod segment_gathers;
 mod sends;
 mod sent;
 

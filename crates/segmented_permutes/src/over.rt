@@ -2,9 +2,10 @@
 //!
 //! Each tells the faults of the permute first, and then `LengthMismatch`, without a place, where the room isn't as long as the
 //! result. Only then the room is written. A back permute asks for no memory. A simple permute asks for a byte for each place of
-//! its longest segment, and for the senders only to find its first fault; the others ask for the senders, 4 bytes a place.
+//! its longest segment, and only to find its first fault for a descriptor and the senders; the others ask for the senders, 4
+//! bytes a place. Both take lengths where they lie, since each of their walks goes through whole segments in turn.
 
-ghost use Rattle.std.specs.Prelude.{◌≡◌, ◌≤◌, List, Result, length};
+ghost use Rattle.std.specs.Prelude.{◌≡◌, ◌≤◌, List, Result, length, sum};
 ghost use Rattle.cvl_base.specs.declared.fault.Fault.{Fault};
 ghost use Rattle.cvl_base.specs.Limits.{most_places};
 ghost use Rattle.cvl_base.specs.Rooms.{Overwrites, OverwritesOr, in_room};
@@ -12,15 +13,14 @@ ghost use Rattle.cvl_base.specs.SegmentedCalls.{seg_back_of, seg_default_of, seg
 ghost use Rattle.permute_walks.specs.Before.{IsPermuted, values_of};
 ghost use Rattle.segment_sends.specs.Parts.{destinations_in, fault_from, places_in, senders_from};
 
-use crate::back_segments::{SegmentsTaken, check_segments};
+use crate::segment_gathers::{check_segments, gather_segments_over};
 use cvl_base::{Fault, Memory, Refused, check_agree, true_count};
-use permute_walks::{Before, write_taken_over};
+use permute_walks::Before;
 use permutes::take_over;
-use segdes::{SegDes, check_total};
+use segdes::{SegDes, SegLengths, check_total};
 use segment_sends::{
     AllParts, FlaggedParts, Parts, are_permutations, scatter_segments_over, segment_senders_alone,
 };
-use std::alloc::Allocator;
 
 /// A permute in two walks, the first of which finds the senders.
 fn permuted_over<T: Copy, A: Memory, P: Parts>(
@@ -41,30 +41,47 @@ fn permuted_over<T: Copy, A: Memory, P: Parts>(
     take_over(source, found, before, out)
 }
 
+/// A simple permute by its senders, or its first fault.
+fn simple_by_senders<T: Copy, A: Memory>(
+    alloc: A,
+    source: &[T],
+    index: &[i32],
+    d: &SegLengths,
+    out: &mut [T],
+) -> Result<(), Refused>
+    requires source_total { sum d.now ≡ length source.now }
+    requires total { sum d.now ≡ length index.now }
+    requires in_limit { length index.now ≤ most_places }
+    ensures { OverwritesOr (in_room (length out.old) (seg_simple_of source.now index.now d.now)) result out.old out.new }
+{
+    let d = SegDes::of_lengths(alloc, d)?;
+    let parts = AllParts {
+        index,
+        d: &d,
+        result_d: &d,
+    };
+    permuted_over(alloc, source, &parts, Before::Any(source), out)
+}
+
 /// The same as [`seg_simple`](crate::seg_simple), over a room.
 pub fn seg_simple_over<T: Copy, A: Memory>(
     alloc: A,
     source: &[T],
     index: &[i32],
-    d: &SegDes<A>,
+    d: &SegLengths,
     out: &mut [T],
 ) -> Result<(), Refused>
     requires in_limit { length index.now ≤ most_places }
     ensures { OverwritesOr (in_room (length out.old) (seg_simple_of source.now index.now d.now)) result out.old out.new }
 {
-    check_total(source, d)?;
-    check_total(index, d)?;
+    d.check_total(source)?;
+    d.check_total(index)?;
     if are_permutations(alloc, index, d)? {
         check_agree(index.len(), out.len())?;
         scatter_segments_over(source, index, d, out);
         return Ok(());
     }
-    let parts = AllParts {
-        index,
-        d,
-        result_d: d,
-    };
-    permuted_over(alloc, source, &parts, Before::Any(source), out)
+    simple_by_senders(alloc, source, index, d, out)
 }
 
 /// The same as [`seg_select`](crate::seg_select), over a room.
@@ -116,32 +133,22 @@ pub fn seg_default_into_over<T: Copy, A: Memory>(
 }
 
 /// The same as [`seg_back`](crate::seg_back), over a room.
-pub fn seg_back_over<T: Copy, A: Allocator>(
+pub fn seg_back_over<T: Copy>(
     source: &[T],
     index: &[i32],
-    source_d: &SegDes<A>,
-    index_d: &SegDes<A>,
+    source_d: &SegLengths,
+    index_d: &SegLengths,
     out: &mut [T],
 ) -> Result<(), Fault>
     requires in_limit { length index.now ≤ most_places }
     ensures { Overwrites (in_room (length out.old) (seg_back_of source.now index.now source_d.now index_d.now))
         result out.old out.new }
 {
-    check_total(source, source_d)?;
-    check_total(index, index_d)?;
+    source_d.check_total(source)?;
+    index_d.check_total(index)?;
     check_agree(source_d.count(), index_d.count())?;
     check_segments(index, source_d, index_d)?;
     check_agree(index.len(), out.len())?;
-    // Without an element there is no index.
-    if let Some(other) = source.first() {
-        let segments = SegmentsTaken {
-            source,
-            index,
-            source_d,
-            index_d,
-            other: *other,
-        };
-        write_taken_over(out, &segments);
-    }
+    gather_segments_over(source, index, source_d, index_d, out);
     Ok(())
 }

@@ -5,7 +5,7 @@ use Rattle.segdes.proofs.Sums.{length_at}
 use Rattle.segment_sends.proofs.segments.longest.Goals as goal
 
 pub loop-length-preserved : goal.loop-length-preserved
-loop-length-preserved g c = λ s lt.
+loop-length-preserved c = λ s lt.
     let d = c.args.d.now in
     let k = c.loop-length.length-index in
     elim (cases_lt s k) [

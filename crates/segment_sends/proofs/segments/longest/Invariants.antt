@@ -2,4 +2,4 @@ use Rattle.std.proofs.Common.{◌<◌, ◌≤◌, ℕ, slice_index}
 use Rattle.segment_sends.proofs.segments.longest.Given as goal
 
 abbrev pub invariant-loop-length : goal.invariant-loop-length
-invariant-loop-length g l = (s : ℕ) → s < l.length-index → slice_index l.d s ≤ l.longest
+invariant-loop-length l = (s : ℕ) → s < l.length-index → slice_index l.d s ≤ l.longest
