@@ -8,7 +8,6 @@ use Rattle.cvl_base.specs.Faults.{fault}
 use Rattle.cvl_base.specs.Gives.{◌>>=◌, fault_if}
 use Rattle.cvl_base.specs.Limits.{most_elements, most_places}
 use Rattle.sparse_products.specs.Answers.{row_lengths_of}
-pub use Rattle.pack_dist.specs.Counts.{counts_of}
 
 -- the call where the vector has at most 2,147,483,647 elements
 abbrev pub in_limit : {X Y : Type 0} → List X → Result Y Fault → Result Y Fault

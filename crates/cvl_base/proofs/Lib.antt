@@ -1,6 +1,7 @@
 pub mod Descriptors
 pub mod Distributes
 pub mod Elementwise
+pub mod Extracts
 pub mod Gives
 pub mod Lists
 pub mod Nests

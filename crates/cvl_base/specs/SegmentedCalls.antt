@@ -1,9 +1,10 @@
 -- The segmented calls of the table, each by its flat call.
 -- Source: CVL's segmented operations.
-use Rattle.std.specs.Prelude.{ℕ, ℤ, pos, Bool, List, Result, Ok}
+use Rattle.std.specs.Prelude.{ℕ, ℤ, pos, Bool, List, map, Result, Ok}
 use Rattle.cvl_base.specs.declared.fault.Fault.{Fault}
 use Rattle.cvl_base.specs.Distributes.{distribute_within, index_within}
 use Rattle.cvl_base.specs.Extracts.{extract_of, replace_of}
+use Rattle.cvl_base.specs.Gives.{◌>>=◌}
 use Rattle.cvl_base.specs.Limits.{most_elements}
 use Rattle.operators.specs.Folds.{fold_of, scan_of}
 use Rattle.cvl_base.specs.Nests.{nest}
@@ -43,6 +44,10 @@ seg_default_of source index defaults source_lengths default_lengths =
 -- they are also the lengths of what a segmented pack keeps, or a segmented select permute
 abbrev pub seg_count_of : List Bool → List ℕ → Result (List ℕ) Fault
 seg_count_of flags lengths = one_each (in_vector lengths) (λ fs. Ok (count_of fs)) (nest lengths flags)
+
+-- the same as integers
+abbrev pub counts_of : List Bool → List ℕ → Result (List ℤ) Fault
+counts_of flags lengths = seg_count_of flags lengths >>= λ counts. Ok (map pos counts)
 
 abbrev pub seg_pack_of : {X : Type 0} → List X → List Bool → List ℕ → Result (List X) Fault
 seg_pack_of xs flags lengths = end_to_end (in_vector lengths) (of_two pack_of) (beside (nest lengths xs) (nest lengths flags))

@@ -2,8 +2,8 @@
 
 ghost use Rattle.std.specs.Prelude.{length};
 ghost use Rattle.cvl_base.specs.Packs.{pack_of};
-ghost use Rattle.cvl_base.specs.SegmentedCalls.{seg_pack_of};
-ghost use Rattle.c_calls.specs.Calls.{by_segments, counts_of, in_limit};
+ghost use Rattle.cvl_base.specs.SegmentedCalls.{counts_of, seg_pack_of};
+ghost use Rattle.c_calls.specs.Calls.{by_segments, in_limit};
 ghost use Rattle.flag_calls.specs.Flags.{flags_of};
 ghost use Rattle.c_calls.specs.Told.{FrontTold, Told, in_room};
 

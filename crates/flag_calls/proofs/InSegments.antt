@@ -7,10 +7,10 @@ use Rattle.std.proofs.lemmas.Simd.{map-map}
 use Rattle.cvl_base.specs.Nests.{cut_of}
 use Rattle.cvl_base.specs.Packs.{count_of}
 use Rattle.cvl_base.specs.Segmented.{in_vector}
+use Rattle.cvl_base.specs.SegmentedCalls.{counts_of}
 use Rattle.cvl_base.proofs.Nests.{length-cut, nest-fits}
 use Rattle.cvl_base.proofs.Segmented.{results-ok}
 use Rattle.flag_calls.specs.Flags.{count_in, flag_of, flags_of}
-use Rattle.pack_dist.specs.Counts.{counts_of}
 
 cut_flags : (lengths bytes : List ℕ) → cut_of lengths (flags_of bytes) ≡ map flags_of (cut_of lengths bytes)
 cut_flags [] bytes = refl

@@ -4,7 +4,7 @@ use Rattle.std.proofs.Common.{◌≡◌, ◌∙◌, ℕ, zero, suc, ◌<◌, ℤ
 use Rattle.std.proofs.lemmas.List.{length-map}
 use Rattle.std.proofs.lemmas.Simd.{map-map}
 use Rattle.cvl_base.specs.Extracts.{replace_of}
-use Rattle.pack_dist.proofs.Named.{replace_some}
+use Rattle.cvl_base.proofs.Extracts.{replace_some}
 use Rattle.flag_calls.specs.Flags.{as_bytes, as_flag, byte_of, flag_of, flags_of}
 
 set_byte : (bytes : List ℕ) (place : ℕ) (flag : Bool) → map byte_of (set (flags_of bytes) place flag) ≡ set (map as_flag bytes) place (byte_of flag)

@@ -6,9 +6,9 @@ ghost use Rattle.cvl_base.specs.Limits.{most_places};
 ghost use Rattle.cvl_base.specs.Nests.{cut_of};
 ghost use Rattle.cvl_base.specs.Packs.{count_of};
 ghost use Rattle.cvl_base.specs.Rooms.{Overwrites, in_room};
+ghost use Rattle.cvl_base.specs.SegmentedCalls.{counts_of};
 ghost use Rattle.flag_calls.specs.Flags.{count_in, flag_of, flags_of};
 ghost use Rattle.fresh.specs.Places.{with_items};
-ghost use Rattle.pack_dist.specs.Counts.{counts_of};
 
 use crate::flags::{byte_of, flag_of};
 use cvl_base::{Fault, check_agree};

@@ -9,9 +9,9 @@ use Rattle.cvl_base.specs.Faults.{fault, fault_at}
 use Rattle.cvl_base.specs.Nests.{cut_of, nest}
 use Rattle.cvl_base.specs.Segmented.{beside, of_two, at_segment, one_each}
 use Rattle.cvl_base.specs.SegmentedCalls.{seg_extract_of}
+use Rattle.cvl_base.proofs.Extracts.{Names, NamesNone, extract_some, extract_none}
 use Rattle.cvl_base.proofs.Nests.{length-cut, nest-fits}
 use Rattle.cvl_base.proofs.Segmented.{beside-fits, beside-misfits}
-use Rattle.pack_dist.proofs.Named.{Names, NamesNone, extract_some, extract_none}
 use Rattle.scan_walks.proofs.Parts.{IsSegment, StandsAt, both, part, part_read, part_long, part_short, stands}
 use Rattle.scan_walks.proofs.Walk.{Walked, all_done, begins, fails, one_more, single, singles}
 

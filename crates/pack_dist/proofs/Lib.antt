@@ -1,6 +1,5 @@
 pub mod Distributed
 pub mod Extracted
-pub mod Named
 pub mod Ones
 pub mod Packing
 pub mod Progressed

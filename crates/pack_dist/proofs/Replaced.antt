@@ -11,10 +11,10 @@ use Rattle.cvl_base.specs.Faults.{fault, fault_at}
 use Rattle.cvl_base.specs.Nests.{cut_of}
 use Rattle.cvl_base.specs.Segmented.{beside, of_three, at_segment, end_to_end}
 use Rattle.cvl_base.specs.SegmentedCalls.{seg_replace_of}
+use Rattle.cvl_base.proofs.Extracts.{Names, NamesNone, replace_some, replace_none}
 use Rattle.cvl_base.proofs.Nests.{length-cut}
 use Rattle.cvl_base.proofs.Segmented.{beside-fits, beside-misfits}
 use Rattle.pack_dist.proofs.Extracted.{indexed, indexed-at, indexed-fits, indexed-misfits, length-indexed}
-use Rattle.pack_dist.proofs.Named.{Names, NamesNone, replace_some, replace_none}
 use Rattle.scan_walks.proofs.Parts.{IsSegment, StandsAt, both, part_long, part_short}
 use Rattle.scan_walks.proofs.Walk.{Walked, all_done, begins, fails, itself, one_more}
 

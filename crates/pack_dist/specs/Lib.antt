@@ -1,4 +1,3 @@
-pub mod Counts
 pub mod Kept
 pub mod Lists
 pub mod Progressions

@@ -1,8 +1,12 @@
--- The place that an index names in a list, or that it names none.
-use Rattle.pack_dist.proofs.Cited.{◌≡◌, ◌∙◌, ℕ, ◌+◌, ◌<◌, ◌≤◌, ℤ, pos, negsuc, List, length, get_or, set, refl, ap, Some, None, Ok, Err, if◌then◌else◌, ok_or, lt-ltb, le-ltb, fault_at}
+-- What an extract and a replace give where an index names a place of the list, and where it names none.
+use Rattle.std.proofs.Common.{◌≡◌, ◌∙◌, ℕ, ◌+◌, ◌<◌, ◌≤◌, ℤ, pos, negsuc, List, length, get_or, set, refl, ap, Some, None, Ok, Err}
+use Rattle.std.specs.Prelude.{if◌then◌else◌}
+use Rattle.std.specs.Option.{ok_or}
+use Rattle.std.proofs.lemmas.Bool.{lt-ltb, le-ltb}
 use Rattle.std.proofs.lemmas.Option.{slice_get_read, slice_get_past}
 use Rattle.cvl_base.specs.declared.fault.FaultNo.TheVariants as no
 use Rattle.cvl_base.specs.Extracts.{extract_of, replace_of}
+use Rattle.cvl_base.specs.Faults.{fault_at}
 
 -- an index that names one of so many places, which stand from `start` on
 abbrev pub Names : ℕ → ℤ → ℕ → ℕ → Type 0
