@@ -18,15 +18,15 @@
 #![tactic(auto, using(permute_walks::proofs::Taken::lengths))]
 
 mod backs;
+mod first_walk;
+mod one_or_two_walks;
 mod over;
+mod second_walk;
 mod sends;
-mod sent;
-mod sent_alone;
-mod taken;
 mod ways;
 
 pub use backs::{back, back_gated};
 pub use over::{back_over, default_into_over, select_over, simple_over};
+pub use second_walk::{elements_of_senders, elements_of_senders_over};
 pub use sends::{default_into, default_into_gated, select, select_gated, simple, simple_gated};
-pub use taken::{take, take_over};
 pub use ways::{Way, segment_way};

@@ -12,8 +12,8 @@ ghost use Rattle.cvl_base.specs.Rooms.{Overwrites, OverwritesOr, in_room};
 ghost use Rattle.permute_walks.specs.Before.{IsPermuted, values_of};
 ghost use Rattle.permute_walks.specs.Senders.{senders_of};
 
-use crate::sent_alone::senders_alone;
-use crate::taken::take_over;
+use crate::first_walk::senders_alone;
+use crate::second_walk::elements_of_senders_over;
 use cvl_base::{Fault, Memory, Refused, check_agree, true_count};
 use fresh::write_over;
 use permute_walks::{
@@ -36,7 +36,7 @@ fn permuted_over<T: Copy, A: Memory, D: Destinations>(
         → OverwritesOr (in_room (length out.old) meaning) result out.old out.new }
 {
     let found = senders_alone(alloc, before.values().len(), destinations);
-    take_over(source, found, before, out)
+    elements_of_senders_over(source, found, before, out)
 }
 
 /// The same as [`simple`](crate::simple), over a room.

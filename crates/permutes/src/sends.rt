@@ -6,7 +6,7 @@ ghost use Rattle.cvl_base.specs.Gives.{Gives};
 ghost use Rattle.cvl_base.specs.Limits.{most_elements};
 ghost use Rattle.cvl_base.specs.Permutes.{default_of, select_of, simple_of};
 
-use crate::sent::permuted;
+use crate::one_or_two_walks::permuted;
 use crew::{Gate, OpenGate};
 use cvl_base::{Config, Memory, Refused, check_agree, true_count};
 use permute_walks::{AllDestinations, Before, FlaggedDestinations};

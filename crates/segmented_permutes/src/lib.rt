@@ -18,11 +18,12 @@
 
 mod back_segments;
 mod backs;
+mod first_walk;
 mod flat_indices;
+mod one_walk;
 mod over;
 mod segment_gathers;
 mod sends;
-mod sent;
 
 pub use backs::{seg_back, seg_back_gated};
 pub use over::{seg_back_over, seg_default_into_over, seg_select_over, seg_simple_over};

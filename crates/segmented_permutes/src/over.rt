@@ -11,34 +11,36 @@ ghost use Rattle.cvl_base.specs.Limits.{most_places};
 ghost use Rattle.cvl_base.specs.Rooms.{Overwrites, OverwritesOr, in_room};
 ghost use Rattle.cvl_base.specs.SegmentedCalls.{seg_back_of, seg_default_of, seg_select_of, seg_simple_of};
 ghost use Rattle.permute_walks.specs.Before.{IsPermuted, values_of};
-ghost use Rattle.segment_sends.specs.Parts.{destinations_in, fault_from, places_in, senders_from};
+ghost use Rattle.segment_sends.specs.SegmentDestinations.{destinations_in, fault_from, places_in, senders_from};
 
 use crate::segment_gathers::{check_segments, gather_segments_over};
 use cvl_base::{Fault, Memory, Refused, check_agree, true_count};
 use permute_walks::Before;
-use permutes::take_over;
+use permutes::elements_of_senders_over;
 use segdes::{SegDes, SegLengths, check_total};
 use segment_sends::{
-    AllParts, FlaggedParts, Parts, are_permutations, scatter_segments_over, segment_senders_alone,
+    AllInSegments, FlaggedInSegments, SegmentDestinations, are_permutations, scatter_segments_over,
+    segment_senders_alone,
 };
 
 /// A permute in two walks, the first of which finds the senders.
-fn permuted_over<T: Copy, A: Memory, P: Parts>(
+fn permuted_over<T: Copy, A: Memory, D: SegmentDestinations>(
     alloc: A,
     source: &[T],
-    parts: &P,
+    segments: &D,
     before: Before<T>,
     out: &mut [T],
 ) -> Result<(), Refused>
-    requires cut { P.AreCut parts.now }
-    requires few { destinations_in (P.parts parts.now) ≤ most_places }
-    requires whole { places_in (P.parts parts.now) ≡ length (values_of before) }
+    requires cut { D.AreCut segments.now }
+    requires few { destinations_in (D.segments segments.now) ≤ most_places }
+    requires whole { places_in (D.segments segments.now) ≡ length (values_of before) }
     ensures { (meaning : Result (List T) Fault)
-        → IsPermuted source.now before.entry meaning (fault_from 0 (P.parts parts.now)) (senders_from 0 (P.parts parts.now))
+        → IsPermuted source.now before.entry meaning (fault_from 0 (D.segments segments.now))
+        (senders_from 0 (D.segments segments.now))
         → OverwritesOr (in_room (length out.old) meaning) result out.old out.new }
 {
-    let found = segment_senders_alone(alloc, before.values().len(), parts);
-    take_over(source, found, before, out)
+    let found = segment_senders_alone(alloc, before.values().len(), segments);
+    elements_of_senders_over(source, found, before, out)
 }
 
 /// A simple permute by its senders, or its first fault.
@@ -55,12 +57,12 @@ fn simple_by_senders<T: Copy, A: Memory>(
     ensures { OverwritesOr (in_room (length out.old) (seg_simple_of source.now index.now d.now)) result out.old out.new }
 {
     let d = SegDes::of_lengths(alloc, d)?;
-    let parts = AllParts {
+    let segments = AllInSegments {
         index,
         d: &d,
         result_d: &d,
     };
-    permuted_over(alloc, source, &parts, Before::Any(source), out)
+    permuted_over(alloc, source, &segments, Before::Any(source), out)
 }
 
 /// The same as [`seg_simple`](crate::seg_simple), over a room.
@@ -100,9 +102,9 @@ pub fn seg_select_over<T: Copy, A: Memory>(
     check_total(source, d)?;
     check_total(index, d)?;
     check_total(flags, d)?;
-    let parts = FlaggedParts { index, flags, d };
+    let segments = FlaggedInSegments { index, flags, d };
     let (values, _) = source.split_at(true_count(flags));
-    permuted_over(alloc, source, &parts, Before::Any(values), out)
+    permuted_over(alloc, source, &segments, Before::Any(values), out)
 }
 
 /// The same as [`seg_default_into`](crate::seg_default_into), over a room.
@@ -124,12 +126,12 @@ pub fn seg_default_into_over<T: Copy, A: Memory>(
     check_total(index, source_d)?;
     check_total(defaults, default_d)?;
     check_agree(source_d.count(), default_d.count())?;
-    let parts = AllParts {
+    let segments = AllInSegments {
         index,
         d: source_d,
         result_d: default_d,
     };
-    permuted_over(alloc, source, &parts, Before::Defaults(defaults), out)
+    permuted_over(alloc, source, &segments, Before::Defaults(defaults), out)
 }
 
 /// The same as [`seg_back`](crate::seg_back), over a room.

@@ -6,11 +6,12 @@ ghost use Rattle.cvl_base.specs.Gives.{Gives};
 ghost use Rattle.cvl_base.specs.Limits.{most_elements};
 ghost use Rattle.cvl_base.specs.SegmentedCalls.{seg_default_of, seg_select_of, seg_simple_of};
 
-use crate::sent::{flagged_segment_senders, permuted_in_one, segment_senders};
+use crate::first_walk::{flagged_segment_senders, segment_senders};
+use crate::one_walk::permuted_in_one;
 use crew::{Gate, OpenGate};
 use cvl_base::{Config, Memory, Refused, check_agree, true_count};
 use permute_walks::Before;
-use permutes::take;
+use permutes::elements_of_senders;
 use segdes::{SegDes, check_total};
 use segment_sends::{AllParts, FlaggedParts};
 use std::thread::Threads;
@@ -64,7 +65,7 @@ pub fn seg_simple_gated<T: Copy + Send + Sync, R: Threads + Sync, A: Memory, G: 
         return Ok(elements);
     }
     let found = segment_senders(rt, alloc, way, index, d, d, source.len(), gate);
-    take(rt, alloc, config, source, found, before)
+    elements_of_senders(rt, alloc, config, source, found, before)
 }
 
 /// The select permute of each segment: `sel_pez` and `sel_peb`.
@@ -118,7 +119,7 @@ pub fn seg_select_gated<T: Copy + Send + Sync, R: Threads + Sync, A: Memory, G: 
         return Ok(elements);
     }
     let found = flagged_segment_senders(rt, alloc, way, index, flags, d, places, gate);
-    take(rt, alloc, config, source, found, before)
+    elements_of_senders(rt, alloc, config, source, found, before)
 }
 
 /// The default permute of each segment: `def_pez` and `def_peb`.
@@ -181,5 +182,5 @@ pub fn seg_default_into_gated<T: Copy + Send + Sync, R: Threads + Sync, A: Memor
         return Ok(elements);
     }
     let found = segment_senders(rt, alloc, way, index, source_d, default_d, places, gate);
-    take(rt, alloc, config, source, found, before)
+    elements_of_senders(rt, alloc, config, source, found, before)
 }

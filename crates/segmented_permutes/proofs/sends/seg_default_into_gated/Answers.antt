@@ -31,6 +31,6 @@ returns-in-Some-clause-values g c =
 
 pub returns-clause-values : goal.returns-clause-values
 returns-clause-values g c =
-    c.take.ensures.values _ _ _ c.segment_senders-found.ensures.senders
+    c.elements_of_senders.ensures.values _ _ _ c.segment_senders-found.ensures.senders
     (seg_default_sent c.args.source.now c.args.index.now c.args.source_d.now c.in_ok-check_total.ensures.agrees c.in_ok-check_total-2.ensures.agrees (omega (arith, c.requires.in_limit))
     c.args.defaults c.args.default_d.now c.in_ok-check_total-3.ensures.agrees (omega (arith, c.in_ok-check_agree.ensures)))

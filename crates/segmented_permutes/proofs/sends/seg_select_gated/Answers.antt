@@ -21,7 +21,7 @@ returns-in-Some-clause-values g c =
 
 pub returns-clause-values : goal.returns-clause-values
 returns-clause-values g c =
-    c.take.ensures.values _ _ _ c.flagged_segment_senders-found.ensures.senders
+    c.elements_of_senders.ensures.values _ _ _ c.flagged_segment_senders-found.ensures.senders
     (sent_permuted
     (seg_select_sent c.args.source.now c.args.index.now c.args.d.now c.in_ok-check_total.ensures.agrees c.in_ok-check_total-2.ensures.agrees (omega (arith, c.requires.in_limit)) c.args.flags.now
     c.in_ok-check_total-3.ensures.agrees) _ (c.split_at.ensures.front_len ∙ c.true_count-places.ensures.value))

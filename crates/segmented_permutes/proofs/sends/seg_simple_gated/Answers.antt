@@ -20,5 +20,5 @@ returns-in-Some-clause-values g c =
 pub returns-clause-values : goal.returns-clause-values
 returns-clause-values g c =
     let total = c.in_ok-check_total.ensures.agrees in let index_total = c.in_ok-check_total-2.ensures.agrees in
-    c.take.ensures.values _ _ _ c.segment_senders-found.ensures.senders
+    c.elements_of_senders.ensures.values _ _ _ c.segment_senders-found.ensures.senders
     (sent_permuted (seg_simple_sent c.args.source.now c.args.index.now c.args.d.now total index_total (omega (arith, c.requires.in_limit))) _ (sym total ∙ index_total))

@@ -5,7 +5,7 @@ use Rattle.cvl_base.specs.Permutes.{all_destinations}
 use Rattle.segment_sends.specs.Parts.{parts_of}
 use Rattle.segment_sends.proofs.Through.{destinations-parts, places-parts}
 use Rattle.segmented_permutes.proofs.FlatIndices.{raced_flat, destinations_all}
-use Rattle.segmented_permutes.proofs.sent.segment_senders.Goals as goal
+use Rattle.segmented_permutes.proofs.first_walk.segment_senders.Goals as goal
 
 pub flat_indices-requires-clause-as_long : goal.flat_indices-requires-clause-as_long
 flat_indices-requires-clause-as_long g c κs within = destinations-parts c.args.d.now c.args.result_d.now c.args.index.now c.requires.total c.requires.count

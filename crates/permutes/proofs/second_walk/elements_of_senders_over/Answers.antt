@@ -4,7 +4,7 @@ use Rattle.cvl_base.specs.Gives.{Gives, unless}
 use Rattle.permute_walks.specs.Before.{values_of}
 use Rattle.permute_walks.proofs.Standing.{length-before}
 use Rattle.permute_walks.proofs.Told.{found_are, mismatch_or, permuted_refused_over, permuted_told}
-use Rattle.permutes.proofs.taken.take_over.Goals as goal
+use Rattle.permutes.proofs.second_walk.elements_of_senders_over.Goals as goal
 
 pub returns-in_err-check_agree-in-Ok : goal.returns-in_err-check_agree-in-Ok
 returns-in_err-check_agree-in-Ok g c = λ first senders meaning gave call.

@@ -1,5 +1,5 @@
-//! The second walk of a permute, by several threads where the result is long, or over a room of the caller's by the thread that
-//! calls.
+//! The second walk of a permute, which writes the element of each place's sender: by several threads where the result is long, or
+//! over a room of the caller's by the thread that calls.
 
 ghost use Rattle.std.specs.Prelude.{◌≡◌, IfOk, List, Ok, Option, Result, length, vec_len, ℕ};
 ghost use Rattle.cvl_base.specs.declared.fault.Fault.{Fault};
@@ -14,7 +14,7 @@ use sharing::threads_writing;
 use std::thread::Threads;
 
 /// For each sender that was found its element, or what stands before in its place where it is nobody, or why none were found.
-pub fn take<T: Copy + Send + Sync, R: Threads + Sync, A: Memory>(
+pub fn elements_of_senders<T: Copy + Send + Sync, R: Threads + Sync, A: Memory>(
     rt: &R,
     alloc: A,
     config: Config,
@@ -44,7 +44,7 @@ pub fn take<T: Copy + Send + Sync, R: Threads + Sync, A: Memory>(
 }
 
 /// The same over a room. `LengthMismatch`, without a place, where the room isn't as long as the senders.
-pub fn take_over<T: Copy, A: Memory>(
+pub fn elements_of_senders_over<T: Copy, A: Memory>(
     source: &[T],
     found: Result<Vec<u32, A>, Refused>,
     before: Before<T>,

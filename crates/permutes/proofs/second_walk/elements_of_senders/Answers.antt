@@ -3,7 +3,7 @@ use Rattle.std.proofs.lemmas.Grind.{common_steps}
 use Rattle.permute_walks.specs.Before.{values_of}
 use Rattle.permute_walks.proofs.Standing.{length-before}
 use Rattle.permute_walks.proofs.Told.{permuted_refused}
-use Rattle.permutes.proofs.taken.take.Goals as goal
+use Rattle.permutes.proofs.second_walk.elements_of_senders.Goals as goal
 
 pub write_in_runs-requires-after_bounds : goal.write_in_runs-requires-after_bounds
 write_in_runs-requires-after_bounds g c κs within =

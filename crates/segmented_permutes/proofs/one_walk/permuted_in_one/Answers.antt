@@ -1,7 +1,7 @@
 use Rattle.std.proofs.Common.{Vec}
 use Rattle.permute_walks.proofs.Told.{found_in_one}
 use Rattle.segment_sends.specs.Parts.{fault_from, senders_from}
-use Rattle.segmented_permutes.proofs.sent.permuted_in_one.Goals as goal
+use Rattle.segmented_permutes.proofs.one_walk.permuted_in_one.Goals as goal
 
 pub returns-in_ok-in_one-in-OneWalk-clause-values : goal.returns-in_ok-in_one-in-OneWalk-clause-values
 returns-in_ok-in_one-in-OneWalk-clause-values g c =

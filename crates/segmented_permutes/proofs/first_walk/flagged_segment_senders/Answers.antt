@@ -6,7 +6,7 @@ use Rattle.permute_walks.proofs.Sent.{count-flagged_destinations}
 use Rattle.segment_sends.specs.Parts.{flagged_parts}
 use Rattle.segment_sends.proofs.Through.{destinations-flagged_parts, places-flagged_parts}
 use Rattle.segmented_permutes.proofs.FlatIndices.{raced_flat, destinations_flagged}
-use Rattle.segmented_permutes.proofs.sent.flagged_segment_senders.Goals as goal
+use Rattle.segmented_permutes.proofs.first_walk.flagged_segment_senders.Goals as goal
 
 pub flat_indices-requires-clause-as_long : goal.flat_indices-requires-clause-as_long
 flat_indices-requires-clause-as_long g c κs within = destinations-flagged_parts c.args.d.now c.args.index.now c.args.flags.now c.requires.total (c.requires.total ∙ c.requires.as_long)

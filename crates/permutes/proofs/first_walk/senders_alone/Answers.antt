@@ -4,7 +4,7 @@ use Rattle.cvl_base.specs.Gives.{unless}
 use Rattle.cvl_base.specs.Permutes.{first_fault, wrongs}
 use Rattle.permute_walks.specs.Senders.{senders_of}
 use Rattle.permute_walks.proofs.Told.{found_fault, found_ok}
-use Rattle.permutes.proofs.sent_alone.senders_alone.Goals as goal
+use Rattle.permutes.proofs.first_walk.senders_alone.Goals as goal
 
 pub returns-in_err-send_places-clause-senders : goal.returns-in_err-send_places-clause-senders
 returns-in_err-send_places-clause-senders g c =
