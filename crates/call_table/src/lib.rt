@@ -5,6 +5,7 @@
 pub mod families;
 pub mod kind;
 pub mod labels;
+pub mod named_calls;
 mod operands;
 pub mod operation;
 pub mod spelling;
@@ -13,5 +14,5 @@ mod table;
 pub use families::{BoolBinary, Comparison, Cut, Element, Form, IntBinary, IntMonoid, Unary};
 pub use kind::Kind;
 pub use labels::{Family, Label, know_labels, numbered};
+pub use named_calls::op_of;
 pub use operation::Op;
-pub use spelling::op_of;

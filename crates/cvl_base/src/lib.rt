@@ -23,7 +23,7 @@ pub mod value;
 pub use call::{Arg, Args, Call, ResultNames};
 pub use call_table::{
     BoolBinary, Comparison, Cut, Element, Family, Form, IntBinary, IntMonoid, Kind, Label, Op,
-    Unary, families, kind, labels, numbered, op_of, operation, spelling,
+    Unary, families, kind, labels, named_calls, numbered, op_of, operation, spelling,
 };
 pub use checks::check_agree;
 pub use config::{BadConfig, Config};

@@ -13,8 +13,7 @@ use crate::line_tokens::{
 };
 use crate::token::first_token;
 use cvl_base::name::is_word_text;
-use cvl_base::spelling::op_of;
-use cvl_base::{Call, Fault, FaultNo, Memory, Name, Op, Refused, ResultNames};
+use cvl_base::{Call, Fault, FaultNo, Memory, Name, Op, Refused, ResultNames, op_of};
 
 /// Reads one line of a script, without its line feed: nothing on an empty line, else the call that it asks for.
 ///

@@ -1,6 +1,6 @@
 use Rattle.call_table.specs.Spellings.{is_spelled, op_of}
 use Rattle.call_table.proofs.Joined.{in_turn}
-use Rattle.call_table.proofs.spelling.op_of.Goals as goal
+use Rattle.call_table.proofs.named_calls.op_of.Goals as goal
 
 pub returns : goal.returns
 unfolding op_of
