@@ -1,6 +1,6 @@
 use Rattle.std.proofs.Common.{◌-◌, ap, arith, length}
 use Rattle.segment_sends.proofs.Shared.{back_share, front_share, middle_first, middle_room, shares_both}
-use Rattle.segment_sends.proofs.segment_walks.+halves.Goals as goal
+use Rattle.segment_sends.proofs.shared_walk.+halves.Goals as goal
 
 pub write_shared-write_by_buffer-requires-clause-share : goal.write_shared-write_by_buffer-requires-clause-share
 write_shared-write_by_buffer-requires-clause-share g t c κs within = rw (c.source-source.ensures, c.before-before.ensures) c.requires.share

@@ -1,5 +1,5 @@
 use Rattle.std.proofs.Common.{◌+◌, ◌-◌, ◌*◌}
-use Rattle.segment_sends.proofs.segment_walks.+halves.Given as goal
+use Rattle.segment_sends.proofs.shared_walk.+halves.Given as goal
 
 abbrev pub decreases-write_shared : goal.decreases-write_shared
 decreases-write_shared g l = 4 * l.threads

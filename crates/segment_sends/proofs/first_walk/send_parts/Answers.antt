@@ -1,7 +1,7 @@
 use Rattle.std.proofs.Common.{◌∙◌, arith, refl}
 use Rattle.permute_walks.proofs.Sent.{told_again}
 use Rattle.segment_sends.proofs.Through.{through_none, through_all, through_room, through_left, range_fresh, range_fails, range_more}
-use Rattle.segment_sends.proofs.segments.send_parts.Goals as goal
+use Rattle.segment_sends.proofs.first_walk.send_parts.Goals as goal
 
 pub loop-s-init : goal.loop-s-init
 loop-s-init g c = through_none (g.P.Parts.parts c.args.parts.now) c.args.senders.now c.requires.fresh c.requires.as_long

@@ -2,7 +2,7 @@ use Rattle.std.proofs.Common.{arith}
 use Rattle.std.proofs.lemmas.Result.{err_from_is_err_and}
 use Rattle.segment_sends.specs.Parts.{fault_from, senders_from}
 use Rattle.permute_walks.proofs.Told.{found_fault, found_ok}
-use Rattle.segment_sends.proofs.sent_alone.segment_senders_alone.Goals as goal
+use Rattle.segment_sends.proofs.first_walk.segment_senders_alone.Goals as goal
 
 pub returns-in_err-send_parts-clause-senders : goal.returns-in_err-send_parts-clause-senders
 returns-in_err-send_parts-clause-senders g c =

@@ -1,6 +1,6 @@
 use Rattle.std.proofs.Common.{◌∙◌, ap, arith, length}
 use Rattle.segment_sends.proofs.Shared.{length-permuted, whole_items, whole_right, whole_share}
-use Rattle.segment_sends.proofs.segment_walks.permuted_by_segments.Goals as goal
+use Rattle.segment_sends.proofs.shared_walk.permuted_by_segments.Goals as goal
 
 pub write_shared-run-requires-clause-share : goal.write_shared-run-requires-clause-share
 write_shared-run-requires-clause-share g c κs within = whole_share c.requires.few c.requires.as_long c.requires.within c.in_ok-room.ensures.run c.segment_count-count.ensures

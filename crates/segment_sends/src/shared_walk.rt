@@ -1,136 +1,18 @@
-//! A permute by segments in one walk. A buffer holds the senders of one segment at a time, whose elements are pushed as soon as
-//! no place of it is bad, and is cleared as they are. So it stays in the processor's cache, and nothing else is written but the
-//! result. Several threads each walk whole segments, by a buffer of their own.
+//! A permute by segments in one walk that several threads share: each walks whole segments, by a buffer of its own.
 
-ghost use Rattle.std.specs.Prelude.{◌≡◌, ◌+◌, ◌≤◌, List, false, true, length, map, replicate, IfOk, IfSome, None, vec_len};
+ghost use Rattle.std.specs.Prelude.{◌≡◌, ◌+◌, ◌≤◌, List, length, map, IfOk, IfSome, None, vec_len};
 ghost use denote.Param.Send.{Frees, IsSend, IsSync};
-ghost use Rattle.fresh.specs.Parts.{part};
-ghost use Rattle.fresh.specs.Places.{with_items};
 ghost use Rattle.cvl_base.specs.Limits.{most_places};
-ghost use Rattle.cvl_base.specs.Permutes.{first_fault, wrongs};
 ghost use Rattle.segdes.specs.Shares.{IsShareEnd};
 ghost use Rattle.segment_sends.specs.Parts.{destinations_in, fault_from, places_in};
 ghost use Rattle.segment_sends.specs.Shares.{AreWithin, IsShare, IsWritten, permuted, sending};
-ghost use Rattle.permute_walks.specs.Senders.{nobody, senders_of, written_over};
 
-use crate::segments::{Parts, destinations_before, segment_count};
+use crate::one_walk::write_by_buffer;
+use crate::segments::{Parts, segment_count};
 use cvl_base::{Memory, NoResources};
 use fresh::{Room, Run};
-use permute_walks::{Destinations, NOBODY, element_of, send_places};
 use sharing::ThreadCount;
 use std::thread::{Threads, join};
-
-/// Pushes for each sender its element, or what stands before at the same place of the run where it is nobody. Then each sender is
-/// nobody.
-// Inlined, so that a short segment takes no call, and what is known of the run stays in registers from segment to segment.
-#[inline(always)]
-fn push_over<T: Copy>(run: Run<T>, source: &[T], before: &[T], senders: &mut [u32]) -> Run<T>
-    requires room { length senders.old ≤ run.room }
-    requires within { run.first + length run.items + length senders.old ≤ length before.now }
-    ensures pushed { result ≡ with_items run
-        (written_over source.now senders.old (part before.now (run.first + length run.items) (length senders.old))) }
-    ensures cleared { senders.new ≡ replicate (length senders.old) nobody }
-{
-    let (_, rest) = before.split_at(run.next_place());
-    let (values, _) = rest.split_at(senders.len());
-    let mut run = run;
-    for k in 0..senders.len() {
-        run.push(element_of(source, senders[k] as usize).unwrap_or(values[k]));
-        senders[k] = NOBODY;
-    }
-    run
-}
-
-/// Pushes what stands before into the places that are left.
-fn push_rest<T: Copy>(run: Run<T>, before: &[T]) -> Run<T>
-    requires { run.first + length run.items + run.room ≤ length before.now }
-    ensures { result ≡ with_items run (part before.now (run.first + length run.items) run.room) }
-{
-    let (_, rest) = before.split_at(run.next_place());
-    let (rest, _) = rest.split_at(run.room());
-    run.extend_from_slice(rest)
-}
-
-/// Pushes the elements of one segment, whose first place stands at place `first`; false where one of its places is bad, and then
-/// nothing is pushed. The buffer of senders is as long as the segment's part of the result; each is nobody to begin with, and
-/// after elements were pushed.
-#[inline(always)]
-fn push_segment<T: Copy, D: Destinations>(
-    run: Run<T>,
-    source: &[T],
-    before: &[T],
-    senders: &mut [u32],
-    first: usize,
-    destinations: &D,
-) -> (Run<T>, bool)
-    requires fresh { senders.old ≡ replicate (length senders.old) nobody }
-    requires room { length senders.old ≤ run.room }
-    requires within { run.first + length run.items + length senders.old ≤ length before.now }
-    requires in_limit { first + length (D.destinations destinations.now) ≤ most_places }
-    ensures cleared { result.1 ≡ true → senders.new ≡ replicate (length senders.old) nobody }
-    ensures right { result.1 ≡ true → None ≡ first_fault first (wrongs (length senders.old) (D.destinations destinations.now)) }
-    ensures pushed { result.1 ≡ true → result.0 ≡ with_items run (written_over source.now
-        (senders_of first (D.destinations destinations.now) (length senders.old))
-        (part before.now (run.first + length run.items) (length senders.old))) }
-    ensures bad { result.1 ≡ false → result.0 ≡ run }
-{
-    match send_places(senders, first, destinations) {
-        Ok(()) => (push_over(run, source, before, senders), true),
-        Err(_) => (run, false),
-    }
-}
-
-/// Writes the places of the segments from the one numbered `begin` on up to the one before `end`; false where a place of theirs
-/// is bad. The buffer of senders is as long as the widest part of the result, and each is nobody.
-fn write_segments<T: Copy, P: Parts>(
-    source: &[T],
-    before: &[T],
-    parts: &P,
-    begin: usize,
-    end: usize,
-    senders: &mut [u32],
-    run: Run<T>,
-) -> (Run<T>, bool)
-    requires cut { P.AreCut parts.now }
-    requires fresh { senders.old ≡ replicate (length senders.old) nobody }
-    requires share { IsShare (sending source.now (P.parts parts.now) before.now (length senders.old)) begin end run }
-    ensures { IsWritten (sending source.now (P.parts parts.now) before.now (length senders.old)) begin end run result.0 result.1 }
-{
-    let mut run = run;
-    let mut first = destinations_before(parts, begin);
-    for s in begin..end {
-        let (places, destinations) = parts.part(s);
-        let (buffer, _) = senders.split_at_mut(places);
-        let (next, right) = push_segment(run, source, before, buffer, first, &destinations);
-        if !right {
-            return (push_rest(next, before), false);
-        }
-        run = next;
-        first += destinations.count();
-    }
-    (run, true)
-}
-
-/// The same by a buffer of its own; false, too, where there is no memory for it.
-fn write_by_buffer<T: Copy, A: Memory, P: Parts>(
-    alloc: A,
-    source: &[T],
-    before: &[T],
-    parts: &P,
-    begin: usize,
-    end: usize,
-    widest: usize,
-    run: Run<T>,
-) -> (Run<T>, bool)
-    requires cut { P.AreCut parts.now }
-    requires share { IsShare (sending source.now (P.parts parts.now) before.now widest) begin end run }
-    ensures { IsWritten (sending source.now (P.parts parts.now) before.now widest) begin end run result.0 result.1 }
-{
-    match vec![in alloc; NOBODY; widest] {
-        Ok(mut senders) => write_segments(source, before, parts, begin, end, &mut senders, run),
-        Err(_) => (push_rest(run, before), false),
-    }
-}
 
 /// The elements that are sent, and what stands before in the places of the result.
 // By this trait, and not as slices, they go to other threads beside the run of the result, whose elements are of the same type.

@@ -5,7 +5,7 @@ use Rattle.fresh.specs.Places.{Stretch, with_items}
 use Rattle.fresh.specs.Parts.{part}
 use Rattle.permute_walks.specs.Senders.{nobody}
 use Rattle.segment_sends.proofs.Shared.{walked_all, walked_bad, walked_before, walked_limit, walked_more, walked_none, walked_rest_within, walked_room, walked_within}
-use Rattle.segment_sends.proofs.segment_walks.write_segments.Goals as goal
+use Rattle.segment_sends.proofs.one_walk.write_segments.Goals as goal
 
 -- the senders of a segment are cleared, so that all are nobody again
 module _ (senders : List ℕ) (n : ℕ) (fresh : senders ≡ replicate (length senders) nobody) (within : n ≤ length senders) where

@@ -6,7 +6,7 @@ use Rattle.fresh.specs.Places.{Stretch, with_items}
 use Rattle.fresh.proofs.Written.{nothing_written, one_written}
 use Rattle.permute_walks.specs.Senders.{nobody, written_over}
 use Rattle.permute_walks.proofs.Taken.{length-over}
-use Rattle.segment_sends.proofs.segment_walks.push_over.Goals as goal
+use Rattle.segment_sends.proofs.one_walk.push_over.Goals as goal
 
 -- one more sender
 written_more : {X : Type 0} (source : List X) (senders : List ℕ) (values : List X) (k : ℕ) (x y : X) → k < length senders → k < length values → x ≡ get_or values k x

@@ -2,7 +2,7 @@ use Rattle.std.proofs.Common.{◌≡◌, length, replicate}
 use Rattle.permute_walks.specs.Senders.{nobody}
 use Rattle.segment_sends.specs.Shares.{sending}
 use Rattle.segment_sends.proofs.Shared.{IsWalked}
-use Rattle.segment_sends.proofs.segment_walks.write_segments.Given as goal
+use Rattle.segment_sends.proofs.one_walk.write_segments.Given as goal
 
 abbrev pub invariant-loop-s : goal.invariant-loop-s
 invariant-loop-s g l = record {

@@ -1,5 +1,5 @@
 use Rattle.segment_sends.proofs.Shared.{unwalked, unwalked_within}
-use Rattle.segment_sends.proofs.segment_walks.write_by_buffer.Goals as goal
+use Rattle.segment_sends.proofs.one_walk.write_by_buffer.Goals as goal
 
 pub push_rest-requires : goal.push_rest-requires
 push_rest-requires g c = unwalked_within c.requires.share
