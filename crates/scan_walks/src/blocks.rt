@@ -6,7 +6,8 @@ ghost use Rattle.cvl_base.specs.Integers.{greater_of, lesser_of, sum_of};
 ghost use Rattle.cvl_base.specs.ItemWords.{is_number};
 ghost use Rattle.scan_walks.specs.Fronts.{IsWalked, most_of_block};
 
-use crate::whole_sums::{fitting, plus};
+use crate::numbers::fitting;
+use crate::whole_sums::plus;
 use operators::Binary;
 use operators::monoids::{Add, Max, Min};
 

@@ -15,11 +15,11 @@ ghost use Rattle.cvl_base.specs.Rooms.{Overwrites, in_room};
 ghost use Rattle.cvl_base.specs.SegmentedCalls.{seg_scan_of};
 
 use crate::fronts::fitting_of_scan;
-use crate::numbers::know_numbers;
+use crate::numbers::{fitting, know_numbers};
 use crate::over::{scan_over, seg_scan_over};
 use crate::segment_fronts::fitting_of_scans;
 use crate::vectors::seg_scan_vec;
-use crate::whole_sums::{fitting, total};
+use crate::whole_sums::total;
 use cvl_base::monoids::Add;
 use cvl_base::{Fault, FaultNo, Refused};
 use range_walks::{Itself, scan_vec};

@@ -22,11 +22,11 @@ pub use checked::{
 };
 pub use fronts::{fitting_of_range, fitting_of_scan};
 pub use in_place::{checked_scan_in, checked_seg_scan_in, scan_in, seg_scan_in};
-pub use numbers::know_numbers;
+pub use numbers::{fitting, know_numbers};
 pub use over::{scan_over, seg_reduce_over, seg_reduce_readings_over, seg_scan_over};
 pub use range_walks::{
     Itself, Reading, plain, ranges, readings, scan_into, scan_range_into, scan_vec,
     seg_reduces_into, sum_from, sum_of_range,
 };
 pub use vectors::{seg_reduce_vec, seg_scan_vec};
-pub use whole_sums::{fitting, total, total_of_range};
+pub use whole_sums::{total, total_of_range};

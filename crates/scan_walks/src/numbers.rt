@@ -1,8 +1,16 @@
-//! That integers fit 32 bits, which a proof has only of those that are read.
+//! Whether a whole number fits 32 bits; and that integers do, which a proof has only of those that are read.
 
 ghost use Rattle.std.specs.Prelude.{◌≡◌, true};
 ghost use Rattle.std.specs.List.{AllPass};
+ghost use Rattle.cvl_base.specs.CheckedSums.{fitting};
 ghost use Rattle.cvl_base.specs.ItemWords.{is_number};
+
+/// The number, if it fits 32 bits.
+pub fn fitting(number: &i64) -> Option<i32>
+    ensures { result ≡ fitting number.now }
+{
+    i32::try_from(*number).ok()
+}
 
 /// Each integer of a vector fits 32 bits. The contract names the fact, which a proof has only of an integer that is read.
 /// The loop does nothing with what it reads, so that the compiler leaves it out.

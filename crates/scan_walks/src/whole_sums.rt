@@ -1,7 +1,6 @@
 //! Sums over whole numbers, which never wrap: those of as many integers as a vector has fit 63 bits.
 
 ghost use Rattle.std.specs.Prelude.{◌≡◌, ◌+ℤ◌, ◌≤◌, length, pos, sum};
-ghost use Rattle.cvl_base.specs.CheckedSums.{fitting};
 ghost use Rattle.cvl_base.specs.Exact.{total_of};
 ghost use Rattle.cvl_base.specs.Folds.{fold_of};
 ghost use Rattle.cvl_base.specs.Limits.{most_places};
@@ -10,13 +9,6 @@ ghost use Rattle.range_walks.specs.Ranges.{range_between};
 
 use segdes::SegDes;
 use std::alloc::Allocator;
-
-/// The number, if it fits 32 bits.
-pub fn fitting(sum: &i64) -> Option<i32>
-    ensures { result ≡ fitting sum.now }
-{
-    i32::try_from(*sum).ok()
-}
 
 /// The sum of two integers, which never wraps.
 pub(crate) fn plus(a: &i32, b: &i32) -> i64
