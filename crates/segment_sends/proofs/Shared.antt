@@ -18,83 +18,84 @@ use Rattle.fresh.proofs.Zips.{part_zip}
 use Rattle.permute_walks.specs.Senders.{senders_of, written_over}
 use Rattle.permute_walks.proofs.Sent.{length-senders_of}
 use Rattle.permute_walks.proofs.Taken.{length-over}
-use Rattle.segment_sends.specs.Parts.{destinations_in, fault_from, places_in, senders_from}
-use Rattle.segment_sends.specs.Shares.{AreWithin, IsShare, IsWritten, Sending, fault_behind, part_at, permuted}
+use Rattle.segment_sends.specs.SegmentDestinations.{destinations_in, fault_from, places_in, senders_from}
+use Rattle.segment_sends.specs.Shares.{AreWithin, IsShare, IsWritten, Sending, fault_behind, segment_at, permuted}
 use denote.RawPtr.{Ptr}
 use Rattle.segment_sends.proofs.AllSent.{length-senders_from}
 
 -- ---- the places of a segment
 
-module _ (f : ℕ × List (Option ℤ) → ℕ) (parts : List (ℕ × List (Option ℤ))) where
+module _ (f : ℕ × List (Option ℤ) → ℕ) (segments : List (ℕ × List (Option ℤ))) where
   -- what stands before the segment after s
-  pub ahead_more : (s : ℕ) → s < length parts → sum (map f (take (s + 1) parts)) ≡ sum (map f (take s parts)) + f (part_at parts s)
-  ahead_more s lt = omega (arith, sum-map f (take (s + 1) parts), sum-map f (take s parts), sum_by_more f parts s (0, []) lt)
+  pub ahead_more : (s : ℕ) → s < length segments → sum (map f (take (s + 1) segments)) ≡ sum (map f (take s segments)) + f (segment_at segments s)
+  ahead_more s lt = omega (arith, sum-map f (take (s + 1) segments), sum-map f (take s segments), sum_by_more f segments s (0, []) lt)
 
-  pub ahead_within : (s : ℕ) → s < length parts → sum (map f (take s parts)) + f (part_at parts s) ≤ sum (map f parts)
-  ahead_within s lt = omega (arith, sum-map f (take s parts), sum-map f parts, sum_by_more_le f parts s (0, []) lt)
+  pub ahead_within : (s : ℕ) → s < length segments → sum (map f (take s segments)) + f (segment_at segments s) ≤ sum (map f segments)
+  ahead_within s lt = omega (arith, sum-map f (take s segments), sum-map f segments, sum_by_more_le f segments s (0, []) lt)
 
-  pub ahead_all : (s : ℕ) → sum (map f (take s parts)) ≤ sum (map f parts)
-  ahead_all s = omega (arith, sum-map f (take s parts), sum-map f parts, sum_by-take-le f parts s)
+  pub ahead_all : (s : ℕ) → sum (map f (take s segments)) ≤ sum (map f segments)
+  ahead_all s = omega (arith, sum-map f (take s segments), sum-map f segments, sum_by-take-le f segments s)
 
 -- an earlier segment does not stand behind a later one
-pub ahead_order : (f : ℕ × List (Option ℤ) → ℕ) (parts : List (ℕ × List (Option ℤ))) (a b : ℕ) → a ≤ b → sum (map f (take a parts)) ≤ sum (map f (take b parts))
-ahead_order f parts a b le =
-    omega (arith, sum-map f (take a parts), sum-map f (take b parts), ap (sum_by f) (take-take a b parts le), sum_by-take-le f (take b parts) a)
+pub ahead_order : (f : ℕ × List (Option ℤ) → ℕ) (segments : List (ℕ × List (Option ℤ))) (a b : ℕ) → a ≤ b → sum (map f (take a segments)) ≤ sum (map f (take b segments))
+ahead_order f segments a b le =
+    omega (arith, sum-map f (take a segments), sum-map f (take b segments), ap (sum_by f) (take-take a b segments le), sum_by-take-le f (take b segments) a)
 
 -- the first bad place from a segment on is one of the segment, or lies behind it
-pub fault_next : (parts : List (ℕ × List (Option ℤ))) (s : ℕ) → s < length parts
-    → fault_behind parts s ≡ option_or (first_fault (destinations_in (take s parts)) (wrongs (part_at parts s).0 (part_at parts s).1)) (fault_behind parts (s + 1))
-fault_next parts s lt =
-    let first = first_fault (destinations_in (take s parts)) (wrongs (part_at parts s).0 (part_at parts s).1) in
-    ap (fault_from (destinations_in (take s parts))) (drop_more parts s (0, []) lt)
-    ∙ ap (λ p. option_or first (fault_from p (drop (s + 1) parts))) (sym (ahead_more (λ p. length p.1) parts s lt))
+pub fault_next : (segments : List (ℕ × List (Option ℤ))) (s : ℕ) → s < length segments
+    → fault_behind segments s ≡ option_or (first_fault (destinations_in (take s segments)) (wrongs (segment_at segments s).0 (segment_at segments s).1)) (fault_behind segments (s + 1))
+fault_next segments s lt =
+    let first = first_fault (destinations_in (take s segments)) (wrongs (segment_at segments s).0 (segment_at segments s).1) in
+    ap (fault_from (destinations_in (take s segments))) (drop_more segments s (0, []) lt)
+    ∙ ap (λ p. option_or first (fault_from p (drop (s + 1) segments))) (sym (ahead_more (λ p. length p.1) segments s lt))
 
-pub fault_passed : (parts : List (ℕ × List (Option ℤ))) (s : ℕ) → s < length parts
-    → None ≡ first_fault (destinations_in (take s parts)) (wrongs (part_at parts s).0 (part_at parts s).1) → fault_behind parts s ≡ fault_behind parts (s + 1)
-fault_passed parts s lt right = fault_next parts s lt ∙ ap (λ o. option_or o (fault_behind parts (s + 1))) (sym right)
+pub fault_passed : (segments : List (ℕ × List (Option ℤ))) (s : ℕ) → s < length segments
+    → None ≡ first_fault (destinations_in (take s segments)) (wrongs (segment_at segments s).0 (segment_at segments s).1) → fault_behind segments s ≡ fault_behind segments (s + 1)
+fault_passed segments s lt right = fault_next segments s lt ∙ ap (λ o. option_or o (fault_behind segments (s + 1))) (sym right)
 
-pub fault_at_end : (parts : List (ℕ × List (Option ℤ))) (s : ℕ) → length parts ≤ s → None ≡ fault_behind parts s
-fault_at_end parts s past = ap (fault_from (destinations_in (take s parts))) (sym (drop_all s parts past))
+pub fault_at_end : (segments : List (ℕ × List (Option ℤ))) (s : ℕ) → length segments ≤ s → None ≡ fault_behind segments s
+fault_at_end segments s past = ap (fault_from (destinations_in (take s segments))) (sym (drop_all s segments past))
 
 -- the senders of a segment stand at its places
-senders_at : (place : ℕ) (parts : List (ℕ × List (Option ℤ))) (s : ℕ) → s < length parts
-    → part (senders_from place parts) (places_in (take s parts)) (part_at parts s).0 ≡ senders_of (place + destinations_in (take s parts)) (part_at parts s).1 (part_at parts s).0
+senders_at : (place : ℕ) (segments : List (ℕ × List (Option ℤ))) (s : ℕ) → s < length segments
+    → part (senders_from place segments) (places_in (take s segments)) (segment_at segments s).0
+    ≡ senders_of (place + destinations_in (take s segments)) (segment_at segments s).1 (segment_at segments s).0
 senders_at place [] s lt = absurd (omega arith)
-senders_at place ((m, ts) ∷ parts) zero lt =
+senders_at place ((m, ts) ∷ segments) zero lt =
     let long = length-senders_of place ts m in
-    take-append-le m (senders_of place ts m) (senders_from (place + length ts) parts) (omega (arith, long))
+    take-append-le m (senders_of place ts m) (senders_from (place + length ts) segments) (omega (arith, long))
     ∙ take_all m (senders_of place ts m) (omega (arith, long))
     ∙ ap (λ p. senders_of p ts m) (omega arith)
-senders_at place ((m, ts) ∷ parts) (suc s) lt =
+senders_at place ((m, ts) ∷ segments) (suc s) lt =
     let front = senders_of place ts m in
-    let others = senders_from (place + length ts) parts in
-    let n = (part_at parts s).0 in
-    let past : places_in (take (suc s) ((m, ts) ∷ parts)) ≡ length front + places_in (take s parts) =
-    omega (arith, sum-cons m (map (λ (p : ℕ × List (Option ℤ)). p.0) (take s parts)), length-senders_of place ts m) in
-    let place_past : place + length ts + destinations_in (take s parts) ≡ place + destinations_in (take (suc s) ((m, ts) ∷ parts)) =
-    omega (arith, sum-cons (length ts) (map (λ (p : ℕ × List (Option ℤ)). length p.1) (take s parts))) in
+    let others = senders_from (place + length ts) segments in
+    let n = (segment_at segments s).0 in
+    let past : places_in (take (suc s) ((m, ts) ∷ segments)) ≡ length front + places_in (take s segments) =
+    omega (arith, sum-cons m (map (λ (p : ℕ × List (Option ℤ)). p.0) (take s segments)), length-senders_of place ts m) in
+    let place_past : place + length ts + destinations_in (take s segments) ≡ place + destinations_in (take (suc s) ((m, ts) ∷ segments)) =
+    omega (arith, sum-cons (length ts) (map (λ (p : ℕ × List (Option ℤ)). length p.1) (take s segments))) in
     ap (λ k. part (front ++ others) k n) past
-    ∙ ap (take n) (drop-append-add front others (places_in (take s parts)))
-    ∙ senders_at (place + length ts) parts s (omega arith)
-    ∙ ap (λ p. senders_of p (part_at parts s).1 n) place_past
+    ∙ ap (take n) (drop-append-add front others (places_in (take s segments)))
+    ∙ senders_at (place + length ts) segments s (omega arith)
+    ∙ ap (λ p. senders_of p (segment_at segments s).1 n) place_past
 
-module _ {X : Type 0} (source : List X) (parts : List (ℕ × List (Option ℤ))) (before : List X) where
+module _ {X : Type 0} (source : List X) (segments : List (ℕ × List (Option ℤ))) (before : List X) where
   -- what stands there
-  pub permuted_at : (s : ℕ) → s < length parts
-      → part (permuted source parts before) (places_in (take s parts)) (part_at parts s).0
-      ≡ written_over source (senders_of (destinations_in (take s parts)) (part_at parts s).1 (part_at parts s).0) (part before (places_in (take s parts)) (part_at parts s).0)
+  pub permuted_at : (s : ℕ) → s < length segments
+      → part (permuted source segments before) (places_in (take s segments)) (segment_at segments s).0
+      ≡ written_over source (senders_of (destinations_in (take s segments)) (segment_at segments s).1 (segment_at segments s).0) (part before (places_in (take s segments)) (segment_at segments s).0)
   permuted_at s lt =
-      let start = places_in (take s parts) in
-      let n = (part_at parts s).0 in
-      let senders = senders_from 0 parts in
+      let start = places_in (take s segments) in
+      let n = (segment_at segments s).0 in
+      let senders = senders_from 0 segments in
       let read = λ (p : ℕ × X). unwrap_or (slice_get source p.0) p.1 in
       sym (part_map read (zip senders before) start n)
       ∙ ap (map read) (sym (part_zip senders before start n))
-      ∙ ap (λ ss. written_over source ss (part before start n)) (senders_at 0 parts s lt)
-      ∙ ap (λ p. written_over source (senders_of p (part_at parts s).1 n) (part before start n)) (omega arith)
+      ∙ ap (λ ss. written_over source ss (part before start n)) (senders_at 0 segments s lt)
+      ∙ ap (λ p. written_over source (senders_of p (segment_at segments s).1 n) (part before start n)) (omega arith)
 
-  pub length-permuted : places_in parts ≡ length before → length (permuted source parts before) ≡ length before
-  length-permuted long = length-over source (senders_from 0 parts) before (length-senders_from 0 parts ∙ long)
+  pub length-permuted : places_in segments ≡ length before → length (permuted source segments before) ≡ length before
+  length-permuted long = length-over source (senders_from 0 segments) before (length-senders_from 0 segments ∙ long)
 
 -- ---- the walk
 
@@ -116,48 +117,51 @@ stretch_more whole items old run new done n last begun within is are written =
 
 -- the segments up to before s are done, and the destinations of the next one begin at `place`
 pub record IsWalked {X : Type 0} (w : Sending X) (begin end s : ℕ) (old : Stretch X) (place : ℕ) (run : Stretch X) : Type 0 where
-  pub there : place ≡ destinations_in (take s w.parts)
-  pub no_fault : fault_behind w.parts begin ≡ fault_behind w.parts s
-  pub is : run ≡ stretch old.block old.first (part (permuted w.source w.parts w.before) old.first (places_in (take s w.parts) - old.first)) (places_in (take end w.parts) - places_in (take s w.parts))
+  pub there : place ≡ destinations_in (take s w.segments)
+  pub no_fault : fault_behind w.segments begin ≡ fault_behind w.segments s
+  pub is : run
+      ≡ stretch old.block old.first (part (permuted w.source w.segments w.before) old.first (places_in (take s w.segments) - old.first))
+      (places_in (take end w.segments) - places_in (take s w.segments))
 
 module _ {X : Type 0} {w : Sending X} {begin end : ℕ} {old : Stretch X} (share : IsShare w begin end old) where
-  abbrev parts : List (ℕ × List (Option ℤ))
-  parts = w.parts
+  abbrev segments : List (ℕ × List (Option ℤ))
+  segments = w.segments
 
   abbrev whole : List X
-  whole = permuted w.source parts w.before
+  whole = permuted w.source segments w.before
 
   whole_long : length whole ≡ length w.before
-  whole_long = length-permuted w.source parts w.before share.as_long
+  whole_long = length-permuted w.source segments w.before share.as_long
 
-  pub walked_none : (place : ℕ) → place ≡ destinations_in (take begin parts) → IsWalked w begin end begin old place old
+  pub walked_none : (place : ℕ) → place ≡ destinations_in (take begin segments) → IsWalked w begin end begin old place old
   walked_none place there =
-      let none : places_in (take begin parts) - old.first ≡ 0 = omega (arith, share.starts) in
-      let room : old.room ≡ places_in (take end parts) - places_in (take begin parts) = omega (arith, share.starts, share.ends) in
+      let none : places_in (take begin segments) - old.first ≡ 0 = omega (arith, share.starts) in
+      let room : old.room ≡ places_in (take end segments) - places_in (take begin segments) = omega (arith, share.starts, share.ends) in
       record {
         there = there;
         no_fault = refl;
-        is = (λ i. stretch old.block old.first (share.empty i) (room i)) ∙ ap (λ k. stretch old.block old.first (part whole old.first k) (places_in (take end parts) - places_in (take begin parts)))
+        is = (λ i. stretch old.block old.first (share.empty i) (room i))
+            ∙ ap (λ k. stretch old.block old.first (part whole old.first k) (places_in (take end segments) - places_in (take begin segments)))
             (sym none);
       }
 
   module _ {s place : ℕ} {run : Stretch X} (from : begin ≤ s) (upto : s ≤ end) (to : IsWalked w begin end s old place run) where
-    starts_before : old.first ≤ places_in (take s parts)
-    starts_before = omega (arith, share.starts, ahead_order (λ p. p.0) parts begin s from)
+    starts_before : old.first ≤ places_in (take s segments)
+    starts_before = omega (arith, share.starts, ahead_order (λ p. p.0) segments begin s from)
 
-    ends_here : places_in (take s parts) ≤ places_in (take end parts)
-    ends_here = ahead_order (λ p. p.0) parts s end upto
+    ends_here : places_in (take s segments) ≤ places_in (take end segments)
+    ends_here = ahead_order (λ p. p.0) segments s end upto
 
-    ends_last : places_in (take end parts) ≤ length w.before
-    ends_last = omega (arith, share.as_long, ahead_all (λ p. p.0) parts end)
+    ends_last : places_in (take end segments) ≤ length w.before
+    ends_last = omega (arith, share.as_long, ahead_all (λ p. p.0) segments end)
 
-    done_long : length (part whole old.first (places_in (take s parts) - old.first)) ≡ places_in (take s parts) - old.first
-    done_long = length_part whole old.first (places_in (take s parts) - old.first) (omega (arith, starts_before, ends_here, ends_last, whole_long))
+    done_long : length (part whole old.first (places_in (take s segments) - old.first)) ≡ places_in (take s segments) - old.first
+    done_long = length_part whole old.first (places_in (take s segments) - old.first) (omega (arith, starts_before, ends_here, ends_last, whole_long))
 
-    run_end : run.first + length run.items ≡ places_in (take s parts)
+    run_end : run.first + length run.items ≡ places_in (take s segments)
     run_end = omega (arith, ap (λ (r : Stretch X). r.first) to.is, ap (λ (r : Stretch X). length r.items) to.is, done_long, starts_before)
 
-    run_room : run.room ≡ places_in (take end parts) - places_in (take s parts)
+    run_room : run.room ≡ places_in (take end segments) - places_in (take s segments)
     run_room = ap (λ (r : Stretch X). r.room) to.is
 
     -- where the walk stops, what stands before fills the rest
@@ -182,14 +186,14 @@ module _ {X : Type 0} {w : Sending X} {begin end : ℕ} {old : Stretch X} (share
             omega (arith, length-append run.items rest, rest_long, run_room, run_end, ap (λ (r : Stretch X). r.first) to.is, share.starts, share.ends, starts_before, ends_here) in
             (run.items ++ rest, long, filled ∙ (λ i. stretch (ap (λ (r : Stretch X). r.block) to.is i) (ap (λ (r : Stretch X). r.first) to.is i) (run.items ++ rest) (none i)))
 
-    module _ {m n : ℕ} {ts : List (Option ℤ)} (below : s < end) (is : part_at parts s ≡ (m, ts)) (wide : n ≡ m) where
-      lt : s < length parts
-      lt = omega (arith, below, share.in_parts)
+    module _ {m n : ℕ} {ts : List (Option ℤ)} (below : s < end) (is : segment_at segments s ≡ (m, ts)) (wide : n ≡ m) where
+      lt : s < length segments
+      lt = omega (arith, below, share.in_segments)
 
-      ends_before : places_in (take s parts) + (part_at parts s).0 ≤ places_in (take end parts)
-      ends_before = omega (arith, ahead_more (λ p. p.0) parts s lt, ahead_order (λ p. p.0) parts (s + 1) end (omega (arith, below)))
+      ends_before : places_in (take s segments) + (segment_at segments s).0 ≤ places_in (take end segments)
+      ends_before = omega (arith, ahead_more (λ p. p.0) segments s lt, ahead_order (λ p. p.0) segments (s + 1) end (omega (arith, below)))
 
-      width : (part_at parts s).0 ≡ n
+      width : (segment_at segments s).0 ≡ n
       width = ap (λ p. p.0) is ∙ sym wide
 
       pub walked_within : n ≤ w.widest
@@ -202,56 +206,56 @@ module _ {X : Type 0} {w : Sending X} {begin end : ℕ} {old : Stretch X} (share
       walked_before = omega (arith, width, run_end, ends_before, ends_last)
 
       pub walked_limit : place + length ts ≤ most_places
-      walked_limit = omega (arith, share.few, to.there, ahead_within (λ p. length p.1) parts s lt, ap (λ (p : ℕ × List (Option ℤ)). length p.1) is)
+      walked_limit = omega (arith, share.few, to.there, ahead_within (λ p. length p.1) segments s lt, ap (λ (p : ℕ × List (Option ℤ)). length p.1) is)
 
       pub walked_more : (new : Stretch X) → None ≡ first_fault place (wrongs n ts)
           → new ≡ with_items run (written_over w.source (senders_of place ts n) (part w.before (run.first + length run.items) n))
           → (next : ℕ) → next ≡ place + length ts → IsWalked w begin end (s + 1) old next new
       walked_more new right pushed next onward =
-          let start = places_in (take s parts) in
+          let start = places_in (take s segments) in
           let told = ap (λ (p : ℕ × List (Option ℤ)). p.1) is in
-          let more : start + n ≡ places_in (take (s + 1) parts) = omega (arith, width, ahead_more (λ p. p.0) parts s lt) in
+          let more : start + n ≡ places_in (take (s + 1) segments) = omega (arith, width, ahead_more (λ p. p.0) segments s lt) in
           let are : written_over w.source (senders_of place ts n) (part w.before (run.first + length run.items) n) ≡ part whole start n =
           (λ i. written_over w.source (senders_of (to.there i) (sym told i) (sym width i)) (part w.before (run_end i) (sym width i)))
-          ∙ sym (permuted_at w.source parts w.before s lt) ∙ ap (part whole start) width in
+          ∙ sym (permuted_at w.source segments w.before s lt) ∙ ap (part whole start) width in
           record {
-            there = omega (arith, onward, to.there, ahead_more (λ p. length p.1) parts s lt, ap (λ (p : ℕ × List (Option ℤ)). length p.1) is);
-            no_fault = to.no_fault ∙ fault_passed parts s lt (right ∙ (λ i. first_fault (to.there i) (wrongs (sym width i) (sym told i))));
-            is = stretch_more whole (written_over w.source (senders_of place ts n) (part w.before (run.first + length run.items) n)) old run new start n (places_in (take end parts)) starts_before
+            there = omega (arith, onward, to.there, ahead_more (λ p. length p.1) segments s lt, ap (λ (p : ℕ × List (Option ℤ)). length p.1) is);
+            no_fault = to.no_fault ∙ fault_passed segments s lt (right ∙ (λ i. first_fault (to.there i) (wrongs (sym width i) (sym told i))));
+            is = stretch_more whole (written_over w.source (senders_of place ts n) (part w.before (run.first + length run.items) n)) old run new start n (places_in (take end segments)) starts_before
                 (omega (arith, width, ends_before, ends_last, whole_long)) to.is are pushed
-                ∙ ap (λ k. stretch old.block old.first (part whole old.first (k - old.first)) (places_in (take end parts) - k)) more;
+                ∙ ap (λ k. stretch old.block old.first (part whole old.first (k - old.first)) (places_in (take end segments) - k)) more;
           }
 
   pub walked_all : {s place : ℕ} {run : Stretch X} → IsWalked w begin end s old place run → end ≤ s → s ≤ end → IsWritten w begin end old run true
   walked_all {s = s} {run = run} to past within =
       let same : s ≡ end = omega (arith, past, within) in
-      let last = places_in (take end parts) in
+      let last = places_in (take end segments) in
       let width : last - old.first ≡ old.room = omega (arith, share.ends) in
       let none : last - last ≡ 0 = omega arith in
       let is : run ≡ stretch old.block old.first (part whole old.first old.room) 0 =
-      to.is ∙ ap (λ k. stretch old.block old.first (part whole old.first (places_in (take k parts) - old.first)) (last - places_in (take k parts))) same
+      to.is ∙ ap (λ k. stretch old.block old.first (part whole old.first (places_in (take k segments) - old.first)) (last - places_in (take k segments))) same
       ∙ (λ i. stretch old.block old.first (part whole old.first (width i)) (none i)) in
       record {
-        full = (part whole old.first old.room, length_part whole old.first old.room (omega (arith, share.ends, whole_long, share.as_long, ahead_all (λ p. p.0) parts end)), is);
-        no_fault = λ told. to.no_fault ∙ ap (fault_behind parts) same;
+        full = (part whole old.first old.room, length_part whole old.first old.room (omega (arith, share.ends, whole_long, share.as_long, ahead_all (λ p. p.0) segments end)), is);
+        no_fault = λ told. to.no_fault ∙ ap (fault_behind segments) same;
         items = λ told. is;
       }
 
   -- nothing was walked
   pub unwalked_within : old.first + length old.items + old.room ≤ length w.before
-  unwalked_within = walked_rest_within (omega arith) share.in_order (walked_none (destinations_in (take begin parts)) refl)
+  unwalked_within = walked_rest_within (omega arith) share.in_order (walked_none (destinations_in (take begin segments)) refl)
 
   pub unwalked : (new : Stretch X) → new ≡ with_items old (part w.before (old.first + length old.items) old.room) → IsWritten w begin end old new false
-  unwalked new filled = walked_bad (omega arith) share.in_order (walked_none (destinations_in (take begin parts)) refl) new filled
+  unwalked new filled = walked_bad (omega arith) share.in_order (walked_none (destinations_in (take begin segments)) refl) new filled
 
   -- ---- two shares side by side are one
 
-  module _ {middle k : ℕ} (from : begin ≤ middle) (to : middle ≤ end) (is : k ≡ places_in (take middle parts) - old.first) where
-    pub middle_first : old.first ≤ places_in (take middle parts)
-    middle_first = omega (arith, share.starts, ahead_order (λ p. p.0) parts begin middle from)
+  module _ {middle k : ℕ} (from : begin ≤ middle) (to : middle ≤ end) (is : k ≡ places_in (take middle segments) - old.first) where
+    pub middle_first : old.first ≤ places_in (take middle segments)
+    middle_first = omega (arith, share.starts, ahead_order (λ p. p.0) segments begin middle from)
 
     pub middle_room : k ≤ old.room
-    middle_room = omega (arith, is, share.ends, ahead_order (λ p. p.0) parts middle end to)
+    middle_room = omega (arith, is, share.ends, ahead_order (λ p. p.0) segments middle end to)
 
     module _ {front back : Stretch X} (front_cut : front ≡ stretch old.block old.first old.items (k - length old.items))
         (back_cut : back ≡ stretch old.block (old.first + k) [] (length old.items + old.room - k)) where
@@ -267,7 +271,7 @@ module _ {X : Type 0} {w : Sending X} {begin end : ℕ} {old : Stretch X} (share
         as_long = share.as_long;
         within = share.within;
         in_order = from;
-        in_parts = omega (arith, to, share.in_parts);
+        in_segments = omega (arith, to, share.in_segments);
         starts = ap (λ (r : Stretch X). r.first) front_cut ∙ share.starts;
         ends = omega (arith, ap (λ (r : Stretch X). r.first) front_cut, front_width, is, middle_first);
         empty = ap (λ (r : Stretch X). r.items) front_cut ∙ share.empty;
@@ -279,7 +283,7 @@ module _ {X : Type 0} {w : Sending X} {begin end : ℕ} {old : Stretch X} (share
         as_long = share.as_long;
         within = share.within;
         in_order = to;
-        in_parts = share.in_parts;
+        in_segments = share.in_segments;
         starts = omega (arith, ap (λ (r : Stretch X). r.first) back_cut, is, middle_first);
         ends = omega (arith, ap (λ (r : Stretch X). r.first) back_cut, back_width, is, middle_first, middle_room, share.ends);
         empty = ap (λ (r : Stretch X). r.items) back_cut;
@@ -319,28 +323,28 @@ module _ {X : Type 0} {w : Sending X} {begin end : ℕ} {old : Stretch X} (share
 
 -- ---- all segments
 
-module _ {X : Type 0} {w : Sending X} {old : Stretch X} (few : destinations_in w.parts ≤ most_places) (long : places_in w.parts ≡ length w.before) (within : AreWithin w.widest w.parts)
-    {block : Ptr} (is : old ≡ stretch block 0 [] (length w.before)) {count : ℕ} (all : count ≡ length w.parts) where
+module _ {X : Type 0} {w : Sending X} {old : Stretch X} (few : destinations_in w.segments ≤ most_places) (long : places_in w.segments ≡ length w.before) (within : AreWithin w.widest w.segments)
+    {block : Ptr} (is : old ≡ stretch block 0 [] (length w.before)) {count : ℕ} (all : count ≡ length w.segments) where
   pub whole_share : IsShare w 0 count old
   whole_share = record {
     few = few;
     as_long = long;
     within = within;
     in_order = omega arith;
-    in_parts = omega (arith, all);
+    in_segments = omega (arith, all);
     starts = ap (λ (r : Stretch X). r.first) is;
-    ends = omega (arith, ap (λ (r : Stretch X). r.first) is, ap (λ (r : Stretch X). r.room) is, long, ap places_in (take_all count w.parts (omega (arith, all))));
+    ends = omega (arith, ap (λ (r : Stretch X). r.first) is, ap (λ (r : Stretch X). r.room) is, long, ap places_in (take_all count w.segments (omega (arith, all))));
     empty = ap (λ (r : Stretch X). r.items) is;
   }
 
   module _ {written : Stretch X} {right : Bool} (told : IsWritten w 0 count old written right) where
-    pub whole_right : right ≡ true → None ≡ fault_from 0 w.parts
-    whole_right is_right = fault_at_end w.parts count (omega (arith, all)) ∙ sym (told.no_fault is_right)
+    pub whole_right : right ≡ true → None ≡ fault_from 0 w.segments
+    whole_right is_right = fault_at_end w.segments count (omega (arith, all)) ∙ sym (told.no_fault is_right)
 
-    pub whole_items : right ≡ true → written.items ≡ permuted w.source w.parts w.before
+    pub whole_items : right ≡ true → written.items ≡ permuted w.source w.segments w.before
     whole_items is_right =
-        let whole = permuted w.source w.parts w.before in
-        let width : old.room ≡ length whole = ap (λ (r : Stretch X). r.room) is ∙ sym (length-permuted w.source w.parts w.before long) in
+        let whole = permuted w.source w.segments w.before in
+        let width : old.room ≡ length whole = ap (λ (r : Stretch X). r.room) is ∙ sym (length-permuted w.source w.segments w.before long) in
         ap (λ (r : Stretch X). r.items) (told.items is_right)
         ∙ (λ i. part whole (ap (λ (r : Stretch X). r.first) is i) (width i))
         ∙ take_all (length whole) whole (omega arith)

@@ -14,23 +14,23 @@ use Rattle.cvl_base.specs.declared.fault.Fault.{Fault}
 use Rattle.cvl_base.specs.Nests.{cut_of}
 use Rattle.cvl_base.specs.Packs.{count_of}
 use Rattle.cvl_base.specs.Permutes.{all_destinations, first_fault, flagged_destinations, wrongs}
-use Rattle.segment_sends.specs.Parts.{fault_from, flagged_parts, parts_of, places_in, senders_from, destinations_in}
+use Rattle.segment_sends.specs.SegmentDestinations.{fault_from, flagged_in_segments, all_in_segments, places_in, senders_from, destinations_in}
 use Rattle.permute_walks.specs.Senders.{nobody, senders_of}
 use Rattle.cvl_base.proofs.Nests.{cut_at, length-cut, lengths-cut}
 use Rattle.cvl_base.proofs.Lists.{sum-cons}
 use Rattle.cvl_base.proofs.Permutes.{length-all_destinations}
 use Rattle.permute_walks.proofs.Sent.{length-senders_of, count-flagged_destinations}
 
--- the first s parts are done: their destinations end at the place given, and their part of the result at `start`
-pub record IsSentThrough (parts : List (ℕ × List (Option ℤ))) (place start s : ℕ) (senders : List ℕ) : Type 0 where
-  pub fault_is : fault_from 0 parts ≡ fault_from place (drop s parts)
-  pub senders_are : take start senders ++ senders_from place (drop s parts) ≡ senders_from 0 parts
+-- the first s segments are done: their destinations end at the place given, and their places of the result at `start`
+pub record IsSentThrough (segments : List (ℕ × List (Option ℤ))) (place start s : ℕ) (senders : List ℕ) : Type 0 where
+  pub fault_is : fault_from 0 segments ≡ fault_from place (drop s segments)
+  pub senders_are : take start senders ++ senders_from place (drop s segments) ≡ senders_from 0 segments
   pub rest_is : drop start senders ≡ replicate (length senders - start) nobody
-  pub room_is : start + places_in (drop s parts) ≡ length senders
-  pub left_is : place + destinations_in (drop s parts) ≡ destinations_in parts
+  pub room_is : start + places_in (drop s segments) ≡ length senders
+  pub left_is : place + destinations_in (drop s segments) ≡ destinations_in segments
 
-pub through_none : (parts : List (ℕ × List (Option ℤ))) (senders : List ℕ) → senders ≡ replicate (length senders) nobody → places_in parts ≡ length senders → IsSentThrough parts 0 0 0 senders
-through_none parts senders fresh room = record {
+pub through_none : (segments : List (ℕ × List (Option ℤ))) (senders : List ℕ) → senders ≡ replicate (length senders) nobody → places_in segments ≡ length senders → IsSentThrough segments 0 0 0 senders
+through_none segments senders fresh room = record {
   fault_is = refl;
   senders_are = refl;
   rest_is = fresh ∙ ap (λ n. replicate n nobody) (omega arith);
@@ -38,25 +38,25 @@ through_none parts senders fresh room = record {
   left_is = omega arith;
 }
 
--- the next part, whose range of the senders the code reads and writes
-module _ {parts : List (ℕ × List (Option ℤ))} {place start s : ℕ} {senders : List ℕ} {m : ℕ} {ts : List (Option ℤ)} (to : IsSentThrough parts place start s senders) (lt : s < length parts)
-    (is : get_or parts s (0, []) ≡ (m, ts)) where
+-- the next segment, whose range of the senders the code reads and writes
+module _ {segments : List (ℕ × List (Option ℤ))} {place start s : ℕ} {senders : List ℕ} {m : ℕ} {ts : List (Option ℤ)} (to : IsSentThrough segments place start s senders) (lt : s < length segments)
+    (is : get_or segments s (0, []) ≡ (m, ts)) where
   abbrev others : List (ℕ × List (Option ℤ))
-  others = drop (s + 1) parts
+  others = drop (s + 1) segments
 
   abbrev range : List ℕ
   range = take (start + m - start) (drop start senders)
 
-  split : drop s parts ≡ (m, ts) ∷ others
-  split = drop_more parts s (0, []) lt ∙ ap (λ p. p ∷ others) is
+  split : drop s segments ≡ (m, ts) ∷ others
+  split = drop_more segments s (0, []) lt ∙ ap (λ p. p ∷ others) is
 
   room_more : start + m + places_in others ≡ length senders
   room_more = omega (arith, to.room_is, ap places_in split, sum-cons m (map (λ (p : ℕ × List (Option ℤ)). p.0) others))
 
-  left_more : place + length ts + destinations_in others ≡ destinations_in parts
+  left_more : place + length ts + destinations_in others ≡ destinations_in segments
   left_more = omega (arith, to.left_is, ap destinations_in split, sum-cons (length ts) (map (λ (p : ℕ × List (Option ℤ)). length p.1) others))
 
-  pub through_left : place + length ts ≤ destinations_in parts
+  pub through_left : place + length ts ≤ destinations_in segments
   through_left = omega (arith, left_more)
 
   pub through_room : start + m ≤ length senders
@@ -71,15 +71,15 @@ module _ {parts : List (ℕ × List (Option ℤ))} {place start s : ℕ} {sender
   pub range_fresh : range ≡ replicate (length range) nobody
   range_fresh = (λ i. take (width i) (to.rest_is i)) ∙ take-replicate m (length senders - start) nobody (omega (arith, room_more)) ∙ ap (λ n. replicate n nobody) (sym long)
 
-  first_of_part : fault_from 0 parts ≡ option_or (first_fault place (wrongs (length range) ts)) (fault_from (place + length ts) others)
-  first_of_part = to.fault_is ∙ ap (fault_from place) split ∙ ap (λ n. option_or (first_fault place (wrongs n ts)) (fault_from (place + length ts) others)) (sym long)
+  first_of_segment : fault_from 0 segments ≡ option_or (first_fault place (wrongs (length range) ts)) (fault_from (place + length ts) others)
+  first_of_segment = to.fault_is ∙ ap (fault_from place) split ∙ ap (λ n. option_or (first_fault place (wrongs n ts)) (fault_from (place + length ts) others)) (sym long)
 
-  pub range_fails : (f : Fault) → Some f ≡ first_fault place (wrongs (length range) ts) → Some f ≡ fault_from 0 parts
-  range_fails f bad = sym (first_of_part ∙ ap (λ o. option_or o (fault_from (place + length ts) others)) (sym bad))
+  pub range_fails : (f : Fault) → Some f ≡ first_fault place (wrongs (length range) ts) → Some f ≡ fault_from 0 segments
+  range_fails f bad = sym (first_of_segment ∙ ap (λ o. option_or o (fault_from (place + length ts) others)) (sym bad))
 
   pub range_more : (sent new : List ℕ) (next : ℕ) → None ≡ first_fault place (wrongs (length range) ts) → sent ≡ senders_of place ts (length range)
       → new ≡ put_mid start (start + m - start) senders sent
-      → place + length ts ≡ next → IsSentThrough parts next (start + m) (s + 1) new
+      → place + length ts ≡ next → IsSentThrough segments next (start + m) (s + 1) new
   range_more sent new next right are put onward =
       let k = start + m - start in
       let sent_are : sent ≡ senders_of place ts m = are ∙ ap (senders_of place ts) long in
@@ -87,7 +87,7 @@ module _ {parts : List (ℕ × List (Option ℤ))} {place start s : ℕ} {sender
       let within : start + m ≤ length senders = through_room in
       let as_long : length new ≡ length senders = ap length put ∙ same_len_mid start k senders sent (wide ∙ sym long) in
       record {
-        fault_is = first_of_part ∙ (λ i. option_or (sym right i) (fault_from (onward i) others));
+        fault_is = first_of_segment ∙ (λ i. option_or (sym right i) (fault_from (onward i) others));
         senders_are = (λ i. take (start + m) (put i) ++ senders_from (sym onward i) others)
             ∙ ap (λ xs. xs ++ senders_from (place + length ts) others)
             (take-put_mid start k senders sent (start + m) (omega (arith, width, wide)) (omega (arith, width, within)) ∙ ap (λ xs. take start senders ++ xs) sent_are)
@@ -104,30 +104,30 @@ module _ {parts : List (ℕ × List (Option ℤ))} {place start s : ℕ} {sender
         left_is = omega (arith, left_more, onward);
       }
 
-pub through_all : {parts : List (ℕ × List (Option ℤ))} {place start s : ℕ} {senders : List ℕ} → IsSentThrough parts place start s senders → length parts ≤ s
-    → (None ≡ fault_from 0 parts) × (senders ≡ senders_from 0 parts)
-through_all {parts = parts} {place = place} {start = start} {s = s} {senders = senders} to past =
-    let none = drop_all s parts past in
+pub through_all : {segments : List (ℕ × List (Option ℤ))} {place start s : ℕ} {senders : List ℕ} → IsSentThrough segments place start s senders → length segments ≤ s
+    → (None ≡ fault_from 0 segments) × (senders ≡ senders_from 0 segments)
+through_all {segments = segments} {place = place} {start = start} {s = s} {senders = senders} to past =
+    let none = drop_all s segments past in
     let full : start ≡ length senders = omega (arith, to.room_is, ap places_in none) in (
       sym (to.fault_is ∙ ap (fault_from place) none),
       sym (sym to.senders_are ∙ ap (λ ps. take start senders ++ senders_from place ps) none ∙ append-nil (take start senders) ∙ take_all start senders (omega (arith, full))),
     )
 
--- ---- the parts where each place takes part
+-- ---- the segments where each place takes part
 
 module _ (lengths result_lengths : List ℕ) (index : List ℤ) (count : length lengths ≡ length result_lengths) where
-  pub length-parts : length (parts_of lengths result_lengths index) ≡ length lengths
-  length-parts = omega (arith, length-zip result_lengths (map all_destinations (cut_of lengths index)), length-map (cut_of lengths index) all_destinations, length-cut lengths index)
+  pub length-all : length (all_in_segments lengths result_lengths index) ≡ length lengths
+  length-all = omega (arith, length-zip result_lengths (map all_destinations (cut_of lengths index)), length-map (cut_of lengths index) all_destinations, length-cut lengths index)
 
-  pub part_at : (s : ℕ) → s < length lengths → get_or (parts_of lengths result_lengths index) s (0, [])
+  pub segment_at : (s : ℕ) → s < length lengths → get_or (all_in_segments lengths result_lengths index) s (0, [])
       ≡ (get_or result_lengths s 0, all_destinations (take (get_or lengths s 0) (drop (sum (take s lengths)) index)))
-  part_at s lt =
+  segment_at s lt =
       let long = length-cut lengths index in
       get_or-zip result_lengths (map all_destinations (cut_of lengths index)) s (0, []) (omega arith) (omega (arith, length-map (cut_of lengths index) all_destinations))
       ∙ ap (λ ts. (get_or result_lengths s 0, ts)) (get_or-map all_destinations (cut_of lengths index) s [] [] (omega arith) ∙ ap all_destinations (cut_at lengths index s lt))
 
-  pub places-parts : places_in (parts_of lengths result_lengths index) ≡ sum result_lengths
-  places-parts = ap sum (firsts-zip result_lengths (map all_destinations (cut_of lengths index)) (omega (arith, length-map (cut_of lengths index) all_destinations, length-cut lengths index)))
+  pub places-all : places_in (all_in_segments lengths result_lengths index) ≡ sum result_lengths
+  places-all = ap sum (firsts-zip result_lengths (map all_destinations (cut_of lengths index)) (omega (arith, length-map (cut_of lengths index) all_destinations, length-cut lengths index)))
 
 -- ---- a segment lies in the vector
 
@@ -141,12 +141,12 @@ module _ {X : Type 0} (lengths : List ℕ) (xs : List X) (total : sum lengths �
 pub start_more : (lengths : List ℕ) (s : ℕ) → s < length lengths → sum (take (s + 1) lengths) ≡ sum (take s lengths) + get_or lengths s 0
 start_more lengths s lt = sum_by_more (λ x. x) lengths s 0 lt
 
--- ---- the parts of flagged places
+-- ---- the segments of flagged places
 
-abbrev flagged_part : List ℤ × List Bool → ℕ × List (Option ℤ)
-flagged_part p = (count_of p.1, flagged_destinations p.0 p.1)
+abbrev flagged_segment : List ℤ × List Bool → ℕ × List (Option ℤ)
+flagged_segment p = (count_of p.1, flagged_destinations p.0 p.1)
 
-pub flagged_places_ahead : (lengths : List ℕ) (index : List ℤ) (flags : List Bool) (s : ℕ) → places_in (take s (flagged_parts lengths index flags)) ≡ count_of (take (sum (take s lengths)) flags)
+pub flagged_places_ahead : (lengths : List ℕ) (index : List ℤ) (flags : List Bool) (s : ℕ) → places_in (take s (flagged_in_segments lengths index flags)) ≡ count_of (take (sum (take s lengths)) flags)
 flagged_places_ahead [] index flags zero = refl
 flagged_places_ahead [] index flags (suc s) = refl
 flagged_places_ahead (n ∷ ns) index flags zero = refl
@@ -155,69 +155,69 @@ flagged_places_ahead (n ∷ ns) index flags (suc s) =
     let cut : take (sum (take (suc s) (n ∷ ns))) flags ≡ take n flags ++ take k (drop n flags) = ap (λ j. take j flags) (sum-cons n (take s ns)) ∙ take-add n k flags in
     omega (
       arith,
-      sum-cons (count_of (take n flags)) (map (λ (p : ℕ × List (Option ℤ)). p.0) (take s (flagged_parts ns (drop n index) (drop n flags)))),
+      sum-cons (count_of (take n flags)) (map (λ (p : ℕ × List (Option ℤ)). p.0) (take s (flagged_in_segments ns (drop n index) (drop n flags)))),
       flagged_places_ahead ns (drop n index) (drop n flags) s,
       ap count_of cut,
       sum_by-append (λ (f : Bool). cond f 1 0) (take n flags) (take k (drop n flags)),
     )
 
 module _ (lengths : List ℕ) (index : List ℤ) (flags : List Bool) where
-  pub length-flagged_parts : length (flagged_parts lengths index flags) ≡ length lengths
-  length-flagged_parts =
+  pub length-flagged : length (flagged_in_segments lengths index flags) ≡ length lengths
+  length-flagged =
       omega (
         arith,
-        length-map (zip (cut_of lengths index) (cut_of lengths flags)) flagged_part,
+        length-map (zip (cut_of lengths index) (cut_of lengths flags)) flagged_segment,
         length-zip (cut_of lengths index) (cut_of lengths flags),
         length-cut lengths index,
         length-cut lengths flags,
       )
 
-  pub flagged_part_at : (s : ℕ) → s < length lengths
-      → get_or (flagged_parts lengths index flags) s (0, [])
+  pub flagged_segment_at : (s : ℕ) → s < length lengths
+      → get_or (flagged_in_segments lengths index flags) s (0, [])
       ≡ (
         count_of (take (get_or lengths s 0) (drop (sum (take s lengths)) flags)),
         flagged_destinations (take (get_or lengths s 0) (drop (sum (take s lengths)) index))
             (take (get_or lengths s 0) (drop (sum (take s lengths)) flags)),
       )
-  flagged_part_at s lt =
+  flagged_segment_at s lt =
       let long = length-cut lengths index in
       let flag_long = length-cut lengths flags in
-      get_or-map flagged_part (zip (cut_of lengths index) (cut_of lengths flags)) s ([], []) (0, []) (omega (arith, length-zip (cut_of lengths index) (cut_of lengths flags)))
-      ∙ ap flagged_part (get_or-zip (cut_of lengths index) (cut_of lengths flags) s ([], []) (omega arith) (omega arith))
+      get_or-map flagged_segment (zip (cut_of lengths index) (cut_of lengths flags)) s ([], []) (0, []) (omega (arith, length-zip (cut_of lengths index) (cut_of lengths flags)))
+      ∙ ap flagged_segment (get_or-zip (cut_of lengths index) (cut_of lengths flags) s ([], []) (omega arith) (omega arith))
       ∙ (λ i. (count_of (cut_at lengths flags s lt i), flagged_destinations (cut_at lengths index s lt i) (cut_at lengths flags s lt i)))
 
-  pub places-flagged_parts : sum lengths ≡ length flags → places_in (flagged_parts lengths index flags) ≡ count_of flags
-  places-flagged_parts total =
+  pub places-flagged : sum lengths ≡ length flags → places_in (flagged_in_segments lengths index flags) ≡ count_of flags
+  places-flagged total =
       let n = length lengths in
       let all : sum (take n lengths) ≡ length flags = ap sum (take_all n lengths (omega arith)) ∙ total in
-      ap places_in (sym (take_all n (flagged_parts lengths index flags) (omega (arith, length-flagged_parts))))
+      ap places_in (sym (take_all n (flagged_in_segments lengths index flags) (omega (arith, length-flagged))))
       ∙ flagged_places_ahead lengths index flags n
       ∙ ap count_of (take_all (sum (take n lengths)) flags (omega (arith, all)))
 
--- ---- how many places and destinations the parts before a segment have
+-- ---- how many places and destinations the segments before one have
 
-pub each_long : (lengths widths : List ℕ) (index : List ℤ) → sum lengths ≤ length index → length lengths ≡ length widths → map (λ p. length p.1) (parts_of lengths widths index) ≡ lengths
+pub each_long : (lengths widths : List ℕ) (index : List ℤ) → sum lengths ≤ length index → length lengths ≡ length widths → map (λ p. length p.1) (all_in_segments lengths widths index) ≡ lengths
 each_long lengths widths index total count =
     let segments = cut_of lengths index in
     let long : length (map all_destinations segments) ≡ length widths = omega (arith, length-map segments all_destinations, length-cut lengths index, count) in
-    sym (map-map length (λ (p : ℕ × List (Option ℤ)). p.1) (parts_of lengths widths index)) ∙ ap (map length) (seconds-zip widths (map all_destinations segments) long)
+    sym (map-map length (λ (p : ℕ × List (Option ℤ)). p.1) (all_in_segments lengths widths index)) ∙ ap (map length) (seconds-zip widths (map all_destinations segments) long)
     ∙ map-map length all_destinations segments ∙ (λ i. map (λ js. length-all_destinations js i) segments) ∙ lengths-cut lengths index total
 
-pub destinations-parts : (lengths widths : List ℕ) (index : List ℤ) → sum lengths ≡ length index → length lengths ≡ length widths → destinations_in (parts_of lengths widths index) ≡ length index
-destinations-parts lengths widths index total count = ap sum (each_long lengths widths index (omega (arith, total)) count) ∙ total
+pub destinations-all : (lengths widths : List ℕ) (index : List ℤ) → sum lengths ≡ length index → length lengths ≡ length widths → destinations_in (all_in_segments lengths widths index) ≡ length index
+destinations-all lengths widths index total count = ap sum (each_long lengths widths index (omega (arith, total)) count) ∙ total
 
 module _ (lengths widths : List ℕ) (index : List ℤ) (count : length lengths ≡ length widths) (s : ℕ) where
-  pub places_ahead : places_in (take s (parts_of lengths widths index)) ≡ sum (take s widths)
+  pub places_ahead : places_in (take s (all_in_segments lengths widths index)) ≡ sum (take s widths)
   places_ahead =
-      ap sum (sym (take-map (λ (p : ℕ × List (Option ℤ)). p.0) s (parts_of lengths widths index))
+      ap sum (sym (take-map (λ (p : ℕ × List (Option ℤ)). p.0) s (all_in_segments lengths widths index))
       ∙ ap (take s) (firsts-zip widths (map all_destinations (cut_of lengths index)) (omega (arith, length-map (cut_of lengths index) all_destinations, length-cut lengths index, count))))
 
-  pub destinations_ahead : sum lengths ≡ length index → destinations_in (take s (parts_of lengths widths index)) ≡ sum (take s lengths)
+  pub destinations_ahead : sum lengths ≡ length index → destinations_in (take s (all_in_segments lengths widths index)) ≡ sum (take s lengths)
   destinations_ahead total =
-      ap sum (sym (take-map (λ (p : ℕ × List (Option ℤ)). length p.1) s (parts_of lengths widths index)) ∙ ap (take s) (each_long lengths widths index (omega (arith, total)) count))
+      ap sum (sym (take-map (λ (p : ℕ × List (Option ℤ)). length p.1) s (all_in_segments lengths widths index)) ∙ ap (take s) (each_long lengths widths index (omega (arith, total)) count))
 
 pub flagged_long : (lengths : List ℕ) (index : List ℤ) (flags : List Bool) → sum lengths ≤ length index → sum lengths ≤ length flags
-    → map (λ p. length p.1) (flagged_parts lengths index flags) ≡ lengths
+    → map (λ p. length p.1) (flagged_in_segments lengths index flags) ≡ lengths
 flagged_long [] index flags total flag_total = refl
 flagged_long (n ∷ ns) index flags total flag_total =
     let all = sum-cons n ns in
@@ -227,26 +227,26 @@ flagged_long (n ∷ ns) index flags total flag_total =
     let rest = flagged_long ns (drop n index) (drop n flags) (omega (arith, all, total, length-drop n index)) (omega (arith, all, flag_total, length-drop n flags)) in
     λ i. here i ∷ rest i
 
-pub destinations-flagged_parts : (lengths : List ℕ) (index : List ℤ) (flags : List Bool) → sum lengths ≡ length index → sum lengths ≡ length flags
-    → destinations_in (flagged_parts lengths index flags) ≡ length index
-destinations-flagged_parts lengths index flags total flag_total = ap sum (flagged_long lengths index flags (omega (arith, total)) (omega (arith, flag_total))) ∙ total
+pub destinations-flagged : (lengths : List ℕ) (index : List ℤ) (flags : List Bool) → sum lengths ≡ length index → sum lengths ≡ length flags
+    → destinations_in (flagged_in_segments lengths index flags) ≡ length index
+destinations-flagged lengths index flags total flag_total = ap sum (flagged_long lengths index flags (omega (arith, total)) (omega (arith, flag_total))) ∙ total
 
 pub start_within : (lengths : List ℕ) (s n : ℕ) → sum lengths ≡ n → sum (take s lengths) ≤ n
 start_within lengths s n total = omega (arith, total, sum_by-take-le (λ x. x) lengths s)
 
 -- of a segment's flags no more are true
-pub flagged_width : (lengths : List ℕ) (index : List ℤ) (flags : List Bool) (s : ℕ) → s < length lengths → (get_or (flagged_parts lengths index flags) s (0, [])).0 ≤ get_or lengths s 0
+pub flagged_width : (lengths : List ℕ) (index : List ℤ) (flags : List Bool) (s : ℕ) → s < length lengths → (get_or (flagged_in_segments lengths index flags) s (0, [])).0 ≤ get_or lengths s 0
 flagged_width lengths index flags s lt =
     let fs = take (get_or lengths s 0) (drop (sum (take s lengths)) flags) in
     omega (
       arith,
-      ap (λ (p : ℕ × List (Option ℤ)). p.0) (flagged_part_at lengths index flags s lt),
+      ap (λ (p : ℕ × List (Option ℤ)). p.0) (flagged_segment_at lengths index flags s lt),
       count_by-le-length (λ (flag : Bool). flag) fs,
       length-take (get_or lengths s 0) (drop (sum (take s lengths)) flags),
     )
 
 -- how many there are in all
-pub ruleset part_counts = (length-parts, places-parts, destinations-parts, length-flagged_parts, places-flagged_parts, destinations-flagged_parts)
+pub ruleset segment_counts = (length-all, places-all, destinations-all, length-flagged, places-flagged, destinations-flagged)
 
 -- a list of which each element is read
 pub ruleset mapped = (length-map, take-map)

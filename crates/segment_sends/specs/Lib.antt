@@ -1,3 +1,3 @@
-pub mod Parts
+pub mod SegmentDestinations
 pub mod Shares
 pub use Rattle.permute_walks.specs.Senders

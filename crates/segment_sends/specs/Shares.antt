@@ -5,49 +5,51 @@ use Rattle.fresh.specs.Parts.{part}
 use Rattle.fresh.specs.Places.{Stretch, stretch}
 use Rattle.cvl_base.specs.Limits.{most_places}
 use Rattle.cvl_base.specs.declared.fault.Fault.{Fault}
-use Rattle.segment_sends.specs.Parts.{destinations_in, fault_from, places_in, senders_from}
+use Rattle.segment_sends.specs.SegmentDestinations.{destinations_in, fault_from, places_in, senders_from}
 use Rattle.permute_walks.specs.Senders.{written_over}
 
--- the elements of all parts' senders, written over what stands before
+-- the elements of all segments' senders, written over what stands before
 abbrev pub permuted : {X : Type 0} → List X → List (ℕ × List (Option ℤ)) → List X → List X
-permuted source parts before = written_over source (senders_from 0 parts) before
+permuted source segments before = written_over source (senders_from 0 segments) before
 
 -- what a segment is sent, and in how many places
-abbrev pub part_at : List (ℕ × List (Option ℤ)) → ℕ → ℕ × List (Option ℤ)
-part_at parts s = slice_index_or parts s (0, [])
+abbrev pub segment_at : List (ℕ × List (Option ℤ)) → ℕ → ℕ × List (Option ℤ)
+segment_at segments s = slice_index_or segments s (0, [])
 
 -- the fault of the first bad place of the segments from segment s on
 abbrev pub fault_behind : List (ℕ × List (Option ℤ)) → ℕ → Option Fault
-fault_behind parts s = fault_from (destinations_in (take s parts)) (drop s parts)
+fault_behind segments s = fault_from (destinations_in (take s segments)) (drop s segments)
 
 -- no segment has more places than that
 abbrev pub AreWithin : ℕ → List (ℕ × List (Option ℤ)) → Type 0
-AreWithin widest parts = (s : ℕ) → s < length parts → (part_at parts s).0 ≤ widest
+AreWithin widest segments = (s : ℕ) → s < length segments → (segment_at segments s).0 ≤ widest
 
--- What is sent: the elements, the parts, what stands before in the result, and a number of places that no part exceeds.
+-- What is sent: the elements, the segments' destinations, what stands before in the result, and a number of places that no segment
+-- exceeds.
 pub record Sending (X : Type 0) : Type 0 where
   pub source : List X
-  pub parts : List (ℕ × List (Option ℤ))
+  pub segments : List (ℕ × List (Option ℤ))
   pub before : List X
   pub widest : ℕ
 
 abbrev pub sending : {X : Type 0} → List X → List (ℕ × List (Option ℤ)) → List X → ℕ → Sending X
-sending source parts before widest = record { source = source; parts = parts; before = before; widest = widest }
+sending source segments before widest = record { source = source; segments = segments; before = before; widest = widest }
 
--- The segments from `begin` up to before `end`, whose places an empty run has. What stands before has as many places as all parts.
+-- The segments from `begin` up to before `end`, whose places an empty run has. What stands before has as many places as all
+-- segments.
 pub record IsShare {X : Type 0} (w : Sending X) (begin end : ℕ) (run : Stretch X) : Type 0 where
-  pub few : destinations_in w.parts ≤ most_places
-  pub as_long : places_in w.parts ≡ length w.before
-  pub within : AreWithin w.widest w.parts
+  pub few : destinations_in w.segments ≤ most_places
+  pub as_long : places_in w.segments ≡ length w.before
+  pub within : AreWithin w.widest w.segments
   pub in_order : begin ≤ end
-  pub in_parts : end ≤ length w.parts
-  pub starts : run.first ≡ places_in (take begin w.parts)
-  pub ends : run.first + run.room ≡ places_in (take end w.parts)
+  pub in_segments : end ≤ length w.segments
+  pub starts : run.first ≡ places_in (take begin w.segments)
+  pub ends : run.first + run.room ≡ places_in (take end w.segments)
   pub empty : run.items ≡ []
 
 -- What was written of a share: all its places, and where it is told to be right, the first bad place lies behind it, and the places
 -- hold their part of the result.
 pub record IsWritten {X : Type 0} (w : Sending X) (begin end : ℕ) (run written : Stretch X) (right : Bool) : Type 0 where
   pub full : (items : List X) × (length items ≡ run.room) × (written ≡ stretch run.block run.first items 0)
-  pub no_fault : right ≡ true → fault_behind w.parts begin ≡ fault_behind w.parts end
-  pub items : right ≡ true → written ≡ stretch run.block run.first (part (permuted w.source w.parts w.before) run.first run.room) 0
+  pub no_fault : right ≡ true → fault_behind w.segments begin ≡ fault_behind w.segments end
+  pub items : right ≡ true → written ≡ stretch run.block run.first (part (permuted w.source w.segments w.before) run.first run.room) 0

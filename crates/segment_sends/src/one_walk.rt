@@ -10,7 +10,7 @@ ghost use Rattle.cvl_base.specs.Permutes.{first_fault, wrongs};
 ghost use Rattle.segment_sends.specs.Shares.{IsShare, IsWritten, sending};
 ghost use Rattle.permute_walks.specs.Senders.{nobody, senders_of, written_over};
 
-use crate::segments::{Parts, destinations_before};
+use crate::segment_destinations::{SegmentDestinations, destinations_before};
 use cvl_base::Memory;
 use fresh::Run;
 use permute_walks::{Destinations, NOBODY, element_of, send_places};
@@ -47,7 +47,7 @@ fn push_rest<T: Copy>(run: Run<T>, before: &[T]) -> Run<T>
 }
 
 /// Pushes the elements of one segment, whose first place stands at place `first`; false where one of its places is bad, and then
-/// nothing is pushed. The buffer of senders is as long as the segment's part of the result; each is nobody to begin with, and
+/// nothing is pushed. The buffer of senders is as long as the segment of the result; each is nobody to begin with, and
 /// after elements were pushed.
 #[inline(always)]
 fn push_segment<T: Copy, D: Destinations>(
@@ -76,25 +76,26 @@ fn push_segment<T: Copy, D: Destinations>(
 }
 
 /// Writes the places of the segments from the one numbered `begin` on up to the one before `end`; false where a place of theirs
-/// is bad. The buffer of senders is as long as the widest part of the result, and each is nobody.
-fn write_segments<T: Copy, P: Parts>(
+/// is bad. The buffer of senders is as long as the widest segment of the result, and each is nobody.
+fn write_segments<T: Copy, D: SegmentDestinations>(
     source: &[T],
     before: &[T],
-    parts: &P,
+    segments: &D,
     begin: usize,
     end: usize,
     senders: &mut [u32],
     run: Run<T>,
 ) -> (Run<T>, bool)
-    requires cut { P.AreCut parts.now }
+    requires cut { D.AreCut segments.now }
     requires fresh { senders.old ≡ replicate (length senders.old) nobody }
-    requires share { IsShare (sending source.now (P.parts parts.now) before.now (length senders.old)) begin end run }
-    ensures { IsWritten (sending source.now (P.parts parts.now) before.now (length senders.old)) begin end run result.0 result.1 }
+    requires share { IsShare (sending source.now (D.segments segments.now) before.now (length senders.old)) begin end run }
+    ensures { IsWritten (sending source.now (D.segments segments.now) before.now (length senders.old)) begin end run
+        result.0 result.1 }
 {
     let mut run = run;
-    let mut first = destinations_before(parts, begin);
+    let mut first = destinations_before(segments, begin);
     for s in begin..end {
-        let (places, destinations) = parts.part(s);
+        let (places, destinations) = segments.of_segment(s);
         let (buffer, _) = senders.split_at_mut(places);
         let (next, right) = push_segment(run, source, before, buffer, first, &destinations);
         if !right {
@@ -107,22 +108,22 @@ fn write_segments<T: Copy, P: Parts>(
 }
 
 /// The same by a buffer of its own; false, too, where there is no memory for it.
-pub(crate) fn write_by_buffer<T: Copy, A: Memory, P: Parts>(
+pub(crate) fn write_by_buffer<T: Copy, A: Memory, D: SegmentDestinations>(
     alloc: A,
     source: &[T],
     before: &[T],
-    parts: &P,
+    segments: &D,
     begin: usize,
     end: usize,
     widest: usize,
     run: Run<T>,
 ) -> (Run<T>, bool)
-    requires cut { P.AreCut parts.now }
-    requires share { IsShare (sending source.now (P.parts parts.now) before.now widest) begin end run }
-    ensures { IsWritten (sending source.now (P.parts parts.now) before.now widest) begin end run result.0 result.1 }
+    requires cut { D.AreCut segments.now }
+    requires share { IsShare (sending source.now (D.segments segments.now) before.now widest) begin end run }
+    ensures { IsWritten (sending source.now (D.segments segments.now) before.now widest) begin end run result.0 result.1 }
 {
     match vec![in alloc; NOBODY; widest] {
-        Ok(mut senders) => write_segments(source, before, parts, begin, end, &mut senders, run),
+        Ok(mut senders) => write_segments(source, before, segments, begin, end, &mut senders, run),
         Err(_) => (push_rest(run, before), false),
     }
 }

@@ -3,10 +3,10 @@
 
 ghost use Rattle.std.specs.Prelude.{◌≡◌, ◌≤◌, ◌↔◌, filter_map, length, slice_get, slice_index, sum, ℕ, ◌<◌, IfOk, IsTrue, None};
 ghost use Rattle.cvl_base.specs.Limits.{most_places};
-ghost use Rattle.segment_sends.specs.Parts.{fault_from, parts_of, senders_from};
+ghost use Rattle.segment_sends.specs.SegmentDestinations.{fault_from, all_in_segments, senders_from};
 
 use crate::one_segment::{is_segment_permutation, scatter_segment_over};
-use crate::segments::longest;
+use crate::segment_destinations::longest;
 use cvl_base::{Memory, NoResources};
 use segdes::SegLengths;
 
@@ -16,7 +16,7 @@ fn are_permutations_by(marks: &mut [bool], index: &[i32], d: &SegLengths) -> boo
     requires total { sum d.now ≡ length index.now }
     requires wide { (s : ℕ) → s < length d.now → slice_index d.now s ≤ length marks.old }
     requires in_limit { length index.now ≤ most_places }
-    ensures { IsTrue result ↔ None ≡ fault_from 0 (parts_of d.now d.now index.now) }
+    ensures { IsTrue result ↔ None ≡ fault_from 0 (all_in_segments d.now d.now index.now) }
 {
     let mut first = 0;
     for s in 0..d.count() {
@@ -39,7 +39,7 @@ pub fn are_permutations<A: Memory>(
 ) -> Result<bool, NoResources>
     requires total { sum d.now ≡ length index.now }
     requires in_limit { length index.now ≤ most_places }
-    ensures { IfOk result (λ are. IsTrue are ↔ None ≡ fault_from 0 (parts_of d.now d.now index.now)) }
+    ensures { IfOk result (λ are. IsTrue are ↔ None ≡ fault_from 0 (all_in_segments d.now d.now index.now)) }
 {
     let mut marks = vec![in alloc; false; longest(d)]?;
     Ok(are_permutations_by(&mut marks, index, d))
@@ -51,8 +51,8 @@ pub fn scatter_segments_over<T: Copy>(source: &[T], index: &[i32], d: &SegLength
     requires total { sum d.now ≡ length index.now }
     requires as_long { (length source.now ≡ length index.now) × (length out.old ≡ length index.now) }
     requires in_limit { length index.now ≤ most_places }
-    requires apart { None ≡ fault_from 0 (parts_of d.now d.now index.now) }
-    ensures { out.new ≡ filter_map (slice_get source.now) (senders_from 0 (parts_of d.now d.now index.now)) }
+    requires apart { None ≡ fault_from 0 (all_in_segments d.now d.now index.now) }
+    ensures { out.new ≡ filter_map (slice_get source.now) (senders_from 0 (all_in_segments d.now d.now index.now)) }
 {
     let mut first = 0;
     for s in 0..d.count() {

@@ -15,28 +15,28 @@ use Rattle.permute_walks.specs.Senders.{senders_of}
 use Rattle.cvl_base.proofs.Permutes.{length-all_destinations, length-flagged_destinations}
 use Rattle.segmented_permutes.specs.Backs.{outside_from}
 use Rattle.segmented_permutes.specs.FlatIndices.{flat_index, flat_indices}
-use Rattle.segment_sends.specs.Parts.{fault_from, flagged_parts, parts_of, places_in, senders_from, destinations_in}
+use Rattle.segment_sends.specs.SegmentDestinations.{fault_from, flagged_in_segments, all_in_segments, places_in, senders_from, destinations_in}
 use Rattle.cvl_base.proofs.Lists.{sum-cons}
 use Rattle.segmented_permutes.proofs.Flattened.{fault_flat, first_fault-append, flat_destination, flat_destinations, senders_flat}
 
 -- ---- the walk
 
--- the first s parts are done: their indices are pushed, and the places of the next part begin at `start`
-pub record IsFlatThrough (parts : List (ℕ × List (Option ℤ))) (index : List ℤ) (start s : ℕ) (flat rest : List ℤ) : Type 0 where
-  pub indices_are : flat ++ flat_indices start (drop s parts) rest ≡ flat_indices 0 parts index
-  pub places_left : start + places_in (drop s parts) ≡ places_in parts
-  pub destinations_left : destinations_in (drop s parts) ≡ length rest
+-- the first s segments are done: their indices are pushed, and the places of the next one begin at `start`
+pub record IsFlatThrough (segments : List (ℕ × List (Option ℤ))) (index : List ℤ) (start s : ℕ) (flat rest : List ℤ) : Type 0 where
+  pub indices_are : flat ++ flat_indices start (drop s segments) rest ≡ flat_indices 0 segments index
+  pub places_left : start + places_in (drop s segments) ≡ places_in segments
+  pub destinations_left : destinations_in (drop s segments) ≡ length rest
 
 -- ---- where each place takes part
 
 pub destinations_all : (start : ℕ) (lengths widths : List ℕ) (index : List ℤ) → sum lengths ≤ length index
-    → flat_destinations start (parts_of lengths widths index) ≡ all_destinations (flat_indices start (parts_of lengths widths index) index)
+    → flat_destinations start (all_in_segments lengths widths index) ≡ all_destinations (flat_indices start (all_in_segments lengths widths index) index)
 destinations_all start [] [] index within = refl
 destinations_all start [] (m ∷ ms) index within = refl
 destinations_all start (n ∷ ns) [] index within = refl
 destinations_all start (n ∷ ns) (m ∷ ms) index within =
     let all = sum-cons n ns in
-    let others = parts_of ns ms (drop n index) in
+    let others = all_in_segments ns ms (drop n index) in
     let long : length (all_destinations (take n index)) ≡ n = length-all_destinations (take n index) ∙ length-take-le n index (omega (arith, all, within)) in
     (λ i. (map-map (flat_destination start m) (λ j. Some j) (take n index) ∙ sym (map-map (λ j. Some j) (flat_index start m) (take n index))) i
     ++ destinations_all (start + m) ns ms (drop n index) (omega (arith, all, within, length-drop n index)) i)
@@ -59,14 +59,14 @@ flagged-append (i ∷ index) others [] within = absurd (omega arith)
 flagged-append (i ∷ index) others (f ∷ flags) within = ap (λ rest. destination_if i f ∷ rest) (flagged-append index others flags (omega (arith, within)))
 
 pub destinations_flagged : (start : ℕ) (lengths : List ℕ) (index : List ℤ) (flags : List Bool) → sum lengths ≤ length index → sum lengths ≤ length flags
-    → flat_destinations start (flagged_parts lengths index flags) ≡ flagged_destinations (flat_indices start (flagged_parts lengths index flags) index) flags
+    → flat_destinations start (flagged_in_segments lengths index flags) ≡ flagged_destinations (flat_indices start (flagged_in_segments lengths index flags) index) flags
 destinations_flagged start [] index flags within flag_within = refl
 destinations_flagged start (n ∷ ns) index flags within flag_within =
     let all = sum-cons n ns in
     let js = take n index in
     let fs = take n flags in
     let m = count_of fs in
-    let others = flagged_parts ns (drop n index) (drop n flags) in
+    let others = flagged_in_segments ns (drop n index) (drop n flags) in
     let flat = map (flat_index start m) js in
     let index_long : length js ≡ n = length-take-le n index (omega (arith, all, within)) in
     let flag_long : length fs ≡ n = length-take-le n flags (omega (arith, all, flag_within)) in
@@ -94,7 +94,7 @@ outside_one start m whole (pos a) within =
     ]
 
 pub outside_flat : (place start whole : ℕ) (widths lengths : List ℕ) (index : List ℤ) → length widths ≡ length lengths → sum lengths ≤ length index → start + sum widths ≤ whole
-    → outside_from place widths lengths index ≡ first_outside place whole (flat_indices start (parts_of lengths widths index) index)
+    → outside_from place widths lengths index ≡ first_outside place whole (flat_indices start (all_in_segments lengths widths index) index)
 outside_flat place start whole [] [] index count total within = refl
 outside_flat place start whole [] (n ∷ ns) index count total within = absurd (omega (arith, count))
 outside_flat place start whole (m ∷ ms) [] index count total within = absurd (omega (arith, count))
@@ -102,7 +102,7 @@ outside_flat place start whole (m ∷ ms) (n ∷ ns) index count total within =
     let all = sum-cons n ns in
     let wide = sum-cons m ms in
     let js = take n index in
-    let others = flat_indices (start + m) (parts_of ns ms (drop n index)) (drop n index) in
+    let others = flat_indices (start + m) (all_in_segments ns ms (drop n index)) (drop n index) in
     let index_long : length js ≡ n = length-take-le n index (omega (arith, all, total)) in
     let long : length (all_destinations js) ≡ n = length-all_destinations js ∙ index_long in
     ap (option_or (first_outside place m js)) (outside_flat (place + n) (start + m) whole ms ns (drop n index) (omega (arith, count)) (omega (arith, all, total, length-drop n index))
@@ -112,12 +112,12 @@ outside_flat place start whole (m ∷ ms) (n ∷ ns) index count total within =
     ∙ ap (λ ws. first_fault place (ws ++ map (outside whole) others)) (sym (map-map (outside whole) (flat_index start m) js
     ∙ (λ i. map (λ j. outside_one start m whole j (omega (arith, wide, within)) i) js)))
     ∙ ap (first_fault place) (sym (map-append (outside whole) (map (flat_index start m) js) others))
-    ∙ ap (λ k. first_outside place whole (map (flat_index start m) (take k index) ++ flat_indices (start + m) (parts_of ns ms (drop n index)) (drop k index))) (sym long)
+    ∙ ap (λ k. first_outside place whole (map (flat_index start m) (take k index) ++ flat_indices (start + m) (all_in_segments ns ms (drop n index)) (drop k index))) (sym long)
 
 -- ---- what a race at flat destinations finds
 
-pub raced_flat : (parts : List (ℕ × List (Option ℤ))) (whole : ℕ) (ts : List (Option ℤ)) → places_in parts ≡ whole → ts ≡ flat_destinations 0 parts
-    → unless (first_fault 0 (wrongs whole ts)) (Ok (senders_of 0 ts whole)) ≡ unless (fault_from 0 parts) (Ok (senders_from 0 parts))
-raced_flat parts whole ts wide are =
+pub raced_flat : (segments : List (ℕ × List (Option ℤ))) (whole : ℕ) (ts : List (Option ℤ)) → places_in segments ≡ whole → ts ≡ flat_destinations 0 segments
+    → unless (first_fault 0 (wrongs whole ts)) (Ok (senders_of 0 ts whole)) ≡ unless (fault_from 0 segments) (Ok (senders_from 0 segments))
+raced_flat segments whole ts wide are =
     ap (λ us. unless (first_fault 0 (wrongs whole us)) (Ok (senders_of 0 us whole))) are
-    ∙ (λ i. unless (sym (fault_flat parts whole wide) i) (Ok (sym (senders_flat parts whole wide) i)))
+    ∙ (λ i. unless (sym (fault_flat segments whole wide) i) (Ok (sym (senders_flat segments whole wide) i)))

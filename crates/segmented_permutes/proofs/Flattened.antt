@@ -13,7 +13,7 @@ use Rattle.cvl_base.specs.declared.fault.FaultNo.{FaultNo}
 use Rattle.cvl_base.specs.declared.fault.FaultNo.TheVariants.{IndexOutOfRange, IndexRepeated}
 use Rattle.cvl_base.specs.Permutes.{first_fault, is_destination, wrong_at, wrongs}
 use Rattle.segmented_permutes.specs.FlatIndices.{flat_index}
-use Rattle.segment_sends.specs.Parts.{fault_from, places_in, senders_from}
+use Rattle.segment_sends.specs.SegmentDestinations.{fault_from, places_in, senders_from}
 use Rattle.permute_walks.specs.Senders.{nobody, sender_from, senders_of}
 use Rattle.permute_walks.proofs.Listed.{range_both}
 use Rattle.permute_walks.proofs.Sent.{length-wrongs, other_place, sender_after, wrong_here}
@@ -26,7 +26,7 @@ flat_destination start m t = option_map (flat_index start m) t
 
 abbrev pub flat_destinations : ℕ → List (ℕ × List (Option ℤ)) → List (Option ℤ)
 flat_destinations start [] = []
-flat_destinations start (part ∷ parts) = map (flat_destination start part.0) part.1 ++ flat_destinations (start + part.0) parts
+flat_destinations start (segment ∷ segments) = map (flat_destination start segment.0) segment.1 ++ flat_destinations (start + segment.0) segments
 
 -- whether a destination is a place, in its segment and in the whole
 same_place : (start a d : ℕ) → int_eq (pos (start + a)) (pos (start + d)) ≡ int_eq (pos a) (pos d)
@@ -67,12 +67,12 @@ any_flat : (start m d : ℕ) (ts : List (Option ℤ)) → d < m → list_any (is
 any_flat start m d [] lt = refl
 any_flat start m d (t ∷ ts) lt = (λ i. destination_flat start m d t lt i || any_flat start m d ts lt i)
 
--- no destination of the parts is a place before theirs
-before_parts : (start d : ℕ) (parts : List (ℕ × List (Option ℤ))) → d < start → list_any (is_destination (pos d)) (flat_destinations start parts) ≡ false
-before_parts start d [] lt = refl
-before_parts start d ((m, ts) ∷ parts) lt =
-    list_any-append (is_destination (pos d)) (map (flat_destination start m) ts) (flat_destinations (start + m) parts)
-    ∙ (λ i. none_of start m d ts (λ a in_part same. omega (arith, same, lt)) i || before_parts (start + m) d parts (omega (arith, lt)) i)
+-- no destination of the segments is a place before theirs
+before_segments : (start d : ℕ) (segments : List (ℕ × List (Option ℤ))) → d < start → list_any (is_destination (pos d)) (flat_destinations start segments) ≡ false
+before_segments start d [] lt = refl
+before_segments start d ((m, ts) ∷ segments) lt =
+    list_any-append (is_destination (pos d)) (map (flat_destination start m) ts) (flat_destinations (start + m) segments)
+    ∙ (λ i. none_of start m d ts (λ a in_part same. omega (arith, same, lt)) i || before_segments (start + m) d segments (omega (arith, lt)) i)
 
 -- ---- what is wrong with each destination
 
@@ -149,25 +149,25 @@ first_fault-append place (None ∷ ws) vs =
     first_fault-append (place + 1) ws vs ∙ ap (λ p. option_or (first_fault (place + 1) ws) (first_fault p vs)) (omega arith)
 first_fault-append place (Some number ∷ ws) vs = refl
 
-fault_on : (whole place start : ℕ) (before : List (Option ℤ)) (parts : List (ℕ × List (Option ℤ))) → IsBelow start before → start + places_in parts ≤ whole
-    → first_fault place (wrongs_on whole before (flat_destinations start parts)) ≡ fault_from place parts
+fault_on : (whole place start : ℕ) (before : List (Option ℤ)) (segments : List (ℕ × List (Option ℤ))) → IsBelow start before → start + places_in segments ≤ whole
+    → first_fault place (wrongs_on whole before (flat_destinations start segments)) ≡ fault_from place segments
 fault_on whole place start before [] below within = refl
-fault_on whole place start before ((m, ts) ∷ parts) below within =
+fault_on whole place start before ((m, ts) ∷ segments) below within =
     let flat = map (flat_destination start m) ts in
-    let wide = sum-cons m (map (λ (p : ℕ × List (Option ℤ)). p.0) parts) in
+    let wide = sum-cons m (map (λ (p : ℕ × List (Option ℤ)). p.0) segments) in
     let in_part : start + m ≤ whole = omega (arith, within, wide) in
     let alone : before ++ [] ≡ before = append-nil before in
     let here : wrongs_on whole before flat ≡ wrongs m ts = ap (λ us. wrongs_on whole us flat) (sym alone) ∙ wrongs_flat whole start m before in_part below [] ts ∙ sym (wrongs_alone m ts) in
-    ap (first_fault place) (wrongs_on-append whole before flat (flat_destinations (start + m) parts))
-    ∙ first_fault-append place (wrongs_on whole before flat) (wrongs_on whole (before ++ flat) (flat_destinations (start + m) parts))
+    ap (first_fault place) (wrongs_on-append whole before flat (flat_destinations (start + m) segments))
+    ∙ first_fault-append place (wrongs_on whole before flat) (wrongs_on whole (before ++ flat) (flat_destinations (start + m) segments))
     ∙ (λ i. option_or (first_fault place (here i)) (first_fault (place + (length-wrongs_on whole before flat ∙ length-map ts (flat_destination start m)) i)
-    (wrongs_on whole (before ++ flat) (flat_destinations (start + m) parts))))
+    (wrongs_on whole (before ++ flat) (flat_destinations (start + m) segments))))
     ∙ ap (option_or (first_fault place (wrongs m ts)))
-    (fault_on whole (place + length ts) (start + m) (before ++ flat) parts (below_more whole start m before in_part below ts) (omega (arith, within, wide)))
+    (fault_on whole (place + length ts) (start + m) (before ++ flat) segments (below_more whole start m before in_part below ts) (omega (arith, within, wide)))
 
-pub fault_flat : (parts : List (ℕ × List (Option ℤ))) (whole : ℕ) → places_in parts ≡ whole → fault_from 0 parts ≡ first_fault 0 (wrongs whole (flat_destinations 0 parts))
-fault_flat parts whole same =
-    sym (ap (first_fault 0) (wrongs_alone whole (flat_destinations 0 parts)) ∙ fault_on whole 0 0 [] parts (λ d from. refl) (omega (arith, same)))
+pub fault_flat : (segments : List (ℕ × List (Option ℤ))) (whole : ℕ) → places_in segments ≡ whole → fault_from 0 segments ≡ first_fault 0 (wrongs whole (flat_destinations 0 segments))
+fault_flat segments whole same =
+    sym (ap (first_fault 0) (wrongs_alone whole (flat_destinations 0 segments)) ∙ fault_on whole 0 0 [] segments (λ d from. refl) (omega (arith, same)))
 
 -- ---- the senders
 
@@ -178,7 +178,7 @@ sender_none place d (u ∷ us) none =
     let both = or_parts (is_destination (pos d) u) (list_any (is_destination (pos d)) us) none in
     ap (λ b. if b then place else sender_from (place + 1) us d) both.0 ∙ sender_none (place + 1) d us both.1
 
--- the sender of a place of a part's segment
+-- the sender of a place of a segment
 sender_in : (start m d : ℕ) (us : List (Option ℤ)) (place : ℕ) (ts : List (Option ℤ)) → d < m → list_any (is_destination (pos (start + d))) us ≡ false
     → sender_from place (map (flat_destination start m) ts ++ us) (start + d) ≡ sender_from place ts d
 sender_in start m d us place [] lt none = sender_none place (start + d) us none
@@ -191,22 +191,23 @@ range_same f g a b n each =
     let within : e < n = omega (arith, lt, length-map-range_with_len f a n) in
     get_or-map-range_with_len f a n e (a + e) 0 within refl ∙ each e within ∙ sym (get_or-map-range_with_len g b n e (b + e) 0 within refl))
 
-senders_on : (place start : ℕ) (parts : List (ℕ × List (Option ℤ))) → map (sender_from place (flat_destinations start parts)) (range_with_len start (places_in parts)) ≡ senders_from place parts
+senders_on : (place start : ℕ) (segments : List (ℕ × List (Option ℤ))) → map (sender_from place (flat_destinations start segments)) (range_with_len start (places_in segments))
+    ≡ senders_from place segments
 senders_on place start [] = refl
-senders_on place start ((m, ts) ∷ parts) =
+senders_on place start ((m, ts) ∷ segments) =
     let flat = map (flat_destination start m) ts in
-    let others = flat_destinations (start + m) parts in
+    let others = flat_destinations (start + m) segments in
     let send = sender_from place (flat ++ others) in
     let from_0 = λ (e : ℕ). (let same : 0 + e ≡ e = omega arith in same) in
-    ap (λ n. map send (range_with_len start n)) (sum-cons m (map (λ (p : ℕ × List (Option ℤ)). p.0) parts))
-    ∙ ap (map send) (range_both start m (places_in parts))
-    ∙ map-append send (range_with_len start m) (range_with_len (start + m) (places_in parts))
+    ap (λ n. map send (range_with_len start n)) (sum-cons m (map (λ (p : ℕ × List (Option ℤ)). p.0) segments))
+    ∙ ap (map send) (range_both start m (places_in segments))
+    ∙ map-append send (range_with_len start m) (range_with_len (start + m) (places_in segments))
     ∙ (λ i. range_same send (sender_from place ts) start 0 m (λ e lt.
-    sender_in start m e others place ts lt (before_parts (start + m) (start + e) parts (omega (arith, lt))) ∙ ap (sender_from place ts) (sym (from_0 e))) i
-    ++ range_same send (sender_from (place + length ts) others) (start + m) (start + m) (places_in parts) (λ e lt.
+    sender_in start m e others place ts lt (before_segments (start + m) (start + e) segments (omega (arith, lt))) ∙ ap (sender_from place ts) (sym (from_0 e))) i
+    ++ range_same send (sender_from (place + length ts) others) (start + m) (start + m) (places_in segments) (λ e lt.
     sender_after place (start + m + e) flat others (none_of start m (start + m + e) ts (λ a in_part same. omega (arith, in_part, same)))
     ∙ ap (λ n. sender_from (place + n) others (start + m + e)) (length-map ts (flat_destination start m))) i)
-    ∙ ap (λ rest. senders_of place ts m ++ rest) (senders_on (place + length ts) (start + m) parts)
+    ∙ ap (λ rest. senders_of place ts m ++ rest) (senders_on (place + length ts) (start + m) segments)
 
-pub senders_flat : (parts : List (ℕ × List (Option ℤ))) (whole : ℕ) → places_in parts ≡ whole → senders_from 0 parts ≡ senders_of 0 (flat_destinations 0 parts) whole
-senders_flat parts whole same = sym (senders_on 0 0 parts) ∙ ap (senders_of 0 (flat_destinations 0 parts)) same
+pub senders_flat : (segments : List (ℕ × List (Option ℤ))) (whole : ℕ) → places_in segments ≡ whole → senders_from 0 segments ≡ senders_of 0 (flat_destinations 0 segments) whole
+senders_flat segments whole same = sym (senders_on 0 0 segments) ∙ ap (senders_of 0 (flat_destinations 0 segments)) same

@@ -1,4 +1,4 @@
--- The segmented definitions, told by the parts of all segments.
+-- The segmented definitions, told by the destinations of all segments.
 use Rattle.std.proofs.Common.{◌≡◌, ◌≢◌, ◌∙◌, ℕ, ◌+◌, ◌≤◌, Bool, Bor, List, [], ◌∷◌, length, filter_map, sum, take, drop, refl, sym, ap, length-drop, arith, ℤ, slice_get, Result, Ok, Err}
 use Rattle.std.specs.List.{zip}
 use Rattle.std.proofs.lemmas.List.{drop-drop, length-take-le, take-append-drop}
@@ -16,7 +16,7 @@ use Rattle.cvl_base.specs.Permutes.{all_destinations, back_of, default_of, flagg
 use Rattle.cvl_base.specs.Segmented.{beside, end_to_end, in_vector, of_two, of_three, results_from}
 use Rattle.cvl_base.specs.SegmentedCalls.{seg_back_of, seg_default_of, seg_select_of, seg_simple_of}
 use Rattle.fresh.specs.Parts.{part, length_part}
-use Rattle.segment_sends.specs.Parts.{fault_from, flagged_parts, parts_of, senders_from}
+use Rattle.segment_sends.specs.SegmentDestinations.{fault_from, flagged_in_segments, all_in_segments, senders_from}
 use Rattle.permute_walks.specs.Before.{IsPermuted}
 use Rattle.permute_walks.specs.declared.before.Before.TheVariants as before
 use Rattle.permute_walks.specs.Senders.{nobody, written_over}
@@ -25,7 +25,7 @@ use Rattle.cvl_base.proofs.Lists.{sum-cons}
 use Rattle.cvl_base.proofs.Elementwise.{if_as_long-fits, if_as_long-misfits}
 use Rattle.permute_walks.proofs.Told.{IsSent}
 use Rattle.segment_sends.proofs.AllSent.{flagged_segments_sent, length-senders, length-senders_from, segments_sent}
-use Rattle.segment_sends.proofs.Through.{places-flagged_parts}
+use Rattle.segment_sends.proofs.Through.{places-flagged}
 use Rattle.permute_walks.proofs.EndToEnd.{left_more}
 use Rattle.segmented_permutes.proofs.Joined.{front_taken, front_over}
 use Rattle.cvl_base.proofs.Permutes.{length-all_destinations, length-flagged_destinations}
@@ -36,7 +36,7 @@ module _ {X : Type 0} (lengths : List ℕ) (source : List X) (few : length sourc
   simple_walked : (s place : ℕ) (left : List ℕ) (xs : List X) (is : List ℤ) → drop s lengths ≡ left → sum (take s lengths) ≡ place → xs ≡ drop place source → place + sum left ≡ length source
       → sum left ≡ length is
       → (results_from (in_vector lengths) (of_two simple_of) s (zip (cut_of left xs) (cut_of left is)) >>= λ lists. Ok (joined lists))
-      ≡ unless (fault_from place (parts_of left left is)) (Ok (filter_map (slice_get source) (senders_from place (parts_of left left is))))
+      ≡ unless (fault_from place (all_in_segments left left is)) (Ok (filter_map (slice_get source) (senders_from place (all_in_segments left left is))))
   simple_walked s place [] xs is lefts there at total index_total = refl
   simple_walked s place (n ∷ ns) xs is lefts there at total index_total =
       let on = left_more lengths s n ns lefts in
@@ -47,7 +47,7 @@ module _ {X : Type 0} (lengths : List ℕ) (source : List X) (few : length sourc
       let index_long : length js ≡ n = length-take-le n is (omega (arith, all, index_total)) in
       let long : length ys ≡ length js = length_part source place n (omega (arith, all, total)) ∙ sym index_long in
       front_taken lengths source few s place n n ts (simple_of (take n xs) js) (results_from (in_vector lengths) (of_two simple_of) (s + 1) (zip (cut_of ns (drop n xs)) (cut_of ns (drop n is))))
-      (parts_of ns ns (drop n is)) there (length-all_destinations js ∙ index_long) (omega (arith, all, total))
+      (all_in_segments ns ns (drop n is)) there (length-all_destinations js ∙ index_long) (omega (arith, all, total))
       (ap (λ zs. simple_of (take n zs) js) at ∙ if_as_long-fits ys js (sent_to_all ys ts (length js)) long ∙ ap (sent_to_all ys ts) index_long)
       (simple_walked (s + 1) (place + n) ns (drop n xs) (drop n is) on.0 (omega (arith, on.1, there)) (ap (drop n) at ∙ drop-drop n place source) (omega (arith, all, total))
       (omega (arith, all, index_total, length-drop n is)))
@@ -55,7 +55,7 @@ module _ {X : Type 0} (lengths : List ℕ) (source : List X) (few : length sourc
   select_walked : (s place : ℕ) (left : List ℕ) (xs : List X) (is : List ℤ) (fs : List Bool) → drop s lengths ≡ left → sum (take s lengths) ≡ place → xs ≡ drop place source
       → place + sum left ≡ length source → sum left ≡ length is → sum left ≡ length fs
       → (results_from (in_vector lengths) (of_three select_of) s (zip (zip (cut_of left xs) (cut_of left is)) (cut_of left fs)) >>= λ lists. Ok (joined lists))
-      ≡ unless (fault_from place (flagged_parts left is fs)) (Ok (filter_map (slice_get source) (senders_from place (flagged_parts left is fs))))
+      ≡ unless (fault_from place (flagged_in_segments left is fs)) (Ok (filter_map (slice_get source) (senders_from place (flagged_in_segments left is fs))))
   select_walked s place [] xs is fs lefts there at total index_total flag_total = refl
   select_walked s place (n ∷ ns) xs is fs lefts there at total index_total flag_total =
       let on = left_more lengths s n ns lefts in
@@ -69,7 +69,7 @@ module _ {X : Type 0} (lengths : List ℕ) (source : List X) (few : length sourc
       let flag_long : length js ≡ length gs = index_long ∙ sym (length-take-le n fs (omega (arith, all, flag_total))) in
       front_taken lengths source few s place n (count_of gs) (flagged_destinations js gs) (select_of (take n xs) js gs)
       (results_from (in_vector lengths) (of_three select_of) (s + 1) (zip (zip (cut_of ns (drop n xs)) (cut_of ns (drop n is))) (cut_of ns (drop n fs))))
-      (flagged_parts ns (drop n is) (drop n fs)) there
+      (flagged_in_segments ns (drop n is) (drop n fs)) there
       (length-flagged_destinations js gs flag_long ∙ index_long) (omega (arith, all, total))
       (ap (λ zs. select_of (take n zs) js gs) at ∙ if_as_long-fits ys js (if_as_long js gs sent) long ∙ if_as_long-fits js gs sent flag_long)
       (select_walked (s + 1) (place + n) ns (drop n xs) (drop n is) (drop n fs) on.0 (omega (arith, on.1, there)) (ap (drop n) at ∙ drop-drop n place source) (omega (arith, all, total))
@@ -78,7 +78,7 @@ module _ {X : Type 0} (lengths : List ℕ) (source : List X) (few : length sourc
   default_walked : (s place : ℕ) (left widths : List ℕ) (xs : List X) (is : List ℤ) (defaults : List X) → drop s lengths ≡ left → sum (take s lengths) ≡ place → xs ≡ drop place source
       → place + sum left ≡ length source → sum left ≡ length is → sum widths ≡ length defaults → length left ≡ length widths
       → (results_from (in_vector lengths) (of_three default_of) s (zip (zip (cut_of left xs) (cut_of left is)) (cut_of widths defaults)) >>= λ lists. Ok (joined lists))
-      ≡ unless (fault_from place (parts_of left widths is)) (Ok (written_over source (senders_from place (parts_of left widths is)) defaults))
+      ≡ unless (fault_from place (all_in_segments left widths is)) (Ok (written_over source (senders_from place (all_in_segments left widths is)) defaults))
   default_walked s place [] [] xs is defaults lefts there at total index_total default_total count = refl
   default_walked s place [] (w ∷ ws) xs is defaults lefts there at total index_total default_total count = absurd (omega (arith, count))
   default_walked s place (n ∷ ns) [] xs is defaults lefts there at total index_total default_total count = absurd (omega (arith, count))
@@ -93,12 +93,14 @@ module _ {X : Type 0} (lengths : List ℕ) (source : List X) (few : length sourc
       let index_long : length js ≡ n = length-take-le n is (omega (arith, all, index_total)) in
       let long : length ys ≡ length js = length_part source place n (omega (arith, all, total)) ∙ sym index_long in
       front_over lengths source few s place n w ts (default_of (take n xs) js ds)
-      (results_from (in_vector lengths) (of_three default_of) (s + 1) (zip (zip (cut_of ns (drop n xs)) (cut_of ns (drop n is))) (cut_of ws (drop w defaults)))) (parts_of ns ws (drop n is)) there
+      (results_from (in_vector lengths) (of_three default_of) (s + 1) (zip (zip (cut_of ns (drop n xs)) (cut_of ns (drop n is))) (cut_of ws (drop w defaults))))
+      (all_in_segments ns ws (drop n is)) there
       (length-all_destinations js ∙ index_long) (omega (arith, all, total)) ds (drop w defaults) (length-take-le w defaults (omega (arith, wide, default_total)))
       (ap (λ zs. default_of (take n zs) js ds) at ∙ if_as_long-fits ys js (sent_over ys ts ds) long)
       (default_walked (s + 1) (place + n) ns ws (drop n xs) (drop n is) (drop w defaults) on.0 (omega (arith, on.1, there)) (ap (drop n) at ∙ drop-drop n place source) (omega (arith, all, total))
       (omega (arith, all, index_total, length-drop n is)) (omega (arith, wide, default_total, length-drop w defaults)) (omega (arith, count)))
-      ∙ ap (λ zs. unless (fault_from place (parts_of (n ∷ ns) (w ∷ ws) is)) (Ok (written_over source (senders_from place (parts_of (n ∷ ns) (w ∷ ws) is)) zs))) (take-append-drop w defaults)
+      ∙ ap (λ zs. unless (fault_from place (all_in_segments (n ∷ ns) (w ∷ ws) is)) (Ok (written_over source (senders_from place (all_in_segments (n ∷ ns) (w ∷ ws) is)) zs)))
+      (take-append-drop w defaults)
 
 -- ---- the arguments of the segments
 
@@ -141,7 +143,8 @@ module _ {X : Type 0} (source : List X) (index : List ℤ) (lengths : List ℕ) 
     small : length source ≤ nobody
     small = omega (arith, total, index_total, few)
 
-    pub seg_simple_sent : IsSent source (seg_simple_of source index lengths) (fault_from 0 (parts_of lengths lengths index)) (senders_from 0 (parts_of lengths lengths index)) (length index)
+    pub seg_simple_sent : IsSent source (seg_simple_of source index lengths) (fault_from 0 (all_in_segments lengths lengths index))
+        (senders_from 0 (all_in_segments lengths lengths index)) (length index)
     seg_simple_sent = record {
       is = ap (end_to_end (in_vector lengths) (of_two simple_of)) nested
           ∙ simple_walked lengths source small 0 0 lengths source index refl refl refl (omega (arith, total)) index_total;
@@ -150,24 +153,24 @@ module _ {X : Type 0} (source : List X) (index : List ℤ) (lengths : List ℕ) 
     }
 
     pub seg_select_sent : (flags : List Bool) → sum lengths ≡ length flags
-        → IsSent source (seg_select_of source index flags lengths) (fault_from 0 (flagged_parts lengths index flags)) (senders_from 0 (flagged_parts lengths index flags)) (count_of flags)
+        → IsSent source (seg_select_of source index flags lengths) (fault_from 0 (flagged_in_segments lengths index flags)) (senders_from 0 (flagged_in_segments lengths index flags)) (count_of flags)
     seg_select_sent flags flag_total = record {
       is = ap (end_to_end (in_vector lengths) (of_three select_of)) (beside-fits (beside (nest lengths source) (nest lengths index)) segments lengths flags nested flag_total many)
           ∙ select_walked lengths source small 0 0 lengths source index flags refl refl refl (omega (arith, total)) index_total flag_total;
       sent = flagged_segments_sent (length source) small lengths index flags index_total flag_total (omega (arith, total, index_total));
-      as_many = length-senders_from 0 (flagged_parts lengths index flags) ∙ places-flagged_parts lengths index flags flag_total;
+      as_many = length-senders_from 0 (flagged_in_segments lengths index flags) ∙ places-flagged lengths index flags flag_total;
     }
 
     pub seg_default_sent : (defaults : Bor (List X)) (widths : List ℕ) → sum widths ≡ length defaults.now → length lengths ≡ length widths
-        → IsPermuted source (before.Defaults defaults) (seg_default_of source index defaults.now lengths widths) (fault_from 0 (parts_of lengths widths index))
-        (senders_from 0 (parts_of lengths widths index))
+        → IsPermuted source (before.Defaults defaults) (seg_default_of source index defaults.now lengths widths) (fault_from 0 (all_in_segments lengths widths index))
+        (senders_from 0 (all_in_segments lengths widths index))
     seg_default_sent defaults widths default_total count =
-        let parts = parts_of lengths widths index in
+        let sent = all_in_segments lengths widths index in
         record {
           is = λ stands same.
               ap (end_to_end (in_vector lengths) (of_three default_of))
               (beside-fits (beside (nest lengths source) (nest lengths index)) segments widths defaults.now nested default_total (many ∙ count))
               ∙ default_walked lengths source small 0 0 lengths widths source index defaults.now refl refl refl (omega (arith, total)) index_total default_total count
-              ∙ ap (λ xs. unless (fault_from 0 parts) (Ok (written_over source (senders_from 0 parts) xs))) (sym same);
+              ∙ ap (λ xs. unless (fault_from 0 sent) (Ok (written_over source (senders_from 0 sent) xs))) (sym same);
           as_many = length-senders lengths widths index count ∙ default_total;
         }

@@ -8,8 +8,9 @@ use Rattle.cvl_base.specs.Permutes.{is_place}
 abbrev pub flat_index : ℕ → ℕ → ℤ → ℤ
 flat_index start m i = if is_place m i then pos (start + unsigned_abs i) else negsuc 0
 
--- those of all parts, which have an index for each of their destinations; the places of the first part begin at `start`
+-- those of all segments, which have an index for each of their destinations; the places of the first one begin at `start`
 abbrev pub flat_indices : ℕ → List (ℕ × List (Option ℤ)) → List ℤ → List ℤ
 flat_indices start [] index = []
-flat_indices start (part ∷ parts) index =
-    map (flat_index start part.0) (take (length part.1) index) ++ flat_indices (start + part.0) parts (drop (length part.1) index)
+flat_indices start (segment ∷ segments) index =
+    map (flat_index start segment.0) (take (length segment.1) index)
+    ++ flat_indices (start + segment.0) segments (drop (length segment.1) index)

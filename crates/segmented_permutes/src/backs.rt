@@ -13,7 +13,7 @@ use cvl_base::{Config, Memory, Refused, check_agree};
 use permute_races::{check_indices_raced, permute_pace};
 use permute_walks::{take_in_runs, take_nothing};
 use segdes::{SegDes, check_total};
-use segment_sends::AllParts;
+use segment_sends::AllInSegments;
 use sharing::{Pace, threads_writing};
 use std::thread::Threads;
 
@@ -34,12 +34,12 @@ fn check_indices_raced_by_segments<R: Threads + Sync, A: Memory, G: Gate>(
     ensures { Gives (λ u. u) result (unless (outside_from 0 source_d.now index_d.now index.now) (Ok tt)) }
 {
     let places = source_d.total();
-    let parts = AllParts {
+    let segments = AllInSegments {
         index,
         d: index_d,
         result_d: source_d,
     };
-    let flat = flat_indices(alloc, &parts, index)?;
+    let flat = flat_indices(alloc, &segments, index)?;
     check_indices_raced(rt, alloc, pace, &flat, places, gate)
 }
 

@@ -6,7 +6,7 @@ ghost use Rattle.cvl_base.specs.Gives.{Gives, unless};
 ghost use Rattle.cvl_base.specs.Limits.{most_elements};
 ghost use Rattle.cvl_base.specs.Packs.{count_of};
 ghost use Rattle.permutes.specs.Ways.{RacesWithin};
-ghost use Rattle.segment_sends.specs.Parts.{fault_from, flagged_parts, parts_of, senders_from};
+ghost use Rattle.segment_sends.specs.SegmentDestinations.{fault_from, flagged_in_segments, all_in_segments, senders_from};
 
 use crate::flat_indices::flat_indices;
 use crew::Gate;
@@ -15,7 +15,7 @@ use permute_races::senders_raced;
 use permute_walks::{AllDestinations, FlaggedDestinations};
 use permutes::Way;
 use segdes::SegDes;
-use segment_sends::{AllParts, FlaggedParts, segment_senders_alone};
+use segment_sends::{AllInSegments, FlaggedInSegments, segment_senders_alone};
 use std::thread::Threads;
 
 /// For each of so many places of a result with segments of its own lengths its sender, for which workers race at flat indices, or
@@ -35,18 +35,18 @@ pub(crate) fn segment_senders<R: Threads + Sync, A: Memory, G: Gate>(
     requires whole { sum result_d.now ≡ places }
     requires in_limit { length index.now ≤ most_elements }
     requires few_places { RacesWithin places way }
-    ensures senders { Gives (λ v. v.items) result (unless (fault_from 0 (parts_of d.now result_d.now index.now))
-        (Ok (senders_from 0 (parts_of d.now result_d.now index.now)))) }
+    ensures senders { Gives (λ v. v.items) result (unless (fault_from 0 (all_in_segments d.now result_d.now index.now))
+        (Ok (senders_from 0 (all_in_segments d.now result_d.now index.now)))) }
     ensures as_long { IfOk result (λ v. vec_len v ≡ places) }
 {
-    let parts = AllParts { index, d, result_d };
+    let segments = AllInSegments { index, d, result_d };
     match way.pace() {
         Some(pace) => {
-            let flat = flat_indices(alloc, &parts, index)?;
+            let flat = flat_indices(alloc, &segments, index)?;
             let destinations = AllDestinations { index: &flat };
             senders_raced(rt, alloc, pace, places, &destinations, gate)
         }
-        None => segment_senders_alone(alloc, places, &parts),
+        None => segment_senders_alone(alloc, places, &segments),
     }
 }
 
@@ -67,20 +67,20 @@ pub(crate) fn flagged_segment_senders<R: Threads + Sync, A: Memory, G: Gate>(
     requires whole { count_of flags.now ≡ places }
     requires in_limit { length index.now ≤ most_elements }
     requires few_places { RacesWithin places way }
-    ensures senders { Gives (λ v. v.items) result (unless (fault_from 0 (flagged_parts d.now index.now flags.now))
-        (Ok (senders_from 0 (flagged_parts d.now index.now flags.now)))) }
+    ensures senders { Gives (λ v. v.items) result (unless (fault_from 0 (flagged_in_segments d.now index.now flags.now))
+        (Ok (senders_from 0 (flagged_in_segments d.now index.now flags.now)))) }
     ensures as_long { IfOk result (λ v. vec_len v ≡ places) }
 {
-    let parts = FlaggedParts { index, flags, d };
+    let segments = FlaggedInSegments { index, flags, d };
     match way.pace() {
         Some(pace) => {
-            let flat = flat_indices(alloc, &parts, index)?;
+            let flat = flat_indices(alloc, &segments, index)?;
             let destinations = FlaggedDestinations {
                 index: &flat,
                 flags,
             };
             senders_raced(rt, alloc, pace, places, &destinations, gate)
         }
-        None => segment_senders_alone(alloc, places, &parts),
+        None => segment_senders_alone(alloc, places, &segments),
     }
 }

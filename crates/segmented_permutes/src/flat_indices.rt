@@ -4,11 +4,11 @@
 ghost use Rattle.std.specs.Prelude.{◌≡◌, ◌+◌, ◌≤◌, ◌++◌, IfOk, length, map, vec_capacity, vec_len};
 ghost use Rattle.cvl_base.specs.Limits.{most_places};
 ghost use Rattle.segmented_permutes.specs.FlatIndices.{flat_index, flat_indices};
-ghost use Rattle.segment_sends.specs.Parts.{destinations_in, places_in};
+ghost use Rattle.segment_sends.specs.SegmentDestinations.{destinations_in, places_in};
 
 use cvl_base::{Memory, NoResources, place_among};
 use permute_walks::Destinations;
-use segment_sends::{Parts, segment_count};
+use segment_sends::{SegmentDestinations, segment_count};
 use std::alloc::Allocator;
 
 /// The flat index of an index that is no place of its segment. It is no place of the whole either.
@@ -39,23 +39,23 @@ fn push_flat<A: Allocator>(flat: &mut Vec<i32, A>, start: usize, places: usize, 
     }
 }
 
-/// The flat indices of all parts, which have as many destinations as there are indices.
-pub(crate) fn flat_indices<P: Parts, A: Memory>(
+/// The flat indices of all segments, which have as many destinations as there are indices.
+pub(crate) fn flat_indices<D: SegmentDestinations, A: Memory>(
     alloc: A,
-    parts: &P,
+    segments: &D,
     index: &[i32],
 ) -> Result<Vec<i32, A>, NoResources>
-    requires cut { P.AreCut parts.now }
-    requires as_long { destinations_in (P.parts parts.now) ≡ length index.now }
-    requires in_limit { places_in (P.parts parts.now) ≤ most_places }
-    ensures are { IfOk result (λ flat. flat.items ≡ flat_indices 0 (P.parts parts.now) index.now) }
+    requires cut { D.AreCut segments.now }
+    requires as_long { destinations_in (D.segments segments.now) ≡ length index.now }
+    requires in_limit { places_in (D.segments segments.now) ≤ most_places }
+    ensures are { IfOk result (λ flat. flat.items ≡ flat_indices 0 (D.segments segments.now) index.now) }
     ensures as_long { IfOk result (λ flat. length flat.items ≡ length index.now) }
 {
     let mut flat = Vec::with_capacity(alloc, index.len())?;
     let mut rest = index;
     let mut start = 0;
-    for s in 0..segment_count(parts) {
-        let (places, destinations) = parts.part(s);
+    for s in 0..segment_count(segments) {
+        let (places, destinations) = segments.of_segment(s);
         let (segment, others) = rest.split_at(destinations.count());
         push_flat(&mut flat, start, places, segment);
         rest = others;

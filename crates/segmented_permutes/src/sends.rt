@@ -13,7 +13,7 @@ use cvl_base::{Config, Memory, Refused, check_agree, true_count};
 use permute_walks::Before;
 use permutes::elements_of_senders;
 use segdes::{SegDes, check_total};
-use segment_sends::{AllParts, FlaggedParts};
+use segment_sends::{AllInSegments, FlaggedInSegments};
 use std::thread::Threads;
 
 /// The simple permute of each segment: `smp_pez` and `smp_peb`.
@@ -54,13 +54,13 @@ pub fn seg_simple_gated<T: Copy + Send + Sync, R: Threads + Sync, A: Memory, G: 
 {
     check_total(source, d)?;
     check_total(index, d)?;
-    let parts = AllParts {
+    let segments = AllInSegments {
         index,
         d,
         result_d: d,
     };
     let before = Before::Any(source);
-    let (in_one, way) = permuted_in_one(rt, alloc, config, source, &parts, before)?;
+    let (in_one, way) = permuted_in_one(rt, alloc, config, source, &segments, before)?;
     if let Some(elements) = in_one {
         return Ok(elements);
     }
@@ -110,11 +110,11 @@ pub fn seg_select_gated<T: Copy + Send + Sync, R: Threads + Sync, A: Memory, G: 
     check_total(source, d)?;
     check_total(index, d)?;
     check_total(flags, d)?;
-    let parts = FlaggedParts { index, flags, d };
+    let segments = FlaggedInSegments { index, flags, d };
     let places = true_count(flags);
     let (values, _) = source.split_at(places);
     let before = Before::Any(values);
-    let (in_one, way) = permuted_in_one(rt, alloc, config, source, &parts, before)?;
+    let (in_one, way) = permuted_in_one(rt, alloc, config, source, &segments, before)?;
     if let Some(elements) = in_one {
         return Ok(elements);
     }
@@ -170,14 +170,14 @@ pub fn seg_default_into_gated<T: Copy + Send + Sync, R: Threads + Sync, A: Memor
     check_total(index, source_d)?;
     check_total(defaults, default_d)?;
     check_agree(source_d.count(), default_d.count())?;
-    let parts = AllParts {
+    let segments = AllInSegments {
         index,
         d: source_d,
         result_d: default_d,
     };
     let places = defaults.len();
     let before = Before::Defaults(defaults);
-    let (in_one, way) = permuted_in_one(rt, alloc, config, source, &parts, before)?;
+    let (in_one, way) = permuted_in_one(rt, alloc, config, source, &segments, before)?;
     if let Some(elements) = in_one {
         return Ok(elements);
     }

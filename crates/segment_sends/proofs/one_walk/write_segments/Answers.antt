@@ -24,35 +24,35 @@ module _ (senders : List ℕ) (n : ℕ) (fresh : senders ≡ replicate (length s
 pub loop-s-init : goal.loop-s-init
 loop-s-init g c = record { walked = walked_none c.requires.share c.destinations_before-first.result c.destinations_before-first.ensures; fresh = c.requires.fresh }
 
-pub part-places-requires-clause-within : goal.part-places-requires-clause-within
-part-places-requires-clause-within g c = omega (arith, c.loop-s-test.true, c.requires.share.in_parts)
+pub of_segment-places-requires-clause-within : goal.of_segment-places-requires-clause-within
+of_segment-places-requires-clause-within g c = omega (arith, c.loop-s-test.true, c.requires.share.in_segments)
 
 pub split_at_mut-buffer-requires : goal.split_at_mut-buffer-requires
 split_at_mut-buffer-requires g c =
     let share = c.requires.share in
-    omega (arith, c.loop-s.auto.senders, walked_within share c.loop-s.auto.s (c.loop-s.auto.s-end share.in_order) c.loop-s.invariant.walked c.loop-s-test.true c.part-places.ensures refl)
+    omega (arith, c.loop-s.auto.senders, walked_within share c.loop-s.auto.s (c.loop-s.auto.s-end share.in_order) c.loop-s.invariant.walked c.loop-s-test.true c.of_segment-places.ensures refl)
 
 pub push_segment-next-requires-clause-fresh : goal.push_segment-next-requires-clause-fresh
 push_segment-next-requires-clause-fresh g c =
     let share = c.requires.share in
-    front_fresh c.loop-s.senders c.part-places.result.0 c.loop-s.invariant.fresh
-    (omega (arith, c.loop-s.auto.senders, walked_within share c.loop-s.auto.s (c.loop-s.auto.s-end share.in_order) c.loop-s.invariant.walked c.loop-s-test.true c.part-places.ensures refl))
+    front_fresh c.loop-s.senders c.of_segment-places.result.0 c.loop-s.invariant.fresh
+    (omega (arith, c.loop-s.auto.senders, walked_within share c.loop-s.auto.s (c.loop-s.auto.s-end share.in_order) c.loop-s.invariant.walked c.loop-s-test.true c.of_segment-places.ensures refl))
     c.split_at_mut-buffer.result.0.now c.split_at_mut-buffer.ensures.front
 
 pub push_segment-next-requires-clause-room : goal.push_segment-next-requires-clause-room
 push_segment-next-requires-clause-room g c =
     let share = c.requires.share in
-    walked_room share c.loop-s.auto.s (c.loop-s.auto.s-end share.in_order) c.loop-s.invariant.walked c.loop-s-test.true c.part-places.ensures c.split_at_mut-buffer.ensures.front_len
+    walked_room share c.loop-s.auto.s (c.loop-s.auto.s-end share.in_order) c.loop-s.invariant.walked c.loop-s-test.true c.of_segment-places.ensures c.split_at_mut-buffer.ensures.front_len
 
 pub push_segment-next-requires-clause-within : goal.push_segment-next-requires-clause-within
 push_segment-next-requires-clause-within g c =
     let share = c.requires.share in
-    walked_before share c.loop-s.auto.s (c.loop-s.auto.s-end share.in_order) c.loop-s.invariant.walked c.loop-s-test.true c.part-places.ensures c.split_at_mut-buffer.ensures.front_len
+    walked_before share c.loop-s.auto.s (c.loop-s.auto.s-end share.in_order) c.loop-s.invariant.walked c.loop-s-test.true c.of_segment-places.ensures c.split_at_mut-buffer.ensures.front_len
 
 pub push_segment-next-requires-clause-in_limit : goal.push_segment-next-requires-clause-in_limit
 push_segment-next-requires-clause-in_limit g c =
     let share = c.requires.share in
-    walked_limit share c.loop-s.auto.s (c.loop-s.auto.s-end share.in_order) c.loop-s.invariant.walked c.loop-s-test.true c.part-places.ensures c.split_at_mut-buffer.ensures.front_len
+    walked_limit share c.loop-s.auto.s (c.loop-s.auto.s-end share.in_order) c.loop-s.invariant.walked c.loop-s-test.true c.of_segment-places.ensures c.split_at_mut-buffer.ensures.front_len
 
 pub push_rest-requires : goal.push_rest-requires
 push_rest-requires g c =
@@ -69,21 +69,22 @@ returns-then-not-right g c =
 pub overflow_add-first : goal.overflow_add-first
 overflow_add-first g c =
     let share = c.requires.share in
-    let limit = walked_limit share c.loop-s.auto.s (c.loop-s.auto.s-end share.in_order) c.loop-s.invariant.walked c.loop-s-test.true c.part-places.ensures c.split_at_mut-buffer.ensures.front_len in
+    let limit = walked_limit share c.loop-s.auto.s (c.loop-s.auto.s-end share.in_order) c.loop-s.invariant.walked c.loop-s-test.true
+    c.of_segment-places.ensures c.split_at_mut-buffer.ensures.front_len in
     let within : c.loop-s.first + c.count-first.result ≤ most_places = omega (arith, c.count-first.ensures, limit) in
     search rules
 
 pub loop-s-preserved : goal.loop-s-preserved
 loop-s-preserved g c =
     let share = c.requires.share in
-    let walked = walked_more share c.loop-s.auto.s (c.loop-s.auto.s-end share.in_order) c.loop-s.invariant.walked c.loop-s-test.true c.part-places.ensures c.split_at_mut-buffer.ensures.front_len
+    let walked = walked_more share c.loop-s.auto.s (c.loop-s.auto.s-end share.in_order) c.loop-s.invariant.walked c.loop-s-test.true c.of_segment-places.ensures c.split_at_mut-buffer.ensures.front_len
     c.push_segment-next.result.0
     (c.push_segment-next.ensures.right c.if-not-right.false) (c.push_segment-next.ensures.pushed c.if-not-right.false) (c.loop-s.first + c.count-first.result)
     (ap (λ k. c.loop-s.first + k) c.count-first.ensures) in
     record {
       walked = walked;
-      fresh = fresh_again c.loop-s.senders c.part-places.result.0 c.loop-s.invariant.fresh
-          (omega (arith, c.loop-s.auto.senders, walked_within share c.loop-s.auto.s (c.loop-s.auto.s-end share.in_order) c.loop-s.invariant.walked c.loop-s-test.true c.part-places.ensures refl))
+      fresh = fresh_again c.loop-s.senders c.of_segment-places.result.0 c.loop-s.invariant.fresh
+          (omega (arith, c.loop-s.auto.senders, walked_within share c.loop-s.auto.s (c.loop-s.auto.s-end share.in_order) c.loop-s.invariant.walked c.loop-s-test.true c.of_segment-places.ensures refl))
           c.split_at_mut-buffer.result.0.now c.push_segment-next.new.senders c.split_at_mut-buffer.result.1.now c.split_at_mut-buffer.ensures.front_len
           (c.push_segment-next.ensures.cleared c.if-not-right.false) c.split_at_mut-buffer.ensures.back;
     }

@@ -18,4 +18,4 @@ pub returns-then-right-clause-as_long : goal.returns-then-right-clause-as_long
 returns-then-right-clause-as_long g c =
     let are = c.into_vec-elements.ensures.items
     ∙ whole_items c.requires.few c.requires.as_long c.requires.within c.in_ok-room.ensures.run c.segment_count-count.ensures c.write_shared-run.ensures c.if-right.true in
-    omega (arith, c.into_vec-elements.result.ok.0, ap length are, length-permuted c.args.source.now (g.P.Parts.parts c.args.parts.now) c.args.before.now c.requires.as_long)
+    omega (arith, c.into_vec-elements.result.ok.0, ap length are, length-permuted c.args.source.now (g.D.SegmentDestinations.segments c.args.segments.now) c.args.before.now c.requires.as_long)

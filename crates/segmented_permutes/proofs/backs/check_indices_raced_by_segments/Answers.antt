@@ -1,16 +1,16 @@
 use Rattle.std.proofs.Common.{◌∙◌, ap, subst, sym, arith, Ok}
 use Rattle.cvl_base.specs.Gives.{Gives, unless}
 use Rattle.permute_walks.specs.Indices.{first_outside}
-use Rattle.segment_sends.proofs.Through.{destinations-parts, places-parts}
+use Rattle.segment_sends.proofs.Through.{destinations-all, places-all}
 use Rattle.segmented_permutes.proofs.FlatIndices.{outside_flat}
 use Rattle.segmented_permutes.proofs.backs.check_indices_raced_by_segments.Goals as goal
 
 pub flat_indices-requires-clause-as_long : goal.flat_indices-requires-clause-as_long
-flat_indices-requires-clause-as_long g c κs within = destinations-parts c.args.index_d.now c.args.source_d.now c.args.index.now c.requires.total (sym c.requires.count)
+flat_indices-requires-clause-as_long g c κs within = destinations-all c.args.index_d.now c.args.source_d.now c.args.index.now c.requires.total (sym c.requires.count)
 
 pub flat_indices-requires-clause-in_limit : goal.flat_indices-requires-clause-in_limit
 flat_indices-requires-clause-in_limit g c κs within =
-    omega (arith, places-parts c.args.index_d.now c.args.source_d.now c.args.index.now (sym c.requires.count), c.total-places.ensures.value, c.total-places.ensures.in_limit)
+    omega (arith, places-all c.args.index_d.now c.args.source_d.now c.args.index.now (sym c.requires.count), c.total-places.ensures.value, c.total-places.ensures.in_limit)
 
 pub returns : goal.returns
 returns g c =

@@ -1,16 +1,16 @@
 use Rattle.std.proofs.Common.{◌∙◌, arith, sym}
 use Rattle.permute_walks.proofs.Told.{sent_permuted}
-use Rattle.segment_sends.proofs.Through.{destinations-flagged_parts, places-flagged_parts}
+use Rattle.segment_sends.proofs.Through.{destinations-flagged, places-flagged}
 use Rattle.segmented_permutes.proofs.Whole.{seg_select_sent}
 use Rattle.segmented_permutes.proofs.over.seg_select_over.Goals as goal
 
 pub permuted_over-requires-clause-few : goal.permuted_over-requires-clause-few
 permuted_over-requires-clause-few g c κs within =
-    omega (arith, destinations-flagged_parts c.args.d.now c.args.index.now c.args.flags.now c.in_ok-check_total-2.ensures.agrees c.in_ok-check_total-3.ensures.agrees, c.requires.in_limit)
+    omega (arith, destinations-flagged c.args.d.now c.args.index.now c.args.flags.now c.in_ok-check_total-2.ensures.agrees c.in_ok-check_total-3.ensures.agrees, c.requires.in_limit)
 
 pub permuted_over-requires-clause-whole : goal.permuted_over-requires-clause-whole
 permuted_over-requires-clause-whole g c κs within =
-    places-flagged_parts c.args.d.now c.args.index.now c.args.flags.now c.in_ok-check_total-3.ensures.agrees ∙ sym c.true_count.ensures.value ∙ sym c.split_at.ensures.front_len
+    places-flagged c.args.d.now c.args.index.now c.args.flags.now c.in_ok-check_total-3.ensures.agrees ∙ sym c.true_count.ensures.value ∙ sym c.split_at.ensures.front_len
 
 pub returns : goal.returns
 returns g c =

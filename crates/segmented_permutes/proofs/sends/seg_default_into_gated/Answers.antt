@@ -1,18 +1,18 @@
 use Rattle.std.proofs.Common.{◌≡◌, ◌∙◌, ap, sym, arith, length, Err}
 use Rattle.std.proofs.lemmas.Result.{err_from_is_err_and}
 use Rattle.permute_walks.proofs.Told.{found_gives}
-use Rattle.segment_sends.proofs.Through.{destinations-parts, places-parts}
+use Rattle.segment_sends.proofs.Through.{destinations-all, places-all}
 use Rattle.segmented_permutes.proofs.Whole.{seg_default-differ, seg_default_sent}
 use Rattle.segmented_permutes.proofs.sends.seg_default_into_gated.Goals as goal
 
 pub permuted_in_one-requires-clause-few : goal.permuted_in_one-requires-clause-few
 permuted_in_one-requires-clause-few g c κs within =
     let count : length c.args.source_d.now ≡ length c.args.default_d.now = omega (arith, c.in_ok-check_agree.ensures) in
-    omega (arith, destinations-parts c.args.source_d.now c.args.default_d.now c.args.index.now c.in_ok-check_total-2.ensures.agrees count, c.requires.in_limit)
+    omega (arith, destinations-all c.args.source_d.now c.args.default_d.now c.args.index.now c.in_ok-check_total-2.ensures.agrees count, c.requires.in_limit)
 
 pub permuted_in_one-requires-clause-whole : goal.permuted_in_one-requires-clause-whole
 permuted_in_one-requires-clause-whole g c κs within =
-    places-parts c.args.source_d.now c.args.default_d.now c.args.index.now (omega (arith, c.in_ok-check_agree.ensures)) ∙ c.in_ok-check_total-3.ensures.agrees
+    places-all c.args.source_d.now c.args.default_d.now c.args.index.now (omega (arith, c.in_ok-check_agree.ensures)) ∙ c.in_ok-check_total-3.ensures.agrees
 
 pub returns-in_err-check_agree-clause-values : goal.returns-in_err-check_agree-clause-values
 returns-in_err-check_agree-clause-values g c =

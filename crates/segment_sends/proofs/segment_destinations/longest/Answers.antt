@@ -2,7 +2,7 @@ use Rattle.std.proofs.Common.{◌≡◌, ◌∙◌, ap, arith, get_or, inl, inr,
 use Rattle.std.proofs.lemmas.Int.{ints}
 use Rattle.std.proofs.lemmas.Bool.{cases_lt}
 use Rattle.segdes.proofs.Sums.{length_at}
-use Rattle.segment_sends.proofs.segments.longest.Goals as goal
+use Rattle.segment_sends.proofs.segment_destinations.longest.Goals as goal
 
 pub loop-length-preserved : goal.loop-length-preserved
 loop-length-preserved c = λ s lt.

@@ -1,4 +1,4 @@
--- The parts of a segmented permute: for each segment how many places its part of the result has, and its destinations.
+-- The destinations of a permute by segments: for each segment how many places it has in the result, and where its own are sent.
 -- Source: CVL's segmented permutes, each of which permutes every segment by itself.
 use Rattle.std.specs.Prelude.{ℕ, ◌+◌, ℤ, Bool, List, [], ◌∷◌, ◌++◌, length, map, sum, Option, None}
 use Rattle.std.specs.List.{zip}
@@ -10,28 +10,28 @@ use Rattle.cvl_base.specs.Permutes.{all_destinations, first_fault, flagged_desti
 use Rattle.permute_walks.specs.Senders.{senders_of}
 
 -- where each place takes part, and the result has segments of its own lengths
-abbrev pub parts_of : List ℕ → List ℕ → List ℤ → List (ℕ × List (Option ℤ))
-parts_of lengths result_lengths index = zip result_lengths (map all_destinations (cut_of lengths index))
+abbrev pub all_in_segments : List ℕ → List ℕ → List ℤ → List (ℕ × List (Option ℤ))
+all_in_segments lengths result_lengths index = zip result_lengths (map all_destinations (cut_of lengths index))
 
 -- where the places take part whose flag is true, and a segment of the result has as many places
-abbrev pub flagged_parts : List ℕ → List ℤ → List Bool → List (ℕ × List (Option ℤ))
-flagged_parts lengths index flags =
+abbrev pub flagged_in_segments : List ℕ → List ℤ → List Bool → List (ℕ × List (Option ℤ))
+flagged_in_segments lengths index flags =
     map (λ p. (count_of p.1, flagged_destinations p.0 p.1)) (zip (cut_of lengths index) (cut_of lengths flags))
 
 -- how many places the result has, and how many destinations there are in all
 abbrev pub places_in : List (ℕ × List (Option ℤ)) → ℕ
-places_in parts = sum (map (λ p. p.0) parts)
+places_in segments = sum (map (λ p. p.0) segments)
 
 abbrev pub destinations_in : List (ℕ × List (Option ℤ)) → ℕ
-destinations_in parts = sum (map (λ p. length p.1) parts)
+destinations_in segments = sum (map (λ p. length p.1) segments)
 
--- the fault of the first bad place of all parts, where the first destination stands at the place given
+-- the fault of the first bad place of all segments, where the first destination stands at the place given
 abbrev pub fault_from : ℕ → List (ℕ × List (Option ℤ)) → Option Fault
 fault_from place [] = None
-fault_from place (part ∷ parts) =
-    option_or (first_fault place (wrongs part.0 part.1)) (fault_from (place + length part.1) parts)
+fault_from place (segment ∷ segments) =
+    option_or (first_fault place (wrongs segment.0 segment.1)) (fault_from (place + length segment.1) segments)
 
--- the senders of all parts, one part after another
+-- the senders of all segments, one after another
 abbrev pub senders_from : ℕ → List (ℕ × List (Option ℤ)) → List ℕ
 senders_from place [] = []
-senders_from place (part ∷ parts) = senders_of place part.1 part.0 ++ senders_from (place + length part.1) parts
+senders_from place (segment ∷ segments) = senders_of place segment.1 segment.0 ++ senders_from (place + length segment.1) segments
