@@ -14,9 +14,9 @@ use operators::monoids::{Add, Max, Min};
 /// The most elements of a block.
 pub(crate) const BLOCK: usize = 512;
 
-/// What is seen at once of elements that stand one after another.
+/// Between which bounds elements lie that stand one after another, and what they add up to.
 #[derive(Drop)]
-pub(crate) struct Look {
+pub(crate) struct Bounds {
     /// The least of them and 0.
     least: i32,
     /// The greatest of them and 0.
@@ -25,9 +25,9 @@ pub(crate) struct Look {
     sum: i32,
 }
 
-/// The look at a block. `before` stands before it.
+/// The bounds of a block. `before` stands before it.
 // the loop has no way out before its end, so that the compiler takes several elements at a time
-pub(crate) fn look_at(before: &i32, block: &[i32]) -> Look
+pub(crate) fn bounds_of(before: &i32, block: &[i32]) -> Bounds
     ensures least { result.least ≡ fold_of lesser_of (pos 0) block.now }
     ensures greatest { result.greatest ≡ fold_of greater_of (pos 0) block.now }
     ensures sum { result.sum ≡ fold_of sum_of before.now block.now }
@@ -38,7 +38,7 @@ pub(crate) fn look_at(before: &i32, block: &[i32]) -> Look
         greatest = Max::apply(greatest, *x);
         sum = Add::apply(sum, *x);
     }
-    Look {
+    Bounds {
         least,
         greatest,
         sum,
@@ -52,7 +52,7 @@ fn reach(from: i32, steps: i32, step: i32) -> i64
     i64::from(from) + i64::from(steps) * i64::from(step)
 }
 
-impl Look {
+impl Bounds {
     /// Whether so many steps from a number on, each of them the least or each of them the greatest element, lead to one of 32
     /// bits.
     pub(crate) fn leads_within(&self, from: i32, steps: i32) -> bool
@@ -70,9 +70,9 @@ fn sum_within(before: &i32, block: &[i32]) -> Option<i32>
     requires { length block.now ≤ most_of_block }
     ensures { IfSome result (λ sum. IsWalked before.now block.now (Ok sum)) }
 {
-    let look = look_at(before, block);
-    if look.leads_within(*before, BLOCK as i32) {
-        return Some(look.sum);
+    let bounds = bounds_of(before, block);
+    if bounds.leads_within(*before, BLOCK as i32) {
+        return Some(bounds.sum);
     }
     None
 }
@@ -94,7 +94,7 @@ pub(crate) fn sum_one_by_one(before: i64, xs: &[i32]) -> Result<i64, usize>
     Ok(so_far)
 }
 
-/// The same of a block, most often by one look at it.
+/// The same of a block, most often by its bounds alone.
 pub(crate) fn sum_of_block(before: i64, block: &[i32]) -> Result<i64, usize>
     requires { length block.now ≤ most_of_block }
     ensures { IsWalked before block.now result }

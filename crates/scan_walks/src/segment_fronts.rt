@@ -9,12 +9,12 @@ ghost use Rattle.cvl_base.specs.Integers.{greater_of};
 ghost use Rattle.range_walks.specs.Ranges.{scans_of};
 ghost use Rattle.scan_walks.specs.Fronts.{fitting_front};
 
-use crate::blocks::look_at;
+use crate::blocks::bounds_of;
 use crate::fronts::{SHORT, fitting_of_scan};
 use operators::Binary;
 use operators::monoids::Max;
 
-/// How many segments are looked at together, so that what a look costs is shared by them. The elements of so many short segments
+/// How many segments are looked at together, so that they share what their bounds cost. The elements of so many short segments
 /// stay in the nearest cache until each segment is looked at by itself, where it has to be.
 const GROUP: usize = 32;
 
@@ -56,7 +56,7 @@ fn extent_of(lengths: &[i32]) -> (usize, i32)
     (total, longest)
 }
 
-/// The same as [`fitting_of_each`], most often by one look at all of the integers, where the longest segment has so many.
+/// The same as [`fitting_of_each`], most often by the bounds of all of the integers, where the longest segment has so many.
 fn fitting_of_group(lengths: &[i32], longest: i32, xs: &[i32]) -> usize
     requires lengths { AreLengthsWithin most_places lengths.now }
     requires longest { longest ≡ fold_of greater_of (pos 0) lengths.now }
@@ -64,7 +64,7 @@ fn fitting_of_group(lengths: &[i32], longest: i32, xs: &[i32]) -> usize
     ensures front { result ≡ fitting_front (scans_of ◌+ℤ◌ (pos 0) (map unsigned_abs lengths.now) xs.now) }
     ensures within { result ≤ length xs.now }
 {
-    if xs.len() <= GROUP * SHORT && look_at(&0, xs).leads_within(0, longest) {
+    if xs.len() <= GROUP * SHORT && bounds_of(&0, xs).leads_within(0, longest) {
         return xs.len();
     }
     fitting_of_each(lengths, xs)

@@ -1,5 +1,5 @@
 use Rattle.scan_walks.proofs.Cited.{◌≡◌, pos, take, fold_of, greater_of, lesser_of, sum_of}
-use Rattle.scan_walks.proofs.blocks.look_at.Given as goal
+use Rattle.scan_walks.proofs.blocks.bounds_of.Given as goal
 
 abbrev pub invariant-loop-x : goal.invariant-loop-x
 invariant-loop-x l = record {
