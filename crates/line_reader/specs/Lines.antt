@@ -38,18 +38,18 @@ abbrev pub is_number_token : List ℕ → Bool
 is_number_token [] = false
 is_number_token (b ∷ bs) = is_ascii_digit b || b == 45
 
-abbrev pub is_truth_token : List ℕ → Bool
-is_truth_token token = pointwise nat_eq token (codes "T") || pointwise nat_eq token (codes "F")
+abbrev pub is_boolean_token : List ℕ → Bool
+is_boolean_token token = pointwise nat_eq token (codes "T") || pointwise nat_eq token (codes "F")
 
 -- a name, `T`, `F` or a number token
 abbrev pub is_arg : List ℕ → Bool
-is_arg token = is_name token || is_truth_token token || is_number_token token
+is_arg token = is_name token || is_boolean_token token || is_number_token token
 
 -- what an argument token stands for; none for a number token that is malformed or outside 32 bits
 abbrev pub arg_of : List ℕ → Option Arg
 arg_of token =
     if is_name token then Some (arg.Name token)
-    else (if is_truth_token token then Some (arg.Boolean (pointwise nat_eq token (codes "T")))
+    else (if is_boolean_token token then Some (arg.Boolean (pointwise nat_eq token (codes "T")))
     else option_map arg.Integer (written_number token))
 
 abbrev pub args_of : List (List ℕ) → Result (List Arg) Fault

@@ -4,7 +4,7 @@ ghost use Rattle.std.specs.Prelude.{◌≡◌};
 ghost use Rattle.cvl_base.specs.Gives.{Gives};
 ghost use Rattle.line_reader.specs.Lines.{arg_of, args_of, line_tokens};
 
-use crate::line_tokens::{LineClasses, is_truth_token};
+use crate::line_tokens::{LineClasses, is_boolean_token};
 use crate::number::number;
 use crate::token::first_token;
 use cvl_base::{Arg, Args, Fault, FaultNo, Memory, Name, Refused};
@@ -16,7 +16,7 @@ fn arg_of(token: &[u8]) -> Option<Arg>
     if let Some(name) = Name::new(token) {
         return Some(Arg::Name(name));
     }
-    if is_truth_token(token) {
+    if is_boolean_token(token) {
         return Some(Arg::Boolean(token == b"T".as_slice()));
     }
     number(token).map(Arg::Integer)

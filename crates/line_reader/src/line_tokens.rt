@@ -2,7 +2,7 @@
 
 ghost use Rattle.std.specs.Prelude.{◌≡◌, ◌<◌, ◌==◌, is_some, length, position, IfSome};
 ghost use Rattle.std.specs.List.{list_all};
-ghost use Rattle.line_reader.specs.Lines.{line_class, line_tokens, before_comment, begins_with_equals, is_arg, is_truth_token};
+ghost use Rattle.line_reader.specs.Lines.{line_class, line_tokens, before_comment, begins_with_equals, is_arg, is_boolean_token};
 ghost use Rattle.line_reader.specs.Lines.{is_number_token};
 ghost use Rattle.cvl_base.specs.Words.{is_name};
 
@@ -84,13 +84,13 @@ impl TokenTest for Arguments {
     ghost passes = { is_arg };
 
     fn passes(token: &[u8]) -> bool {
-        is_name_text(token) || is_truth_token(token) || is_number_token(token)
+        is_name_text(token) || is_boolean_token(token) || is_number_token(token)
     }
 }
 
 /// Whether the token is `T` or `F`.
-pub(crate) fn is_truth_token(token: &[u8]) -> bool
-    ensures { result ≡ is_truth_token token.now }
+pub(crate) fn is_boolean_token(token: &[u8]) -> bool
+    ensures { result ≡ is_boolean_token token.now }
 {
     token == b"T".as_slice() || token == b"F".as_slice()
 }

@@ -1,5 +1,5 @@
 -- The items of the operators' monoids, and the word that stands for each: a number from -2^53 to 2^53 - 1.
--- Source: two's complement for integers; the words of truth values are this library's profile.
+-- Source: two's complement for integers; the words of booleans are this library's profile.
 use Rattle.std.specs.Prelude.{◌≡◌, ◌^◌, Bool, true, IsTrue, ℤ, pos, negsuc, nat_lt}
 
 -- the numbers from -2147483648 to 2147483647
@@ -12,11 +12,11 @@ abbrev pub is_word : ℤ → Bool
 is_word (pos n) = nat_lt n (2 ^ 53)
 is_word (negsuc n) = nat_lt n (2 ^ 53)
 
--- both truth values
-abbrev pub is_truth_value : Bool → Bool
-is_truth_value b = true
+-- both booleans
+abbrev pub is_boolean : Bool → Bool
+is_boolean b = true
 
--- A number is its own word, and a word is read as the number of 32 bits that is congruent to it. The word of a truth value is the
+-- A number is its own word, and a word is read as the number of 32 bits that is congruent to it. The word of a boolean is the
 -- conversions' `integer_of`, read again by `boolean_of`.
 abbrev pub same_word : ℤ → ℤ
 same_word z = z

@@ -1,3 +1,4 @@
+pub mod BooleanLaws
 pub mod Booleans
 pub mod Conversions
 pub mod Exact
@@ -11,4 +12,3 @@ pub mod NumberLaws
 pub mod SegmentMonoid
 pub mod SegmentMonoidLaws
 pub mod TileSums
-pub mod TruthLaws

@@ -3,7 +3,7 @@
 use Rattle.std.proofs.Common.{◌≡◌, refl, ap, Bool, true, false, IsTrue}
 use Rattle.operators.specs.Monoid.{MonoidLaws}
 use Rattle.operators.specs.SegmentMonoid.{is_seg_item, seg_unit, seg_join}
-use Rattle.operators.specs.TruthLaws.{either_assoc, either_false}
+use Rattle.operators.specs.BooleanLaws.{either_assoc, either_false}
 
 module _ {Item : Type 0} {is_item : Item → Bool} {unit : Item} {join : Item → Item → Item} (laws : MonoidLaws is_item unit join) where
   joined_is_item : (f : Bool) (v : Item) (g : Bool) (w : Item) → IsTrue (is_item v) → IsTrue (is_item w)

@@ -1,4 +1,4 @@
-//! Numbers and operators: integers of 32 bits, truth values, the operators on them, which of these are monoids that vectors
+//! Numbers and operators: integers of 32 bits, booleans, the operators on them, which of these are monoids that vectors
 //! are scanned and reduced by, and the laws of folds, scans and sums of tiles over any monoid.
 #![tactic(auto)]
 

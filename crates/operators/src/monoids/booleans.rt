@@ -1,21 +1,21 @@
-//! The three operators on booleans. Both truth values are items, and a truth value's word is 0 or 1.
+//! The three operators on booleans. Both are items, and a boolean's word is 0 or 1.
 
 ghost use Rattle.std.specs.Prelude.{true, false};
 ghost use Rattle.operators.specs.Booleans.{both, either, differ};
 ghost use Rattle.operators.specs.Conversions.{boolean_of, integer_of};
-ghost use Rattle.operators.specs.ItemWords.{is_truth_value};
-ghost use Rattle.operators.specs.TruthLaws.{both_laws, either_laws, differ_laws, truth_words};
+ghost use Rattle.operators.specs.ItemWords.{is_boolean};
+ghost use Rattle.operators.specs.BooleanLaws.{both_laws, either_laws, differ_laws, boolean_words};
 
 use crate::operator::{Binary, Operator, Packable};
 
 impl Packable for bool {
-    ghost is_item = { is_truth_value };
+    ghost is_item = { is_boolean };
 
     ghost to_word = { integer_of };
 
     ghost from_word = { boolean_of };
 
-    ghost words = { truth_words };
+    ghost words = { boolean_words };
 
     fn is_item(self) -> bool {
         true

@@ -1,10 +1,10 @@
--- The laws of the three operators on truth values.
+-- The laws of the three operators on booleans.
 -- Source: what the definitions of Booleans and Monoid imply.
 use Rattle.std.proofs.Common.{◌≡◌, refl, Bool, true, false, IsTrue}
 use Rattle.operators.specs.Booleans.{both, either, differ}
 use Rattle.operators.specs.Monoid.{MonoidLaws}
 use Rattle.operators.specs.Conversions.{integer_of, boolean_of}
-use Rattle.operators.specs.ItemWords.{is_truth_value, is_word, WordLaws}
+use Rattle.operators.specs.ItemWords.{is_boolean, is_word, WordLaws}
 
 both_true : (a : Bool) → both a true ≡ a
 both_true true = refl
@@ -32,7 +32,7 @@ differ_assoc true true false = refl
 differ_assoc true false c = refl
 differ_assoc false b c = refl
 
-pub both_laws : MonoidLaws is_truth_value true both
+pub both_laws : MonoidLaws is_boolean true both
 both_laws = record {
   unit_is_item = refl;
   join_is_item = λ a b _ _. refl;
@@ -41,7 +41,7 @@ both_laws = record {
   right_unit = λ a _. both_true a;
 }
 
-pub either_laws : MonoidLaws is_truth_value false either
+pub either_laws : MonoidLaws is_boolean false either
 either_laws = record {
   unit_is_item = refl;
   join_is_item = λ a b _ _. refl;
@@ -50,7 +50,7 @@ either_laws = record {
   right_unit = λ a _. either_false a;
 }
 
-pub differ_laws : MonoidLaws is_truth_value false differ
+pub differ_laws : MonoidLaws is_boolean false differ
 differ_laws = record {
   unit_is_item = refl;
   join_is_item = λ a b _ _. refl;
@@ -59,9 +59,9 @@ differ_laws = record {
   right_unit = λ a _. differ_false a;
 }
 
--- a truth value's word is 0 or 1
-pub truth_words : WordLaws is_truth_value integer_of boolean_of
-truth_words = record {
+-- a boolean's word is 0 or 1
+pub boolean_words : WordLaws is_boolean integer_of boolean_of
+boolean_words = record {
   fits = λ b _. word_fits b;
   inverse = λ b _. word_inverse b;
 }
