@@ -5,7 +5,7 @@ ghost use Rattle.cvl_base.specs.Gives.{Gives, unless};
 ghost use Rattle.cvl_base.specs.Limits.{most_elements};
 ghost use Rattle.permute_walks.specs.Indices.{first_outside};
 
-use crate::checks::{Faulty, check_raced};
+use crate::bad_places::{Faulty, check_raced};
 use crew::Gate;
 use cvl_base::{FaultNo, Memory, Refused, place_among};
 use sharing::Pace;

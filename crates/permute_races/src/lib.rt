@@ -2,11 +2,11 @@
 //! place.
 #![tactic(auto)]
 
-mod checks;
+mod bad_places;
 mod indices;
 mod pace;
-mod slots;
+mod senders;
 
 pub use indices::check_indices_raced;
 pub use pace::permute_pace;
-pub use slots::senders_raced;
+pub use senders::senders_raced;

@@ -1,7 +1,7 @@
 use Rattle.std.proofs.Common.{sym, arith, eq-eqb, true, false}
 use Rattle.std.proofs.lemmas.Bool.{ne_eqb}
 use Rattle.permute_races.proofs.Raced.{length-beside, wrong_inside, wrong_now, wrong_outside}
-use Rattle.permute_races.proofs.slots.SentFaulty.wrong.Goals as goal
+use Rattle.permute_races.proofs.senders.SentFaulty.wrong.Goals as goal
 
 pub at-takes_part-requires : goal.at-takes_part-requires
 at-takes_part-requires g c = omega (arith, c.requires, length-beside c.args.self.now.senders.now (g.D.Destinations.destinations c.args.self.now.destinations.now))

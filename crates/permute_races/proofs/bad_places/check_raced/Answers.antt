@@ -2,7 +2,7 @@ use Rattle.std.proofs.Common.{◌∙◌, ap, sym, option_map, Ok, Err}
 use Rattle.cvl_base.specs.Faults.{fault_at}
 use Rattle.cvl_base.specs.Gives.{unless}
 use Rattle.permute_races.proofs.Raced.{none_found, some_found}
-use Rattle.permute_races.proofs.checks.check_raced.Goals as goal
+use Rattle.permute_races.proofs.bad_places.check_raced.Goals as goal
 
 pub returns-in_default : goal.returns-in_default
 returns-in_default g c = none_found (g.F.Faulty.wrongs c.args.faulty.now) c.in_ok-place.field-0 c.requires c.in_ok-place.ensures c.in_default.is

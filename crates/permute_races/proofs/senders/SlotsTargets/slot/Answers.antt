@@ -2,7 +2,7 @@ use Rattle.std.proofs.Common.{◌∙◌, ap, sym, None}
 use Rattle.cvl_base.specs.Permutes.{destination_if}
 use Rattle.permute_races.specs.Races.{slot_of}
 use Rattle.permute_races.proofs.Raced.{shown-at}
-use Rattle.permute_races.proofs.slots.SlotsTargets.slot.Goals as goal
+use Rattle.permute_races.proofs.senders.SlotsTargets.slot.Goals as goal
 
 pub at-takes_part-requires : goal.at-takes_part-requires
 at-takes_part-requires g c = (shown-at (slot_of c.args.self.now.places) (g.D.Destinations.destinations c.args.self.now.destinations.now) c.args.place None None c.requires).0

@@ -6,7 +6,7 @@ ghost use Rattle.cvl_base.specs.Limits.{most_elements};
 ghost use Rattle.cvl_base.specs.Permutes.{first_fault, wrongs};
 ghost use Rattle.permute_walks.specs.Senders.{nobody, senders_of};
 
-use crate::checks::{Faulty, check_raced};
+use crate::bad_places::{Faulty, check_raced};
 use boards::{Leasts, Targets};
 use crew::Gate;
 use cvl_base::limits::MOST_ELEMENTS;

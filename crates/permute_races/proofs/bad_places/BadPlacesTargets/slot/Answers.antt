@@ -1,6 +1,6 @@
 use Rattle.std.proofs.Common.{◌∙◌, ap, sym, option_map, None}
 use Rattle.permute_races.proofs.Raced.{shown-at}
-use Rattle.permute_races.proofs.checks.BadPlacesTargets.slot.Goals as goal
+use Rattle.permute_races.proofs.bad_places.BadPlacesTargets.slot.Goals as goal
 
 pub wrong-requires : goal.wrong-requires
 wrong-requires g c = (shown-at (option_map (λ number. 0)) (g.F.Faulty.wrongs c.args.self.now.faulty.now) c.args.place None None c.requires).0

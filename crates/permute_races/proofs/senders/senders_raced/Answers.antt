@@ -8,7 +8,7 @@ use Rattle.permute_walks.specs.Senders.{senders_of}
 use Rattle.permute_walks.proofs.Told.{refused_told}
 use Rattle.permute_races.specs.Races.{slots_of, wrongs_beside}
 use Rattle.permute_races.proofs.Raced.{checked_ok, length-beside, senders_are, wrongs_same}
-use Rattle.permute_races.proofs.slots.senders_raced.Goals as goal
+use Rattle.permute_races.proofs.senders.senders_raced.Goals as goal
 
 pub senders_told-requires-after_bounds : goal.senders_told-requires-after_bounds
 senders_told-requires-after_bounds g c κs within =

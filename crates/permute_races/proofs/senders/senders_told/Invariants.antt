@@ -1,6 +1,6 @@
 use Rattle.std.proofs.Common.{◌≡◌, map, take, unwrap_or, vec_len, vec_capacity}
 use Rattle.permute_walks.specs.Senders.{nobody}
-use Rattle.permute_races.proofs.slots.senders_told.Given as goal
+use Rattle.permute_races.proofs.senders.senders_told.Given as goal
 
 abbrev pub invariant-loop-slot : goal.invariant-loop-slot
 invariant-loop-slot g l = record {
