@@ -31,7 +31,7 @@ unsafe impl<T, A: Allocator + Send> Send for Deed<T, A> {}
 unsafe impl<T, A: Allocator> Sync for Deed<T, A> {}
 
 /// The private fields of a `Vec`, in their order.
-struct Parts<T, A: Allocator> {
+struct VecFields<T, A: Allocator> {
     ptr: *const T,
     len: usize,
     cap: usize,
@@ -46,11 +46,11 @@ pub(crate) fn take_block<T, A: Allocator>(v: &mut Vec<T, A>) -> (Base<T>, Cells<
     ensures deed { (result.2.at ≡ result.0.ptr) × (result.2.len ≡ vec_capacity v.old) × (result.2.alloc ≡ vec_allocator v.old) }
     ensures left { (vec_capacity v.new ≡ 0) × (vec_allocator v.new ≡ vec_allocator v.old) }
 {
-    let parts = v as *mut Vec<T, A> as *mut Parts<T, A>;
-    let ptr = unsafe { (*parts).ptr };
+    let fields = v as *mut Vec<T, A> as *mut VecFields<T, A>;
+    let ptr = unsafe { (*fields).ptr };
     unsafe {
-        (*parts).len = 0;
-        (*parts).cap = 0;
+        (*fields).len = 0;
+        (*fields).cap = 0;
     }
     let base = Base {
         ptr: ptr.cast_mut(),
@@ -80,10 +80,10 @@ pub(crate) fn give_block<T, A: Allocator>(
 {
     let Cells { mark: _ } = cells;
     let Deed { mark: _ } = deed;
-    let parts = v as *mut Vec<T, A> as *mut Parts<T, A>;
+    let fields = v as *mut Vec<T, A> as *mut VecFields<T, A>;
     unsafe {
-        (*parts).ptr = base.ptr.cast_const();
-        (*parts).len = len;
-        (*parts).cap = cap;
+        (*fields).ptr = base.ptr.cast_const();
+        (*fields).len = len;
+        (*fields).cap = cap;
     }
 }
