@@ -4,8 +4,8 @@ use Rattle.std.specs.Option.{option_or}
 
 module _ {P X : Type 0} (items : P → List X) where
   -- how many items each part has
-  abbrev pub counts_of : List P → List ℕ
-  counts_of parts = map (λ part. length (items part)) parts
+  abbrev pub item_counts : List P → List ℕ
+  item_counts parts = map (λ part. length (items part)) parts
 
   -- the first place whose item has no value, where a part tells its first one and the first item of all has the place given
   abbrev pub found_in : (P → ℕ → Option ℕ) → List P → ℕ → Option ℕ

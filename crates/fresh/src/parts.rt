@@ -2,7 +2,7 @@
 
 ghost use Rattle.std.specs.Prelude.{◌≡◌, ◌+◌, ◌-◌, ◌<◌, ◌≤◌, ◌^◌, [], IfOk, length, min, sum};
 ghost use Rattle.std.specs.List.{flat_map};
-ghost use Rattle.fresh.specs.Counted.{counts_of, found_in};
+ghost use Rattle.fresh.specs.Counted.{item_counts, found_in};
 ghost use Rattle.fresh.specs.Parts.{part};
 ghost use Rattle.fresh.specs.Places.{stretch};
 
@@ -47,12 +47,12 @@ impl<'a, T, P: Part<T>> Writer<usize> for Counts<'a, T, P> {
     ghost use Rattle.fresh.specs.Parts.{part};
     ghost use Rattle.fresh.specs.Places.{stretch};
 
-    ghost whole = { λ c. counts_of P.items c.parts.now };
+    ghost whole = { λ c. item_counts P.items c.parts.now };
 
     fn write(&self, run: Run<usize>) -> Run<usize>
         requires empty { run.items ≡ [] }
-        requires within { run.first + run.room ≤ length (counts_of P.items self.now.parts.now) }
-        ensures { result ≡ stretch run.block run.first (part (counts_of P.items self.now.parts.now) run.first run.room) 0 }
+        requires within { run.first + run.room ≤ length (item_counts P.items self.now.parts.now) }
+        ensures { result ≡ stretch run.block run.first (part (item_counts P.items self.now.parts.now) run.first run.room) 0 }
     {
         let count = |part: P| -> usize
             ensures { result ≡ length (P.items part) }
@@ -81,7 +81,7 @@ pub fn count_parts<T: Sync, R: Threads + Sync, A: Allocator, P: Part<T> + Sync>(
     threads: ThreadCount,
     parts: &[P],
 ) -> Result<(Vec<usize, A>, usize), AllocError>
-    ensures counts { IfOk result (λ r. r.0.items ≡ counts_of P.items parts.now) }
+    ensures counts { IfOk result (λ r. r.0.items ≡ item_counts P.items parts.now) }
     ensures total { IfOk result (λ r. r.1 ≡ min (length (flat_map P.items parts.now)) (2 ^ 64 - 1)) }
 {
     let items: PhantomData<T> = PhantomData;
@@ -103,10 +103,10 @@ impl<'a, T, P: Part<T>> Share<T> for CountedParts<'a, P> {
     ghost use Rattle.std.specs.Prelude.{◌≡◌, length, take};
     ghost use Rattle.std.specs.List.{flat_map};
     ghost use Rattle.std.proofs.Common.{sym};
-    ghost use Rattle.fresh.specs.Counted.{counts_of, found_in};
+    ghost use Rattle.fresh.specs.Counted.{item_counts, found_in};
     ghost use Rattle.sharing.specs.Shares.{first_of_two};
 
-    ghost IsOf = { λ s first room. (s.counts.now ≡ counts_of P.items s.parts.now)
+    ghost IsOf = { λ s first room. (s.counts.now ≡ item_counts P.items s.parts.now)
         × (room ≡ length (flat_map P.items s.parts.now)) };
 
     ghost items = { λ s first room. flat_map P.items s.parts.now };
@@ -146,7 +146,7 @@ impl<'a, T, P: Part<T>> Share<T> for CountedParts<'a, P> {
     fn write(self, run: Run<T>) -> (Run<T>, Option<usize>)
         requires one { length self.parts.now < 2 }
         requires empty { run.items ≡ [] }
-        requires places { (self.counts.now ≡ counts_of P.items self.parts.now)
+        requires places { (self.counts.now ≡ item_counts P.items self.parts.now)
             × (run.room ≡ length (flat_map P.items self.parts.now)) }
         ensures run { result.0 ≡ stretch run.block run.first (flat_map P.items self.entry.parts.now) 0 }
         ensures found { result.1 ≡ found_in P.items P.found self.entry.parts.now run.first }
