@@ -1,4 +1,4 @@
-//! Nested texts.
+//! The reading of a nested text, list by list, by the thread that calls.
 
 ghost use Rattle.std.specs.Prelude.{◌≡◌, ◌+◌, ◌-◌, ◌*◌, pos, ◌<◌, ◌≤◌, ◌^◌, ◌∷◌, length, true, false, IfOk, IfErr, MatchResult};
 ghost use Rattle.std.specs.Prelude.{vec_len, vec_capacity};

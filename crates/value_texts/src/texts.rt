@@ -11,7 +11,7 @@ use segdes::SegDes;
 use std::thread::Threads;
 
 /// Appends the text of a value on its own. After a refusal the text begins as before.
-fn put_alone<R: Threads + Sync, A: Memory>(
+fn put_plain<R: Threads + Sync, A: Memory>(
     rt: &R,
     alloc: A,
     config: Config,
@@ -85,7 +85,7 @@ fn put_beside<R: Threads + Sync, A: Memory>(
 {
     let mut page = [0; PAGE_BYTES];
     match descriptor {
-        None => put_alone(rt, alloc, config, value, &mut page, text),
+        None => put_plain(rt, alloc, config, value, &mut page, text),
         Some(descriptor) => put_nested(
             rt,
             alloc,

@@ -1,4 +1,4 @@
-use Rattle.call_reader.proofs.Cited.{◌≡◌, to_z, of_z, w32, arith, drop, false, sym, ap, ◌∙◌, to_z-of_z, begins_in_token, written_number, nested_class}
+use Rattle.call_reader.proofs.Cited.{◌≡◌, to_z, of_z, w32, arith, drop, false, sym, ap, ◌∙◌, to_z-of_z, begins_in_token, written_number, nested_class, number}
 use Rattle.call_reader.proofs.NestedTokens.{number_first}
 use Rattle.call_reader.proofs.nested_tokens.after_number.Goals as goal
 

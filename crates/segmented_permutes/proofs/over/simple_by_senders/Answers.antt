@@ -2,18 +2,18 @@ use Rattle.std.proofs.Common.{◌≡◌, ◌∙◌, ap, arith, length, refl, sub
 use Rattle.cvl_base.specs.Rooms.{OverwritesOr, in_room}
 use Rattle.cvl_base.specs.SegmentedCalls.{seg_simple_of}
 use Rattle.permute_walks.proofs.Told.{sent_permuted}
-use Rattle.segment_sends.proofs.Through.{destinations-parts, places-parts}
+use Rattle.segment_sends.proofs.Through.{destinations-all, places-all}
 use Rattle.segmented_permutes.proofs.Whole.{seg_simple_sent}
 use Rattle.segmented_permutes.proofs.over.simple_by_senders.Goals as goal
 
 pub permuted_over-requires-clause-few : goal.permuted_over-requires-clause-few
 permuted_over-requires-clause-few g c κs within =
     let d = c.in_ok-d.d in
-    omega (arith, destinations-parts d d c.args.index.now (ap sum c.in_ok-d.ensures ∙ c.requires.total) refl, c.requires.in_limit)
+    omega (arith, destinations-all d d c.args.index.now (ap sum c.in_ok-d.ensures ∙ c.requires.total) refl, c.requires.in_limit)
 
 pub permuted_over-requires-clause-whole : goal.permuted_over-requires-clause-whole
 permuted_over-requires-clause-whole g c κs within =
-    places-parts c.in_ok-d.d c.in_ok-d.d c.args.index.now refl ∙ ap sum c.in_ok-d.ensures ∙ c.requires.source_total
+    places-all c.in_ok-d.d c.in_ok-d.d c.args.index.now refl ∙ ap sum c.in_ok-d.ensures ∙ c.requires.source_total
 
 pub returns : goal.returns
 returns g c =

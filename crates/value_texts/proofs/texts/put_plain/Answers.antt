@@ -1,5 +1,5 @@
 use Rattle.value_texts.proofs.Lengths.{texts_of_lengths}
-use Rattle.value_texts.proofs.texts.put_alone.Goals as goal
+use Rattle.value_texts.proofs.texts.put_plain.Goals as goal
 
 pub returns-in-Descriptor-clause-ok : goal.returns-in-Descriptor-clause-ok
 returns-in-Descriptor-clause-ok g c =
