@@ -1,5 +1,5 @@
 -- A text that is put part by part.
-use Rattle.std.proofs.Common.{◌≡◌, ℕ, ◌+◌, ◌<◌, List, [], ◌++◌, length, take, Result, Ok, Err, refl, sym, ap, subst, ◌∙◌, arith, append-nil, append_assoc, length-append}
+use Rattle.std.proofs.Common.{◌≡◌, ℕ, ◌+◌, ◌<◌, List, [], ◌∷◌, ◌++◌, length, take, Result, Ok, Err, refl, sym, ap, subst, ◌∙◌, arith, append-nil, append_assoc, length-append}
 use Rattle.std.proofs.lemmas.List.{take-append-le}
 use Rattle.std.proofs.Math.Seq.{take-append-add}
 use Rattle.script_runs.specs.declared.sink.SinkFault.{SinkFault}
@@ -51,3 +51,7 @@ last_part whole text answer a b c u put =
     ends : (answer : Result (Unit {0}) SinkFault) → IsPutUpTo whole (text ++ []) a b → PutsAll b text answer c → PutsAll a whole answer c
     ends (Ok done) more put = all_put whole a c (part_put whole text [] a b c more put)
     ends (Err f) more put = part_cut whole text [] f a b c more put
+
+pub none_left : {X : Type 0} (xs : List X) → length xs ≡ 0 → xs ≡ []
+none_left [] e = refl
+none_left (x ∷ xs) e = absurd (omega (arith, e))

@@ -1,7 +1,8 @@
 //! The text of a write of a long vector, which is put piece by piece.
 
-ghost use Rattle.std.specs.Prelude.{◌≡◌, ◌^◌, ◌<◌, ◌≤◌, ◌-◌, ◌++◌, codes, length, IfOk, Ok, Some};
+ghost use Rattle.std.specs.Prelude.{◌≡◌, ◌^◌, ◌<◌, ◌≤◌, ◌-◌, ◌++◌, codes, length, take, IfOk, Ok, Some};
 ghost use Rattle.std.specs.List.{concat};
+ghost use Rattle.std.specs.Thread.{IsSend, IsSync};
 ghost use Rattle.cvl_base.specs.Limits.{most_workers};
 ghost use Rattle.value_texts.specs.Texts.{spaced, vector_text};
 ghost use Rattle.vector_handles.specs.LongWrites.{long_text};
@@ -13,9 +14,11 @@ use crate::puts::put_all;
 use crate::sink::{Sink, SinkFault};
 use crate::stop::Stop;
 use cvl_base::{Config, Memory, NoResources};
+use sharing::ThreadCount;
 use std::alloc::Allocator;
-use std::thread::Threads;
-use value_texts::{Piece, Written, pieces_for, put_opening, write_first};
+use std::mem::swap;
+use std::thread::{Threads, join_mut};
+use value_texts::{Piece, Written, pieces_for, put_opening, threads_writing_pieces, write_first};
 use vector_handles::{FlatVector, LongWrite};
 
 /// Puts the texts of the pieces, one after another.
@@ -29,43 +32,90 @@ fn put_pieces<A: Allocator, S: Sink>(sink: &mut S, pieces: &[Piece<A>]) -> Resul
     Ok(())
 }
 
-/// Puts the texts of the elements with a space before each, as many of them at a time as the pieces have room for.
+/// Puts the texts of the pieces that are ready. Meanwhile other threads write those of the first of the elements, with a space
+/// before each, as many as the spare pieces have room for: how many of these they write, and the other elements.
+fn put_and_write<'a, R: Threads + Sync, T: Written + Sync, A: Memory, S: Sink>(
+    rt: &R,
+    threads: ThreadCount,
+    ready: &[Piece<A>],
+    xs: &'a [T],
+    spare: &mut [Piece<A>],
+    sink: &mut S,
+) -> (Result<(), SinkFault>, usize, &'a [T])
+    requires some { 1 ≤ length spare.old }
+    requires few { length spare.old ≤ most_workers }
+    requires failures { (S.seen sink.old).failed_puts < 2 ^ 64 - 1 }
+    ensures put { PutsAll (S.seen sink.old) (concat ready.now) result.0 (S.seen sink.new) }
+    ensures text { concat (take result.1 spare.new) ++ spaced T.text_of result.2.now ≡ spaced T.text_of xs.now }
+    ensures within { result.1 ≤ length spare.new }
+    ensures as_many { length spare.new ≡ length spare.old }
+    ensures shorter { 0 < length xs.now → length result.2.now < length xs.now }
+{
+    if threads.get() < 2 {
+        let put = put_pieces(sink, ready);
+        let (count, others) = write_first(rt, xs, spare);
+        return (put, count, others);
+    }
+    let mut write = || -> (usize, &[T])
+        requires { IsSync R.row × IsSync T.row × IsSend A.row × (1 ≤ length spare.now) × (length spare.now ≤ most_workers) }
+        ensures { (concat (take result.0 spare.exit.now) ++ spaced T.text_of result.1.now ≡ spaced T.text_of xs.entry.now)
+            × (result.0 ≤ length spare.exit.now) × (length spare.exit.now ≡ length spare.entry.now)
+            × (0 < length xs.entry.now → length result.1.now < length xs.entry.now) }
+    { write_first(rt, xs, spare) };
+    let mut put = || -> Result<(), SinkFault>
+        requires { (S.seen sink.now).failed_puts < 2 ^ 64 - 1 }
+        ensures { PutsAll (S.seen sink.entry.now) (concat ready.entry.now) result (S.seen sink.exit.now) }
+    { put_pieces(sink, ready) };
+    let ((count, others), put) = join_mut(rt, &mut write, &mut put);
+    (put, count, others)
+}
+
+/// Puts the texts of the elements with a space before each, as many of them at a time as the pieces that are written at once have
+/// room for. There are as many pieces that are ready as there are spare ones.
 fn put_spaced<R: Threads + Sync, T: Written + Sync, A: Memory, S: Sink>(
     rt: &R,
+    threads: ThreadCount,
     xs: &[T],
-    pieces: &mut [Piece<A>],
+    ready: &mut Vec<Piece<A>, A>,
+    spare: &mut Vec<Piece<A>, A>,
     sink: &mut S,
 ) -> Result<(), SinkFault>
-    requires some { 1 ≤ length pieces.old }
-    requires few { length pieces.old ≤ most_workers }
+    requires some { 1 ≤ length ready.old.items }
+    requires few { length ready.old.items ≤ most_workers }
+    requires as_many { length spare.old.items ≡ length ready.old.items }
     requires failures { (S.seen sink.old).failed_puts < 2 ^ 64 - 1 }
     ensures { PutsAll (S.seen sink.old) (spaced T.text_of xs.now) result (S.seen sink.new) }
 {
-    let mut rest = xs;
+    let (mut count, mut rest) = write_first(rt, xs, ready);
     while !rest.is_empty() {
-        let (count, others) = write_first(rt, rest, pieces);
-        put_pieces(sink, &pieces[..count])?;
+        let (put, next, others) = put_and_write(rt, threads, &ready[..count], rest, spare, sink);
+        put?;
+        swap(ready, spare);
+        count = next;
         rest = others;
     }
-    Ok(())
+    put_pieces(sink, &ready[..count])
 }
 
 /// Puts the beginning of a vector's text, the other elements, and what ends the line.
 fn put_vector<R: Threads + Sync, T: Written + Sync, A: Memory, S: Sink>(
     rt: &R,
+    threads: ThreadCount,
     opening: &[u8],
     others: &[T],
-    pieces: &mut [Piece<A>],
+    ready: &mut Vec<Piece<A>, A>,
+    spare: &mut Vec<Piece<A>, A>,
     sink: &mut S,
 ) -> Result<(), SinkFault>
-    requires some { 1 ≤ length pieces.old }
-    requires few { length pieces.old ≤ most_workers }
+    requires some { 1 ≤ length ready.old.items }
+    requires few { length ready.old.items ≤ most_workers }
+    requires as_many { length spare.old.items ≡ length ready.old.items }
     requires failures { (S.seen sink.old).failed_puts < 2 ^ 64 - 1 }
     ensures { PutsAll (S.seen sink.old) (opening.now ++ spaced T.text_of others.now ++ codes "]\n") result
         (S.seen sink.new) }
 {
     put_all(sink, opening)?;
-    put_spaced(rt, others, pieces, sink)?;
+    put_spaced(rt, threads, others, ready, spare, sink)?;
     put_all(sink, b"]\n")
 }
 
@@ -103,10 +153,13 @@ fn write_vector<R: Threads + Sync, T: Written + Sync, A: Memory, S: Sink>(
     let Ok((opening, others)) = opened(alloc, name, xs) else {
         return Err(Stop::NoResources { line: number });
     };
-    let Ok(mut pieces) = pieces_for(alloc, config, others.len()) else {
+    let threads = threads_writing_pieces(config, others.len());
+    let (Ok(mut ready), Ok(mut spare)) = (pieces_for(alloc, threads), pieces_for(alloc, threads))
+    else {
         return Err(Stop::NoResources { line: number });
     };
-    match put_vector(rt, opening.as_slice(), others, pieces.as_mut_slice(), sink) {
+    let opening = opening.as_slice();
+    match put_vector(rt, threads, opening, others, &mut ready, &mut spare, sink) {
         Ok(()) => Ok(()),
         Err(_) => Err(Stop::WriteFailed { line: number }),
     }

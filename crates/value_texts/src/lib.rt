@@ -15,7 +15,7 @@ mod written;
 pub use alone::{nest_text_alone, vector_text_alone};
 pub use flat_vectors::{FlatVector, long_vector};
 pub use part_writes::{Cut, made_in_parts};
-pub use pieces::{Piece, pieces_for, write_first};
+pub use pieces::{Piece, pieces_for, threads_writing_pieces, write_first};
 pub use texts::put_value;
 pub use vector_text::put_opening;
 pub use written::Written;

@@ -1,6 +1,6 @@
 //! The text of a long vector, made piece by piece in memory that is used again.
 
-ghost use Rattle.std.specs.Prelude.{◌≡◌, ◌+◌, ◌*◌, ◌<◌, ◌≤◌, ◌++◌, ◌/◌, [], IfOk, length, max, min, take, vec_capacity};
+ghost use Rattle.std.specs.Prelude.{◌≡◌, ◌+◌, ◌-◌, ◌*◌, ◌<◌, ◌≤◌, ◌++◌, ◌/◌, [], IfOk, length, max, min, take, vec_capacity};
 ghost use Rattle.std.specs.List.{concat};
 ghost use Rattle.std.specs.Thread.{IsSend, IsSync};
 ghost use Rattle.cvl_base.specs.Limits.{most_workers};
@@ -10,7 +10,7 @@ ghost use Rattle.value_texts.specs.Texts.{spaced};
 use crate::vector_text::{PAGE_BYTES, put_spaced_alone};
 use crate::written::{MOST_TEXT_BYTES, Written};
 use cvl_base::{Config, Memory, NoResources};
-use sharing::{all_workers, first_of_two};
+use sharing::{ThreadCount, all_workers, first_of_two};
 use std::alloc::Allocator;
 use std::marker::Model;
 use std::thread::{Threads, join_mut};
@@ -19,8 +19,8 @@ use std::thread::{Threads, join_mut};
 /// starts of threads for piece after piece cost little.
 const PIECE_ELEMENTS: usize = 65_536;
 
-/// How many pieces are written at once at most: 12 MiB.
-const MOST_PIECES: usize = 16;
+/// How many threads share a text at most. More would write it no sooner than one of them puts it.
+const MOST_THREADS: usize = 16;
 
 /// The most bytes of a piece.
 const PIECE_BYTES: usize = PIECE_ELEMENTS * (MOST_TEXT_BYTES + 1);
@@ -71,19 +71,26 @@ impl<A: Allocator> Piece<A> {
     }
 }
 
-/// The pieces for the text of so many elements: one for each of the configuration's workers, but no more than 16, nor than the
-/// elements fill. All memory of the text is asked for here.
+/// How many threads share the text of so many elements, one of which puts what the others have written: as many as the
+/// configuration has workers, but no more than 16, nor than the elements fill pieces.
+pub fn threads_writing_pieces(config: Config, elements: usize) -> ThreadCount
+    ensures { result ≡ max (min config.1 (min (elements / 65536) 16)) 1 }
+{
+    all_workers(config).at_most((elements / PIECE_ELEMENTS).min(MOST_THREADS))
+}
+
+/// The pieces that so many threads write at once, while one of them puts others: one for each thread but that one, and one where
+/// there is no other.
 pub fn pieces_for<A: Memory>(
     alloc: A,
-    config: Config,
-    elements: usize,
+    threads: ThreadCount,
 ) -> Result<Vec<Piece<A>, A>, NoResources>
-    ensures exact { IfOk result (λ pieces. length pieces.items ≡ max (min config.1 (min (elements / 65536) 16)) 1) }
+    ensures exact { IfOk result (λ pieces. length pieces.items ≡ max (threads - 1) 1) }
     ensures few { IfOk result (λ pieces. length pieces.items ≤ most_workers) }
 {
-    let threads = all_workers(config).at_most((elements / PIECE_ELEMENTS).min(MOST_PIECES));
-    let mut pieces = Vec::with_capacity(alloc, threads.get())?;
-    while pieces.len() < threads.get() {
+    let writers = (threads.get() - 1).max(1);
+    let mut pieces = Vec::with_capacity(alloc, writers)?;
+    while pieces.len() < writers {
         pieces.push(Piece::new(alloc)?)?;
     }
     Ok(pieces)
