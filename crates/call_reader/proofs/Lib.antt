@@ -1,3 +1,4 @@
+pub mod FlatTexts
 pub mod InputWalk
 pub mod NestedBack
 pub mod NestedMarks

@@ -4,6 +4,7 @@ ghost use Rattle.std.specs.Prelude.{◌≡◌, ◌≤◌, ℕ, ℤ, List, [], �
 ghost use Rattle.cvl_base.specs.declared.fault.FaultNo.TheVariants.{BadInput};
 ghost use Rattle.cvl_base.specs.Faults.{fault_at};
 ghost use Rattle.cvl_base.specs.Limits.{most_elements};
+ghost use Rattle.call_reader.specs.Inputs.{input_of};
 ghost use Rattle.call_reader.specs.NestedTexts.{nested_of, IsNestedText, IsWithin32, read_again};
 
 /// Worked nested texts. It does nothing: its contract is what the definition says of them.
@@ -31,6 +32,12 @@ pub fn nested_text_laws()
         → IsNestedText bytes xs lengths }
     ensures one_pair { (bytes : List ℕ) (xs ys : List ℤ) (lengths others : List ℕ) → IsNestedText bytes xs lengths
         → IsNestedText bytes ys others → (xs ≡ ys) × (lengths ≡ others) }
+{}
+
+/// A list of numbers is no nested text: where the grammar of an input gives numbers, that of a nested text gives `BadInput` at 0.
+/// It does nothing: its contract says so of the definitions, for every list of bytes.
+pub fn flat_is_no_nest()
+    ensures { (bytes : List ℕ) (numbers : List ℤ) → input_of bytes ≡ Ok numbers → nested_of bytes ≡ Err (fault_at BadInput 0) }
 {}
 
 /// The text of a vector's nest, read as a nested text, is that vector and the nest's lengths, within the limits. It does

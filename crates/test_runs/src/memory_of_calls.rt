@@ -6,8 +6,10 @@ use shell::{MemSink, run};
 use std::alloc::Global;
 use std::test::Fail;
 use std::thread::Threads;
-use test_fixtures::hosts::text_of;
+use test_fixtures::hosts::{inputs_of, text_of};
 use test_fixtures::memory_of_calls::{asked_by, session_before};
+use test_fixtures::sessions::call_line;
+use vector_handles::Session;
 
 /// Calls, and the requests and the bytes that each of them asks for: by one worker in one tile, and by four in tiles of 100
 /// elements.
@@ -16,7 +18,7 @@ type Row = (&'static str, (u64, u64), (u64, u64));
 const ROWS: &[Row] = &[
     (
         "r = add_wuz i t; r = sel_wuz f i t; r = cpy_wuz i; r = int_wub f; r = dis_vuz 7 1000; r = dis_vez o d; \
-         r = ind_luz 0 1 1000; r = ind_lez o p d; r = rep_vuz i 3 4; r = rep_vez i o p d; r = input 1",
+         r = ind_luz 0 1 1000; r = ind_lez o p d; r = rep_vuz i 3 4; r = rep_vez i o p d",
         (1, 4_000),
         (1, 4_000),
     ),
@@ -52,6 +54,9 @@ const ROWS: &[Row] = &[
     ("r = ext_vez i o d; r = len_fos d", (1, 40), (1, 40)),
     ("i = rep_vuz i 3 4", (1, 4_000), (1, 4_000)),
     ("r = mke_fov l", (3, 120), (3, 120)),
+    // the numbers that are read, and the owner that the name shares them with; then these again
+    ("r = input 1", (2, 4_056), (2, 4_056)),
+    ("r = input 1", (0, 0), (0, 0)),
     ("r e = nested 2", (4, 40_000), (4, 40_000)),
     ("write i", (3, 11_690), (3, 11_690)),
     ("write f", (3, 6_020), (3, 6_020)),
@@ -142,14 +147,34 @@ fn memory_of_each_family(rt: HostRuntime) -> Result<(), Fail> {
     Ok(())
 }
 
-/// A long text takes a piece of 65,536 elements for each worker, with twelve bytes for each of them, and little beside.
+/// A long text takes two pieces for each worker but the one that puts them, each of 65,536 elements with twelve bytes for
+/// each, and little beside. The 300,000 elements fill four pieces, so that no more than four workers share them.
 #[test]
 fn memory_of_a_long_text(rt: HostRuntime) -> Result<(), Fail> {
-    for (workers, least) in [(1, 786_432), (3, 2_359_296), (64, 3_145_728)] {
+    for (workers, least) in [(1, 1_572_864), (3, 3_145_728), (64, 4_718_592)] {
         let asked = asked_by_run(&rt, rt.alloc(), workers, LONG_WRITE)?;
         let more = asked.wrapping_sub(asked_by_run(&rt, rt.alloc(), workers, NO_WRITE)?);
         let beside = more.wrapping_sub(least);
         assert!(rt; beside < 1_000, "{workers} workers, {more} bytes");
     }
+    Ok(())
+}
+
+/// How many blocks of memory a session on an input of bytes holds before the input is read, and after.
+fn held_by_input<R: Threads + Sync>(rt: &R, alloc: Global) -> Result<(u64, u64), Refused> {
+    let heap = Refusing::none(alloc);
+    let config = Config::new(4_096, 1).unwrap();
+    let mut session = Session::new(&heap, config, inputs_of(&heap, &["7 8 9"])?)?;
+    let before = heap.held();
+    call_line(rt, &heap, &mut session, "a = input 1")?;
+    Ok((before, heap.held()))
+}
+
+/// An input's bytes are given back once they are read: the list of inputs and the bytes are held before; then the list, the
+/// numbers, what shares them, and the node of the name.
+#[test]
+fn memory_of_an_input_that_is_read(rt: HostRuntime) -> Result<(), Fail> {
+    let held = held_by_input(&rt, rt.alloc());
+    assert!(rt; held == Ok((2, 4)), "{held:?}");
     Ok(())
 }

@@ -1,4 +1,4 @@
--- The inputs as a session has them: the bytes of a file, or a vector that names share.
+-- The inputs as a session has them: the bytes of a file, the numbers that were read of such bytes, or a vector.
 -- Source: this library.
 use Rattle.vector_handles.specs.declared.input.Input.{Input}
 use Rattle.vector_handles.specs.declared.input.Input.TheVariants as input
@@ -11,4 +11,5 @@ InputKept A = Input A
 
 abbrev pub input_kept : {A : Type 0} → Content A → Input A
 input_kept (content.Bytes bytes) = input.Bytes bytes
+input_kept (content.Read read) = input.Bytes read.bytes.value
 input_kept (content.Vector xs) = input.Vector xs

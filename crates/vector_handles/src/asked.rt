@@ -7,7 +7,8 @@ ghost use Rattle.bound_names.specs.Operands.{AreTaken, held_at};
 use crate::kept::KeptInput;
 use crate::session::Session;
 use bound_names::{Operands, resolve};
-use cvl_base::{Arg, Config, Fault, Memory, Op};
+use cvl_base::{Arg, Config, Fault, Memory, NoResources, Op};
+use std::thread::Threads;
 
 /// What the arguments of a call hold, the session's inputs, and what a kernel takes beside them.
 #[derive(Drop)]
@@ -41,5 +42,29 @@ impl<A: Memory> Session<A> {
             inputs: self.inputs.as_slice(),
             operands: resolve(&self.names, op, args)?,
         })
+    }
+
+    /// The number, counted from 1, of the input that an `input` with these arguments asks for.
+    fn number_asked_for(&self, args: &[Arg]) -> Option<i32> {
+        let operands = resolve(&self.names, Op::Input, args).ok()?;
+        Some(operands.first.integer())
+    }
+
+    /// Reads the input that an `input` with these arguments asks for, so that its numbers take the place of its bytes. What is at
+    /// fault stays as it is, for the call to tell.
+    pub(crate) fn read_asked_for<R: Threads + Sync>(
+        &mut self,
+        rt: &R,
+        args: &[Arg],
+    ) -> Result<(), NoResources>
+        ensures { self.new ≡ self.old }
+    {
+        let (alloc, config) = (self.alloc, self.config);
+        let number = self.number_asked_for(args).unwrap_or(0);
+        let place = usize::try_from(number).unwrap_or(0).wrapping_sub(1);
+        match self.inputs.get_mut(place) {
+            Some(input) => input.read(rt, alloc, config),
+            None => Ok(()),
+        }
     }
 }

@@ -3,15 +3,20 @@
 ghost use Rattle.std.specs.Prelude.{◌≡◌, IfOk};
 
 use crate::input::Input;
+use crate::read_bytes::ReadBytes;
 use bound_names::SharedInts;
-use cvl_base::{Memory, NoResources};
+use call_reader::read_vector;
+use cvl_base::{Config, Memory, NoResources, Refused};
 use std::marker::Model;
+use std::thread::Threads;
 
 /// What a session has of an input.
 #[derive(Drop)]
 pub enum Content<A: Memory> {
-    /// The bytes, which are read each time that a script asks for them.
+    /// The bytes, which no script has read as a list of numbers yet.
     Bytes(Vec<u8, A>),
+    /// What was read of the bytes, which the names that are bound to it have, too.
+    Read(ReadBytes<A>),
     /// The vector, which the names that are bound to it have, too.
     Vector(SharedInts<A>),
 }
@@ -43,6 +48,29 @@ impl<A: Memory> KeptInput<A> {
                 content: Content::Vector(SharedInts::new(alloc, items)?),
             }),
         }
+    }
+
+    /// Reads bytes that are a list of numbers, which then has them in the place of the bytes. The input is the same.
+    pub(crate) fn read<R: Threads + Sync>(
+        &mut self,
+        rt: &R,
+        alloc: A,
+        config: Config,
+    ) -> Result<(), NoResources>
+        ensures { self.new ≡ self.old }
+    {
+        if let Content::Bytes(bytes) = &self.content {
+            match read_vector(rt, alloc, config, bytes.as_slice()) {
+                Ok(numbers) => {
+                    let read = ReadBytes::new(alloc, bytes, numbers)?;
+                    self.content = Content::Read(read);
+                }
+                Err(Refused::NoResources) => return Err(NoResources),
+                // The call tells it.
+                Err(Refused::Fault(_)) => (),
+            }
+        }
+        Ok(())
     }
 }
 

@@ -15,6 +15,7 @@ mod pack_calls;
 mod pair_calls;
 mod permute_calls;
 mod place_calls;
+mod read_bytes;
 mod scan_calls;
 pub mod session;
 pub mod shown;
@@ -25,6 +26,8 @@ pub use input::Input;
 #[doc(hidden)]
 pub use kept::{Content, KeptInput};
 pub use long_writes::LongWrite;
+#[doc(hidden)]
+pub use read_bytes::ReadBytes;
 pub use session::Session;
 pub use shown::Shown;
 pub use value_texts::FlatVector;

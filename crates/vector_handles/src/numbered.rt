@@ -31,7 +31,7 @@ impl<'a, R: Threads + Sync, A: Memory> Asked<'a, R, A> {
         self.inputs.get(place)
     }
 
-    /// The integers of an input: bytes are read, and a vector is that of the input itself.
+    /// The integers of an input: bytes that were not read before are read, and a vector is that of the input itself.
     pub(crate) fn value_of_input(&self, input: &KeptInput<A>) -> Answer<A>
         ensures { Gives (λ v. v) result (vector integer (integers_of input.now)) }
     {
@@ -43,11 +43,13 @@ impl<'a, R: Threads + Sync, A: Memory> Asked<'a, R, A> {
                 config,
                 bytes.as_slice(),
             )),
+            Content::Read(read) => Ok(Bound::from_shared(read.numbers.share()?)),
             Content::Vector(items) => Ok(Bound::from_shared(items.share()?)),
         }
     }
 
-    /// The integers of a nested input and their descriptor: an input that is a vector is no nested text, `BadInput` at 0.
+    /// The integers of a nested input and their descriptor: an input that is a vector is no nested text, `BadInput` at 0, nor are
+    /// bytes that were read as a list of numbers.
     pub(crate) fn nest_of(&self, input: &KeptInput<A>) -> Result<(Vec<i32, A>, SegDes<A>), Refused>
         ensures meaning { Gives (λ nest. (nest.0.items, nest.1)) result (nest_of input.now) }
         ensures in_limit { IfOk result (λ nest. (vec_len nest.0 ≤ most_elements) × AreInLimit nest.1) }
@@ -59,7 +61,9 @@ impl<'a, R: Threads + Sync, A: Memory> Asked<'a, R, A> {
                 self.config,
                 bytes.as_slice(),
             ),
-            Content::Vector(_) => Err(Refused::Fault(Fault::at(FaultNo::BadInput, 0))),
+            Content::Read(_) | Content::Vector(_) => {
+                Err(Refused::Fault(Fault::at(FaultNo::BadInput, 0)))
+            }
         }
     }
 }

@@ -7,7 +7,7 @@ use crate::kept::{KeptInput, kept_inputs};
 use crate::shown::Shown;
 use bound_names::{Names, bind_answer, bind_answers, take_out, value_of};
 use crew::{Gate, OpenGate};
-use cvl_base::{Call, Config, Memory, Name, NoResources, Refused, ResultNames, Value};
+use cvl_base::{Call, Config, Memory, Name, NoResources, Op, Refused, ResultNames, Value};
 use std::collections::BTreeMap;
 use std::marker::Model;
 use std::thread::Threads;
@@ -15,7 +15,7 @@ use std::thread::Threads;
 /// The names that a script has bound, with their values, and its inputs.
 ///
 /// The starts of a descriptor's segments are made once, when it is bound, and serve each call that takes it. A name that is
-/// bound to an input that is a vector shares it, and nothing is copied.
+/// bound to an input shares it, and nothing is copied: bytes are read once, and then let go.
 #[derive(Drop)]
 pub struct Session<A: Memory> {
     pub(crate) config: Config,
@@ -87,6 +87,9 @@ impl<A: Memory> Session<A> {
         match call.results {
             ResultNames::None => Ok(Shown::Text(self.text_of_call(rt, call.op, args)?)),
             ResultNames::One(target) => {
+                if let Op::Input = call.op {
+                    self.read_asked_for(rt, args)?;
+                }
                 let answer = self.value_for(rt, &target, call.op, args, gate);
                 bind_answer(&mut self.names, &target, answer)?;
                 Ok(Shown::Nothing)
