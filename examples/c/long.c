@@ -27,10 +27,16 @@ void *__wrap_realloc(void *block, size_t size) {
     return __real_realloc(block, size);
 }
 
-/* The starts and the lengths of the segments of each descriptor of a call, which permutes, distributes and indexes make. */
+/* Whether a call by segments makes descriptors: a distribute, an index, and a permute that is no simple or back permute. */
+static bool makes_descriptors(const char *call) {
+    if (begins(call, "dis") || begins(call, "ind")) return true;
+    return call[4] == 'p' && !begins(call, "smp") && !begins(call, "bck");
+}
+
+/* The starts and the lengths of the segments of each descriptor that a call makes. */
 static size_t descriptors_of(const Row *row, const char *call) {
     size_t count = 0;
-    if (!by_segments(call) || (call[4] != 'p' && !begins(call, "dis") && !begins(call, "ind"))) return 0;
+    if (!by_segments(call) || !makes_descriptors(call)) return 0;
     for (const char *letter = row->arrays; *letter != 0; letter++) count += *letter == 'l' || *letter == 'd';
     return count * segments * 2 * sizeof(int32_t);
 }
