@@ -8,7 +8,7 @@ pub use Rattle.std.proofs.lemmas.List.Elements.{All-drop, All-head, All-map, All
 pub use Rattle.std.proofs.lemmas.List.Sums.{fold-append, fold_more, sum_by-append, sum_by-drop_more, sum_by-take-drop, sum_by_more}
 pub use Rattle.std.proofs.lemmas.Slice.{between_is}
 pub use Rattle.std.specs.List.{AllPass}
-pub use Rattle.cvl_base.proofs.FoldLaws.{length-scan_of, scan_of-cons, scan_of_more}
+pub use Rattle.cvl_base.proofs.FoldLaws.{fold_of_is_item, length-scan_of, scan_of-cons, scan_of_more}
 pub use Rattle.cvl_base.proofs.Lists.{sum-cons}
 pub use Rattle.cvl_base.specs.Folds.{fold_of, scan_of}
 pub use Rattle.cvl_base.specs.Monoid.{MonoidLaws}

@@ -1,4 +1,5 @@
 pub mod Cut
+pub mod Few
 pub mod LastStart
 pub mod RangeParts
 pub mod Scanned

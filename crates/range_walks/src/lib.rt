@@ -3,14 +3,15 @@
 //!
 //! A walk is named by what it gives: one that ends in `_into` writes a run of fresh memory, one in `_vec` gives a vector, and
 //! one with no such ending a value. `plain` has the loops over elements among which no segment starts, `ranges` the walks over
-//! segments, and `range_parts` cuts a range where its first segment starts. The walks over whole vectors stand above, in the
-//! crate `scan_walks`.
+//! segments, `segment_sums` the sum of one segment, and `range_parts` cuts a range where its first segment starts. The walks over
+//! whole vectors stand above, in the crate `scan_walks`.
 #![tactic(auto)]
 
 pub mod plain;
 pub mod range_parts;
 pub mod ranges;
 pub mod readings;
+mod segment_sums;
 
 pub use plain::{scan_into, scan_vec, sum_from};
 pub use range_parts::parts_of_range;

@@ -15,6 +15,7 @@ ghost use Rattle.fresh.specs.Places.{with_items};
 use crate::plain::{scan_into, sum_from};
 use crate::range_parts::parts_of_range;
 use crate::readings::Reading;
+use crate::segment_sums::sum_of_segment;
 use cvl_base::Monoid;
 use cvl_base::monoid::know_laws;
 use fresh::Run;
@@ -72,7 +73,7 @@ pub fn reduces_into<M: Monoid, X: Copy, E: Reading<X, M::Item>>(
     let (mut run, mut rest) = (run, xs);
     for length in lengths {
         let (segment, others) = rest.split_at(*length as usize);
-        run.push(sum_from::<M, X, E>(M::unit(), segment));
+        run.push(sum_of_segment::<M, X, E>(segment));
         rest = others;
     }
     run

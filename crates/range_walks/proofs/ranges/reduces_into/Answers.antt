@@ -21,11 +21,11 @@ loop-length-preserved g c =
     let n = read_at row s in
     let left : c.push.new.self.room ≡ c.loop-length.run.room - 1 = ap (λ r. r.room) c.push.ensures in
     record {
-      whole = written_more c.loop-length.run c.push.new.self _ (c.sum_from.result ∷ []) _ _ c.push.ensures
+      whole = written_more c.loop-length.run c.push.new.self _ (c.sum_of_segment.result ∷ []) _ _ c.push.ensures
           (ap (map (fold_of m.join m.unit)) (cut_more lengths s n (map item rest) (map item c.split_at.result.0.now) _ here.within here.is
           (ap (map item) c.split_at.ensures.front ∙ sym (take-map item n rest)) (ap (map item) c.split_at.ensures.back ∙ sym (drop-map item n rest)))
           ∙ ap (λ sum. sum ∷ reduces_of m.join m.unit (drop (s + 1) lengths) (map item c.split_at.result.1.now))
-          (sym (c.sum_from.ensures ∙ ap (λ u. fold_of m.join u (map item c.split_at.result.0.now)) c.unit.ensures)))
+          (sym c.sum_of_segment.ensures))
           c.loop-length.invariant.whole;
       covered = omega (arith, here.left, c.split_at.ensures.back_len, c.loop-length.invariant.covered);
       room = omega (arith, left, c.loop-length.invariant.room, c.loop-length-test.true);
