@@ -1,3 +1,4 @@
+pub mod Blocks
 pub mod EachSent
 pub mod EndToEnd
 pub mod LastSent

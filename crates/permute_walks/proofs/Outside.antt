@@ -48,7 +48,7 @@ module _ (first places : ℕ) (index : List ℤ) (k : ℕ) (so_far : first_outsi
 
 -- ---- the definition
 
-tells : {X : Type 0} (source : List X) (i : ℤ) → is_some (element_at source i) ≡ is_place (length source) i
+pub tells : {X : Type 0} (source : List X) (i : ℤ) → is_some (element_at source i) ≡ is_place (length source) i
 tells source (pos k) = grind (arith, nat_tests, slice_get_cases, lt-ltb, le-ltb)
 tells source (negsuc k) = refl
 

@@ -63,9 +63,3 @@ module _ {X : Type 0} where
   pub nothing_at : (index : List ℤ) → All (λ v. v ≡ None) (map (element_at {X = X} []) index)
   nothing_at [] = All-nil (λ v. v ≡ None)
   nothing_at (i ∷ index) = All-cons (λ v. v ≡ None) (element_at [] i) (map (element_at []) index) (none_at i) (nothing_at index)
-
--- no index takes something, and none takes nothing: there is none
-pub none_left : {X : Type 0} (place : ℕ) (values : List (Option X)) → All (λ v. v ≡ None) values → first_without place values ≡ None → length values ≡ 0
-none_left place [] none all = refl
-none_left place (None ∷ values) none all = absurd (none-some place (sym all))
-none_left place (Some x ∷ values) none all = absurd (none-some x (sym (All-head (λ w. w ≡ None) (Some x) values none)))

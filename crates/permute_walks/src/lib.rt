@@ -23,4 +23,4 @@ pub use owners::permuted_shared;
 pub use ranges::write_range;
 pub use scatters::{is_permutation, is_permutation_by, scatter_over};
 pub use sent_places::{AllDestinations, Destinations, FlaggedDestinations, NOBODY, send_places};
-pub use takes::{ElementsTaken, push_elements_at, take_in_runs, take_nothing, write_taken_over};
+pub use takes::{ByBlocks, ElementsTaken, OneByOne, PushAt, take_in_runs, take_nothing};

@@ -1,7 +1,7 @@
 //! A back permute in one walk, which several threads may share: each looks at indices and writes the elements there at once. An
 //! index that is no place of the source takes another element, so that every place is written, and the first of them is told.
 
-ghost use Rattle.std.specs.Prelude.{◌≡◌, ◌+◌, ◌<◌, ◌≤◌, ◌^◌, IfOk, List, [], None, Option, length, map, vec_len};
+ghost use Rattle.std.specs.Prelude.{◌≡◌, ◌+◌, ◌≤◌, IfOk, List, [], None, Option, length, map, vec_len};
 ghost use Rattle.std.specs.List.{All};
 ghost use Rattle.cvl_base.specs.declared.fault.FaultNo.TheVariants.{IndexOutOfRange};
 ghost use Rattle.cvl_base.specs.Elementwise.{values_from};
@@ -14,9 +14,11 @@ ghost use Rattle.fresh.specs.Places.{stretch, with_items};
 ghost use Rattle.permute_walks.specs.Indices.{each_or};
 ghost use Rattle.sharing.specs.Shares.{share_of_first};
 
+use crate::backs::write_elements_at;
 use crate::elements::element_of;
+use crate::index_counts::count_outside;
 use cvl_base::{Fault, FaultNo, Memory, Refused};
-use fresh::{CheckedWriter, Run, fill_slice, first_found, write_checked_in_runs};
+use fresh::{CheckedWriter, Run, first_found, write_checked_in_runs};
 use sharing::{ThreadCount, share_of_first};
 use std::thread::Threads;
 
@@ -32,9 +34,11 @@ fn element_at<T: Copy>(source: &[T], index: &i32) -> Option<T>
     }
 }
 
+/// How many indices are looked at before their elements are taken, at most. So many stay in the nearest cache.
+const BLOCK: usize = 4096;
+
 /// Pushes the element at each index, or another one where an index is no place of the source, and tells the place of the first
 /// such index in the block of the run.
-// Of many indices this loop takes more in the same time than one that is left early, though it has more to do for each.
 #[inline(never)]
 fn push_or_other<T: Copy>(
     run: Run<T>,
@@ -55,28 +59,79 @@ fn push_or_other<T: Copy>(
     (run, found)
 }
 
-/// The same, by a loop that is left at the first index that is no place of the source: it keeps nothing but the run.
-// Inlined, so that what is known of the run stays in registers from segment to segment.
+/// The same for a block of indices, which are looked at first: where each is a place of the source, as most often, the loop that
+/// takes the elements has no branch for each.
 #[inline(always)]
-pub fn push_elements_at<T: Copy>(
+fn push_block<T: Copy>(
     run: Run<T>,
     source: &[T],
     index: &[i32],
     other: T,
 ) -> (Run<T>, Option<usize>)
     requires room { length index.now ≤ run.room }
+    requires few { length index.now ≤ most_places }
     ensures run { result.0 ≡ with_items run (each_or other (map (element_at source.now) index.now)) }
     ensures found { result.1 ≡ first_without (run.first + length run.items) (map (element_at source.now) index.now) }
 {
-    let mut run = run;
-    for k in 0..index.len() {
-        let Some(element) = element_at(source, &index[k]) else {
-            let (_, rest) = index.split_at(k);
-            return push_or_other(run, source, rest, other);
-        };
-        run.push(element);
+    if count_outside(index, source.len()) == 0 {
+        return (write_elements_at(run, source, index), None);
     }
-    (run, None)
+    push_or_other(run, source, index, other)
+}
+
+/// How the elements at some indices are pushed.
+pub trait PushAt<T: Copy> {
+    /// Pushes the element at each index, or another one where an index is no place of the source, and tells the place of the
+    /// first such index in the block of the run.
+    fn push_at(run: Run<T>, source: &[T], index: &[i32], other: T) -> (Run<T>, Option<usize>)
+        requires room { length index.now ≤ run.room }
+        ensures run { result.0 ≡ with_items run (each_or other (map (element_at source.now) index.now)) }
+        ensures found { result.1 ≡ first_without (run.first + length run.items) (map (element_at source.now) index.now) };
+}
+
+/// Index by index, which is for few of them: the loop is left at the first index that is no place of the source, and keeps
+/// nothing but the run.
+pub struct OneByOne;
+
+impl<T: Copy> PushAt<T> for OneByOne {
+    // Inlined, so that what is known of the run stays in registers from segment to segment.
+    #[inline(always)]
+    fn push_at(run: Run<T>, source: &[T], index: &[i32], other: T) -> (Run<T>, Option<usize>)
+        requires room { length index.now ≤ run.room }
+        ensures run { result.0 ≡ with_items run (each_or other (map (element_at source.now) index.now)) }
+        ensures found { result.1 ≡ first_without (run.first + length run.items) (map (element_at source.now) index.now) }
+    {
+        let mut run = run;
+        for k in 0..index.len() {
+            let Some(element) = element_at(source, &index[k]) else {
+                let (_, rest) = index.split_at(k);
+                return push_or_other(run, source, rest, other);
+            };
+            run.push(element);
+        }
+        (run, None)
+    }
+}
+
+/// Block by block, which is for many indices: those of a block are looked at before their elements are taken.
+pub struct ByBlocks;
+
+impl<T: Copy> PushAt<T> for ByBlocks {
+    fn push_at(run: Run<T>, source: &[T], index: &[i32], other: T) -> (Run<T>, Option<usize>)
+        requires room { length index.now ≤ run.room }
+        ensures run { result.0 ≡ with_items run (each_or other (map (element_at source.now) index.now)) }
+        ensures found { result.1 ≡ first_without (run.first + length run.items) (map (element_at source.now) index.now) }
+    {
+        let (mut run, mut found, mut rest) = (run, None, index);
+        while !rest.is_empty() {
+            let (block, others) = rest.split_at(rest.len().min(BLOCK));
+            let (next, here) = push_block(run, source, block, other);
+            run = next;
+            found = found.or(here);
+            rest = others;
+        }
+        (run, found)
+    }
 }
 
 /// Takes the element at each index: the walk of a flat back permute.
@@ -113,7 +168,7 @@ impl<'a, T: Copy> CheckedWriter<T> for ElementsTaken<'a, T> {
     {
         let (_, rest) = self.index.split_at(run.next_place());
         let (index, _) = rest.split_at(run.room());
-        push_or_other(run, self.source, index, self.other)
+        ByBlocks::push_at(run, self.source, index, self.other)
     }
 
     fn share(&self, _first: usize, room: usize, few: usize, threads: usize) -> usize {
@@ -159,22 +214,4 @@ pub fn take_nothing<T: Copy, A: Memory>(alloc: A, indices: usize) -> Result<Vec<
         return Err(Refused::Fault(Fault::at(FaultNo::IndexOutOfRange, 0)));
     }
     Ok(Vec::new(alloc))
-}
-
-/// Writes what a writer takes over a room of as many places, by the thread that calls.
-pub fn write_taken_over<T: Copy, W: CheckedWriter<T>>(out: &mut [T], writer: &W)
-    requires as_long { length out.old ≡ length (W.whole writer.now) }
-    requires fits { length out.old < 2 ^ 63 }
-    ensures { out.new ≡ W.whole writer.now }
-{
-    fill_slice(
-        out,
-        |run: Run<T>| -> Run<T>
-            requires { (run.items ≡ []) × (run.first ≡ 0) × (run.room ≡ length (W.whole writer.now)) }
-            ensures { result ≡ stretch run.block 0 (W.whole writer.entry.now) 0 }
-        {
-            let (run, _found) = writer.write(run);
-            run
-        },
-    )
 }

@@ -22,7 +22,7 @@ use Rattle.cvl_base.specs.Gives.{unless}
 use Rattle.cvl_base.specs.SegmentedCalls.{seg_back_of}
 use Rattle.cvl_base.proofs.Lists.{sum-cons}
 use Rattle.permute_walks.specs.Indices.{each_or}
-use Rattle.permute_walks.proofs.TakenOr.{each_taken, values_told}
+use Rattle.permute_walks.proofs.TakenOr.{values_told}
 use Rattle.permute_walks.proofs.Told.{IsTold}
 use Rattle.segmented_permutes.specs.Backs.{IsSegmentedBack, lists_at, outside_from, values_at}
 use Rattle.segmented_permutes.proofs.Backed.{outside_valued, seg_back_values}
@@ -192,10 +192,6 @@ module _ {X : Type 0} (source : List X) (index : List ℤ) (widths lengths : Lis
 
   pub each_inside : None ≡ outside_from 0 widths lengths index → first_without 0 values ≡ None
   each_inside none = none_without (first_without 0 values) (none ∙ outside_is)
-
-  -- where no index is outside, what is taken is all that is written
-  pub each_written : (other : X) → None ≡ outside_from 0 widths lengths index → each_or other values ≡ somes values
-  each_written other none = each_taken other 0 values (each_inside none)
 
   length-taken : (vs : List (Option X)) (place : ℕ) → first_without place vs ≡ None → length (somes vs) ≡ length vs
   length-taken [] place none = refl

@@ -10,10 +10,13 @@ ghost use Rattle.segdes.specs.Starts.{start_of};
 ghost use Rattle.segmented_permutes.specs.Backs.{IsSegmentedBack, values_at};
 
 use fresh::{CheckedWriter, Run};
-use permute_walks::push_elements_at;
+use permute_walks::{ByBlocks, OneByOne, PushAt};
 use segdes::SegDes;
 use sharing::share_of_first;
 use std::alloc::Allocator;
+
+/// From how many indices a segment on, on average, they are looked at block by block.
+const LONG: usize = 128;
 
 /// Takes the element at each index, segment by segment.
 #[derive(Drop)]
@@ -31,7 +34,7 @@ impl<'a, T: Copy, A: Allocator> SegmentsTaken<'a, T, A> {
     /// Takes what is left of segment `s`, in which the run goes on, or as much as there is room for. Tells the first place whose
     /// index takes nothing.
     #[inline(always)]
-    fn take_segment(&self, run: Run<T>, s: usize) -> (Run<T>, Option<usize>)
+    fn take_segment<P: PushAt<T>>(&self, run: Run<T>, s: usize) -> (Run<T>, Option<usize>)
         requires segment { s < length self.now.index_d.now }
         requires begins { start_of self.now.index_d.now s ≤ run.first + length run.items }
         requires ends { run.first + length run.items ≤ start_of self.now.index_d.now (s + 1) }
@@ -49,7 +52,30 @@ impl<'a, T: Copy, A: Allocator> SegmentsTaken<'a, T, A> {
         let count = (last - first).min(run.room());
         let start = self.source_d.start(s);
         let source = &self.source[start..start + self.source_d.length(s)];
-        push_elements_at(run, source, &self.index[first..first + count], self.other)
+        P::push_at(run, source, &self.index[first..first + count], self.other)
+    }
+
+    /// Takes as much as there is room for, segment by segment. Tells the first place whose index takes nothing.
+    fn take_segments<P: PushAt<T>>(&self, run: Run<T>) -> (Run<T>, Option<usize>)
+        requires empty { run.items ≡ [] }
+        requires within { run.first + run.room ≤ length (each_or self.now.other
+            (values_at self.now.source_d.now self.now.source.now self.now.index_d.now self.now.index.now)) }
+        ensures run { result.0 ≡ stretch run.block run.first (part (each_or self.now.other
+            (values_at self.now.source_d.now self.now.source.now self.now.index_d.now self.now.index.now)) run.first run.room) 0 }
+        ensures found { result.1 ≡ first_without run.first
+            (part (values_at self.now.source_d.now self.now.source.now self.now.index_d.now self.now.index.now)
+            run.first run.room) }
+    {
+        let first = run.next_place();
+        let begin = self.index_d.starts_before(first + 1).saturating_sub(1);
+        let last = self.index_d.starts_before(first + run.room());
+        let (mut run, mut found) = (run, None);
+        for s in begin..last {
+            let (next, here) = self.take_segment::<P>(run, s);
+            run = next;
+            found = found.or(here);
+        }
+        (run, found)
     }
 }
 
@@ -75,16 +101,10 @@ impl<'a, T: Copy, A: Allocator> CheckedWriter<T> for SegmentsTaken<'a, T, A> {
             (part (values_at self.now.source_d.now self.now.source.now self.now.index_d.now self.now.index.now)
             run.first run.room) }
     {
-        let first = run.next_place();
-        let begin = self.index_d.starts_before(first + 1).saturating_sub(1);
-        let last = self.index_d.starts_before(first + run.room());
-        let (mut run, mut found) = (run, None);
-        for s in begin..last {
-            let (next, here) = self.take_segment(run, s);
-            run = next;
-            found = found.or(here);
+        if self.index.len() / LONG >= self.index_d.count() {
+            return self.take_segments::<ByBlocks>(run);
         }
-        (run, found)
+        self.take_segments::<OneByOne>(run)
     }
 
     fn share(&self, _first: usize, room: usize, few: usize, threads: usize) -> usize {

@@ -17,7 +17,7 @@ returns-clause-run g c =
     let count : c.min-count.result ≡ n =
     omega (arith, c.min-count.ensures, c.start.ensures.value, c.length.ensures, start_more d s c.requires.segment, c.next_place-first.ensures.place, c.room.ensures) in
     let within : place + n ≤ start_of d (s + 1) = omega (arith, c.requires.ends) in
-    c.push_elements_at.ensures.run
+    c.push_at.ensures.run
     ∙ ap (λ vs. with_items c.args.run (each_or c.args.self.now.other vs))
     (values_read c.args.self.now.fits s c.start-start.result c.length-2.result c.next_place-first.result c.min-count.result place n c.requires.segment c.start-start.ensures.value c.length-2.ensures
     c.next_place-first.ensures.place count c.requires.begins within)
@@ -31,7 +31,7 @@ returns-clause-found g c =
     let count : c.min-count.result ≡ n =
     omega (arith, c.min-count.ensures, c.start.ensures.value, c.length.ensures, start_more d s c.requires.segment, c.next_place-first.ensures.place, c.room.ensures) in
     let within : place + n ≤ start_of d (s + 1) = omega (arith, c.requires.ends) in
-    c.push_elements_at.ensures.found
+    c.push_at.ensures.found
     ∙ ap (first_without place)
     (values_read c.args.self.now.fits s c.start-start.result c.length-2.result c.next_place-first.result c.min-count.result place n c.requires.segment c.start-start.ensures.value c.length-2.ensures
     c.next_place-first.ensures.place count c.requires.begins within)

@@ -4,7 +4,7 @@ use Rattle.std.proofs.lemmas.List.{length-map}
 use Rattle.segdes.specs.Starts.{start_of}
 use Rattle.segmented_permutes.specs.Backs.{values_at}
 use Rattle.segmented_permutes.proofs.Listed.{length-values, reaches, starts_at, taken_all, taken_next, taken_none}
-use Rattle.segmented_permutes.proofs.back_segments.SegmentsTakenCheckedWriter.write.Goals as goal
+use Rattle.segmented_permutes.proofs.back_segments.SegmentsTaken.take_segments.Goals as goal
 
 pub loop-s-init : goal.loop-s-init
 loop-s-init g c =

@@ -1,6 +1,6 @@
 use Rattle.permute_walks.proofs.Cited.{arith, common_steps, ◌≡◌, ◌+◌, ◌∙◌, ◌∷◌, [], ◌++◌, ap, length, map, refl, take, take-append-drop, None, Some, map-append, take_more, element_at, first_without}
 use Rattle.permute_walks.proofs.TakenOr.{found_more, others_found, others_taken, taken_more}
-use Rattle.permute_walks.proofs.takes.push_elements_at.Goals as goal
+use Rattle.permute_walks.proofs.takes.OneByOnePushAt.push_at.Goals as goal
 
 pub returns-in_default : goal.returns-in_default
 returns-in_default g c =

@@ -1,6 +1,6 @@
 use Rattle.segmented_permutes.specs.Backs.{values_at}
 use Rattle.segmented_permutes.proofs.Listed.{IsTaken}
-use Rattle.segmented_permutes.proofs.back_segments.SegmentsTakenCheckedWriter.write.Given as goal
+use Rattle.segmented_permutes.proofs.back_segments.SegmentsTaken.take_segments.Given as goal
 
 abbrev pub invariant-loop-s : goal.invariant-loop-s
 invariant-loop-s g l =

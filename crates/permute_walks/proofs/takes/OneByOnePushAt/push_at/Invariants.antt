@@ -1,5 +1,5 @@
 use Rattle.permute_walks.proofs.Cited.{◌≡◌, ◌+◌, None, length, map, take, element_at, first_without, with_items, each_or}
-use Rattle.permute_walks.proofs.takes.push_elements_at.Given as goal
+use Rattle.permute_walks.proofs.takes.OneByOnePushAt.push_at.Given as goal
 
 abbrev pub invariant-loop-k : goal.invariant-loop-k
 invariant-loop-k g l =
