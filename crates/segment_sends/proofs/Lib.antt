@@ -1,5 +1,6 @@
 pub mod AllSent
 pub mod OneSegment
+pub mod Pushed
 pub mod Ranges
 pub mod Scatters
 pub mod Shared

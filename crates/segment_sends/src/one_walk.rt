@@ -15,9 +15,43 @@ use cvl_base::Memory;
 use fresh::Run;
 use permute_walks::{Destinations, NOBODY, element_of, send_places};
 
+/// How many places a short segment of the result has at most.
+const SHORT: usize = 32;
+
+/// Pushes for each sender its element, or the value at its place where it is nobody.
+// Inlined, so that what is known of the run stays in registers from segment to segment.
+#[inline(always)]
+fn push_elements<T: Copy>(run: Run<T>, source: &[T], values: &[T], senders: &[u32]) -> Run<T>
+    requires room { length senders.now ≤ run.room }
+    requires as_long { length values.now ≡ length senders.now }
+    ensures { result ≡ with_items run (written_over source.now senders.now values.now) }
+{
+    let mut run = run;
+    for k in 0..senders.len() {
+        run.push(element_of(source, senders[k] as usize).unwrap_or(values[k]));
+    }
+    run
+}
+
+/// The same, and then each sender is nobody.
+#[inline(always)]
+fn push_and_clear<T: Copy>(run: Run<T>, source: &[T], values: &[T], senders: &mut [u32]) -> Run<T>
+    requires room { length senders.old ≤ run.room }
+    requires as_long { length values.now ≡ length senders.old }
+    ensures pushed { result ≡ with_items run (written_over source.now senders.old values.now) }
+    ensures cleared { senders.new ≡ replicate (length senders.old) nobody }
+{
+    let mut run = run;
+    for k in 0..senders.len() {
+        run.push(element_of(source, senders[k] as usize).unwrap_or(values[k]));
+        senders[k] = NOBODY;
+    }
+    run
+}
+
 /// Pushes for each sender its element, or what stands before at the same place of the run where it is nobody. Then each sender is
 /// nobody.
-// Inlined, so that a short segment takes no call, and what is known of the run stays in registers from segment to segment.
+// A loop that clears what it reads takes longer for each place than two loops; only a short segment is walked once.
 #[inline(always)]
 fn push_over<T: Copy>(run: Run<T>, source: &[T], before: &[T], senders: &mut [u32]) -> Run<T>
     requires room { length senders.old ≤ run.room }
@@ -28,11 +62,11 @@ fn push_over<T: Copy>(run: Run<T>, source: &[T], before: &[T], senders: &mut [u3
 {
     let (_, rest) = before.split_at(run.next_place());
     let (values, _) = rest.split_at(senders.len());
-    let mut run = run;
-    for k in 0..senders.len() {
-        run.push(element_of(source, senders[k] as usize).unwrap_or(values[k]));
-        senders[k] = NOBODY;
+    if senders.len() <= SHORT {
+        return push_and_clear(run, source, values, senders);
     }
+    let run = push_elements(run, source, values, senders);
+    senders.fill(NOBODY);
     run
 }
 

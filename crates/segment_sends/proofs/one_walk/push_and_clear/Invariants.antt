@@ -1,7 +1,7 @@
 use Rattle.std.proofs.Common.{◌≡◌, drop, replicate, take}
 use Rattle.fresh.specs.Places.{with_items}
 use Rattle.permute_walks.specs.Senders.{nobody, written_over}
-use Rattle.segment_sends.proofs.one_walk.push_over.Given as goal
+use Rattle.segment_sends.proofs.one_walk.push_and_clear.Given as goal
 
 abbrev pub invariant-loop-k : goal.invariant-loop-k
 invariant-loop-k g l = record {

@@ -1,22 +1,12 @@
-use Rattle.std.proofs.Common.{rules, ◌≡◌, ◌∙◌, ℕ, zero, suc, ◌+◌, ◌<◌, List, [], ◌∷◌, ◌++◌, length, replicate, take, get_or, refl, sym, ap, arith, slice_get, unwrap_or}
+use Rattle.std.proofs.Common.{rules, ◌≡◌, ◌∙◌, ◌+◌, ◌<◌, ◌∷◌, [], ◌++◌, length, replicate, take, get_or, refl, sym, ap, arith, slice_get, unwrap_or}
 use Rattle.std.proofs.lemmas.Grind.{drop_more_same}
 use Rattle.std.proofs.lemmas.List.{drop-set-lt, get_or-drop, length-take-le, replicate_more, take_all, take_more_set}
-use Rattle.fresh.specs.Parts.{part}
 use Rattle.fresh.specs.Places.{Stretch, with_items}
 use Rattle.fresh.proofs.Written.{nothing_written, one_written}
 use Rattle.permute_walks.specs.Senders.{nobody, written_over}
 use Rattle.permute_walks.proofs.Taken.{length-over}
-use Rattle.segment_sends.proofs.one_walk.push_over.Goals as goal
-
--- one more sender
-written_more : {X : Type 0} (source : List X) (senders : List ℕ) (values : List X) (k : ℕ) (x y : X) → k < length senders → k < length values → x ≡ get_or values k x
-    → y ≡ unwrap_or (slice_get source (get_or senders k 0)) x
-    → written_over source (take k senders) (take k values) ++ y ∷ [] ≡ written_over source (take (suc k) senders) (take (suc k) values)
-written_more source [] values k x y lt within reads is = absurd (omega arith)
-written_more source (s ∷ senders) [] k x y lt within reads is = absurd (omega arith)
-written_more source (s ∷ senders) (v ∷ values) zero x y lt within reads is = ap (λ z. z ∷ []) (is ∙ ap (unwrap_or (slice_get source s)) reads)
-written_more source (s ∷ senders) (v ∷ values) (suc k) x y lt within reads is =
-    ap (λ rest. unwrap_or (slice_get source s) v ∷ rest) (written_more source senders values k x y (omega arith) (omega arith) reads is)
+use Rattle.segment_sends.proofs.Pushed.{written_more}
+use Rattle.segment_sends.proofs.one_walk.push_and_clear.Goals as goal
 
 pub loop-k-init : goal.loop-k-init
 loop-k-init g c = record { pushed = sym (nothing_written c.args.run); cleared = refl; left = refl }
@@ -24,11 +14,10 @@ loop-k-init g c = record { pushed = sym (nothing_written c.args.run); cleared = 
 pub push-requires : goal.push-requires
 push-requires g c =
     let senders = c.args.senders.now in
-    let values = c.split_at-2.result.0.now in
+    let values = c.args.values.now in
     let k = c.loop-k.k in
-    let values_long : length values ≡ length senders = search rules in
     let front : length (take k senders) ≡ k = length-take-le k senders (omega (arith, c.loop-k-test.true)) in
-    let back : length (take k values) ≡ k = length-take-le k values (omega (arith, c.loop-k-test.true, values_long)) in
+    let back : length (take k values) ≡ k = length-take-le k values (omega (arith, c.loop-k-test.true, c.requires.as_long)) in
     let long = length-over c.args.source.now (take k senders) (take k values) (front ∙ sym back) in
     omega (arith, ap (λ (r : Stretch _). r.room) c.loop-k.invariant.pushed, long, back, c.requires.room, c.loop-k-test.true)
 
@@ -37,23 +26,21 @@ loop-k-preserved g c =
     let source = c.args.source.now in
     let senders = c.args.senders.now in
     let now = c.loop-k.senders in
-    let values = c.split_at-2.result.0.now in
+    let values = c.args.values.now in
     let k = c.loop-k.k in
     let x = c.index-values-k.result in
     let y = c.unwrap_or.result in
     let before = written_over source (take k senders) (take k values) in
-    let in_values : k < length values = search rules in
+    let in_values : k < length values = omega (arith, c.loop-k-test.true, c.requires.as_long) in
     let in_senders : k < length now = omega (arith, c.loop-k-test.true, c.loop-k.auto.senders) in
     let there : k + 0 ≡ k = omega arith in
     let read : get_or now k 0 ≡ get_or senders k 0 =
     sym (get_or-drop k now 0 0 ∙ ap (λ j. get_or now j 0) there) ∙ ap (λ xs. get_or xs 0 0) c.loop-k.invariant.left ∙ get_or-drop k senders 0 0 ∙ ap (λ j. get_or senders j 0) there in
     let here : y ≡ unwrap_or (slice_get source (get_or now k 0)) x = search rules in
     let is = here ∙ ap (λ s. unwrap_or (slice_get source s) x) read in
-    let next : suc k ≡ k + 1 = omega arith in
     record {
       pushed = one_written c.args.run c.loop-k.run c.push.new.self before y c.loop-k.invariant.pushed c.push.ensures
-          ∙ ap (with_items c.args.run) (written_more source senders values k x y c.loop-k-test.true in_values c.index-values-k.is is
-          ∙ ap (λ j. written_over source (take j senders) (take j values)) next);
+          ∙ ap (with_items c.args.run) (written_more source senders values k x y c.loop-k-test.true in_values c.index-values-k.is is);
       cleared = take_more_set now k nobody in_senders ∙ ap (λ ss. ss ++ nobody ∷ []) c.loop-k.invariant.cleared ∙ replicate_more k nobody;
       left = drop-set-lt (k + 1) now k nobody (omega arith) ∙ drop_more_same now senders k c.loop-k.invariant.left;
     }
@@ -62,14 +49,11 @@ pub returns-clause-pushed : goal.returns-clause-pushed
 returns-clause-pushed g c =
     let source = c.args.source.now in
     let senders = c.args.senders.now in
-    let values = c.split_at-2.result.0.now in
+    let values = c.args.values.now in
     let k = c.loop-k.k in
-    let n = length senders in
-    let values_are : values ≡ part c.args.before.now (c.args.run.first + length c.args.run.items) n = search rules in
-    let values_long : length values ≡ n = search rules in
     c.loop-k.invariant.pushed
     ∙ ap (λ ss. with_items c.args.run (written_over source ss (take k values))) (take_all k senders (omega (arith, c.loop-k-test.false)))
-    ∙ ap (λ vs. with_items c.args.run (written_over source senders vs)) (take_all k values (omega (arith, c.loop-k-test.false, values_long)) ∙ values_are)
+    ∙ ap (λ vs. with_items c.args.run (written_over source senders vs)) (take_all k values (omega (arith, c.loop-k-test.false, c.requires.as_long)))
 
 pub returns-clause-cleared : goal.returns-clause-cleared
 returns-clause-cleared g c =
