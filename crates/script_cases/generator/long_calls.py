@@ -1,7 +1,7 @@
 """Calls on long vectors, which workers race for or threads share, about the lengths from which on they do, with faults."""
 
 from calls import GREATEST, LEAST
-from cases import refused, tiles, whole
+from cases import number_lines, refused, tiles, whole
 
 # how many elements permutes have: a power of two, so that a stride of an odd number names each place once
 PLACES = 2**20
@@ -145,5 +145,52 @@ def divisions(rng):
     return text
 
 
+# segments about the lengths at which a walk of one thread changes its way: by reduces up to 7 elements have no loop, a permute
+# clears the senders of up to 32 as they are taken, and a back permute of 128 indices a segment looks at 4,096 at a time
+
+SUMMED = [*range(13), 0, 16, 1]
+SENT = [31, 32, 33, 0, 1, 34, 64, 2]
+LOOKED_AT = [[127] * 9, [128] * 9, [4095], [4096], [4097], [9000], [0, 8193, 200]]
+
+REDUCED = "d = mke_fov l\nr = add_rez a d\nwrite r\nr = mul_rez a d\nwrite r\nr = max_rez a d\nwrite r\n" \
+    "b = grt_wuz a z\nr = xor_reb b d\nwrite r\ns = add_sez a d\nwrite s d\n"
+
+
+def turned(lengths):
+    """A vector in segments, and in each of them an index that names its places from the last to the first."""
+    return f"l = input 1\nd = mke_fov l\nv = ind_luz 7 3 {sum(lengths)}\no = dis_vuz 1 {len(lengths)}\nn = sub_wuz l o\n" \
+        f"m = dis_vuz -1 {len(lengths)}\ni = ind_lez n m d\n"
+
+
+def walks(rng):
+    text = ""
+    settings = tiles(("3 4096", "1 3"))
+    count = sum(SUMMED)
+    script = f"l = input 1\na = ind_luz 12345 {STRIDE} {count}\nz = dis_vuz 0 {count}\n" + REDUCED
+    text += whole("reduces of short segments", settings, script, [number_lines(SUMMED)])
+    count = sum(SENT)
+    sent = turned(SENT)
+    ends = f"p = smp_pez v i d\nwrite p d\nw = dis_vuz 0 {count}\np = def_pez v i w d d\nwrite p d\n"
+    text += whole("permutes of short and longer segments", settings, sent + ends, [number_lines(SENT)])
+    for place in (3, 40, 70):
+        ends = f"i = rep_vuz i {place} 0\np = smp_pez v i d\n"
+        text += whole(f"a place of a segment that two are sent to, at {place}", settings, sent + ends, [number_lines(SENT)])
+    for lengths in LOOKED_AT:
+        count = sum(lengths)
+        taken = turned(lengths)
+        name = f"{count} indices in {len(lengths)} segments"
+        ends = "p = bck_pez v i d d\nq = bck_pez p i d d\ne = eql_wuz q v\nt = and_rub e\nwrite t\nr = max_rez p d\nwrite r\n"
+        text += whole(name, settings, taken + ends, [number_lines(lengths)])
+        for place, other in ((count - 1, -1), (count // 2, max(lengths)), (0, -1)):
+            ends = f"i = rep_vuz i {count - 1} -1\ni = rep_vuz i {place} {other}\np = bck_pez v i d d\n"
+            text += whole(f"{name}, of which one is outside at {place}", settings, taken + ends, [number_lines(lengths)])
+            flat = f"v = ind_luz 7 3 {count}\ni = ind_luz 0 1 {count}\ni = rep_vuz i {count - 1} -1\n"
+            ends = f"i = rep_vuz i {place} {count if other > 0 else other}\np = bck_puz v i\n"
+            text += whole(f"{count} indices, of which one is outside at {place}", settings, flat + ends, [])
+        text += whole(f"{count} indices", settings, f"v = ind_luz 7 3 {count}\ni = ind_luz {count - 1} -1 {count}\n"
+            "p = bck_puz v i\nq = bck_puz p i\ne = eql_wuz q v\nt = and_rub e\nwrite t\nx = ext_vuz p 1\nwrite x\n", [])
+    return text
+
+
 def cases(rng):
-    return permutes(rng) + scans(rng) + checked(rng) + blocks(rng) + divisions(rng)
+    return permutes(rng) + scans(rng) + checked(rng) + blocks(rng) + divisions(rng) + walks(rng)
