@@ -39,6 +39,7 @@ const BLOCK: usize = 4096;
 
 /// Pushes the element at each index, or another one where an index is no place of the source, and tells the place of the first
 /// such index in the block of the run.
+// Over a long vector one loop fetches indices while it takes elements; two loops over each block would wait for them.
 #[inline(never)]
 fn push_or_other<T: Copy>(
     run: Run<T>,
@@ -168,7 +169,7 @@ impl<'a, T: Copy> CheckedWriter<T> for ElementsTaken<'a, T> {
     {
         let (_, rest) = self.index.split_at(run.next_place());
         let (index, _) = rest.split_at(run.room());
-        ByBlocks::push_at(run, self.source, index, self.other)
+        push_or_other(run, self.source, index, self.other)
     }
 
     fn share(&self, _first: usize, room: usize, few: usize, threads: usize) -> usize {
