@@ -1,6 +1,7 @@
 -- A back permute in one walk, block by block: the elements of a block none of whose indices is outside, and what is left to take.
 use Rattle.permute_walks.proofs.Cited.{◌≡◌, ◌∙◌, ℕ, ◌+◌, ◌-◌, ◌≤◌, List, [], ◌∷◌, ◌++◌, length, map, refl, sym, ap, arith, true, false≢true, ℤ, is_some, Option, Some, None, unwrap_or}
-use Rattle.permute_walks.proofs.Cited.{option_or, cons_option, length-append, length-map, map-append, All-head, All-tail, first_without, first_of_both, Stretch, with_items, element_at, is_place, AreInside, elements_at, each_or}
+use Rattle.permute_walks.proofs.Cited.{option_or, cons_option, length-append, length-map, map-append, All-head, All-tail, first_without}
+use Rattle.permute_walks.proofs.Cited.{first_of_both, Stretch, with_items, element_at, is_place, AreInside, elements_at, each_or}
 use Rattle.fresh.proofs.Written.{nothing_written, written_twice}
 use Rattle.permute_walks.proofs.Outside.{tells}
 
