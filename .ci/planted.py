@@ -3,6 +3,9 @@ If the first text is empty, the other one stands at the end of the file, which m
 
 CALLS, SCRIPT, MANUAL = "docs/calls.md", "docs/script.md", "docs/cvl.1"
 
+# a table of wrong bodies
+PROVED, TABLE = "docs/proved.md", "\n## What shows each promise\n\n| Wrong body | Refused by |\n|---|---|\n"
+
 EDITS = {
     "examples.check_examples": [(CALLS, "sum = [22 -5", "sum = [23 -5")],
     "examples.check_runs": [("README.md", "\n    y = [5 0 18]", "\n    y = [5 0 19]")],
@@ -27,6 +30,8 @@ EDITS = {
     "source.check_bases": [("docs/architecture.md", ", `sharing`, `tile_plan` |", ", `tile_plan` |")],
     "source.check_programs": [(".ci/pages/paths.py", '"""The paths', '#!/usr/bin/env python3\n"""The paths')],
     "source.check_columns": [("crates/sharing/src/lib.rt", "", "//" + " long" * 26 + "\n")],
+    "promises.check_promises": [(PROVED, "", f"{TABLE}| a body | `crates/boards/must-fail/no_such.edit` |\n")],
+    "promises.check_edits": [("crates/boards/must-fail/unnamed.edit", "", "file: src/lib.rt\n")],
     "paths.check_paths": [("README.md", "", "\nSee `docs/no-such-page.md`.\n")],
     "paths.check_links": [("README.md", "", "\nSee [a page](docs/no-such-page.md).\n")],
     "paths.check_named_pages": [("README.md", "", "\nSee `no-such-page.md`.\n")],
@@ -39,3 +44,26 @@ EDITS = {
         ("crates/script_cases/data/generated-again.cases", "", "== case another\n"),
     ],
 }
+
+# what a row of the table of wrong bodies may name, and what is not there
+THERE = (
+    "crates/boards/must-fail/join_swapped.edit",
+    "crates/test_runs/src/shown.rt::as_text",
+    "crates/script_cases/data/scans.cases: a sum that wraps",
+    "bindings/tests/test_archive.py::test_a_compiler_with_options",
+    "examples/c/pools.c::main",
+    ".ci/test-resources: shares 4 'r = add_suz i'",
+)
+NOT_THERE = (
+    "crates/boards/must-fail/no_such.edit",
+    "crates/boards/src/look_back.rt",
+    "crates/test_runs/src/shown.rt::no_such",
+    "crates/test_runs/src/no_such.rt::as_text",
+    "crates/test_runs/src/requests.rt::requests_of",
+    "crates/script_cases/data/scans.cases: a sum that",
+    "bindings/tests/test_archive.py::assertIn",
+    "examples/c/pools.c::mai",
+    ".ci/test-resources: shares 5 'r = add_suz i'",
+    ".ci/run: The check of the repository",
+    "a test",
+)

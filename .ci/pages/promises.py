@@ -1,0 +1,77 @@
+"""The table of wrong bodies in docs/proved.md: what refuses each one is there, and each must-fail edit stands in the table."""
+
+import re
+
+from pages.source import cells_of
+from pages.texts import CASES, TOP, lines_of, text_of
+
+PAGE, HEADING = "docs/proved.md", "## What shows each promise"
+
+
+def has_test(text, name):
+    """Whether a file of Rattle has a test of this name."""
+    return re.search(rf"^ *#\[test\]\n(?: *(?:#|//).*\n)* *(?:pub )?fn {name}\(", text, re.M)
+
+
+def has_case(text, name):
+    return f"== case {name}" in text.splitlines()
+
+
+def has_line(text, words):
+    """Whether a line of a script that is no comment has these words."""
+    return any(words in line for line in text.splitlines() if not line.lstrip().startswith("#"))
+
+
+def has_name(text, name):
+    """Whether a program in Python has a function of this name, or one in another language the name at all."""
+    if "\nimport " in text:
+        return re.search(rf"^ *def {re.escape(name)}\(", text, re.M)
+    return re.search(rf"(?<!\w){re.escape(name)}(?!\w)", text)
+
+
+# what may refuse a wrong body: its form, and what its file has then
+FORMS = (
+    (r"(crates/\w+/must-fail/\w+\.edit)", lambda text: True),
+    (r"(crates/\w+/src/[\w/]+\.rt)::(\w+)", has_test),
+    (rf"({CASES}/[\w-]+\.cases): (.+)", has_case),
+    (r"(\.ci/[\w-]+): (.+)", has_line),
+    (r"((?!crates/)[\w./-]+)::(.+)", has_name),
+)
+
+
+def is_there(reference):
+    """Whether what a row names stands in its file."""
+    for form, has in FORMS:
+        found = re.fullmatch(form, reference)
+        if found and (TOP / found[1]).is_file():
+            return bool(has(text_of(found[1]), *found.groups()[1:]))
+    return False
+
+
+def rows():
+    """The number of each row of the table, its wrong body, and what refuses it: the words of code in its last column."""
+    page, inside = lines_of(PAGE), False
+    for number, (line, below) in enumerate(zip(page, [*page[1:], ""]), 1):
+        if line.startswith("## "):
+            inside = line == HEADING
+        elif inside and cells_of(line) and not below.startswith("|-"):
+            body, *_, references = cells_of(line)
+            yield number, body, re.findall(r"`([^`]+)`", references)
+
+
+def check_promises():
+    """Each row names what refuses its wrong body, and that is there."""
+    for number, body, references in rows():
+        if not references:
+            yield f"{PAGE}:{number} names nothing that refuses this: {body}"
+        for reference in references:
+            if not is_there(reference):
+                yield f"{PAGE}:{number} {reference} is not there, which should refuse this: {body}"
+
+
+def check_edits():
+    """Each must-fail edit stands in the table, so that none goes unseen."""
+    named = {reference for _, _, references in rows() for reference in references}
+    for edit in sorted(str(path.relative_to(TOP)) for path in TOP.glob("crates/*/must-fail/*.edit")):
+        if edit not in named:
+            yield f"{PAGE} does not name {edit} below {HEADING}"
