@@ -24,7 +24,7 @@ def has_line(text, words):
 
 def has_name(text, name):
     """Whether a program in Python has a function of this name, or one in another language the name at all."""
-    if "\nimport " in text:
+    if re.search("^(import|from) ", text, re.M):
         return re.search(rf"^ *def {re.escape(name)}\(", text, re.M)
     return re.search(rf"(?<!\w){re.escape(name)}(?!\w)", text)
 
