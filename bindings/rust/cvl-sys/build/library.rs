@@ -21,7 +21,7 @@ pub struct Library {
 #[derive(Debug, PartialEq, Eq)]
 pub enum Found {
     Library(Library),
-    /// There is no library, and why. What is only checked needs none.
+    /// No variable names a library and pkg-config has none, and why. What is only checked needs none.
     Missing(String),
     /// None is wanted, since pages are made.
     Nothing,
@@ -55,7 +55,7 @@ impl Lookup<'_> {
         (self.variable)(name).unwrap_or_default()
     }
 
-    /// Finds the library, or tells what is wrong with a variable or the target.
+    /// Finds the library, or tells what is wrong with the target or a variable, which may also lead to no library.
     pub fn find(&self) -> Result<Found, String> {
         if (self.variable)("DOCS_RS").is_some() {
             return Ok(Found::Nothing);
@@ -68,7 +68,7 @@ impl Lookup<'_> {
             }
         };
         match self.named()? {
-            Some((name, folder)) => Ok(in_folder(&name, folder, shared)),
+            Some((name, folder)) => in_folder(&name, folder, shared).map(Found::Library),
             None => Ok(self.of_package(shared)),
         }
     }
@@ -85,6 +85,9 @@ impl Lookup<'_> {
             .into_iter()
             .find_map(|name| (self.variable)(&name).map(|folder| (name, PathBuf::from(folder))));
         match said {
+            Some((name, folder)) if folder.as_os_str().is_empty() => {
+                Err(format!("the variable {name} is empty; it has to be the folder of the library, or unset"))
+            }
             Some((name, folder)) if !folder.is_absolute() => {
                 Err(format!("the variable {name} is {}; it has to be a path from the root", folder.display()))
             }
@@ -104,14 +107,14 @@ impl Lookup<'_> {
             }
         };
         match in_folder("cvl.pc", folder, shared) {
-            Found::Library(library) => {
+            Ok(library) => {
                 let said = self.folder_of_package("includedir");
                 Found::Library(Library {
                     include: said.or(library.include),
                     ..library
                 })
             }
-            other => other,
+            Err(why) => Found::Missing(why),
         }
     }
 
@@ -122,17 +125,17 @@ impl Lookup<'_> {
     }
 }
 
-/// The library in a folder, which `named` has told.
-fn in_folder(named: &str, folder: PathBuf, shared: bool) -> Found {
+/// The library in a folder that `named` leads to, or why it is not there.
+fn in_folder(named: &str, folder: PathBuf, shared: bool) -> Result<Library, String> {
     let file = folder.join(if shared { "libcvl.so" } else { "libcvl.a" });
     if !file.is_file() {
-        return Found::Missing(format!(
+        return Err(format!(
             "the library cvl was not found: {named} leads to {}, which is not there",
             file.display()
         ));
     }
     let include = include_beside(&folder);
-    Found::Library(Library {
+    Ok(Library {
         folder,
         shared,
         include,

@@ -21,7 +21,8 @@ fn of_package(name: &str) -> Option<String> {
 
 fn main() {
     let lookup = Lookup {
-        variable: &|name| env::var(name).ok(),
+        // what is not UTF-8 stands in the error as well as it can be shown
+        variable: &|name| env::var_os(name).map(|said| said.to_string_lossy().into_owned()),
         package: &of_package,
     };
     for name in lookup.asked() {

@@ -76,11 +76,25 @@ fn the_folder_that_a_variable_names() {
     );
     let wrong = found(&[("CVL_LIB_DIR", "lib")], &package).unwrap_err();
     assert!(wrong.contains("CVL_LIB_DIR is lib"), "{wrong}");
-    let nowhere = missing(found(&[("CVL_LIB_DIR", "/nowhere")], &package));
-    assert!(
-        nowhere.contains("CVL_LIB_DIR leads to /nowhere/libcvl.a"),
-        "{nowhere}"
-    );
+}
+
+/// A variable that leads to no library is an error, whatever pkg-config finds.
+#[test]
+fn a_variable_that_is_empty_or_leads_nowhere() {
+    let packaged = prefix("beside").join("lib");
+    let package = [("libdir", packaged.to_str().unwrap())];
+    for name in ["CVL_LIB_DIR", "CVL_LIB_DIR_x86_64_unknown_linux_gnu"] {
+        let empty = found(&[(name, "")], &package).unwrap_err();
+        assert!(empty.contains(&format!("{name} is empty")), "{empty}");
+        for (shared, file) in [("0", "libcvl.a"), ("1", "libcvl.so")] {
+            let variables = [(name, "/nowhere"), ("CVL_SHARED", shared)];
+            let nowhere = found(&variables, &package).unwrap_err();
+            assert!(
+                nowhere.contains(&format!("{name} leads to /nowhere/{file}")),
+                "{nowhere}"
+            );
+        }
+    }
 }
 
 #[test]
