@@ -4,7 +4,6 @@ made for it, without the kit, in a second."""
 import os
 import pathlib
 import sys
-import tempfile
 import unittest
 from unittest import mock
 
@@ -15,23 +14,7 @@ sys.path.insert(0, str(TOP / "bindings"))
 import archive
 import proved
 from installer import building
-
-
-class Tree(unittest.TestCase):
-    """A folder of one's own."""
-
-    def setUp(self):
-        folder = tempfile.TemporaryDirectory()
-        self.addCleanup(folder.cleanup)
-        self.top = pathlib.Path(folder.name)
-
-    def write(self, name, text="", time=None):
-        path = self.top / name
-        path.parent.mkdir(parents=True, exist_ok=True)
-        path.write_text(text)
-        if time is not None:
-            os.utime(path, (time, time))
-        return path
+from trees import Tree
 
 
 class Left(Tree):
@@ -75,6 +58,54 @@ class Left(Tree):
     def test_what_the_command_lib_left_is_for_it_to_take(self):
         self.write("crates/sums/out/rlib/stamp")
         self.assertFalse(self.crates.gate_left({"sums"}))
+
+
+class Stale(Tree):
+    """Whether an archive that was built before is built again, over the libraries that `rt ci` left."""
+
+    def setUp(self):
+        super().setUp()
+        self.write("crates.txt", "sums:\nscans: sums std\ncvl_c staticlib: scans\n")
+        self.libraries = [self.write(f"crates/{name}/out/rlib/{name}.rlib") for name in ("sums", "scans")]
+        self.text = self.write("crates/cvl_c/src/lib.rt")
+        self.crates = proved.Crates(self.top)
+        self.made = self.write("crates/cvl_c/out/libcvl_c.a")
+        # a kit whose compiler writes what it is asked for
+        self.program("kit/bin/rattle", 'echo "$@" > "$0.words"; while [ "$1" != -o ]; do shift; done; echo built > "$2"')
+        for path in (*self.libraries, self.made, self.text, self.text.parent):
+            os.utime(path, (1000, 1000))
+
+    def is_built(self):
+        """Whether it is built; then it is made older again."""
+        with mock.patch.object(proved, "kit", lambda: self.top / "kit"):
+            self.crates.build_over_gate(self.made)
+        built = self.made.exists() and self.made.read_text() == "built\n"
+        self.write("crates/cvl_c/out/libcvl_c.a", time=1000)
+        return built
+
+    def test_one_that_is_not_older_than_anything_is_taken(self):
+        self.assertFalse(self.is_built())
+
+    def test_one_over_which_a_library_is_newer(self):
+        for library in self.libraries:
+            os.utime(library, (1001, 1001))
+            self.assertTrue(self.is_built(), library)
+            os.utime(library, (1000, 1000))
+        self.assertFalse(self.is_built())
+
+    def test_one_over_which_the_text_of_the_exports_is_newer(self):
+        os.utime(self.text, (1001, 1001))
+        self.assertTrue(self.is_built())
+
+    def test_none(self):
+        self.made.unlink()
+        self.assertTrue(self.is_built())
+        said = self.top.joinpath("kit/bin/rattle.words").read_text()
+        for library in self.libraries:
+            self.assertIn(f"-L dependency={library.parent}", said)
+        # what the exports use themselves, and no more
+        self.assertIn(f"--extern scans={self.libraries[1]}", said)
+        self.assertNotIn(f"--extern sums={self.libraries[0]}", said)
 
 
 class Copied(Tree):
@@ -143,6 +174,63 @@ class Built(Tree):
         with mock.patch.dict(os.environ, given):
             build = building.Build("", 1, "")
             self.assertEqual((build.both(self.top), build.writes), (("/some/cvl", "/some/libcvl_c.a"), None))
+
+
+class ForACpu(Tree):
+    """What is built for other processors than the usual ones."""
+
+    def setUp(self):
+        super().setUp()
+        self.log = self.top / "log"
+        folder = self.top / "programs"
+        folder.mkdir()
+        patched = mock.patch.dict(os.environ, {"PATH": f"{folder}:{os.environ['PATH']}", "CVL_ARCHIVE": "", "CVL_PROGRAM": ""})
+        patched.start()
+        self.addCleanup(patched.stop)
+
+    def logged(self):
+        """The words of each program that was run, with the folder that it was run in."""
+        return [line.split("|") for line in self.log.read_text().splitlines()]
+
+    def test_what_the_gate_left_is_not_taken(self):
+        with mock.patch.object(proved.Crates, "gate_left", lambda *given: True), \
+                mock.patch.object(proved.Crates, "is_left", lambda *given: True):  # fmt: skip
+            for cpu, own in (("", ""), ("x86-64-v3", ""), ("x86-64-v3", str(self.top))):
+                self.assertEqual(building.Build(cpu, 1, own).is_left, not cpu)
+
+    def test_the_program_and_the_archive_are_built_for_it_and_nothing_else(self):
+        self.program("programs/rt", f"""echo "$(basename "$PWD")|$*" >> '{self.log}'""")
+        self.write("crates.txt", "sums:\ncvl: sums\ncvl_c staticlib: sums\n")
+        for name in ("sums", "cvl", "cvl_c"):
+            (self.top / "crates" / name).mkdir(parents=True)
+        for cpu, more in {"": "", "x86-64-v3": " --cpu=x86-64-v3"}.items():
+            self.write("log")
+            with mock.patch("builtins.print"):
+                proved.Crates(self.top).build_all(cpu, 2, self.top)
+            wanted = [["cvl", f"run{more} -- --help"], ["cvl_c", f"lib{more}"], ["sums", "lib"]]
+            self.assertEqual(sorted(self.logged()), wanted)
+            self.assertEqual(self.logged()[0][0], "sums")
+
+    def test_the_c_is_compiled_for_it(self):
+        # programs that write which words they were given, and make the file that is asked for
+        (self.top / "c").mkdir()
+        makes = {"nm": "", "objcopy": ': > "$word"', "ar": ': > "$2"', **dict.fromkeys(("cc", "ld"), ': > "$made"')}
+        for name, make in makes.items():
+            self.program(f"programs/{name}", f"""echo "{name}|$*" >> '{self.log}'
+                for word in "$@"; do [ "$before" != -o ] || made=$word; before=$word; done
+                {make}""")
+        sources = sorted(path.name for path in (TOP / "bindings/c").glob("*.c"))
+        given = {name: "" for name in ("CC", "CPPFLAGS", "CFLAGS", "LDFLAGS", "LD", "OBJCOPY", "NM", "AR")}
+        given.update(CVL_ARCHIVE=str(self.write("libcvl_c.a")), CVL_PROGRAM=str(self.write("program")))
+        for cpu in ("", "x86-64-v3"):
+            self.write("log")
+            (self.top / "work").mkdir(exist_ok=True)
+            with mock.patch.dict(os.environ, given), mock.patch.object(proved, "kit", lambda: self.top):
+                building.Build(cpu, 1, "").run(self.top / "work")
+            compiled = [words.split() for name, words in self.logged() if name == "cc" and "-c" in words.split()]
+            self.assertEqual(sorted(os.path.basename(words[words.index("-c") + 1]) for words in compiled), sources)
+            for words in compiled:
+                self.assertEqual([word for word in words if word.startswith("-march")], [f"-march={cpu}"] if cpu else [])
 
 
 class Words(unittest.TestCase):
