@@ -7,8 +7,12 @@ import shutil
 import archive
 import proved
 
+from . import obstacles
+
 # what a copy of the checkout leaves out
 LEFT_OUT = {".git", "out", "__pycache__"}
+# a folder that each copy has
+MARK = "bindings/installer"
 
 
 def _text_of(top):
@@ -21,7 +25,9 @@ def _text_of(top):
 def copied(top, copy):
     """Makes a copy of the checkout like it: what is the same is left alone, so that what was built of it stands."""
     wanted = set(_text_of(top))
-    for name in set(_text_of(copy)) - wanted if copy.exists() else ():
+    # by this folder a later build knows the copy, also where this one is stopped
+    (copy / MARK).mkdir(parents=True, exist_ok=True)
+    for name in set(_text_of(copy)) - wanted:
         (copy / name).unlink()
     for name in wanted:
         made = copy / name
@@ -60,6 +66,17 @@ class Build:
         if self.own:
             return self.own
         return None if self.is_given else proved.TOP / "crates"
+
+    def check(self):
+        """Stops where a build could not write, or would write into this checkout or remove files of somebody else."""
+        obstacles.stop_at([obstacles.of_folder(self.writes)] if self.writes else [])
+        copy = self.own / "source" if self.own else None
+        if not copy:
+            return
+        if proved.TOP in (copy.resolve(), *copy.resolve().parents):
+            proved.stop(f"--build {self.own} would build in this checkout; name another folder")
+        if copy.exists() and any(copy.iterdir()) and not (copy / MARK).is_dir():
+            proved.stop(f"--build {self.own} would build in {copy}, which is no copy of a checkout; name another folder")
 
     def _built(self, work):
         """Where the program and the archive of the exports are, once they are built."""

@@ -1,8 +1,6 @@
-"""What is looked at before the first proof: whether all that the command needs is there, and whether it may write where it has
-to."""
+"""What is looked at before the first proof: whether all that the command needs is there."""
 
 import json
-import os
 import shutil
 import subprocess
 
@@ -10,16 +8,6 @@ import archive
 import proved
 
 LEAST_PYTHON = (3, 8)
-
-
-def writable(folder):
-    """Whether a folder may be written, or may be made."""
-    while not os.path.lexists(folder):
-        folder = folder.parent
-    if not folder.is_dir():
-        proved.stop(f"{folder} is no folder")
-    if not os.access(folder, os.W_OK | os.X_OK):
-        proved.stop(f"{folder} cannot be written")
 
 
 # a program in C that the shared object has to link as
@@ -32,8 +20,8 @@ def compiler(work, flags):
     source.write_text(PROBE)
     archive.run(*archive.compiling(flags), "-c", source, "-o", made)
     head = made.read_bytes()[:20]
-    # ELF of 64 bits, for the machine 62
-    if head[:5] != b"\x7fELF\x02" or head[18:20] != b"\x3e\x00":
+    # ELF of 64 bits, the lowest byte first, for the machine 62
+    if head[:6] != b"\x7fELF\x02\x01" or head[18:20] != b"\x3e\x00":
         proved.stop(f"{' '.join(archive.program('CC'))} compiles for another machine than x86-64")
     archive.run(*archive.linking(), "-o", work / "probe.so", made)
     for name in ("LD", "OBJCOPY", "NM", "AR"):

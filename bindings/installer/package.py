@@ -35,6 +35,11 @@ def check(python):
     _run(python, "--check")
 
 
+def expected(tells, prefix):
+    """A file of the package as a part that is put, for a look at its folders before the package is built."""
+    return {f"{folder(tells, prefix)}/cvl/__init__.py": None}, {}
+
+
 def files(python, tells, prefix, work):
     """Each file of the package, built over the library in the folder `work`, with where it goes."""
     site, made = folder(tells, prefix), work / "package"

@@ -160,21 +160,28 @@ def _index(titles):
     return "\n".join(["# Cimorelua", "", said, "", "| The pages |", "|---|", *rows, ""])
 
 
+def _texts():
+    return {name: (TOP / f"docs/{name}.md").read_text() for name in PAGES}
+
+
 def _pictures(texts):
     """The pictures that the pages show."""
     shown = {target for text in texts for mark, _, target in LINK.findall(text) if mark}
     return {f"{DOC}/docs/{name}": TOP / "docs" / name for name in sorted(shown)}
 
 
-def write(folder):
-    """Writes the pages into a folder, and answers where they and the examples go."""
-    texts = {name: (TOP / f"docs/{name}.md").read_text() for name in PAGES}
-    found = {f"{DOC}/docs/{name}.md": folder / f"{name}.md" for name in texts}
+def files(folder):
+    """Where the pages that are written into a folder go, and what they show and name."""
+    found = {f"{DOC}/docs/{name}.md": folder / f"{name}.md" for name in PAGES}
     found.update({f"{DOC}/README.md": folder / "README.md", f"{DOC}/LICENSE": TOP / "LICENSE"})
-    found.update({**_pictures(texts.values()), **examples()})
+    return {**found, **_pictures(_texts().values()), **examples()}
+
+
+def write(folder):
+    """Writes the pages into a folder."""
+    texts = _texts()
     headers = {f"include/{path.name}" for path in (TOP / "include").glob("*.h")} | {"include/cvl.f90"}
-    installed = Installed({*found, *headers})
+    installed = Installed({*files(folder), *headers})
     for name, text in texts.items():
         (folder / f"{name}.md").write_text(page(text, installed))
     (folder / "README.md").write_text(_index({name: text.split("\n")[0][2:] for name, text in texts.items()}))
-    return found

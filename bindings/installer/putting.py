@@ -1,129 +1,68 @@
-"""Puts files below a root, and removes what was put. The names of what was put stand in lists below share/cvl: one of all that
-each install has, and one for each Python, so that one install beside another removes nothing of it."""
+"""Puts files below a root, with lists of what was put."""
 
-import os
 import pathlib
-import shutil
-import tempfile
 
-import proved
-
-FOLDER = "share/cvl"
-BASE = "installed"
-
-
-def list_name(part):
-    """The list of a part: of a Python, by its tag, or of what each install has."""
-    return f"{FOLDER}/{BASE}-{part}" if part else f"{FOLDER}/{BASE}"
-
-
-def lists(root):
-    """What the lists below a root say that was put: files, and the folders that were made for them, with a slash at their end."""
-    found = [path for path in sorted((root / FOLDER).glob(f"{BASE}*")) if path.is_file()]
-    return {str(path.relative_to(root)): path.read_text().splitlines() for path in found}
+from . import lists, obstacles, removing, replacing
 
 
 def _new_folders(root, names):
-    """The folders of these files that are not there yet, each with a slash at its end, the outer ones first."""
-    found = []
-    for name in names:
-        for folder in reversed(list(pathlib.PurePath(name).parents)[:-1]):
-            if not (root / folder).is_dir() and f"{folder}/" not in found:
-                found.append(f"{folder}/")
-    return found
+    """The folders of these files that are not there yet, each with a slash at its end."""
+    above = {f"{folder}/" for name in names for folder in list(pathlib.PurePath(name).parents)[:-1]}
+    return {folder for folder in above if not (root / folder).is_dir()}
 
 
-def _replace(path, make):
-    """Makes a file beside its place, and moves it there at once: who has the earlier one open keeps it, and nobody finds none."""
-    descriptor, made = tempfile.mkstemp(prefix=".cvl-", dir=path.parent)
-    os.close(descriptor)
-    try:
-        make(made)
-        os.replace(made, path)
-    except BaseException:
-        pathlib.Path(made).unlink(missing_ok=True)
-        raise
+def _gone(root, part, new, earlier):
+    """What the list of a part has of an earlier version that neither this version nor another list has."""
+    own = lists.of_part(part)
+    kept = {own, *new, *(name for other, pairs in earlier.items() if other != own for name, _ in pairs)}
+    gone = {pair for pair in earlier.get(own, ()) if pair[0] not in kept}
+    # a file that a link of a folder gives a second name is no other one
+    places = {lists.place(root, name) for name in kept} if any(not lists.is_folder(name) for name, _ in gone) else set()
+    return {pair for pair in gone if lists.place(root, pair[0]) not in places}
 
 
-def _copy(source, mode):
-    def make(made):
-        shutil.copyfile(source, made)
-        os.chmod(made, mode)
-
-    return make
-
-
-def _link(target):
-    def make(made):
-        os.unlink(made)
-        os.symlink(target, made)
-
-    return make
+def check(root, parts):
+    """Stops where something stands in the way of putting these parts."""
+    earlier = lists.read(root)
+    new = sorted({name for part, (given, links) in parts.items() for name in (lists.of_part(part), *given, *links)})
+    gone = [pair for part, (given, links) in parts.items() for pair in _gone(root, part, (*given, *links), earlier)]
+    obstacles.stop_at([*obstacles.of_putting(root, new), *obstacles.of_removing(root, removing.files(root, gone))])
 
 
-def _write(text):
-    def make(made):
-        pathlib.Path(made).write_text(text)
-        os.chmod(made, 0o644)
-
-    return make
+def _sums(given, links):
+    of_files = {(name, lists.sum_of_file(source)) for name, source in given.items()}
+    return of_files | {(name, lists.sum_of_link(target)) for name, target in links.items()}
 
 
 def _mode(name):
     return 0o755 if name.startswith("bin/") else 0o644
 
 
-def _put_list(root, name, names):
-    _replace(root / name, _write("".join(f"{found}\n" for found in sorted(set(names)))))
+def _put_files(root, given, links):
+    for name in [*given, *links]:
+        (root / name).parent.mkdir(parents=True, exist_ok=True)
+        if name in given:
+            replacing.copy(root / name, given[name], _mode(name))
+        else:
+            replacing.link(root / name, links[name])
 
 
 def _put_part(root, part, given, links):
-    name, earlier = list_name(part), lists(root)
-    others = {found for other, names in earlier.items() if other != name for found in names}
-    before = earlier.get(name, [])
-    names = [*given, *links, name]
-    folders = [found for found in before if found.endswith("/") and (root / found).is_dir()] + _new_folders(root, names)
-    (root / FOLDER).mkdir(parents=True, exist_ok=True)
+    own, earlier, new = lists.of_part(part), lists.read(root), _sums(given, links)
+    before, names = earlier.get(own, set()), [*given, *links]
+    folders = _new_folders(root, [own, *names]) | {name for name, _ in before if lists.is_folder(name)}
+    replacing.sweep(root, [own, *names, *(name for name, _ in before)])
+    (root / lists.FOLDER).mkdir(parents=True, exist_ok=True)
     # till all is done the list has the old and the new, so that what stops halfway can be removed
-    _put_list(root, name, [*before, *names, *folders])
-    for found in [*given, *links]:
-        (root / found).parent.mkdir(parents=True, exist_ok=True)
-        _replace(root / found, _copy(given[found], _mode(found)) if found in given else _link(links[found]))
-    gone = set(before) - {*names, *others}
-    _remove(root, gone)
-    _put_list(root, name, [*names, *(found for found in folders if (root / found).is_dir())])
+    replacing.write(root / own, lists.text(before | new | {(name, "") for name in folders}))
+    _put_files(root, given, links)
+    removing.remove(root, _gone(root, part, names, earlier))
+    there = {(name, "") for name in folders if lists.is_inside(root, name) and (root / name).is_dir()}
+    replacing.write(root / own, lists.text(new | there))
 
 
 def put(root, parts):
     """Puts the parts: each has its files, name and source, and its links, name and target."""
+    check(root, parts)
     for part, (given, links) in parts.items():
         _put_part(root, part, given, links)
-
-
-def _compiled(path):
-    """What Python has made of a module: its files, and their folder if it is empty then."""
-    if path.suffix == ".py":
-        folder = path.parent / "__pycache__"
-        for made in folder.glob(f"{path.stem}.*.py[co]"):
-            made.unlink()
-        if folder.is_dir() and not any(folder.iterdir()):
-            folder.rmdir()
-
-
-def _remove(root, names):
-    """Removes files, what Python made of them, and those of the folders that are empty then, the inner ones first."""
-    for name in names:
-        if not name.endswith("/"):
-            (root / name).unlink(missing_ok=True)
-            _compiled(root / name)
-    for name in sorted(names, key=len, reverse=True):
-        if name.endswith("/") and (root / name).is_dir() and not any((root / name).iterdir()):
-            (root / name).rmdir()
-
-
-def uninstall(root):
-    """Removes what the lists name."""
-    found = lists(root)
-    if not found:
-        proved.stop(f"{root / list_name('')} is not there, so that nothing is known of what was installed")
-    _remove(root, {name for names in found.values() for name in names})

@@ -3,12 +3,20 @@
 import argparse
 import os
 import pathlib
+import re
 import sys
 
 import proved
 
+from . import prefixes
+
 USAGE = """install PREFIX [--libdir DIR] [--python PROGRAM | --no-python] [--rpath] [--build DIR] [--cpu NAME] [--jobs N]
        install PREFIX --uninstall"""
+
+
+def _from_the_root(said):
+    """A path from the root, with one slash there: POSIX keeps two."""
+    return "/" + os.path.abspath(said).lstrip("/")
 
 
 class Places:
@@ -16,7 +24,7 @@ class Places:
 
     def __init__(self, prefix, libdir="lib", destination=""):
         self.prefix, self.libdir = pathlib.Path(prefix), libdir
-        self.root = pathlib.Path(os.path.abspath(f"{destination}{prefix}")) if destination else self.prefix
+        self.root = pathlib.Path(_from_the_root(f"{destination}{prefix}"))
 
     def up(self, folder):
         """The way from a folder below the prefix up to it."""
@@ -29,6 +37,9 @@ def _libdir(said, prefix):
     below = os.path.relpath(found, prefix)
     if below == "." or below.split("/")[0] == "..":
         proved.stop(f"--libdir {said} is not below {prefix}")
+    # cvl.pc and the package of CMake name it as it is
+    if not re.fullmatch(r"[A-Za-z0-9._+/-]+", below):
+        proved.stop(f"--libdir {said} has more than letters, digits, dots and . _ + - / in its name")
     return below
 
 
@@ -54,8 +65,9 @@ def read(words, page):
     found = _parser().parse_args(words)
     if found.jobs < 1:
         proved.stop("--jobs wants at least 1")
-    prefix = os.path.abspath(found.prefix)
-    if any(ord(letter) < 32 for letter in prefix):
-        proved.stop("a prefix has no control characters")
+    prefix = _from_the_root(found.prefix)
     found.places = Places(prefix, _libdir(found.libdir, prefix), os.environ.get("DESTDIR", ""))
+    prefixes.check_place(found.prefix, prefix, found.places.root)
+    if not found.uninstall:
+        prefixes.check_name(prefix)
     return found

@@ -1,15 +1,17 @@
-"""What the command install looks at before the first proof, and what it puts, lists and removes, on trees of files that are
-made for it; and what the installed pages name. Without the kit, in some seconds."""
+"""What the command install looks at before the first proof, and what it installs; what pkg-config and CMake read of it; and what
+the installed pages name. On trees of files that are made for it, without the kit, in some seconds."""
 
+import errno
 import importlib.machinery
 import importlib.util
 import os
 import pathlib
 import re
+import shutil
 import stat
+import string
 import subprocess
 import sys
-import tempfile
 import unittest
 from unittest import mock
 
@@ -17,7 +19,9 @@ sys.dont_write_bytecode = True
 TOP = pathlib.Path(__file__).resolve().parents[2]
 sys.path.insert(0, str(TOP / "bindings"))
 
-from installer import building, checks, package, pages, putting, texts, words
+import proved
+from installer import building, checks, obstacles, package, pages, prefixes, putting, removing
+from trees import Tree
 
 
 def command(name):
@@ -31,121 +35,17 @@ def command(name):
 install = command("install")
 
 
-class Tree(unittest.TestCase):
-    """A folder of one's own, under a narrow mask of modes."""
-
-    def setUp(self):
-        folder = tempfile.TemporaryDirectory(prefix="a blank ")
-        self.addCleanup(folder.cleanup)
-        self.addCleanup(os.umask, os.umask(0o077))
-        self.top = pathlib.Path(folder.name)
-        self.root = self.top / "root"
-
-    def write(self, name, text=""):
-        path = self.top / name
-        path.parent.mkdir(parents=True, exist_ok=True)
-        path.write_text(text)
-        return path
-
-    def program(self, name, text):
-        path = self.write(name, f"#!/bin/sh\n{text}\n")
-        path.chmod(0o755)
-        return path
-
-    def found(self):
-        """Each file and folder below the root."""
-        return sorted(str(path.relative_to(self.root)) for path in self.root.rglob("*"))
-
-
-class Put(Tree):
-    """What stands below a root, and is removed."""
-
-    def put(self, *names, part="", text="text", links=None):
-        source = self.write("source", text)
-        putting.put(self.root, {part: ({name: source for name in names}, links or {})})
-
-    def test_uninstalling_leaves_what_was_there(self):
-        self.write("root/bin/other")
-        self.write("root/lib/python3.9/site-packages/__pycache__/other.pyc")
-        self.write("root/lib/python3.9/site-packages/cvl/__pycache__/another.cpython-39.pyc")
-        (self.root / "share/man").mkdir(parents=True)
-        before = self.found()
-        self.put("bin/cvl", "share/man/man1/cvl.1", "lib/python3.9/site-packages/cvl/__init__.py")
-        self.write("root/lib/python3.9/site-packages/cvl/__pycache__/__init__.cpython-39.pyc")
-        putting.uninstall(self.root)
-        self.assertEqual(self.found(), before)
-
-    def test_uninstalling_leaves_nothing_of_its_own(self):
-        package = "lib/python3.9/site-packages/cvl"
-        self.put("bin/cvl", f"{package}/__init__.py", f"{package}/calls.py", links={"lib/libcvl.so": "libcvl.so.1"})
-        self.assertEqual(os.readlink(self.root / "lib/libcvl.so"), "libcvl.so.1")
-        for made in ("__init__.cpython-39.pyc", "__init__.cpython-39.opt-2.pyc", "calls.cpython-310.pyc"):
-            self.write(f"root/{package}/__pycache__/{made}")
-        putting.uninstall(self.root)
-        self.assertEqual(self.found(), [])
-
-    def test_uninstalling_what_is_not_there_is_told(self):
-        with self.assertRaisesRegex(SystemExit, "nothing is known"):
-            putting.uninstall(self.root)
-
-    def test_a_newer_version_removes_what_it_has_no_more(self):
-        self.put("bin/cvl", "include/old.h", "share/old/page")
-        self.put("bin/cvl", "include/cvl.h")
-        files = ["bin/cvl", "include/cvl.h", "share/cvl/installed"]
-        self.assertEqual(self.found(), sorted([*files, "bin", "include", "share", "share/cvl"]))
-        putting.uninstall(self.root)
-        self.assertEqual(self.found(), [])
-
-    def test_the_package_for_one_python_stands_beside_that_for_another(self):
-        of = {tag: f"lib/python3.{tag[-2:]}/site-packages/cvl/__init__.py" for tag in ("cpython-311", "cpython-312")}
-        for tag, name in of.items():
-            self.put("bin/cvl")
-            self.put(name, "lib/python3/shared.py", part=tag)
-        self.assertTrue(all((self.root / name).exists() for name in of.values()))
-        # what the second has no more, the first has still
-        self.put(of["cpython-312"], part="cpython-312")
-        self.assertTrue((self.root / "lib/python3/shared.py").exists())
-        putting.uninstall(self.root)
-        self.assertEqual(self.found(), [])
-
-    def test_modes_whatever_the_mask_is(self):
-        os.umask(0o022)
-        self.put("bin/cvl", "include/cvl.h", "lib/libcvl.so.1.0.0", "share/doc/cvl/README.md")
-        modes = {name: stat.S_IMODE((self.root / name).stat().st_mode) for name in self.found()}
-        folders = {name for name in self.found() if (self.root / name).is_dir()}
-        self.assertEqual(modes, {name: 0o755 if name in folders or name == "bin/cvl" else 0o644 for name in modes})
-
-    def test_who_has_the_earlier_file_open_keeps_it(self):
-        self.put("lib/libcvl.so.1.0.0", text="earlier")
-        with open(self.root / "lib/libcvl.so.1.0.0") as file:
-            self.put("lib/libcvl.so.1.0.0", text="later")
-            self.assertEqual(file.read(), "earlier")
-        self.assertEqual((self.root / "lib/libcvl.so.1.0.0").read_text(), "later")
-
-    def test_the_file_is_there_at_each_moment(self):
-        self.put("lib/libcvl.so.1.0.0")
-        seen, library = [], self.root / "lib/libcvl.so.1.0.0"
-        with mock.patch.object(putting.shutil, "copyfile", lambda *given: seen.append(library.exists())):
-            self.put("lib/libcvl.so.1.0.0")
-        self.assertEqual(seen, [True])
-
-    def test_what_stops_halfway_is_removed(self):
-        given = {"bin/cvl": self.write("source"), "include/cvl.h": self.top / "nowhere"}
-        with self.assertRaises(FileNotFoundError):
-            putting.put(self.root, {"": (given, {})})
-        putting.uninstall(self.root)
-        self.assertEqual(self.found(), [])
-
-
 class Whole(Tree):
     """The whole command, without what it proves and links."""
 
-    def install(self, *given, destination=""):
-        def run(build, work):
-            for name in ("cvl", "libcvl.a", "libcvl.so.1.0.0"):
-                (work / name).write_text(name)
+    def build(self, work):
+        """The program and the library, as what they are called."""
+        for name in ("cvl", "libcvl.a", "libcvl.so.1.0.0"):
+            (work / name).write_text(name)
 
-        with mock.patch.object(building.Build, "run", run), mock.patch.object(checks, "command", lambda *given: None), \
+    def install(self, *given, destination=""):
+        with mock.patch.object(building.Build, "run", lambda build, work: self.build(work)), \
+                mock.patch.object(checks, "command", lambda *given: None), \
                 mock.patch.object(checks, "compiler", lambda *given: None), \
                 mock.patch.object(checks, "python", lambda name: self.python), mock.patch.object(package, "_run", self.built), \
                 mock.patch.dict(os.environ, {"DESTDIR": str(destination)}), mock.patch("builtins.print"):  # fmt: skip
@@ -169,27 +69,15 @@ class Whole(Tree):
         self.python = {"version": [3, 11], "tag": "cpython-311", "folders": []}
         self.module = "_calls.cpython-311-x86_64-linux-gnu.so"
 
+
+class Installs(Whole):
+    """Which files are installed."""
+
     def test_nothing_names_the_prefix_or_where_it_was_put(self):
         self.install("/opt/vectors", destination=self.top)
         for path in (self.top / "opt/vectors").rglob("*"):
             for word in (str(self.top), "/opt/vectors", str(TOP)):
                 self.assertFalse(path.is_file() and word in path.read_text(), f"{path} has {word}")
-
-    def test_what_compilers_are_told_leads_to_the_prefix(self):
-        for libdir in ("lib", "lib64", "lib/x86_64-linux-gnu"):
-            self.install("/opt/vectors", "--libdir", libdir, destination=self.top)
-            root = self.top / "opt/vectors"
-            found = root / libdir / "pkgconfig/cvl.pc"
-            said = dict(line.split("=", 1) for line in found.read_text().split("\n") if "=" in line.split(" ")[0])
-            said["pcfiledir"] = str(found.parent)
-            for _ in said:
-                said = {name: re.sub(r"\$\{(\w+)\}", lambda name: said[name.group(1)], value) for name, value in said.items()}
-            places = {name: pathlib.Path(os.path.normpath(said[name])) for name in ("prefix", "libdir", "includedir")}
-            self.assertEqual(places, {"prefix": root, "libdir": root / libdir, "includedir": root / "include"})
-            config = (root / libdir / "cmake/cvl/cvl-config.cmake").read_text()
-            up = re.search(r'"\$\{_cvl_folder\}/\.\./([./]+)"', config).group(1)
-            self.assertEqual(pathlib.Path(os.path.normpath(root / libdir / "cmake/cvl" / up)), root)
-            self.assertNotIn("@", config + (root / libdir / "cmake/cvl/cvl-config-version.cmake").read_text() + found.read_text())
 
     def test_another_folder_for_the_library_leaves_none_in_the_first(self):
         self.install(self.root)
@@ -215,6 +103,35 @@ class Whole(Tree):
             wanted = 0o755 if path.is_dir() or name.startswith("bin/") else 0o644
             self.assertTrue(path.is_symlink() or stat.S_IMODE(path.stat().st_mode) == wanted, name)
 
+    def test_each_file_has_the_name_that_its_reader_looks_for(self):
+        self.install(self.root, "--no-python")
+        wanted = {
+            "share/bash-completion/completions/cvl": "bindings/shell/cvl.bash",
+            "share/zsh/site-functions/_cvl": "bindings/shell/_cvl",
+            "share/fish/vendor_completions.d/cvl.fish": "bindings/shell/cvl.fish",
+            "share/man/man1/cvl.1": "docs/cvl.1",
+            "share/man/man3/cvl.3": "docs/cvl.3",
+            "include/cvl.f90": "bindings/fortran/cvl.f90",
+            **{f"include/{path.name}": f"include/{path.name}" for path in (TOP / "include").glob("*.h")},
+        }  # fmt: skip
+        for name, source in wanted.items():
+            self.assertEqual((self.root / name).read_bytes(), (TOP / source).read_bytes(), name)
+        for name, said in {"bin/cvl": "cvl", "lib/libcvl.a": "libcvl.a", "lib/libcvl.so.1.0.0": "libcvl.so.1.0.0"}.items():
+            self.assertEqual((self.root / name).read_text(), said)
+        links = {name: os.readlink(self.root / name) for name in self.found() if (self.root / name).is_symlink()}
+        self.assertEqual(links, {"lib/libcvl.so": "libcvl.so.1", "lib/libcvl.so.1": "libcvl.so.1.0.0"})
+        # no file beside them that a shell would take for another program's
+        folders = {str(pathlib.PurePath(name).parent) for name in wanted if name.startswith("share/") and "man" not in name}
+        self.assertEqual({name for name in self.found() if str(pathlib.PurePath(name).parent) in folders} - set(wanted), set())
+
+    def test_what_the_system_refuses_is_told_in_a_line(self):
+        full = OSError(errno.ENOSPC, os.strerror(errno.ENOSPC), "some file")
+        with mock.patch.object(putting.replacing, "copy", side_effect=full), self.assertRaises(SystemExit) as stopped:
+            self.install(self.root, "--no-python")
+        self.assertRegex(str(stopped.exception), ": .*No space left on device: 'some file'$")
+        with mock.patch.object(pathlib.Path, "unlink", side_effect=full), self.assertRaises(SystemExit):
+            install.main([str(self.root), "--uninstall"])
+
     def test_no_python(self):
         self.install(self.root, "--no-python")
         self.assertEqual([name for name in self.found() if "python3" in name], [])
@@ -231,22 +148,218 @@ class Whole(Tree):
         self.assertEqual(package.folder(fedora, pathlib.Path("/usr")), "lib64/python3.11/site-packages")
 
 
-class Checked(Tree):
-    """What is told before anything is built."""
+class Read(Whole):
+    """What pkg-config and CMake read of an installed library."""
+
+    def of_pkg_config(self, path):
+        """The variables and fields of cvl.pc, each as pkg-config reads it, with the way up out of it."""
+        lines = [line for line in path.read_text().split("\n") if line and line[0] != "#"]
+        pairs = [re.fullmatch(r"(\w[\w.]*)(?:=|: )(.*)", line) for line in lines]
+        said = {"pcfiledir": str(path.parent), **{found[1]: found[2] for found in pairs}}
+        for _ in said:
+            said = {name: re.sub(r"\$\{(\w+)\}", lambda name: said[name.group(1)], value) for name, value in said.items()}
+        root = path.parents[len(path.relative_to(self.top / "opt/vectors").parents) - 1]
+        return {name: re.sub(rf"{re.escape(str(path.parent))}(/\.\.)+", str(root), value) for name, value in said.items()}
+
+    def of_cmake(self, path):
+        """The properties of each target of the package of CMake."""
+        found = re.findall(r"set_target_properties\((\S+) PROPERTIES\s+([^)]*)\)", path.read_text())
+        return {target: dict(re.findall(r'(\w+) "?([^"\s]+)"?', properties)) for target, properties in found}
+
+    def test_what_compilers_are_told_leads_to_the_prefix(self):
+        root = self.top / "opt/vectors"
+        for libdir, options in (("lib", ()), ("lib64", ["--rpath"]), ("lib/x86_64-linux-gnu", ["--rpath"])):
+            self.install("/opt/vectors", "--no-python", "--libdir", libdir, *options, destination=self.top)
+            said, folder = self.of_pkg_config(root / libdir / "pkgconfig/cvl.pc"), root / libdir
+            places = {"prefix": str(root), "libdir": str(folder), "includedir": f"{root}/include"}
+            self.assertEqual({name: said[name] for name in places}, places)
+            rpath = f" -Wl,-rpath,{folder}" if options else ""
+            fields = {"Libs": f"-L{folder}{rpath} -lcvl", "Libs.private": "-pthread", "Cflags": f"-I{root}/include"}
+            self.assertEqual({name: said[name] for name in fields}, fields)
+            config = (folder / "cmake/cvl/cvl-config.cmake").read_text()
+            up = re.search(r'"\$\{_cvl_folder\}/\.\./([./]+)"', config).group(1)
+            self.assertEqual(pathlib.Path(os.path.normpath(folder / "cmake/cvl" / up)), root)
+            self.assertNotIn("@", config + (folder / "cmake/cvl/cvl-config-version.cmake").read_text() + "".join(said.values()))
+
+    def test_the_archive_and_no_other_target_of_cmake_links_threads(self):
+        self.install("/opt/vectors", "--no-python", destination=self.top)
+        said = self.of_cmake(self.top / "opt/vectors/lib/cmake/cvl/cvl-config.cmake")
+        linked = {target: properties.get("INTERFACE_LINK_LIBRARIES") for target, properties in said.items()}
+        self.assertEqual(linked, {"cvl::cvl": None, "cvl::cvl_static": "-pthread", "cvl::cvl_fortran": "cvl::cvl"})
+        files = {target: properties.get("IMPORTED_LOCATION") for target, properties in said.items()}
+        self.assertEqual(files["cvl::cvl"], "${_cvl_libraries}/libcvl.so.1.0.0")
+        self.assertEqual(files["cvl::cvl_static"], "${_cvl_libraries}/libcvl.a")
+
+
+def needs(*programs):
+    """Leaves a test out where one of these programs is not there."""
+    missing = [name for name in programs if not shutil.which(name)]
+    return unittest.skipIf(missing, f"there is no {' and no '.join(missing)} here")
+
+
+class Used(Whole):
+    """Programs over an installed library, which has one function, in a folder whose name has each character that it may have."""
+
+    taken = sorted({" ", "\xe9", *string.digits, *string.punctuation} - {"/", *prefixes.SPECIAL})
+    # with a letter between two, as in $a
+    name = f"a{'a'.join(taken)}a"
+
+    def build(self, work):
+        source = self.write("version.c", 'const char *cvl_version(void) { return "7"; }\n')
+        self.run_in_shell(f"""cd '{work}'
+            cc -c -fPIC -o version.o '{source}' && ar rcs libcvl.a version.o
+            cc -shared -Wl,-soname,libcvl.so.1 -o libcvl.so.1.0.0 version.o""")
+        (work / "cvl").write_text("cvl")
+
+    def setUp(self):
+        super().setUp()
+        self.root = self.top / self.name
+        self.write("program.c", "#include <cvl.h>\nint main(void) { return cvl_version()[0] - '0'; }\n")
+
+    def run_in_shell(self, text, status=0, **variables):
+        """Runs commands beside the program, and returns what they print."""
+        ran = subprocess.run(
+            ["sh", "-euc", text], cwd=self.top, capture_output=True, text=True, errors="replace", stdin=subprocess.DEVNULL,
+            env={**os.environ, "LD_LIBRARY_PATH": "", "PKG_CONFIG_PATH": f"{self.root}/lib/pkgconfig", **variables},
+        )  # fmt: skip
+        self.assertEqual(ran.returncode, status, ran.stdout + ran.stderr)
+        return ran.stdout
+
+    @needs("cc", "ar", "pkg-config", "make")
+    def test_pkg_config(self):
+        self.install(self.root, "--no-python")
+        self.write("Makefile", "program: program.c\n\tcc -o $@ program.c $(shell pkg-config --cflags --libs cvl)\n")
+        for compiles in ('eval "cc -o program program.c $(pkg-config --cflags --libs cvl)"', "make -s -B program"):
+            self.run_in_shell(f"{compiles}; ./program", status=7, LD_LIBRARY_PATH=f"{self.root}/lib")
+        self.assertIn("-pthread", self.run_in_shell("pkg-config --static --libs cvl").split())
+        # the folder of the library, as the page says it, and of itself with --rpath
+        rpath = "-Wl,-rpath,$(pkg-config --variable=libdir cvl)"
+        self.run_in_shell(f'eval "cc -o program program.c $(pkg-config --cflags --libs cvl) {rpath}"; ./program', status=7)
+        self.install(self.root, "--no-python", "--rpath")
+        self.run_in_shell('eval "cc -o program program.c $(pkg-config --cflags --libs cvl)"; ./program', status=7)
+
+    @needs("cc", "ar", "cmake", "make")
+    def test_cmake(self):
+        self.install(self.root, "--no-python")
+        self.write("CMakeLists.txt", """cmake_minimum_required(VERSION 3.13)
+project(program C)
+find_package(cvl 1.0 REQUIRED)
+foreach(target cvl cvl_static)
+  add_executable(of_${target} program.c)
+  target_link_libraries(of_${target} PRIVATE cvl::${target})
+endforeach()
+""")
+        self.run_in_shell('cmake -S . -B build -DCMAKE_PREFIX_PATH="$ROOT" && cmake --build build', ROOT=str(self.root))
+        for target in ("cvl", "cvl_static"):
+            self.run_in_shell(f"build/of_{target}", status=7)
+
+    @needs("cmake")
+    def test_components_of_cmake(self):
+        with mock.patch.object(self, "build", super().build):
+            self.install(self.root, "--no-python")
+        self.write("CMakeLists.txt", """cmake_minimum_required(VERSION 3.13)
+project(asked NONE)
+find_package(cvl QUIET COMPONENTS nonsense)
+message(STATUS "one: ${cvl_FOUND}, ${cvl_NOT_FOUND_MESSAGE}, ${cvl_nonsense_FOUND}")
+find_package(cvl QUIET COMPONENTS cvl OPTIONAL_COMPONENTS nonsense)
+message(STATUS "and another at will: ${cvl_FOUND}, ${cvl_NOT_FOUND_MESSAGE}")
+find_package(cvl REQUIRED OPTIONAL_COMPONENTS nonsense)
+message(STATUS "one at will: ${cvl_FOUND}, ${cvl_nonsense_FOUND}")
+find_package(cvl REQUIRED)
+get_target_property(linked cvl::cvl_static INTERFACE_LINK_LIBRARIES)
+message(STATUS "none: ${cvl_FOUND}, ${linked}")
+""")
+        told = self.run_in_shell('cmake -S . -B build -DCMAKE_PREFIX_PATH="$ROOT" 2>&1', ROOT=str(self.root))
+        why = "the package cvl has no components, and {} was asked for"
+        wanted = [f"-- one: 0, {why.format('nonsense')}, FALSE", f"-- and another at will: 0, {why.format('cvl')}"]
+        wanted += ["-- one at will: 1, FALSE", "-- none: 1, -pthread"]
+        self.assertEqual(told.split("\n")[: len(wanted)], wanted)
+
+
+class Stopped(Tree):
+    """The command, stopped before anything is built."""
 
     def told(self, *given, **variables):
-        """What the command says and stops at, with nothing built and nothing put."""
+        """What the command says and stops at, with nothing built, nothing put and nothing removed."""
 
         def run(*given):
-            raise AssertionError("something was built before all was looked at")
+            raise AssertionError("something was built or removed before all was looked at")
 
-        environment = {"CC": "", "CFLAGS": "", "LDFLAGS": "", "DESTDIR": "", "CVL_PROGRAM": "a", "CVL_ARCHIVE": "b", **variables}
+        unset = {name: "" for name in ("CC", "CPPFLAGS", "CFLAGS", "LDFLAGS", "DESTDIR")}
+        environment = {**unset, "CVL_PROGRAM": "a", "CVL_ARCHIVE": "b", **{name: str(said) for name, said in variables.items()}}
         with mock.patch.object(building.Build, "run", run), mock.patch.dict(os.environ, environment), \
+                mock.patch.object(removing, "uninstall", run), \
                 mock.patch.object(checks, "command", lambda *given: None), mock.patch("sys.stderr"), \
                 self.assertRaises(SystemExit) as stopped:  # fmt: skip
             install.main([str(word) for word in given])
         self.assertFalse(self.root.exists())
         return str(stopped.exception)
+
+    def passes(self, *given, **variables):
+        """Asks that the command stops at nothing up to the build, or to what it removes."""
+        with self.assertRaisesRegex(AssertionError, "something was built or removed"):
+            self.told(*given, **variables)
+
+
+class Prefixes(Stopped):
+    """Which prefixes are refused."""
+
+    def setUp(self):
+        super().setUp()
+        self.checkout = self.top.resolve() / "above/checkout"
+        self.checkout.mkdir(parents=True)
+        patched = mock.patch.object(proved, "TOP", self.checkout)
+        patched.start()
+        self.addCleanup(patched.stop)
+        self.addCleanup(os.chdir, os.getcwd())
+        os.chdir(self.checkout)
+
+    def check_refused(self, wanted, *given, **variables):
+        for more in ((), ("--uninstall",)):
+            self.assertIn(wanted, self.told(*given, *more, **variables), given)
+
+    def test_none(self):
+        self.check_refused("PREFIX is empty", "")
+        self.check_refused("PREFIX is empty", "", DESTDIR=self.top)
+
+    def test_the_root_of_the_file_system(self):
+        for given in ("/", "//", "/.", "/usr/.."):
+            self.check_refused("PREFIX is the root of the file system", given)
+            self.check_refused("PREFIX is the root of the file system", given, DESTDIR=self.top)
+
+    def test_this_checkout(self):
+        (self.top / "link").symlink_to(self.checkout)
+        (self.top / "over").symlink_to(self.checkout.parent)
+        same = (self.checkout, f"/{self.checkout}", ".", "./", "new/..", "../checkout", "../../link", "../../over/checkout")
+        for given in same:
+            self.check_refused("is this checkout", given)
+        self.check_refused("is this checkout", "/checkout", DESTDIR=self.checkout.parent)
+        self.check_refused("is this checkout", self.checkout, DESTDIR="/")
+
+    def test_a_folder_above_this_checkout(self):
+        (self.top / "over").symlink_to(self.checkout.parent)
+        for given in (self.checkout.parent, "..", "../..", "../new/..", self.top / "over", self.checkout.parents[2]):
+            self.check_refused("is a folder above this checkout", given)
+        self.check_refused("is a folder above this checkout", "/above", DESTDIR=self.top)
+
+    def test_folders_beside_and_below_are_none(self):
+        for given in ("below", "../checkout2", "../check", self.root):
+            self.passes(given, "--uninstall")
+        # where a package is made the prefix names no folder of this machine
+        self.passes(self.checkout, "--uninstall", DESTDIR=self.root)
+
+    def test_what_shells_and_other_readers_take_apart(self):
+        for letter in prefixes.SPECIAL:
+            self.assertIn(f"has {letter} in it", self.told(f"{self.root}{letter}b"))
+            self.passes(f"{self.root}{letter}b", "--uninstall")
+        for letter in "\n\t\x1b\x7f\u2028\udce9":
+            self.assertIn("cannot be printed", self.told(f"{self.root}{letter}b"))
+        for libdir in ("a b", "a$b", "a'b", "a\nb", "a;b", "\xe9"):
+            self.assertIn("has more than letters", self.told(self.root, "--libdir", libdir))
+
+
+class Checked(Stopped):
+    """What is told before anything is built."""
 
     def python(self, tells):
         return self.program("python", f"cat << 'END'\n{tells}\nEND")
@@ -259,22 +372,42 @@ class Checked(Tree):
         self.assertIn("at least 1", self.told(self.root, "--jobs", "0"))
         self.assertIn("is not below", self.told(self.root, "--libdir", "../lib"))
         self.assertIn("is not below", self.told(self.root, "--libdir", "/lib"))
-        self.assertIn("control characters", self.told(f"{self.root}\n"))
 
     def test_a_prefix_that_cannot_be_written(self):
         self.write("file")
-        self.assertIn("is no folder", self.told(self.top / "file/below"))
+        self.assertIn(f"{self.top}/file is not a folder", self.told(self.top / "file/below"))
         closed = self.top / "closed"
         closed.mkdir(mode=0o555)
-        with mock.patch.object(checks.os, "access", lambda folder, mode: folder != closed):
+        with mock.patch.object(obstacles.os, "access", lambda folder, mode: folder != closed):
             self.assertIn("cannot be written", self.told(closed / "prefix"))
 
     def test_a_checkout_that_cannot_be_written_wants_a_folder_for_the_build(self):
-        with mock.patch.object(checks.os, "access", lambda folder, mode: folder != TOP / "crates"):
+        with mock.patch.object(obstacles.os, "access", lambda folder, mode: folder != TOP / "crates"):
             self.assertIn("crates cannot be written", self.told(self.root, "--no-python", CVL_PROGRAM="", CVL_ARCHIVE=""))
             # in a folder of one's own all is well up to the build
-            with self.assertRaisesRegex(AssertionError, "something was built"):
-                self.told(self.root, "--no-python", "--build", self.top / "build", CVL_PROGRAM="", CVL_ARCHIVE="")
+            self.passes(self.root, "--no-python", "--build", self.top / "build", CVL_PROGRAM="", CVL_ARCHIVE="")
+
+    def test_a_folder_for_the_build_that_is_somebody_elses(self):
+        self.assertIn("in this checkout", self.told(self.root, "--no-python", "--build", TOP))
+        self.assertIn("in this checkout", self.told(self.root, "--no-python", "--build", TOP / "new/build"))
+        (self.top / "build").mkdir()
+        (self.top / "build/source").symlink_to(TOP)
+        self.assertIn("in this checkout", self.told(self.root, "--no-python", "--build", self.top / "build"))
+        self.write("other/source/text")
+        self.assertIn("is no copy of a checkout", self.told(self.root, "--no-python", "--build", self.top / "other"))
+        building.copied(self.write("small/text").parent, self.top / "earlier/source")
+        self.passes(self.root, "--no-python", "--build", self.top / "earlier")
+
+    def test_what_stands_in_the_way(self):
+        for name in ("prefix/bin", "prefix/lib/libcvl.a/file", "prefix/lib/python3.9"):
+            self.write(name)
+        told = self.told(self.top / "prefix", "--no-python")
+        self.assertIn(f"{self.top}/prefix/bin is not a folder\n{self.top}/prefix/lib/libcvl.a is a folder", told)
+        python = '{"version": [3, 9], "tag": "cpython-39", "folders": [], "bits": 64}'
+        (self.top / "prefix/bin").unlink()
+        (self.top / "prefix/lib/libcvl.a/file").unlink()
+        (self.top / "prefix/lib/libcvl.a").rmdir()
+        self.assertIn("lib/python3.9 is not a folder", self.told(self.top / "prefix", "--python", self.python(python)))
 
     def test_a_compiler_that_does_not_work(self):
         self.assertIn("cannot be run", self.told(self.root, "--no-python", CC="no-such-compiler"))
@@ -285,13 +418,17 @@ class Checked(Tree):
         self.assertIn("cannot be run", self.told(self.root, "--no-python", OBJCOPY="no-such-objcopy"))
 
     def test_a_compiler_for_another_machine(self):
-        head = r"\177ELF\001\001\001aaaaaaaaaaa\003\000"
-        other = self.program("cc", f"""while [ "$1" != -o ]; do shift; done; printf '{head}' > "$2" """)
-        self.assertIn("another machine", self.told(self.root, "--no-python", CC=f"'{other}'"))
+        heads = {
+            "x86": r"\177ELF\001\001\001aaaaaaaaaaa\003\000", "aarch64": r"\177ELF\002\001\001aaaaaaaaaaa\267\000",
+            "x32": r"\177ELF\001\001\001aaaaaaaaaaa\076\000", "s390x": r"\177ELF\002\002\001aaaaaaaaaaa\000\026",
+            "riscv64": r"\177ELF\002\001\001aaaaaaaaaaa\363\000", "macos": r"\317\372\355\376\007\000\000\001", "nothing": "",
+        }  # fmt: skip
+        for machine, head in heads.items():
+            other = self.program(machine, f"""while [ "$1" != -o ]; do shift; done; printf '{head}' > "$2" """)
+            self.assertIn("another machine", self.told(self.root, "--no-python", CC=f"'{other}'"), machine)
 
     def test_a_compiler_with_options(self):
-        with self.assertRaisesRegex(AssertionError, "something was built"):
-            self.told(self.root, "--no-python", CC="cc -m64")
+        self.passes(self.root, "--no-python", CC="cc -m64")
 
     def test_a_python_that_cannot_build(self):
         self.assertIn("cannot be run", self.told(self.root, "--python", self.top / "nowhere"))
@@ -308,7 +445,8 @@ class Pages(Tree):
 
     def setUp(self):
         super().setUp()
-        self.files = pages.write(self.top)
+        pages.write(self.top)
+        self.files = pages.files(self.top)
         headers = {f"include/{path.name}": path for path in (TOP / "include").glob("*.h")}
         self.headers = {**headers, "include/cvl.f90": TOP / "bindings/fortran/cvl.f90"}
         self.crates = {str(path): path for path in (TOP / "bindings/rust").glob("**/README.md")}
