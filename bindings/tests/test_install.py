@@ -1,18 +1,12 @@
-"""What the command install looks at before the first proof, and what it installs; what pkg-config and CMake read of it; and what
-the installed pages name. On trees of files that are made for it, without the kit, in some seconds."""
+"""What the command install looks at before the first proof, and what it installs; what a program over it is told; and what the
+installed pages name. On trees of files that are made for it, without the kit, in some seconds."""
 
 import errno
-import importlib.machinery
-import importlib.util
 import os
 import pathlib
 import re
-import shutil
 import stat
-import string
-import subprocess
 import sys
-import unittest
 from unittest import mock
 
 sys.dont_write_bytecode = True
@@ -22,52 +16,7 @@ sys.path.insert(0, str(TOP / "bindings"))
 import proved
 from installer import building, checks, obstacles, package, pages, prefixes, putting, removing
 from trees import Tree
-
-
-def command(name):
-    """A command of this repository as a module."""
-    loader = importlib.machinery.SourceFileLoader(name, str(TOP / name))
-    module = importlib.util.module_from_spec(importlib.util.spec_from_loader(name, loader))
-    loader.exec_module(module)
-    return module
-
-
-install = command("install")
-
-
-class Whole(Tree):
-    """The whole command, without what it proves and links."""
-
-    def build(self, work):
-        """The program and the library, as what they are called."""
-        for name in ("cvl", "libcvl.a", "libcvl.so.1.0.0"):
-            (work / name).write_text(name)
-
-    def install(self, *given, destination=""):
-        with mock.patch.object(building.Build, "run", lambda build, work: self.build(work)), \
-                mock.patch.object(checks, "command", lambda *given: None), \
-                mock.patch.object(checks, "compiler", lambda *given: None), \
-                mock.patch.object(checks, "python", lambda name: self.python), mock.patch.object(package, "_run", self.built), \
-                mock.patch.dict(os.environ, {"DESTDIR": str(destination)}), mock.patch("builtins.print"):  # fmt: skip
-            install.main([str(word) for word in given])
-
-    def built(self, python, *words):
-        """The package as its builder puts it into a folder, with a text in the place of the compiled module."""
-        if words == ("--check",):
-            return ""
-        made = pathlib.Path(words[-1])
-        sources = [path for path in (TOP / "bindings/python/cvl").iterdir() if path.suffix in (".py", ".pyi", ".typed")]
-        texts = {f"cvl/{path.name}": path.read_text() for path in sources}
-        texts.update({f"cvl/{self.module}": "module", "cvl-1.0.0.dist-info/METADATA": "Name: cvl"})
-        for name, text in texts.items():
-            (made / name).parent.mkdir(parents=True, exist_ok=True)
-            (made / name).write_text(text)
-        return "\n".join(texts)
-
-    def setUp(self):
-        super().setUp()
-        self.python = {"version": [3, 11], "tag": "cpython-311", "folders": []}
-        self.module = "_calls.cpython-311-x86_64-linux-gnu.so"
+from whole import Used, Whole, install
 
 
 class Installs(Whole):
@@ -191,89 +140,19 @@ class Read(Whole):
         self.assertEqual(files["cvl::cvl_static"], "${_cvl_libraries}/libcvl.a")
 
 
-def needs(*programs):
-    """Leaves a test out where one of these programs is not there."""
-    missing = [name for name in programs if not shutil.which(name)]
-    return unittest.skipIf(missing, f"there is no {' and no '.join(missing)} here")
+class ByPkgConfig(Used):
+    """A program that is compiled by what pkg-config says."""
 
-
-class Used(Whole):
-    """Programs over an installed library, which has one function, in a folder whose name has each character that it may have."""
-
-    taken = sorted({" ", "\xe9", *string.digits, *string.punctuation} - {"/", *prefixes.SPECIAL})
-    # with a letter between two, as in $a
-    name = f"a{'a'.join(taken)}a"
-
-    def build(self, work):
-        source = self.write("version.c", 'const char *cvl_version(void) { return "7"; }\n')
-        self.run_in_shell(f"""cd '{work}'
-            cc -c -fPIC -o version.o '{source}' && ar rcs libcvl.a version.o
-            cc -shared -Wl,-soname,libcvl.so.1 -o libcvl.so.1.0.0 version.o""")
-        (work / "cvl").write_text("cvl")
-
-    def setUp(self):
-        super().setUp()
-        self.root = self.top / self.name
-        self.write("program.c", "#include <cvl.h>\nint main(void) { return cvl_version()[0] - '0'; }\n")
-
-    def run_in_shell(self, text, status=0, **variables):
-        """Runs commands beside the program, and returns what they print."""
-        ran = subprocess.run(
-            ["sh", "-euc", text], cwd=self.top, capture_output=True, text=True, errors="replace", stdin=subprocess.DEVNULL,
-            env={**os.environ, "LD_LIBRARY_PATH": "", "PKG_CONFIG_PATH": f"{self.root}/lib/pkgconfig", **variables},
-        )  # fmt: skip
-        self.assertEqual(ran.returncode, status, ran.stdout + ran.stderr)
-        return ran.stdout
-
-    @needs("cc", "ar", "pkg-config", "make")
     def test_pkg_config(self):
         self.install(self.root, "--no-python")
-        self.write("Makefile", "program: program.c\n\tcc -o $@ program.c $(shell pkg-config --cflags --libs cvl)\n")
-        for compiles in ('eval "cc -o program program.c $(pkg-config --cflags --libs cvl)"', "make -s -B program"):
-            self.run_in_shell(f"{compiles}; ./program", status=7, LD_LIBRARY_PATH=f"{self.root}/lib")
+        compiles = 'eval "cc -o program program.c $(pkg-config --cflags --libs cvl)"'
+        self.run_in_shell(f"{compiles}; ./program", status=7, LD_LIBRARY_PATH=f"{self.root}/lib")
         self.assertIn("-pthread", self.run_in_shell("pkg-config --static --libs cvl").split())
         # the folder of the library, as the page says it, and of itself with --rpath
         rpath = "-Wl,-rpath,$(pkg-config --variable=libdir cvl)"
         self.run_in_shell(f'eval "cc -o program program.c $(pkg-config --cflags --libs cvl) {rpath}"; ./program', status=7)
         self.install(self.root, "--no-python", "--rpath")
-        self.run_in_shell('eval "cc -o program program.c $(pkg-config --cflags --libs cvl)"; ./program', status=7)
-
-    @needs("cc", "ar", "cmake", "make")
-    def test_cmake(self):
-        self.install(self.root, "--no-python")
-        self.write("CMakeLists.txt", """cmake_minimum_required(VERSION 3.13)
-project(program C)
-find_package(cvl 1.0 REQUIRED)
-foreach(target cvl cvl_static)
-  add_executable(of_${target} program.c)
-  target_link_libraries(of_${target} PRIVATE cvl::${target})
-endforeach()
-""")
-        self.run_in_shell('cmake -S . -B build -DCMAKE_PREFIX_PATH="$ROOT" && cmake --build build', ROOT=str(self.root))
-        for target in ("cvl", "cvl_static"):
-            self.run_in_shell(f"build/of_{target}", status=7)
-
-    @needs("cmake")
-    def test_components_of_cmake(self):
-        with mock.patch.object(self, "build", super().build):
-            self.install(self.root, "--no-python")
-        self.write("CMakeLists.txt", """cmake_minimum_required(VERSION 3.13)
-project(asked NONE)
-find_package(cvl QUIET COMPONENTS nonsense)
-message(STATUS "one: ${cvl_FOUND}, ${cvl_NOT_FOUND_MESSAGE}, ${cvl_nonsense_FOUND}")
-find_package(cvl QUIET COMPONENTS cvl OPTIONAL_COMPONENTS nonsense)
-message(STATUS "and another at will: ${cvl_FOUND}, ${cvl_NOT_FOUND_MESSAGE}")
-find_package(cvl REQUIRED OPTIONAL_COMPONENTS nonsense)
-message(STATUS "one at will: ${cvl_FOUND}, ${cvl_nonsense_FOUND}")
-find_package(cvl REQUIRED)
-get_target_property(linked cvl::cvl_static INTERFACE_LINK_LIBRARIES)
-message(STATUS "none: ${cvl_FOUND}, ${linked}")
-""")
-        told = self.run_in_shell('cmake -S . -B build -DCMAKE_PREFIX_PATH="$ROOT" 2>&1', ROOT=str(self.root))
-        why = "the package cvl has no components, and {} was asked for"
-        wanted = [f"-- one: 0, {why.format('nonsense')}, FALSE", f"-- and another at will: 0, {why.format('cvl')}"]
-        wanted += ["-- one at will: 1, FALSE", "-- none: 1, -pthread"]
-        self.assertEqual(told.split("\n")[: len(wanted)], wanted)
+        self.run_in_shell(f"{compiles}; ./program", status=7)
 
 
 class Stopped(Tree):

@@ -1,0 +1,52 @@
+"""What make and CMake build over an installed library, and which components of its package CMake finds."""
+
+import sys
+from unittest import mock
+
+sys.dont_write_bytecode = True
+
+from whole import Used, Whole
+
+
+class Built(Used):
+    """Programs that are built."""
+
+    def test_make(self):
+        self.install(self.root, "--no-python")
+        self.write("Makefile", "program: program.c\n\tcc -o $@ program.c $(shell pkg-config --cflags --libs cvl)\n")
+        self.run_in_shell("make -s program; ./program", status=7, LD_LIBRARY_PATH=f"{self.root}/lib")
+
+    def test_cmake(self):
+        self.install(self.root, "--no-python")
+        self.write("CMakeLists.txt", """cmake_minimum_required(VERSION 3.13)
+project(program C)
+find_package(cvl 1.0 REQUIRED)
+foreach(target cvl cvl_static)
+  add_executable(of_${target} program.c)
+  target_link_libraries(of_${target} PRIVATE cvl::${target})
+endforeach()
+""")
+        self.run_in_shell('cmake -S . -B build -DCMAKE_PREFIX_PATH="$ROOT" && cmake --build build', ROOT=str(self.root))
+        for target in ("cvl", "cvl_static"):
+            self.run_in_shell(f"build/of_{target}", status=7)
+
+    def test_components_of_cmake(self):
+        with mock.patch.object(Used, "build", Whole.build):
+            self.install(self.root, "--no-python")
+        self.write("CMakeLists.txt", """cmake_minimum_required(VERSION 3.13)
+project(asked NONE)
+find_package(cvl QUIET COMPONENTS nonsense)
+message(STATUS "one: ${cvl_FOUND}, ${cvl_NOT_FOUND_MESSAGE}, ${cvl_nonsense_FOUND}")
+find_package(cvl QUIET COMPONENTS cvl OPTIONAL_COMPONENTS nonsense)
+message(STATUS "and another at will: ${cvl_FOUND}, ${cvl_NOT_FOUND_MESSAGE}")
+find_package(cvl REQUIRED OPTIONAL_COMPONENTS nonsense)
+message(STATUS "one at will: ${cvl_FOUND}, ${cvl_nonsense_FOUND}")
+find_package(cvl REQUIRED)
+get_target_property(linked cvl::cvl_static INTERFACE_LINK_LIBRARIES)
+message(STATUS "none: ${cvl_FOUND}, ${linked}")
+""")
+        told = self.run_in_shell('cmake -S . -B build -DCMAKE_PREFIX_PATH="$ROOT" 2>&1', ROOT=str(self.root))
+        why = "the package cvl has no components, and {} was asked for"
+        wanted = [f"-- one: 0, {why.format('nonsense')}, FALSE", f"-- and another at will: 0, {why.format('cvl')}"]
+        wanted += ["-- one at will: 1, FALSE", "-- none: 1, -pthread"]
+        self.assertEqual(told.split("\n")[: len(wanted)], wanted)
