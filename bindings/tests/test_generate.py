@@ -1,5 +1,5 @@
 """Whether the rows of `bindings/table.py` are held against the proved table of calls and against the exports: words of these are changed,
-one in each call or export at once, and each change has to be told. A second, without the kit."""
+one in each call or export at once, and each change has to be told; so is each limit that differs. A second, without the kit."""
 
 import pathlib
 import sys
@@ -12,6 +12,7 @@ sys.path[:0] = [str(TOP / "bindings"), str(TOP / "bindings/generator")]
 import call_table
 import exports
 import in_map
+import limits
 import packages
 import rows
 
@@ -85,6 +86,14 @@ class Held(unittest.TestCase):
     def test_each_export(self):
         self.assertEqual({line.split()[0] for line in rows.export_differences({})}, set(self.exports))
         self.exports_told({"cvl_new": []})
+
+    def test_each_limit(self):
+        found = limits.read(TOP)
+        self.assertEqual(list(limits.differences(found)), [])
+        for name, definition in limits.DEFINITIONS.items():
+            for other in (found[definition] - 1, found[definition] + 1, None):
+                told = list(limits.differences({**found, definition: other}))
+                self.assertEqual([line.split()[0] for line in told], [name])
 
 
 class Versions(unittest.TestCase):
