@@ -1768,9 +1768,9 @@ CVL_CHECKED CvlStatus cvl_segments_new(CvlLengths lengths, CvlSegments *segments
  * Makes the descriptor of segments that start at these offsets, one more than there are segments: at the last one the last
  * segment ends, as in a matrix of compressed rows. The lengths are written into a room of the caller's, one for each segment,
  * which the descriptor names. After a fault there is none, and the room is as it was.
- * Faults: 13 TooLong, without a place, where there are more than 2147483647 segments; 12 NegativeLength at the first segment
- * whose end stands before its start; 7 LengthMismatch where there is no offset, the first one is not 0, or the room has not one
- * place for each segment; else 101 NoDescriptor where `segments` is null.
+ * Faults: 13 TooLong, without a place, where there are more than 2147483647 segments; 7 LengthMismatch where there is no offset
+ * or the first one is not 0; 12 NegativeLength at the first segment whose end stands before its start; 7 LengthMismatch where
+ * the room has not one place for each segment; else 101 NoDescriptor where `segments` is null.
  */
 CVL_CHECKED CvlStatus cvl_segments_from_offsets(const int32_t *offsets, size_t offsets_len, int32_t *lengths, size_t lengths_len,
     CvlSegments *segments);

@@ -28,39 +28,20 @@ CvlStatus cvl_segments_new(CvlLengths lengths, CvlSegments *segments) {
     return status;
 }
 
-/* Whether there are offsets, of which the first is 0. */
 /*@ requires \valid_read(offsets + (0 .. offsets_len - 1));
     assigns \nothing;
-    ensures \result.number == CVL_DONE <==> 0 < offsets_len && offsets[0] == 0;
-    ensures \result.number != CVL_NEGATIVE_LENGTH; */
-static CvlStatus begins_at_0(const int32_t *offsets, size_t offsets_len) {
-    return offsets_len == 0 || offsets[0] != 0 ? cvl_status(CVL_LENGTH_MISMATCH, -1) : cvl_done();
-}
-
-/* The first fault of offsets that begin as they do: they are as many as there may be, and none is less than the one before it. */
-/*@ requires \valid_read(offsets + (0 .. offsets_len - 1));
-    assigns \nothing;
-    ensures \result.number == CVL_DONE <==> offsets_len <= INT32_MAX + 1 && ascends(offsets, offsets_len);
-    ensures \result.number == CVL_NEGATIVE_LENGTH ==> first_fall(offsets, offsets_len, \result.place); */
-static CvlStatus falls(const int32_t *offsets, size_t offsets_len) {
+    ensures \result.number == CVL_DONE <==> are_offsets(offsets, offsets_len);
+    ensures \result.number == CVL_NEGATIVE_LENGTH ==> offsets[0] == 0 && first_fall(offsets, offsets_len, \result.place); */
+CvlStatus cvl_offsets_told(const int32_t *offsets, size_t offsets_len) {
     if (offsets_len > (size_t)CVL_MOST_ELEMENTS + 1) return cvl_status(CVL_TOO_LONG, -1);
-    /*@ loop invariant 1 <= s <= offsets_len + 1 && (s <= offsets_len || s == 1) && ascends(offsets, s);
+    if (offsets_len == 0 || offsets[0] != 0) return cvl_status(CVL_LENGTH_MISMATCH, -1);
+    /*@ loop invariant 1 <= s <= offsets_len && ascends(offsets, s);
         loop assigns s;
         loop variant offsets_len - s; */
     for (size_t s = 1; s < offsets_len; s++) {
         if (offsets[s] < offsets[s - 1]) return cvl_status(CVL_NEGATIVE_LENGTH, (int64_t)s - 1);
     }
     return cvl_done();
-}
-
-/*@ requires \valid_read(offsets + (0 .. offsets_len - 1));
-    assigns \nothing;
-    ensures \result.number == CVL_DONE <==> are_offsets(offsets, offsets_len);
-    ensures \result.number == CVL_NEGATIVE_LENGTH ==> first_fall(offsets, offsets_len, \result.place); */
-CvlStatus cvl_offsets_told(const int32_t *offsets, size_t offsets_len) {
-    if (offsets_len > (size_t)CVL_MOST_ELEMENTS + 1) return cvl_status(CVL_TOO_LONG, -1);
-    const CvlStatus begins = begins_at_0(offsets, offsets_len);
-    return begins.number == CVL_DONE ? falls(offsets, offsets_len) : begins;
 }
 
 int32_t *cvl_lengths_between(const int32_t *offsets, size_t offsets_len) {
@@ -81,8 +62,7 @@ CvlStatus cvl_segments_from_offsets(const int32_t *offsets, size_t offsets_len, 
     if (segments != NULL && (CVL_MEET(segments, 1, offsets, offsets_len) || CVL_MEET(segments, 1, lengths, lengths_len))) {
         return cvl_overlap();
     }
-    CvlStatus status = falls(offsets, offsets_len);
-    if (status.number == CVL_DONE) status = begins_at_0(offsets, offsets_len);
+    CvlStatus status = cvl_offsets_told(offsets, offsets_len);
     if (status.number == CVL_DONE && lengths_len != offsets_len - 1) status = cvl_status(CVL_LENGTH_MISMATCH, -1);
     if (segments == NULL) return status.number == CVL_DONE ? cvl_status(CVL_NO_DESCRIPTOR, -1) : status;
     if (status.number == CVL_DONE) {

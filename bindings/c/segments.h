@@ -12,7 +12,7 @@ static inline CvlLengths cvl_lengths_of(const CvlSegments *segments) {
     return lengths;
 }
 
-/* The first fault of the offsets of rows: there are no more than there may be, the first is 0, and none is less than the one before. */
+/* The first fault of offsets: there are too many, there is none or the first is not 0, or one is less than the one before it. */
 CVL_HIDDEN CvlStatus cvl_offsets_told(const int32_t *offsets, size_t offsets_len);
 
 /* The lengths of the rows between offsets, which are to be freed; or none where the offsets have a fault, or there is no memory. */

@@ -1007,8 +1007,9 @@ static void descriptors_of_offsets(void) {
     FAULT(cvl_segments_int_reduce(CVL_ADD, a, 4, &made, ints, 3), CVL_LENGTH_MISMATCH, -1);
     FAULT(cvl_segments_from_offsets(I(0, 3, 2, 1), 4, some, 3, &made), CVL_NEGATIVE_LENGTH, 1);
     without_a_descriptor(&made);
-    FAULT(cvl_segments_from_offsets(I(1, 0), 2, some, 1, &made), CVL_NEGATIVE_LENGTH, 0);
-    FAULT(cvl_segments_from_offsets(I(5, INT32_MIN), 2, some, 1, &made), CVL_NEGATIVE_LENGTH, 0);
+    FAULT(cvl_segments_from_offsets(I(0, INT32_MIN), 2, some, 1, &made), CVL_NEGATIVE_LENGTH, 0);
+    FAULT(cvl_segments_from_offsets(I(1, 5, 3), 3, some, 2, &made), CVL_LENGTH_MISMATCH, -1);
+    FAULT(cvl_sparse_product_by_offsets(I(1, 5, 3), 3, a, 5, a, 5, a, 5, ints, 2), CVL_LENGTH_MISMATCH, -1);
     FAULT(cvl_segments_from_offsets(I(INT32_MIN, INT32_MAX), 2, some, 1, &made), CVL_LENGTH_MISMATCH, -1);
     FAULT(cvl_segments_from_offsets(I(1, 2), 2, some, 1, &made), CVL_LENGTH_MISMATCH, -1);
     FAULT(cvl_segments_from_offsets(a, 0, some, 0, &made), CVL_LENGTH_MISMATCH, -1);

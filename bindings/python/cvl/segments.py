@@ -83,15 +83,15 @@ class Segments(Lengths):
     def from_offsets(cls, offsets: ArrayLike) -> Segments:
         """Segments whose starts stand in `offsets`, and last where the last one ends, as in a matrix of compressed rows.
 
-        Faults: 12 NegativeLength at the first segment whose end stands before its start; 7 LengthMismatch where the first offset
-        is not 0, or there is none; 13 TooLong where the last one is above `cvl.MOST_ELEMENTS`.
+        Faults: 7 LengthMismatch if there is no offset or the first is not 0; 12 NegativeLength at the first segment whose end
+        stands before its start; 13 TooLong if the last offset is above `cvl.MOST_ELEMENTS`.
         """
         given = _whole_numbers(offsets, "offsets")
+        if given.size == 0 or given[0] != 0:
+            raise Fault(faults.LENGTH_MISMATCH, "LengthMismatch", None, "offsets begin with 0")
         falls = given[1:] < given[:-1]
         if falls.any():
             raise Fault(faults.NEGATIVE_LENGTH, "NegativeLength", int(falls.argmax()))
-        if given.size == 0 or given[0] != 0:
-            raise Fault(faults.LENGTH_MISMATCH, "LengthMismatch", None, "offsets begin with 0")
         if given[-1] > MOST_ELEMENTS:
             raise Fault(faults.TOO_LONG, "TooLong")
         return cls(numpy.diff(given))

@@ -405,8 +405,8 @@ class Cut(unittest.TestCase):
 
     def test_offsets_that_are_none(self):
         given = (
-            ([0, 3, 2, 1], 12, 1), ([1, 0], 12, 0), (numpy.array([0, 5, 4], dtype=numpy.uint64), 12, 1), ([-(2**63), 2**63 - 1], 7, None),
-            ([1, 2], 7, None), ([], 7, None), ([0, 2**31], 13, None), ([0, 5, 2**40], 13, None),
+            ([0, 3, 2, 1], 12, 1), (numpy.array([0, 5, 4], dtype=numpy.uint64), 12, 1), ([1, 0], 7, None), ([-(2**63), 2**63 - 1], 7, None),
+            ([1, 2], 7, None), ([1, 5, 3], 7, None), ([], 7, None), ([0, 2**31], 13, None), ([0, 5, 2**40], 13, None),
         )  # fmt: skip
         for offsets, number, place in given:
             with self.assertRaises(cvl.Fault) as caught:

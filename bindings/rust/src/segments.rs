@@ -40,21 +40,22 @@ impl Segments {
 
     /// Segments whose starts are these, and whose last one ends at the last of them, as in a matrix of compressed rows.
     ///
-    /// Faults: 13 TooLong where there are more than [`MOST_ELEMENTS`](crate::MOST_ELEMENTS) segments; 12 NegativeLength at the
-    /// first segment whose end stands before its start; 7 LengthMismatch where the first offset is not 0, or there is none; 100
-    /// NoResources where there is no memory for the lengths.
+    /// Faults: 13 TooLong if there are more than [`MOST_ELEMENTS`](crate::MOST_ELEMENTS) segments; 7 LengthMismatch if there is
+    /// no offset or the first is not 0; 12 NegativeLength at the first segment whose end stands before its start; 100
+    /// NoResources if there is no memory for the lengths.
     pub fn from_offsets(offsets: &[i32]) -> Result<Segments, Fault> {
         limit(offsets.len().saturating_sub(1))?;
+        let end = match (offsets.first(), offsets.last()) {
+            (Some(0), Some(&end)) => end,
+            _ => return Err(Fault::length_mismatch()),
+        };
         if let Some(segment) = offsets.windows(2).position(|pair| pair[1] < pair[0]) {
             return Err(Fault::negative_length_of(segment));
         }
-        match (offsets.first(), offsets.last()) {
-            (Some(0), Some(&end)) => Ok(Segments {
-                lengths: copied(offsets.windows(2).map(|pair| pair[1] - pair[0]))?,
-                total: end as usize,
-            }),
-            _ => Err(Fault::length_mismatch()),
-        }
+        Ok(Segments {
+            lengths: copied(offsets.windows(2).map(|pair| pair[1] - pair[0]))?,
+            total: end as usize,
+        })
     }
 
     /// Where each segment starts, and last where the last one ends: one more than there are segments.

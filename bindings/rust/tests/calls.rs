@@ -255,26 +255,18 @@ fn empty_vectors() {
 fn segments_of_lengths_and_of_offsets() {
     let rows = Segments::new(&[2, 0, 3]).unwrap();
     assert_eq!(Segments::from_offsets(&[0, 2, 2, 5]).unwrap(), rows);
-    assert_eq!(
-        told(Segments::from_offsets(&[1, 2]).unwrap_err()),
-        (7, None)
-    );
-    assert_eq!(told(Segments::from_offsets(&[]).unwrap_err()), (7, None));
-    let falls = [
-        (&[0, 3, 2, 1][..], 1),
-        (&[1, 0], 0),
-        (&[0, i32::MAX, i32::MIN], 1),
-    ];
-    for (offsets, segment) in falls {
+    for offsets in [&[1, 2][..], &[1, 5, 3], &[i32::MIN, i32::MAX], &[]] {
+        assert_eq!(
+            told(Segments::from_offsets(offsets).unwrap_err()),
+            (7, None)
+        );
+    }
+    for (offsets, segment) in [(&[0, 3, 2, 1][..], 1), (&[0, i32::MAX, i32::MIN], 1)] {
         assert_eq!(
             told(Segments::from_offsets(offsets).unwrap_err()),
             (12, Some(segment))
         );
     }
-    assert_eq!(
-        told(Segments::from_offsets(&[i32::MIN, i32::MAX]).unwrap_err()),
-        (7, None)
-    );
     assert_eq!(
         Segments::from_offsets(&[0, i32::MAX]).unwrap().total(),
         cvl::MOST_ELEMENTS
