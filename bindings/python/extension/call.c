@@ -5,6 +5,8 @@
 
 static PyObject *out_keyword;
 
+static const Operand out_ints = {"out", KIND_ROOM_INTS, EXTENT_NONE, NULL}, out_flags = {"out", KIND_ROOM_FLAGS, EXTENT_NONE, NULL};
+
 int cvl_keywords_ready(void) {
     out_keyword = PyUnicode_InternFromString("out");
     if (out_keyword == NULL) return -1;
@@ -71,18 +73,28 @@ static int spread(Frame *frame) {
             family->operands[0].kind == KIND_INTS ? cvl_ints.written : cvl_flags.written);
         return -1;
     }
+    if (cvl_look(frame) < 0) return -1;
     for (int k = 0; k < family->count; k++) {
         if (frame->given[k].spread && cvl_spread(frame, k, frame->given[first].count) < 0) return -1;
     }
     return 0;
 }
 
-static int take(Frame *frame, PyObject **bound) {
+/* Takes an argument. One that is an array of numpy's own type, as most are, is only looked at later. */
+static int take_one(PyObject *object, const Operand *operand, int spreads, Given *given) {
+    if (!PyArray_CheckExact(object) || cvl_needs[operand->kind].flags == 0) return cvl_take(object, operand, spreads, given);
+    given->array = (PyArrayObject *)object;
+    return 0;
+}
+
+/* Takes all arguments, and the caller's room, before an array is looked at. */
+static int take(Frame *frame, PyObject **bound, PyObject *out) {
     const Family *family = frame->row->family;
-    for (int k = 0; k < family->count; k++) frame->given[k] = (Given){NULL, 0, 0, 0, NULL};
+    for (int k = 0; k < family->count; k++) frame->given[k] = (Given){.at = NULL};
     for (int k = 0; k < family->count; k++) {
-        if (cvl_take(bound[k], &family->operands[k], family->spreads, &frame->given[k]) < 0) return -1;
+        if (take_one(bound[k], &family->operands[k], family->spreads, &frame->given[k]) < 0) return -1;
     }
+    if (out != NULL && take_one(out, frame->out, 0, &frame->room) < 0) return -1;
     return family->spreads ? spread(frame) : 0;
 }
 
@@ -94,16 +106,17 @@ static void let_go(Frame *frame) {
 
 /* ---- the call itself ---- */
 
-/* Calls the family. Other threads of the interpreter run meanwhile where there is much to do. */
-static CvlStatus make(Frame *frame) {
+/* Calls the family, which gives a status, or -1 with an exception. Other threads of the interpreter run meanwhile where there is
+   much to do. */
+static int make(Frame *frame) {
     const Family *family = frame->row->family;
+    if (cvl_look(frame) < 0) return -1;
     size_t much = frame->room.count;
     for (int k = 0; k < family->count; k++) much += frame->given[k].count;
-    if (much < MUCH) return family->make(frame);
-    PyThreadState *state = PyEval_SaveThread();
-    const CvlStatus status = family->make(frame);
-    PyEval_RestoreThread(state);
-    return status;
+    PyThreadState *state = much < MUCH ? NULL : PyEval_SaveThread();
+    frame->status = family->make(frame);
+    if (state != NULL) PyEval_RestoreThread(state);
+    return 0;
 }
 
 /* Raises why a call isn't made for which there is no memory: what comes before that in the order of the library. The family is
@@ -111,6 +124,7 @@ static CvlStatus make(Frame *frame) {
 static void refuse(Frame *frame, int has_room) {
     const Family *family = frame->row->family;
     size_t counts[MOST_OPERANDS], needed;
+    if (cvl_look(frame) < 0) return;
     for (int k = 0; k < family->count; k++) {
         Given *given = &frame->given[k];
         counts[k] = given->count;
@@ -127,30 +141,33 @@ static void refuse(Frame *frame, int has_room) {
     }
 }
 
-static int is_done(Frame *frame, CvlStatus status, int has_room) {
-    if (status.number == CVL_DONE) return 1;
-    cvl_tell(frame, status, has_room);
+/* Makes a call. Whether it is done; else there is an exception. */
+static int done(Frame *frame, int has_room) {
+    if (make(frame) < 0) return 0;
+    if (frame->status.number == CVL_DONE) return 1;
+    cvl_tell(frame, frame->status, has_room);
     return 0;
 }
 
-/* The room of the result: the caller's, or a new one. */
-static int find_room(Frame *frame, PyObject *out, const Element *element) {
+/* A new room for the result. */
+static int find_room(Frame *frame) {
+    const Family *family = frame->row->family;
     size_t needed;
-    if (out != NULL) return cvl_take_room(out, "out", element, &frame->room);
-    if (!cvl_measure(frame, &needed) || needed > frame->row->family->most) {
+    if (cvl_look(frame) < 0) return -1;
+    if (!cvl_measure(frame, &needed) || needed > family->most) {
         frame->no_memory = 1;
         return 0;
     }
-    return cvl_new_room(frame, &frame->room, needed, element);
+    return cvl_new_room(frame, &frame->room, needed, cvl_needs[frame->out->kind].element);
 }
 
-static int fill(Frame *frame, PyObject *out, const Element *element) {
-    if (find_room(frame, out, element) < 0) return 0;
+static int fill(Frame *frame, PyObject *out) {
+    if (out == NULL && find_room(frame) < 0) return 0;
     if (frame->no_memory) {
         refuse(frame, out != NULL);
         return 0;
     }
-    return is_done(frame, make(frame), out != NULL);
+    return done(frame, out != NULL);
 }
 
 /* ---- texts ---- */
@@ -159,24 +176,21 @@ static int fill(Frame *frame, PyObject *out, const Element *element) {
    filled, or -1. A count that was not told was no count. */
 static int ask(Frame *frame) {
     frame->told = frame->told_second = SIZE_MAX;
-    const CvlStatus status = make(frame);
-    if (status.number == CVL_DONE) return 0;
-    if (status.number == CVL_LENGTH_MISMATCH && frame->told != SIZE_MAX) return 1;
-    cvl_tell(frame, status, 0);
+    if (make(frame) < 0) return -1;
+    if (frame->status.number == CVL_DONE) return 0;
+    if (frame->status.number == CVL_LENGTH_MISMATCH && frame->told != SIZE_MAX) return 1;
+    cvl_tell(frame, frame->status, 0);
     return -1;
 }
 
 /* A call whose rooms were made as long as it asked for. */
 static int fill_asked(Frame *frame) {
     if (frame->no_memory) PyErr_NoMemory();
-    return !frame->no_memory && is_done(frame, make(frame), 0);
+    return !frame->no_memory && done(frame, 0);
 }
 
 static PyObject *read_text(Frame *frame, PyObject *out) {
-    if (out != NULL) {
-        if (cvl_take_room(out, "out", &cvl_ints, &frame->room) < 0 || !is_done(frame, make(frame), 1)) return NULL;
-        return cvl_front(&frame->room, out, frame->told);
-    }
+    if (out != NULL) return done(frame, 1) ? cvl_front(&frame->room, out, frame->told) : NULL;
     const int more = ask(frame);
     if (more < 0 || cvl_new_room(frame, &frame->room, more ? frame->told : 0, &cvl_ints) < 0) return NULL;
     return fill_asked(frame) ? cvl_front(&frame->room, NULL, frame->told) : NULL;
@@ -198,22 +212,22 @@ static PyObject *write_text(Frame *frame) {
     if (frame->room.held == NULL) return NULL;
     frame->room.at = PyUnicode_DATA(frame->room.held);
     frame->room.count = more ? frame->told : 0;
-    return !more || is_done(frame, make(frame), 0) ? Py_NewRef(frame->room.held) : NULL;
+    return !more || done(frame, 0) ? Py_NewRef(frame->room.held) : NULL;
 }
 
 /* ---- what is given ---- */
 
-static PyObject *array_result(Frame *frame, PyObject *out, const Element *element) {
-    if (!fill(frame, out, element)) return NULL;
+static PyObject *array_result(Frame *frame, PyObject *out) {
+    if (!fill(frame, out)) return NULL;
     return Py_NewRef(out == NULL ? frame->room.held : out);
 }
 
-static PyObject *front_result(Frame *frame, PyObject *out, const Element *element) {
-    return fill(frame, out, element) ? cvl_front(&frame->room, out, frame->told) : NULL;
+static PyObject *front_result(Frame *frame, PyObject *out) {
+    return fill(frame, out) ? cvl_front(&frame->room, out, frame->told) : NULL;
 }
 
 static PyObject *single_result(Frame *frame) {
-    if (!is_done(frame, make(frame), 0)) return NULL;
+    if (!done(frame, 0)) return NULL;
     switch (frame->row->family->gives) {
     case GIVES_INT: return PyLong_FromLong(frame->single.number);
     case GIVES_FLAG: return PyBool_FromLong(frame->single.flag != 0);
@@ -225,20 +239,26 @@ static PyObject *single_result(Frame *frame) {
 
 /* The lengths that a call was given, in a new array, if they are some. */
 static PyObject *lengths_result(Frame *frame) {
-    if (!is_done(frame, make(frame), 0) || cvl_new_room(frame, &frame->room, frame->given[0].count, &cvl_ints) < 0) return NULL;
+    const Given *lengths = &frame->given[0];
+    if (!done(frame, 0) || cvl_new_room(frame, &frame->room, lengths->count, &cvl_ints) < 0) return NULL;
     if (frame->no_memory) return PyErr_NoMemory();
-    if (frame->room.count != 0) memcpy(frame->room.at, frame->given[0].at, frame->room.count * sizeof(int32_t));
+    if (cvl_look(frame) < 0) return NULL;
+    if (lengths->count != frame->room.count) {
+        cvl_tell_change();
+        return NULL;
+    }
+    if (lengths->count != 0) memcpy(frame->room.at, lengths->at, lengths->count * sizeof(int32_t));
     return Py_NewRef(frame->room.held);
 }
 
 static PyObject *result(Frame *frame, PyObject **bound, PyObject *out) {
     switch (frame->row->family->gives) {
-    case GIVES_INTS: return array_result(frame, out, &cvl_ints);
-    case GIVES_FLAGS: return array_result(frame, out, &cvl_flags);
-    case GIVES_FRONT_INTS: return front_result(frame, out, &cvl_ints);
-    case GIVES_FRONT_FLAGS: return front_result(frame, out, &cvl_flags);
-    case GIVES_SEGMENTS: return fill(frame, NULL, &cvl_ints) ? cvl_segments_of(frame->room.held) : NULL;
-    case GIVES_CUT: return cvl_segments_of(bound[0]);
+    case GIVES_INTS:
+    case GIVES_FLAGS: return array_result(frame, out);
+    case GIVES_FRONT_INTS:
+    case GIVES_FRONT_FLAGS: return front_result(frame, out);
+    case GIVES_SEGMENTS: return fill(frame, NULL) ? cvl_segments_of(frame->room.held) : NULL;
+    case GIVES_CUT: return cvl_look(frame) < 0 ? NULL : cvl_segments_of(bound[0]);
     case GIVES_LENGTHS: return lengths_result(frame);
     case GIVES_READ: return read_text(frame, out);
     case GIVES_READ_NESTED: return read_nested(frame);
@@ -252,10 +272,11 @@ PyObject *cvl_call(const Row *row, PyObject *const *arguments, Py_ssize_t count,
     Frame frame;
     if (bind(row, arguments, count, keywords, bound) < 0) return NULL;
     frame.row = row;
-    frame.room = frame.second = (Given){NULL, 0, 0, 0, NULL};
+    frame.out = row->family->gives == GIVES_FLAGS || row->family->gives == GIVES_FRONT_FLAGS ? &out_flags : &out_ints;
+    frame.room = frame.second = (Given){.at = NULL};
     frame.no_memory = 0;
-    PyObject *out = bound[row->family->count];
-    if (take(&frame, bound) == 0) found = result(&frame, bound, out == Py_None ? NULL : out);
+    PyObject *out = bound[row->family->count] == Py_None ? NULL : bound[row->family->count];
+    if (take(&frame, bound, out) == 0) found = result(&frame, bound, out);
     let_go(&frame);
     return found;
 }

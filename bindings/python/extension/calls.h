@@ -4,6 +4,10 @@
  * A call from Python binds its arguments, takes each of them as its family in C takes it, finds a room for the result, and calls
  * the family, which tells the first fault in the order of cvl.h. So nothing is told here but what Python alone knows: what is no
  * array of the kind, and what does not fit.
+ *
+ * Taking an argument may run code in Python: an `__index__`, a finalizer, another thread. That code may resize an array that was
+ * taken before. So an array that is taken is only kept, and `cvl_look` reads what it is, where its elements lie and how many there
+ * are, after all arguments are taken, and again after anything else that may run such code.
  */
 #ifndef CVL_CALLS_H
 #define CVL_CALLS_H
@@ -100,29 +104,6 @@ typedef struct Row {
     uint32_t op;
 } Row;
 
-/* An argument as it is taken, and a room. */
-typedef struct Given {
-    void *at;       /* of an array */
-    size_t count;   /* how many elements it has, or how many lengths */
-    int64_t number; /* of one value */
-    int spread;     /* whether that number stands for an array */
-    PyObject *held; /* what was made to reach the memory, or nothing */
-} Given;
-
-/* A call that is being made. */
-struct Frame {
-    const Row *row;
-    Given given[MOST_OPERANDS];
-    Given room, second; /* the second is that of lengths beside the result */
-    size_t told, told_second;
-    union {
-        int32_t number;
-        uint8_t flag;
-        int64_t sum;
-    } single;
-    int no_memory; /* whether there was none for the room, or for an argument; or the room is known to be too long */
-};
-
 /* Kinds of elements. */
 typedef struct Element {
     int number;          /* that of numpy */
@@ -133,12 +114,61 @@ typedef struct Element {
 
 extern Element cvl_ints, cvl_flags, cvl_marks;
 
-/* ---- arguments.c ---- */
+/* What an array needs that is taken for an operand: the kind of its elements, or none if it is a text, which has any of one byte;
+   and flags of numpy, of which one value needs none. */
+typedef struct Need {
+    const Element *element;
+    int flags;
+} Need;
+
+extern const Need cvl_needs[];
+
+/* An argument as it is taken, and a room. */
+typedef struct Given {
+    void *at;             /* of an array, once it is looked at */
+    size_t count;         /* how many elements it has, or how many lengths */
+    int64_t number;       /* of one value */
+    int spread;           /* whether that number stands for an array */
+    PyArrayObject *array; /* the array to look at, or nothing if no code in Python can change it */
+    PyObject *held;       /* what was made to reach the memory, or nothing */
+} Given;
+
+/* A call that is being made. */
+struct Frame {
+    const Row *row;
+    Given given[MOST_OPERANDS];
+    Given room, second; /* the second is that of lengths beside the result */
+    const Operand *out; /* what `out` is taken for */
+    size_t told, told_second;
+    CvlStatus status;
+    union {
+        int32_t number;
+        uint8_t flag;
+        int64_t sum;
+    } single;
+    int no_memory; /* whether there was none for the room, or for an argument; or the room is known to be too long */
+};
+
+/* ---- arrays.c ---- */
 
 /* The only way from here is an exception, where one of these is -1. */
-int cvl_take(PyObject *object, const Operand *operand, int spreads, Given *given);
-int cvl_take_room(PyObject *object, const char *name, const Element *element, Given *room);
+int cvl_take_array(PyObject *object, const Operand *operand, Given *given);
 int cvl_learn_kinds(void);
+
+/* Whether an object is a number, and no array of one. */
+int cvl_is_number(PyObject *object);
+
+/* Reads where the elements of all arrays lie and how many there are, if they are of the right kind. If not, that is -1 and an
+   exception. It runs no code in Python. */
+int cvl_look(Frame *frame);
+
+/* Raises that an argument was changed during the call. */
+void cvl_tell_change(void);
+
+/* ---- arguments.c ---- */
+
+/* Takes an argument; -1 with an exception. */
+int cvl_take(PyObject *object, const Operand *operand, int spreads, Given *given);
 
 /* ---- results.c ---- */
 
@@ -154,7 +184,7 @@ PyObject *cvl_front(const Given *room, PyObject *out, size_t count);
 /* ---- told.c ---- */
 
 /* Raises what a status tells of a call. */
-void cvl_tell(const Frame *frame, CvlStatus status, int has_room);
+void cvl_tell(Frame *frame, CvlStatus status, int has_room);
 
 /* How long the room of a call has to be. Whether that is known. */
 int cvl_measure(const Frame *frame, size_t *needed);

@@ -1,18 +1,16 @@
-/* Lengths of segments that nobody can change, which `cvl.Segments` stands on. */
+/* Lengths of segments that nobody can change, on which `cvl.Segments` stands. */
 #include "calls.h"
 #include <structmember.h>
 
+/* Calls read the lengths here, and not from an array: the shape, the kind and the memory of an array are a program's to change. */
 typedef struct Lengths {
     PyObject_HEAD
-    PyObject *lengths; /* an array over the memory of a `bytes` */
+    PyObject *bytes;    /* whose memory has the lengths */
+    CvlLengths lengths; /* in that memory */
     Py_ssize_t total;
 } Lengths;
 
-CvlLengths cvl_cut_of(PyObject *segments) {
-    PyArrayObject *array = (PyArrayObject *)((Lengths *)segments)->lengths;
-    const CvlLengths lengths = {PyArray_DATA(array), (size_t)PyArray_DIM(array, 0)};
-    return lengths;
-}
+CvlLengths cvl_cut_of(PyObject *segments) { return ((Lengths *)segments)->lengths; }
 
 PyObject *cvl_segments_of(PyObject *lengths) {
     static PyObject *type;
@@ -24,19 +22,16 @@ PyObject *cvl_segments_of(PyObject *lengths) {
     return type == NULL ? NULL : PyObject_CallFunctionObjArgs(type, lengths, NULL);
 }
 
-/* A copy of the lengths that nobody can write. */
-static PyObject *frozen(const Given *given) {
-    npy_intp count = (npy_intp)given->count;
-    PyObject *bytes = PyBytes_FromStringAndSize(given->at, count * (npy_intp)sizeof(int32_t));
-    if (bytes == NULL) return NULL;
+/* The lengths in an array of its own, over the same memory, which nobody can write. */
+static PyObject *as_array(PyObject *self, void *unused) {
+    const Lengths *found = (Lengths *)self;
+    npy_intp count = (npy_intp)found->lengths.segments;
+    (void)unused;
     Py_INCREF(cvl_ints.descr);
-    PyObject *array = PyArray_NewFromDescr(&PyArray_Type, cvl_ints.descr, 1, &count, NULL, PyBytes_AS_STRING(bytes), 0, NULL);
-    if (array == NULL) {
-        Py_DECREF(bytes);
-        return NULL;
-    }
+    PyObject *array = PyArray_NewFromDescr(&PyArray_Type, cvl_ints.descr, 1, &count, NULL, PyBytes_AS_STRING(found->bytes), 0, NULL);
+    if (array == NULL) return NULL;
     PyArray_UpdateFlags((PyArrayObject *)array, NPY_ARRAY_C_CONTIGUOUS | NPY_ARRAY_F_CONTIGUOUS | NPY_ARRAY_ALIGNED);
-    if (PyArray_SetBaseObject((PyArrayObject *)array, bytes) < 0) Py_CLEAR(array);
+    if (PyArray_SetBaseObject((PyArrayObject *)array, Py_NewRef(found->bytes)) < 0) Py_CLEAR(array);
     return array;
 }
 
@@ -44,31 +39,40 @@ static const Operand operand = {"lengths", KIND_INTS, EXTENT_TOTAL, NULL};
 static Family family = {1, {{"lengths", KIND_INTS, EXTENT_TOTAL, NULL}}, GIVES_CUT, EXTENT_NONE, 0, 0, 0, NULL};
 static const Row row = {"Segments", &family, 0};
 
+/* A copy of the numbers of a frame, once they are taken. */
+static PyObject *copied(Frame *frame, PyObject *given) {
+    const Given *found = &frame->given[0];
+    if (cvl_take(given, &operand, 0, &frame->given[0]) < 0 || cvl_look(frame) < 0) return NULL;
+    return PyBytes_FromStringAndSize(found->at, (Py_ssize_t)(found->count * sizeof(int32_t)));
+}
+
 /* The lengths, if they are some. */
 static PyObject *lengths_new(PyTypeObject *type, PyObject *arguments, PyObject *keywords) {
     static char *names[] = {"lengths", NULL};
-    PyObject *given, *array = NULL, *self = NULL;
+    PyObject *given, *self = NULL;
     Frame frame = {.row = &row};
+    size_t total = 0;
     if (!PyArg_ParseTupleAndKeywords(arguments, keywords, "O", names, &given)) return NULL;
-    if (cvl_take(given, &operand, 0, &frame.given[0]) == 0) array = frozen(&frame.given[0]);
+    PyObject *bytes = copied(&frame, given);
+    if (bytes != NULL) {
+        const CvlLengths lengths = {(const int32_t *)(const void *)PyBytes_AS_STRING(bytes), frame.given[0].count};
+        const CvlStatus status = cvl_make_descriptor(lengths, &total);
+        if (status.number != CVL_DONE) cvl_tell(&frame, status, 0);
+        else self = type->tp_alloc(type, 0);
+        if (self != NULL) ((Lengths *)self)->lengths = lengths;
+    }
     Py_XDECREF(frame.given[0].held);
-    if (array == NULL) return NULL;
-    const CvlLengths lengths = {PyArray_DATA((PyArrayObject *)array), frame.given[0].count};
-    size_t total;
-    const CvlStatus status = cvl_make_descriptor(lengths, &total);
-    if (status.number != CVL_DONE) cvl_tell(&frame, status, 0);
-    else self = type->tp_alloc(type, 0);
     if (self == NULL) {
-        Py_DECREF(array);
+        Py_XDECREF(bytes);
         return NULL;
     }
-    ((Lengths *)self)->lengths = array;
+    ((Lengths *)self)->bytes = bytes;
     ((Lengths *)self)->total = (Py_ssize_t)total;
     return self;
 }
 
 static void lengths_dealloc(PyObject *self) {
-    Py_CLEAR(((Lengths *)self)->lengths);
+    Py_CLEAR(((Lengths *)self)->bytes);
     Py_TYPE(self)->tp_free(self);
 }
 
@@ -76,8 +80,12 @@ static Py_ssize_t lengths_length(PyObject *self) { return (Py_ssize_t)cvl_cut_of
 
 static PySequenceMethods as_sequence = {.sq_length = lengths_length};
 
+static PyGetSetDef computed[] = {
+    {"lengths", as_array, NULL, "How long each segment is, a new array each time, which nobody can write.", NULL},
+    {NULL, NULL, NULL, NULL, NULL},
+};
+
 static PyMemberDef members[] = {
-    {"lengths", T_OBJECT_EX, offsetof(Lengths, lengths), READONLY, "How long each segment is, an array that nobody can write."},
     {"total", T_PYSSIZET, offsetof(Lengths, total), READONLY, "How many elements the segments have in all."},
     {NULL, 0, 0, 0, NULL},
 };
@@ -91,5 +99,6 @@ PyTypeObject cvl_lengths_type = {
     .tp_new = lengths_new,
     .tp_dealloc = lengths_dealloc,
     .tp_as_sequence = &as_sequence,
+    .tp_getset = computed,
     .tp_members = members,
 };

@@ -36,7 +36,7 @@ static PyObject *get_threads(PyObject *self, PyObject *nothing) {
 
 static PyObject *set_threads(PyObject *self, PyObject *count) {
     static const Operand operand = {"count", KIND_SIZE, EXTENT_NONE, NULL};
-    Given given = {NULL, 0, 0, 0, NULL};
+    Given given = {.at = NULL};
     (void)self;
     if (cvl_take(count, &operand, 0, &given) < 0) return NULL;
     /* a call of another thread, which may have the interpreter's lock, is waited for */

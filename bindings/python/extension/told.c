@@ -112,9 +112,11 @@ static PyObject *room_differs(const Frame *frame) {
 }
 
 /* What more is said of a fault, or None. */
-static PyObject *said_of(const Frame *frame, CvlStatus status, int has_room) {
-    PyObject *said = status.number == CVL_LENGTH_MISMATCH ? arguments_differ(frame) : NULL;
-    if (said == NULL && !PyErr_Occurred() && status.number == CVL_LENGTH_MISMATCH && has_room) said = room_differs(frame);
+static PyObject *said_of(Frame *frame, CvlStatus status, int has_room) {
+    if (status.number != CVL_LENGTH_MISMATCH) return Py_NewRef(Py_None);
+    if (cvl_look(frame) < 0) return NULL;
+    PyObject *said = arguments_differ(frame);
+    if (said == NULL && !PyErr_Occurred() && has_room) said = room_differs(frame);
     return said == NULL && !PyErr_Occurred() ? Py_NewRef(Py_None) : said;
 }
 
@@ -130,7 +132,7 @@ static PyObject *fault_type(void) {
     return found;
 }
 
-void cvl_tell(const Frame *frame, CvlStatus status, int has_room) {
+void cvl_tell(Frame *frame, CvlStatus status, int has_room) {
     if (status.number == CVL_NO_RESOURCES) {
         PyErr_SetString(PyExc_MemoryError, "the call is out of memory");
         return;

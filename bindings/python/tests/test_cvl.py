@@ -5,12 +5,14 @@ import array
 import ast
 import copy
 import doctest
+import faulthandler
 import importlib
 import inspect
 import os
 import pathlib
 import pickle
 import pydoc
+import signal
 import subprocess
 import sys
 import tempfile
@@ -41,7 +43,20 @@ def zeros(count, dtype):
         raise unittest.SkipTest("there is no room for long vectors here") from None
 
 
-class Arguments(unittest.TestCase):
+class Limited(unittest.TestCase):
+    """A test that takes longer than its limit ends the process, which tells where each thread is."""
+
+    LIMIT = 60
+
+    def run(self, result=None):
+        faulthandler.dump_traceback_later(self.LIMIT, exit=True)
+        try:
+            return super().run(result)
+        finally:
+            faulthandler.cancel_dump_traceback_later()
+
+
+class Arguments(Limited):
     def refused(self, said, call, *arguments, **more):
         with self.assertRaisesRegex(TypeError, said):
             call(*arguments, **more)
@@ -78,6 +93,7 @@ class Arguments(unittest.TestCase):
         self.refused(f"segments {said}", cvl.add_rez, ints(1, 2, 3), masked)
         self.refused(f"flags {said}", cvl.cnt_lub, numpy.ma.array([True], mask=[True]))
         self.refused(f"out {said}", cvl.add_suz, ints(1, 2, 3), out=masked)
+        self.refused(f"text {said}", cvl.read_ints, numpy.ma.array([49], mask=[True], dtype=numpy.uint8))
         self.refused(f"lengths {said}", cvl.Segments, masked)
         self.refused(f"offsets {said}", cvl.Segments.from_offsets, masked)
 
@@ -202,13 +218,30 @@ class Arguments(unittest.TestCase):
         self.refused(r"add_wuz\(\) got an unexpected keyword argument 'c'", cvl.add_wuz, a, a, c=a)
         self.refused(r"add_ruz\(\) got an unexpected keyword argument 'out'", cvl.add_ruz, a, out=a)
 
+    def test_no_other_method_of_an_argument_is_called(self):
+        """An argument that is no array and no number is asked for nothing but its class, and a boolean is no other object."""
+
+        class Object:
+            def called(self, *words):
+                raise AssertionError("a method of an argument is called")
+
+            __array__ = __len__ = __bool__ = __float__ = __int__ = __iter__ = __getitem__ = __str__ = __repr__ = __eq__ = called
+            __hash__ = None
+
+        self.refused(r"a is no array but a Object", cvl.add_suz, Object())
+        self.refused(r"segments is no array but a Object", cvl.add_sez, ints(1), Object())
+        self.refused(r"out is no array but a Object", cvl.add_suz, ints(1), out=Object())
+        self.refused(r"text is no text", cvl.read_ints, Object())
+        self.refused(r"value is no boolean but a Object", cvl.dis_vub, Object(), 1)
+        self.refused(r"count is no whole number but a Object", cvl.dis_vuz, 1, Object())
+
     def test_empty_arrays(self):
         self.assertEqual(cvl.add_wuz(ints(), ints()).tolist(), [])
         self.assertEqual(cvl.add_ruz(ints()), 0)
         self.assertEqual(cvl.add_rez(ints(), cvl.Segments([])).tolist(), [])
 
 
-class Rooms(unittest.TestCase):
+class Rooms(Limited):
     def test_the_result_stands_in_out(self):
         out = ints(7, 7)
         self.assertIs(cvl.add_wuz(ints(1, 2), ints(3, 4), out=out), out)
@@ -389,7 +422,7 @@ class Rooms(unittest.TestCase):
         self.assertEqual(room.tolist(), [7])
 
 
-class Cut(unittest.TestCase):
+class Cut(Limited):
     def test_segments_of_lengths_and_of_offsets(self):
         rows = cvl.Segments([2, 0, 3])
         self.assertEqual((len(rows), rows.total, rows.offsets.tolist()), (3, 5, [0, 2, 2, 5]))
@@ -499,7 +532,7 @@ class Cut(unittest.TestCase):
         self.assertEqual(found, [True] * 4)
 
 
-class Threads(unittest.TestCase):
+class Threads(Limited):
     def setUp(self):
         self.addCleanup(cvl.set_threads, cvl.get_threads())
 
@@ -563,6 +596,7 @@ class Threads(unittest.TestCase):
         self.assertEqual(cvl.add_ruz(many), len(many))
         child = os.fork()
         if child == 0:
+            signal.alarm(self.LIMIT)
             told = [cvl.get_threads(), cvl.add_ruz(many), cvl.set_threads(2), cvl.add_ruz(many)]
             os._exit(0 if told == [1, len(many), 1, len(many)] else 1)
         self.assertEqual(os.waitpid(child, 0)[1], 0)
@@ -572,11 +606,11 @@ class Threads(unittest.TestCase):
         said = "import cvl; print(cvl.get_threads())"
         for word, count in (("3", 3), ("0", 1), ("many", 1)):
             place = {**os.environ, "CVL_NUM_THREADS": word, "PYTHONPATH": os.pathsep.join(filter(None, sys.path))}
-            told = subprocess.run([sys.executable, "-c", said], env=place, capture_output=True, text=True)
+            told = subprocess.run([sys.executable, "-c", said], env=place, capture_output=True, text=True, timeout=self.LIMIT)
             self.assertEqual((told.stdout, told.stderr), (f"{count}\n", ""))
 
 
-class Locks(unittest.TestCase):
+class Locks(Limited):
     def test_a_long_call_lets_go_of_the_lock_of_the_interpreter(self):
         """Another thread waits for the lock, which this one alone can let go of: it is not told to before an hour is over."""
         many, found, awake = numpy.ones(2_000_000, numpy.int32), [], threading.Lock()
@@ -617,7 +651,7 @@ class Example:
                 yield name, {**self.arguments, name: make(given)}
 
 
-class EachCall(unittest.TestCase):
+class EachCall(Limited):
     examples = {name: Example(name) for name in cvl.calls.__all__}
 
     def test_the_description(self):
@@ -677,7 +711,7 @@ class EachCall(unittest.TestCase):
             self.assertEqual(names, list(inspect.signature(self.examples[node.name].call).parameters), node.name)
 
 
-class Texts(unittest.TestCase):
+class Texts(Limited):
     def test_texts_are_str_or_bytes(self):
         text = b"5 -1\n007 -0"
         for text in (text.decode(), text, bytearray(text), memoryview(text), numpy.frombuffer(text, numpy.uint8)):
@@ -721,7 +755,7 @@ class Texts(unittest.TestCase):
         self.assertEqual((cvl.read_ints("1 2", out=room).tolist(), room.tolist()), ([1, 2], [1, 2, 7, 7]))
 
 
-class Parts(unittest.TestCase):
+class Parts(Limited):
     def test_operators(self):
         a, b = ints(3, 1, 4), flags(True, False, True)
         self.assertEqual(cvl.int_scan_after(cvl.operators.MAX, 2, a).tolist(), [2, 3, 3])
@@ -764,7 +798,7 @@ def first_of(index, takes_part, count):
     return [next((k for k, i in enumerate(index) if takes_part[k] and i == place), -1) for place in range(count)]
 
 
-class FirstSenders(unittest.TestCase):
+class FirstSenders(Limited):
     def setUp(self):
         rng = numpy.random.default_rng(5)
         self.index, self.marked = rng.integers(0, 60, 100, numpy.int32), rng.random(100) < 0.5
@@ -809,7 +843,7 @@ class FirstSenders(unittest.TestCase):
             self.assertEqual((fault.number, fault.place, fault.said), (number, place, said))
 
 
-class Names(unittest.TestCase):
+class Names(Limited):
     def test_each_call_says_what_it_does(self):
         for name in cvl.calls.__all__:
             self.assertIn(">>>", getattr(cvl, name).__doc__, name)

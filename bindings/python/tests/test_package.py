@@ -14,7 +14,7 @@ import unittest
 import zipfile
 
 HERE = pathlib.Path(__file__).resolve().parent
-TESTS = ("test_cvl", "test_memory")
+TESTS = ("test_cvl", "test_changes", "test_memory")
 
 
 def run(*words, **more):

@@ -20,6 +20,7 @@ sys.path.insert(0, str(pathlib.Path(__file__).resolve().parent.parent / "example
 
 from breadth_first import breadth_first
 from connected_parts import connected_parts
+from test_cvl import Limited
 
 
 def graph(edges):
@@ -70,7 +71,7 @@ def parts_plainly(edges):
     return parts
 
 
-class Programs(unittest.TestCase):
+class Programs(Limited):
     def test_searches_by_breadth(self):
         for edges in graphs():
             for source in range(min(len(edges), 3)):

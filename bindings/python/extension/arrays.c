@@ -1,0 +1,183 @@
+/* Arrays that a call reads, and rooms: kept as they are taken, and looked at once nothing runs that may change them. */
+#include "calls.h"
+
+Element cvl_ints = {NPY_INT32, "int32", "numpy.int32", NULL};
+Element cvl_flags = {NPY_BOOL, "bool", "bool", NULL};
+Element cvl_marks = {NPY_UINT32, "uint32", "numpy.uint32", NULL};
+
+enum { TO_READ = NPY_ARRAY_C_CONTIGUOUS | NPY_ARRAY_ALIGNED, TO_WRITE = TO_READ | NPY_ARRAY_WRITEABLE };
+
+const Need cvl_needs[] = {
+    [KIND_INTS] = {&cvl_ints, TO_READ},
+    [KIND_FLAGS] = {&cvl_flags, TO_READ},
+    [KIND_LENGTHS] = {&cvl_ints, TO_READ},
+    [KIND_TEXT] = {NULL, NPY_ARRAY_C_CONTIGUOUS},
+    [KIND_ROOM_INTS] = {&cvl_ints, TO_WRITE},
+    [KIND_ROOM_FLAGS] = {&cvl_flags, TO_WRITE},
+    [KIND_ROOM_MARKS] = {&cvl_marks, TO_WRITE},
+};
+
+static PyObject *masked_array;
+
+int cvl_learn_kinds(void) {
+    Element *const elements[] = {&cvl_ints, &cvl_flags, &cvl_marks};
+    for (size_t k = 0; k < sizeof elements / sizeof *elements; k++) {
+        elements[k]->descr = PyArray_DescrFromType(elements[k]->number);
+        if (elements[k]->descr == NULL) return -1;
+    }
+    PyObject *module = PyImport_ImportModule("numpy.ma");
+    if (module == NULL) return -1;
+    masked_array = PyObject_GetAttrString(module, "MaskedArray");
+    Py_DECREF(module);
+    return masked_array == NULL ? -1 : 0;
+}
+
+/* ---- how an array is taken ---- */
+
+static int is_room(const Operand *operand) { return cvl_needs[operand->kind].flags == TO_WRITE; }
+
+/* What to write in the place of an object that is no array. A copy of a room would be another room, so none is advised. */
+static PyObject *advice_for(const Operand *operand) {
+    const char *written = cvl_needs[operand->kind].element->written;
+    if (is_room(operand)) return PyUnicode_FromFormat("a room is made by numpy.empty(n, dtype=%s)", written);
+    return PyUnicode_FromFormat("write numpy.array(%s, dtype=%s)", operand->name, written);
+}
+
+/* A mask says that elements are missing, which no call knows. */
+static int refuse_mask(PyObject *object, const char *name) {
+    const int masked = PyObject_IsInstance(object, masked_array);
+    if (masked > 0) {
+        PyErr_Format(PyExc_TypeError, "%s has a mask, which no call looks at; write %s.filled(0) or %s.compressed()", name, name,
+            name);
+    }
+    return masked == 0 ? 0 : -1;
+}
+
+/* Whether numpy has elements of a format of buffers, as it has those of one letter. */
+static int is_of_numpy(const char *format) {
+    if (format == NULL) return 1;
+    if (strchr("@=<>!", *format) != NULL && *format != 0) format++;
+    return *format != 0 && strchr("?bBhHiIlLqQfd", *format) != NULL && format[1] == 0;
+}
+
+/* An array over the memory of what is no array. What numpy would copy is none; it also copies where it has no memory for the
+   array. */
+static PyObject *over_memory(PyObject *object, const char *name, PyObject *advice) {
+    PyObject *view = PyMemoryView_FromObject(object);
+    if (view == NULL) {
+        if (!PyErr_ExceptionMatches(PyExc_TypeError)) return NULL;
+        PyErr_Clear();
+        PyErr_Format(PyExc_TypeError, "%s is no array but a %s; %U", name, Py_TYPE(object)->tp_name, advice);
+        return NULL;
+    }
+    PyObject *array = PyArray_FromAny(view, NULL, 0, 0, 0, NULL);
+    if (array != NULL && PyArray_DATA((PyArrayObject *)array) != PyMemoryView_GET_BUFFER(view)->buf) {
+        if (is_of_numpy(PyMemoryView_GET_BUFFER(view)->format)) PyErr_NoMemory();
+        else PyErr_Format(PyExc_TypeError, "the elements of %s are of no kind that numpy has; %U", name, advice);
+        Py_CLEAR(array);
+    }
+    Py_DECREF(view);
+    return array;
+}
+
+int cvl_is_number(PyObject *object) {
+    return !PyArray_Check(object) && (PyIndex_Check(object) || PyFloat_Check(object) || PyArray_IsScalar(object, Generic));
+}
+
+/* Raises that a number is no array. */
+static int refuse_number(PyObject *object, const Operand *operand) {
+    PyErr_Format(PyExc_TypeError, "%s is no array but a %s; write numpy.array([%s], dtype=%s)", operand->name,
+        Py_TYPE(object)->tp_name, operand->name, cvl_needs[operand->kind].element->written);
+    return -1;
+}
+
+int cvl_take_array(PyObject *object, const Operand *operand, Given *given) {
+    if (PyArray_Check(object)) {
+        if (!PyArray_CheckExact(object) && refuse_mask(object, operand->name) < 0) return -1;
+        given->held = Py_NewRef(object);
+    } else {
+        if (!is_room(operand) && cvl_is_number(object)) return refuse_number(object, operand);
+        PyObject *advice = advice_for(operand);
+        if (advice == NULL) return -1;
+        given->held = over_memory(object, operand->name, advice);
+        Py_DECREF(advice);
+    }
+    given->array = (PyArrayObject *)given->held;
+    return given->held == NULL ? -1 : 0;
+}
+
+/* ---- whether it is as a call takes it ---- */
+
+static int has_elements(PyArrayObject *array, const Element *element) {
+    return PyArray_DESCR(array) == element->descr || PyArray_EquivTypes(PyArray_DESCR(array), element->descr);
+}
+
+static int has_flags(PyArrayObject *array, int flags) { return (PyArray_FLAGS(array) & flags) == flags; }
+
+static void refuse_read(PyArrayObject *array, const char *name, const Element *element) {
+    if (!has_elements(array, element)) {
+        PyErr_Format(PyExc_TypeError, element == &cvl_flags ? "%s has elements of %S, and has to have %s; write %s != 0"
+                : "%s has elements of %S, and has to have %s; write %s.astype(%s)",
+            name, PyArray_DESCR(array), element->name, name, element->written);
+    } else if (PyArray_NDIM(array) != 1) {
+        PyErr_Format(PyExc_TypeError, "%s has %d dimensions, and has to have one; write numpy.ravel(%s)", name,
+            PyArray_NDIM(array), name);
+    } else if (!PyArray_IS_C_CONTIGUOUS(array)) {
+        PyErr_Format(PyExc_TypeError, "the elements of %s do not lie side by side; write numpy.ascontiguousarray(%s)", name,
+            name);
+    } else {
+        PyErr_Format(PyExc_TypeError, "the elements of %s are not aligned in memory; write %s.copy()", name, name);
+    }
+}
+
+static void refuse_room(PyArrayObject *array, const char *name, const Element *element, PyObject *advice) {
+    if (!has_elements(array, element)) {
+        PyErr_Format(PyExc_TypeError, "%s has elements of %S, and has to have %s; %U", name, PyArray_DESCR(array), element->name,
+            advice);
+    } else if (PyArray_NDIM(array) != 1) {
+        PyErr_Format(PyExc_TypeError, "%s has %d dimensions, and has to have one; %U", name, PyArray_NDIM(array), advice);
+    } else if (!has_flags(array, TO_READ)) {
+        const char *lie = PyArray_IS_C_CONTIGUOUS(array) ? "are not aligned in memory" : "do not lie side by side";
+        PyErr_Format(PyExc_TypeError, "the elements of %s %s; %U", name, lie, advice);
+    } else {
+        PyErr_Format(PyExc_ValueError, "%s may not be written", name);
+    }
+}
+
+/* Raises why an array is not as a call takes it. */
+static int refuse(PyArrayObject *array, const Operand *operand) {
+    const Element *element = cvl_needs[operand->kind].element;
+    if (element == NULL) {
+        PyErr_Format(PyExc_TypeError, "%s is no text, a str or bytes side by side, but a %s", operand->name, Py_TYPE(array)->tp_name);
+    } else if (is_room(operand)) {
+        PyObject *advice = advice_for(operand);
+        if (advice != NULL) refuse_room(array, operand->name, element, advice);
+        Py_XDECREF(advice);
+    } else {
+        refuse_read(array, operand->name, element);
+    }
+    return -1;
+}
+
+static int look_at(Given *given, const Operand *operand) {
+    PyArrayObject *array = given->array;
+    const Need *need = &cvl_needs[operand->kind];
+    const int is_text = need->element == NULL;
+    if (is_text ? PyArray_ITEMSIZE(array) != 1 : PyArray_NDIM(array) != 1 || !has_elements(array, need->element)) {
+        return refuse(array, operand);
+    }
+    if (!has_flags(array, need->flags)) return refuse(array, operand);
+    given->at = PyArray_DATA(array);
+    given->count = (size_t)(is_text ? PyArray_SIZE(array) : PyArray_DIM(array, 0));
+    return 0;
+}
+
+int cvl_look(Frame *frame) {
+    const Family *family = frame->row->family;
+    for (int k = 0; k < family->count; k++) {
+        if (frame->given[k].array != NULL && look_at(&frame->given[k], &family->operands[k]) < 0) return -1;
+    }
+    return frame->room.array == NULL ? 0 : look_at(&frame->room, frame->out);
+}
+
+void cvl_tell_change(void) { PyErr_SetString(PyExc_RuntimeError, "an argument was changed during the call"); }
