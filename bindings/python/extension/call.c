@@ -183,17 +183,22 @@ static int ask(Frame *frame) {
     return -1;
 }
 
-/* A call whose rooms were made as long as it asked for. */
+/* Makes a call again whose rooms are as long as it asked for. If another thread writes its argument meanwhile, it tells other
+   counts, and there may be memory in the rooms that nobody wrote. */
 static int fill_asked(Frame *frame) {
+    const size_t told = frame->told, told_second = frame->told_second;
     if (frame->no_memory) PyErr_NoMemory();
-    return !frame->no_memory && done(frame, 0);
+    if (frame->no_memory || make(frame) < 0) return 0;
+    if (frame->told != told || frame->told_second != told_second) cvl_tell_change();
+    else if (frame->status.number != CVL_DONE) cvl_tell(frame, frame->status, 0);
+    return !PyErr_Occurred();
 }
 
 static PyObject *read_text(Frame *frame, PyObject *out) {
     if (out != NULL) return done(frame, 1) ? cvl_front(&frame->room, out, frame->told) : NULL;
     const int more = ask(frame);
     if (more < 0 || cvl_new_room(frame, &frame->room, more ? frame->told : 0, &cvl_ints) < 0) return NULL;
-    return fill_asked(frame) ? cvl_front(&frame->room, NULL, frame->told) : NULL;
+    return fill_asked(frame) ? Py_NewRef(frame->room.held) : NULL;
 }
 
 static PyObject *read_nested(Frame *frame) {
@@ -212,7 +217,7 @@ static PyObject *write_text(Frame *frame) {
     if (frame->room.held == NULL) return NULL;
     frame->room.at = PyUnicode_DATA(frame->room.held);
     frame->room.count = more ? frame->told : 0;
-    return !more || done(frame, 0) ? Py_NewRef(frame->room.held) : NULL;
+    return !more || fill_asked(frame) ? Py_NewRef(frame->room.held) : NULL;
 }
 
 /* ---- what is given ---- */

@@ -1,9 +1,10 @@
-"""What calls do with memory: each request of each call is refused in turn, and none is kept. It runs where the package is
-installed, and needs a C compiler, for what refuses.
+"""What calls do with memory: each request of each call is refused in turn, arguments are changed at each request, and none is kept.
+It runs where the package is installed, and needs a C compiler, for what refuses.
 
     python3 -m unittest test_memory
 """
 
+import copy
 import ctypes
 import gc
 import os
@@ -18,7 +19,7 @@ import unittest
 import numpy
 
 import cvl
-from test_cvl import Example, flags, ints
+from test_cvl import Example, Limited, flags, ints
 
 MOST = cvl.MOST_ELEMENTS
 HERE = pathlib.Path(__file__).resolve().parent
@@ -40,8 +41,20 @@ def outcome(call, **arguments):
         return plain(call(**arguments))
     except cvl.Fault as fault:
         return fault.number, fault.place
-    except MemoryError:
-        return MemoryError
+    except (MemoryError, RuntimeError) as error:
+        return MemoryError if isinstance(error, MemoryError) else RuntimeError
+
+
+def preloaded(source, folder):
+    """The environment of a process before whose C library a file of C is loaded, compiled into a folder."""
+    made = pathlib.Path(folder) / f"{source}.so"
+    subprocess.run(["cc", "-O2", "-shared", "-fPIC", "-o", str(made), str(HERE / f"{source}.c")], check=True)
+    paths = os.pathsep.join([str(HERE), *filter(None, sys.path)])
+    loaded = " ".join(filter(None, [os.environ.get("LD_PRELOAD"), str(made)]))
+    return {**os.environ, "LD_PRELOAD": loaded, "PYTHONMALLOC": "malloc", "PYTHONPATH": paths}
+
+
+may_preload = unittest.skipUnless(shutil.which("cc") and sys.platform == "linux", "what refuses is compiled, and stands before glibc")
 
 
 def forms(example):
@@ -67,23 +80,21 @@ def each_call():
     yield "bytes that are flags", cvl.pck_lub, {"values": numpy.array([2, 0], numpy.uint8).view(bool), "flags": flags(True, True)}
 
 
-class Refused(unittest.TestCase):
+class Refused(Limited):
     """In a process of its own, which `main` below is."""
 
-    @unittest.skipUnless(shutil.which("cc") and sys.platform == "linux", "what refuses is compiled, and stands before glibc")
+    @may_preload
+    @unittest.skipIf("libasan" in os.environ.get("LD_PRELOAD", ""), "a sanitizer has memory of its own, which is not refused")
     def test_each_request_for_memory(self):
         with tempfile.TemporaryDirectory() as folder:
-            made = pathlib.Path(folder) / "refused.so"
-            subprocess.run(["cc", "-O2", "-shared", "-fPIC", "-o", str(made), str(HERE / "refused.c")], check=True)
-            paths = os.pathsep.join([str(HERE), *filter(None, sys.path)])
-            place = {**os.environ, "LD_PRELOAD": str(made), "PYTHONMALLOC": "malloc", "PYTHONPATH": paths}
-            words = [sys.executable, str(HERE / "test_memory.py"), "refused"]
-            told = subprocess.run(words, env=place, capture_output=True, text=True)
+            words = [sys.executable, "-X", "faulthandler", str(HERE / "test_memory.py"), "refused"]
+            place = preloaded("refused", folder)
+            told = subprocess.run(words, env=place, capture_output=True, text=True, timeout=self.LIMIT)
         self.assertEqual((told.returncode, told.stderr), (0, ""), told.stdout)
-        self.assertRegex(told.stdout, r"^\d{4,} requests were refused\n$")
+        self.assertRegex(told.stdout, r"^\d{4,} requests were refused, and arguments changed at \d{2,}\n$")
 
 
-class Kept(unittest.TestCase):
+class Kept(Limited):
     def test_no_memory_is_kept(self):
         calls = list(each_call())
         counted = (numpy.dtype(numpy.int32), numpy.dtype(bool), None, cvl.Fault, cvl.Segments)
@@ -181,13 +192,70 @@ def what_comes_before_memory(refused, how_many):
         sys.exit("a room was written for which there was no memory")
 
 
+def a_refusal_that_resizes_an_array(refused):
+    """numpy tells of refused memory by an exception that is code in Python where another one is handled, and that code may resize an
+    array."""
+    lengths = numpy.zeros(1 << 24, numpy.int32)
+    lengths[-1] = MANY
+    values = lengths.copy()
+    try:
+        numpy.empty(1 << 60, numpy.int32)
+    except MemoryError as error:
+        tells, made = type(error), type(error).__init__
+        tells.__init__ = lambda *words: lengths.resize(1, refcheck=False)
+        found = outcome(lambda: refused(cvl.dis_vez, (values, lengths), {}, 0, True, MANY))
+        tells.__init__ = made
+    if len(lengths) != 1 or found != (7, None):
+        sys.exit(f"{found} is told, where a refusal leaves an array with {len(lengths)} elements")
+
+
+# ---- arguments that are changed at a request for memory, as another thread may ----
+
+
+def pairs():
+    """Calls of texts, and two arguments of equally many bytes that have texts, or are texts, of different lengths."""
+    for before, after in (([5, 6], [-98765, 6]), ([5, 6], [5, -98765])):
+        yield cvl.write_ints, ints(*before), ints(*after)
+        yield (lambda a: cvl.seg_write_ints(a, ints(1, 1))), ints(*before), ints(*after)
+    yield (lambda lengths: cvl.seg_write_ints(ints(5, 6), lengths)), ints(1, 0, 1), ints(2, 0, 0)
+    for before, after in ((b"1 2 3", b"12  3"), (b" ", b"7")):
+        yield cvl.read_ints, bytearray(before), bytearray(after)
+    for before, after in ((b"[[1 2] [3]]", b"[[1  ] [3]]"), (b"[[1] [2]]", b"[[1   2]]")):
+        yield cvl.seg_read_ints, bytearray(before), bytearray(after)
+
+
+def changed_in_turn(changed, how_many, call, before, after):
+    """Changes an argument at the first request for memory of a call, then at the second and so on: the call gives what it gives of the
+    one or of the other, or tells so. How many requests there were."""
+    wanted = [outcome(lambda: call(before)), outcome(lambda: call(after)), RuntimeError]
+    for k in range(1000):
+        given, becomes = copy.copy(before), bytes(after)
+        place = ctypes.addressof(ctypes.c_char.from_buffer(given))
+        found = outcome(lambda: changed(call, (given,), {}, k, place, becomes, len(becomes)))
+        if how_many() == 0:
+            return k
+        if found not in wanted:
+            sys.exit(f"{found} is given, and not {wanted}, where {before} becomes {after} at request {k}")
+    sys.exit("a call on texts asks for memory 1000 times")
+
+
+def functions():
+    """The functions of what is loaded before the C library."""
+    loaded, objects = ctypes.PyDLL(None), [ctypes.py_object] * 3
+    loaded.call_refused.argtypes = [*objects, ctypes.c_long, ctypes.c_int, ctypes.c_size_t]
+    loaded.call_changed.argtypes = [*objects, ctypes.c_long, ctypes.c_void_p, ctypes.c_void_p, ctypes.c_size_t]
+    loaded.call_refused.restype = loaded.call_changed.restype = ctypes.py_object
+    loaded.how_many_refused.restype = ctypes.c_long
+    return loaded.call_refused, loaded.call_changed, loaded.how_many_refused
+
+
 def main():
-    refused, how_many = ctypes.PyDLL(None).call_refused, ctypes.PyDLL(None).how_many_refused
-    how_many.restype = ctypes.c_long
-    refused.restype, refused.argtypes = ctypes.py_object, [*[ctypes.py_object] * 3, ctypes.c_long, ctypes.c_int, ctypes.c_size_t]
+    refused, changed, how_many = functions()
     count = sum(refused_in_turn(name, call, arguments, refused) for name, call, arguments in list(each_call()))
     what_comes_before_memory(refused, how_many)
-    print(f"{count} requests were refused")
+    a_refusal_that_resizes_an_array(refused)
+    orders = [(call, *order) for call, *both in pairs() for order in (both, both[::-1])]
+    print(f"{count} requests were refused, and arguments changed at {sum(changed_in_turn(changed, how_many, *order) for order in orders)}")
 
 
 if __name__ == "__main__":
