@@ -2,6 +2,7 @@
 
 #[rustfmt::skip]
 mod examples;
+mod limit;
 
 use std::fmt::Debug;
 
@@ -293,6 +294,7 @@ fn offsets_of_segments_and_the_segment_of_each_place() {
 
 #[test]
 fn threads_share_segments() {
+    limit::limit();
     fn is_shared<T: Send + Sync + 'static>() {}
     is_shared::<Segments>();
     is_shared::<Fault>();

@@ -1,5 +1,6 @@
 //! Calls in parts on pools of all sorts: what they give is what plain loops give, or the call is refused with its room as before.
 
+mod limit;
 mod long;
 #[path = "../examples/scoped_threads.rs"]
 mod scoped_threads;
@@ -9,6 +10,7 @@ use std::panic::{catch_unwind, AssertUnwindSafe};
 use std::thread::{self, ThreadId};
 
 use cvl::{with_pool, Pool};
+use limit::limit;
 use long::{ints, sum, told, Long, LONG};
 use scoped_threads::ScopedThreads;
 
@@ -33,6 +35,7 @@ fn by<F: Fn(usize, Part<'_>)>(parts: usize, run: F) -> By<F> {
 
 #[test]
 fn pools_that_run_each_part() {
+    limit();
     let backwards = by(4, |parts, part| (0..parts).rev().for_each(part));
     let twice = by(4, |parts, part| {
         (0..2 * parts).for_each(|k| part(k % parts))
@@ -69,6 +72,7 @@ fn pools_that_run_each_part() {
 
 #[test]
 fn a_pool_that_leaves_parts_out_is_told() {
+    limit();
     let leaving_out = [(0, 1), (1, 2), (3, 4), (0, 4)];
     let a = ints(LONG);
     for (from, to) in leaving_out {
@@ -97,6 +101,7 @@ fn a_pool_that_leaves_parts_out_is_told() {
 /// A pool that leaves a part out of each step from the second on, which for most calls is one that writes.
 #[test]
 fn a_part_that_is_left_out_of_a_step_that_writes_is_run_by_the_thread_that_calls() {
+    limit();
     let a = ints(LONG);
     let steps = Cell::new(0);
     let pool = by(4, |parts, part| {
@@ -113,6 +118,7 @@ fn a_part_that_is_left_out_of_a_step_that_writes_is_run_by_the_thread_that_calls
 
 #[test]
 fn a_panic_of_a_pool_goes_on_after_the_call() {
+    limit();
     let a = ints(LONG);
     for panics_after in 0..6 {
         let runs = Cell::new(0);
@@ -145,6 +151,7 @@ fn a_panic_of_a_pool_goes_on_after_the_call() {
 /// A text is written in two steps that write, after one without work.
 #[test]
 fn a_pool_that_panicked_runs_nothing_more_of_the_call() {
+    limit();
     let a = ints(LONG);
     let runs = Cell::new(0);
     let pool = by(4, |parts, part| {
@@ -162,6 +169,7 @@ fn a_pool_that_panicked_runs_nothing_more_of_the_call() {
 /// A payload is given on and not dropped on the way, which may panic too.
 #[test]
 fn a_payload_that_panics_when_it_is_dropped() {
+    limit();
     struct Bomb;
     impl Drop for Bomb {
         fn drop(&mut self) {
@@ -182,6 +190,7 @@ fn a_payload_that_panics_when_it_is_dropped() {
 
 #[test]
 fn the_pool_is_that_of_the_thread_and_of_the_time() {
+    limit();
     let a = ints(LONG);
     let (outer_runs, inner_runs) = (Cell::new(0), Cell::new(0));
     let count = |runs: &Cell<i32>| runs.replace(0) > 0;
@@ -214,6 +223,7 @@ fn the_pool_is_that_of_the_thread_and_of_the_time() {
 
 #[test]
 fn calls_within_the_run_of_a_pool_do_not_run_on_it() {
+    limit();
     let a = ints(LONG);
     let found = RefCell::new(Vec::new());
     let pool = by(4, |parts, part| {
@@ -226,6 +236,7 @@ fn calls_within_the_run_of_a_pool_do_not_run_on_it() {
 
 #[test]
 fn threads_share_the_parts() {
+    limit();
     let a = ints(4 * LONG);
     let seen = std::sync::Mutex::new(Vec::<ThreadId>::new());
     let pool = by(4, |parts, part| {

@@ -30,6 +30,11 @@ const DONE: CvlStatus = CvlStatus {
     place: -1,
 };
 
+extern "C" {
+    /// Ends the process after so many seconds, for a test that could wait for ever.
+    fn alarm(seconds: u32) -> u32;
+}
+
 /// Makes each call over the same before, and compares what it writes.
 macro_rules! each {
     ($($written:ident),+ => $($before:expr),+ => $($wanted:expr),+;) => {};
@@ -131,6 +136,7 @@ fn what_a_caller_gets_wrong_is_told() {
 #[test]
 fn threads_of_the_process() {
     unsafe {
+        alarm(90);
         assert_eq!(cvl_set_threads(2), 0);
         assert_eq!(cvl_threads(), 2);
         assert_ne!(cvl_set_threads(65), 0);
@@ -143,6 +149,7 @@ fn posix_threads_run_the_parts() {
     let a: Vec<i32> = (0..600_000).collect();
     let (mut threads, mut out) = (null_mut(), vec![0; a.len()]);
     unsafe {
+        alarm(90);
         assert_eq!(cvl_threads_start(3, &mut threads), 0);
         let pool = cvl_pool_posix(threads);
         assert_eq!((pool.parts, cvl_pool_alone(5).parts), (3, 5));
