@@ -14,7 +14,7 @@ import unittest
 import zipfile
 
 HERE = pathlib.Path(__file__).resolve().parent
-TESTS = ("test_cvl", "test_changes", "test_memory")
+TESTS = ("test_cvl", "test_changes", "test_memory", "test_threads")
 
 
 def run(*words, **more):

@@ -1,17 +1,57 @@
 //! The library's own threads, which the whole process has: one test, so that nobody else says how many there are.
 
+mod limit;
 mod long;
 
+use std::ffi::{c_void, CStr};
 use std::io::ErrorKind;
+use std::os::raw::{c_char, c_int};
 use std::process::Command;
+use std::sync::atomic::{AtomicI32, AtomicUsize, Ordering};
 use std::time::Duration;
-use std::{env, fs, thread};
+use std::{env, fs, ptr, thread};
 
+use limit::limit;
 use long::{ints, sum, Long, LONG};
 
 /// How many threads the process has.
 fn of_the_process() -> usize {
     fs::read_dir("/proc/self/task").unwrap().count()
+}
+
+/// How many threads more may start. The system's function is taken, and refuses the others as a system does that has too many.
+static GRANTED: AtomicUsize = AtomicUsize::new(usize::MAX);
+/// The number of the error of those that may not.
+static NUMBER: AtomicI32 = AtomicI32::new(0);
+
+const EPERM: c_int = 1;
+const ENOENT: c_int = 2;
+const EAGAIN: c_int = 11;
+
+type Create = extern "C" fn(*mut c_void, *const c_void, *const c_void, *mut c_void) -> c_int;
+
+extern "C" {
+    fn dlsym(handle: *mut c_void, name: *const c_char) -> *mut c_void;
+    fn __errno_location() -> *mut c_int;
+}
+
+#[no_mangle]
+pub extern "C" fn pthread_create(
+    thread: *mut c_void,
+    attributes: *const c_void,
+    run: *const c_void,
+    given: *mut c_void,
+) -> c_int {
+    let fewer = |granted: usize| granted.checked_sub(1);
+    if GRANTED.fetch_update(Ordering::SeqCst, Ordering::SeqCst, fewer).is_err() {
+        // the answer is the number of the error, and errno may have any
+        unsafe { *__errno_location() = ENOENT };
+        return NUMBER.load(Ordering::SeqCst);
+    }
+    let next = ptr::null_mut::<c_void>().wrapping_sub(1);
+    let name = CStr::from_bytes_with_nul(b"pthread_create\0").unwrap();
+    let create: Create = unsafe { std::mem::transmute(dlsym(next, name.as_ptr())) };
+    create(thread, attributes, run, given)
 }
 
 /// Whether the process comes to have so many: the system still counts a thread for a moment after it was waited for.
@@ -33,6 +73,19 @@ fn numbers_that_are_none_are_refused() {
         let error = cvl::set_threads(none).unwrap_err();
         assert_eq!(error.kind(), ErrorKind::InvalidInput);
         assert_eq!(cvl::threads(), 3);
+    }
+}
+
+fn an_error_has_its_number() {
+    let a = ints(LONG);
+    for (before, granted, number) in [(1, 0, EAGAIN), (1, 1, EPERM), (3, 0, EPERM), (3, 2, EAGAIN)] {
+        set(before);
+        NUMBER.store(number, Ordering::SeqCst);
+        GRANTED.store(granted, Ordering::SeqCst);
+        let error = cvl::set_threads(5).unwrap_err();
+        GRANTED.store(usize::MAX, Ordering::SeqCst);
+        assert_eq!(error.raw_os_error(), Some(number));
+        assert_eq!((cvl::threads(), cvl::add_ruz(&a)), (before, Ok(sum(&a))));
     }
 }
 
@@ -75,6 +128,7 @@ fn started_with(said: &str) -> usize {
 
 #[test]
 fn threads_of_the_process() {
+    limit();
     if env::var_os("TELLS_THREADS").is_some() {
         println!("threads: {}", cvl::threads());
         return;
@@ -84,6 +138,7 @@ fn threads_of_the_process() {
     }
     let before = of_the_process();
     numbers_that_are_none_are_refused();
+    an_error_has_its_number();
     long_calls_run_on_them(before);
     calls_of_several_threads_at_once();
 }
