@@ -24,6 +24,7 @@ EDITS = {
     "program.check_manual_limits": [(MANUAL, "\n.B 1,048,576\n", "\n.B 1,048,577\n")],
     "program.check_fish": [("bindings/shell/cvl.fish", "-l workers", "-l worker")],
     "program.check_zsh": [("bindings/shell/_cvl", "--workers=[", "--worker=[")],
+    "program.check_numbers": [("bindings/shell/cvl.fish", "-l tile -x -a", "-l tile -r -a")],
     "program.check_bash": [("bindings/shell/cvl.bash", "--workers", "--worker")],
     "source.check_definitions": [("docs/definitions.md", "`wrap`, `IsWrapped`", "`wraps`, `IsWrapped`")],
     "source.check_drawing": [("docs/architecture.md", "\ncrew  ", "\nteam  ")],

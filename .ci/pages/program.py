@@ -77,6 +77,23 @@ def check_zsh():
     yield from held(ZSH, TEST, list(map(str, shown)), list(map(str, wanted)))
 
 
+def numbers_offered():
+    """What each shell offers for each option that takes a number, and what else an option of fish has."""
+    bash = re.findall(r'^    --(\w+)\) mapfile .* -W "(.*?)"', text_of(BASH), re.M)
+    zsh = re.findall(r"^ +'--(\w+)=\[.*?\]:\w+:\((.*?)\)'", text_of(ZSH), re.M)
+    fish = re.findall(r"^complete -c cvl -l (\w+) (.*) -d '", text_of(FISH), re.M)
+    return bash, zsh, fish
+
+
+def check_numbers():
+    """The three shells offer the same numbers for each option that takes one, and fish, by `-x`, no files."""
+    bash, zsh, fish = numbers_offered()
+    wanted = [name for _, name, does in options() if does != without_default(does)]
+    yield from held(BASH, TEST, [name for name, _ in bash], wanted)
+    yield from held(ZSH, BASH, list(map(str, zsh)), list(map(str, bash)))
+    yield from held(FISH, BASH, list(map(str, fish)), [str((name, f"-x -a '{numbers}'")) for name, numbers in bash])
+
+
 def check_bash():
     """The completion for bash names each option of help, in both its forms, and knows each that takes a number."""
     words = re.search(r'-\*\) mapfile .* -W "(.*?)"', text_of(BASH))[1].split()
