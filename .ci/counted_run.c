@@ -1,11 +1,19 @@
 /*
- * Counts what a program asks the system for: a shared object that `.ci/test-resources` has the loader put before the C library. It
- * passes each call on. Its counts are numbers of 64 bits in the file that COUNTED names: how many threads were started, how many
- * of them there were at one moment at most, how many bytes the longest block of memory has that was asked for, and how often
- * one was asked for or made longer.
+ * Counts what a program asks the system for: a shared object that `.ci/test-resources` has the loader put before the C library.
+ * It passes each call on. Its counts are numbers of 64 bits in the file that COUNTED names:
  *
- * It can stand for another machine, too: PROCESSORS is how many processors the program sees, and LONG_FILE names a file, a folder
- * or a device that is said to have a gibibyte.
+ *     how many threads were started, and how many of them by the thread that the program began with
+ *     how many of them there were in all, over the moments at which one was started, with that one
+ *     how often bytes were written to a file while there was one
+ *     how often a block of memory was asked for or made longer, for how many bytes in all, and how many the longest one has
+ *     how many instructions were carried out from the last request for a block of so many bytes as STEPS_FROM says up to the next
+ *     request, or until a block is given back
+ *
+ * A thread that is done stays until the one that started it waits for it. So threads that are started one after another are all
+ * there at one moment, however soon each is done; but not if the first is waited for before the second is started.
+ *
+ * It can stand for another machine, too: PROCESSORS is how many processors the program sees, LONG_FILE names a file, a folder or
+ * a device that is said to have a gibibyte, and the first request for a block of just so many bytes as REFUSED says is refused.
  */
 #define _GNU_SOURCE
 #include <dlfcn.h>
@@ -13,6 +21,7 @@
 #include <fcntl.h>
 #include <pthread.h>
 #include <sched.h>
+#include <semaphore.h>
 #include <stdarg.h>
 #include <stdatomic.h>
 #include <stdint.h>
@@ -22,8 +31,10 @@
 #include <sys/stat.h>
 #include <unistd.h>
 
+#include "../examples/c/steps.h"
+
 typedef struct Counts {
-    _Atomic uint64_t started, most_at_once, longest_block, blocks;
+    _Atomic uint64_t started, started_by_first, together, written_beside, blocks, bytes, longest_block, steps;
 } Counts;
 
 static Counts before_the_file, *counts = &before_the_file;
@@ -62,34 +73,63 @@ static long number_in(const char *variable) {
 
 void *__libc_malloc(size_t bytes);
 void *__libc_realloc(void *block, size_t bytes);
+void __libc_free(void *block);
+
+static void stop_steps(void) {
+    if (atomic_load(&counts->steps) > 0) end_steps();
+}
 
 static void asked(size_t bytes) {
     raise_to(&counts->longest_block, bytes);
     atomic_fetch_add(&counts->blocks, 1);
+    atomic_fetch_add(&counts->bytes, bytes);
+}
+
+/* Whether a request is the one to be refused. */
+static int is_refused(size_t bytes) {
+    static _Atomic int refused;
+    return number_in("REFUSED") == (long)bytes && atomic_fetch_add(&refused, 1) == 0;
 }
 
 void *malloc(size_t bytes) {
+    stop_steps();
     asked(bytes);
-    return __libc_malloc(bytes);
+    if (is_refused(bytes)) return NULL;
+    void *block = __libc_malloc(bytes);
+    if (number_in("STEPS_FROM") == (long)bytes) begin_steps(&counts->steps);
+    return block;
 }
 
 void *realloc(void *block, size_t bytes) {
+    stop_steps();
     asked(bytes);
     return __libc_realloc(block, bytes);
 }
 
+void free(void *block) {
+    stop_steps();
+    __libc_free(block);
+}
+
 /* ---- threads */
 
+/* What a thread runs. It is found by the thread's number, which another one may have once the thread was waited for. */
 typedef struct Work {
     void *(*run)(void *);
     void *argument;
+    pthread_t thread;
+    sem_t waited_for;
+    struct Work *before;
 } Work;
 
-/* What each thread runs: its work, which is counted while it is there. */
+static _Atomic(Work *) newest;
+
+/* What each thread runs: its work, which is counted while the thread is there. */
 static void *counted(void *argument) {
-    const Work work = *(Work *)argument;
-    free(argument);
-    void *answer = work.run(work.argument);
+    Work *work = argument;
+    void *answer = work->run(work->argument);
+    while (sem_wait(&work->waited_for) != 0) {
+    }
     atomic_fetch_sub(&running, 1);
     return answer;
 }
@@ -99,15 +139,49 @@ int pthread_create(pthread_t *thread, const pthread_attr_t *attributes, void *(*
     find("pthread_create", &create);
     Work *work = __libc_malloc(sizeof *work);
     if (work == NULL) return EAGAIN;
-    *work = (Work){run, argument};
+    *work = (Work){.run = run, .argument = argument};
+    sem_init(&work->waited_for, 0, 0);
     atomic_fetch_add(&counts->started, 1);
-    raise_to(&counts->most_at_once, atomic_fetch_add(&running, 1) + 1);
+    if (gettid() == getpid()) atomic_fetch_add(&counts->started_by_first, 1);
+    atomic_fetch_add(&counts->together, atomic_fetch_add(&running, 1) + 1);
     const int status = create(thread, attributes, counted, work);
     if (status != 0) {
         atomic_fetch_sub(&running, 1);
-        free(work);
+        return status;
     }
-    return status;
+    work->thread = *thread;
+    work->before = atomic_load(&newest);
+    while (!atomic_compare_exchange_weak(&newest, &work->before, work)) {
+    }
+    return 0;
+}
+
+/* Lets a thread go. The newest one of this number is the one that is there. */
+static void let_go(pthread_t thread) {
+    Work *work = atomic_load(&newest);
+    while (work != NULL && !pthread_equal(work->thread, thread)) work = work->before;
+    if (work != NULL) sem_post(&work->waited_for);
+}
+
+int pthread_join(pthread_t thread, void **answer) {
+    int (*join)(pthread_t, void **);
+    find("pthread_join", &join);
+    let_go(thread);
+    return join(thread, answer);
+}
+
+int pthread_detach(pthread_t thread) {
+    int (*detach)(pthread_t);
+    find("pthread_detach", &detach);
+    let_go(thread);
+    return detach(thread);
+}
+
+ssize_t write(int file, const void *from, size_t bytes) {
+    ssize_t (*put)(int, const void *, size_t);
+    find("write", &put);
+    if (atomic_load(&running) > 0) atomic_fetch_add(&counts->written_beside, 1);
+    return put(file, from, bytes);
 }
 
 /* ---- another machine */

@@ -53,7 +53,7 @@ THERE = (
     "crates/script_cases/data/scans.cases: a sum that wraps",
     "bindings/tests/test_archive.py::test_a_compiler_with_options",
     "examples/c/pools.c::main",
-    ".ci/test-resources: shares 4 'r = add_suz i'",
+    ".ci/test-resources: shares 2 'r = add_suz i'",
 )
 NOT_THERE = (
     "crates/boards/must-fail/no_such.edit",
