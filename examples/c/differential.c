@@ -1,11 +1,11 @@
 /*
- * Holds each function of cvl.h and cvl_parallel.h against the plain reading of reading.h, on arguments at random: its status, its place, its
- * counts and every byte of the memory around. Booleans are any bytes; rooms are inputs, or overlap them; lengths differ; places
- * and counts are outside of 32 bits; vectors are too long, where they must not be read; each request for memory is refused in turn; vectors
- * of a few elements are cut into 1 to 9 parts, by one thread or by several, and by pools that leave parts out or run them twice; and the
- * functions that are not in parts run once more by the threads of the process.
- * `examples/c/run differential [CASES [PART OF A NAME]]` builds and runs it under sanitizers. It prints what differs, and its status is
- * then 1.
+ * Holds each function of cvl.h and cvl_parallel.h against the plain reading of reading.h, on arguments at random: its status, its
+ * place, its counts and every byte of the memory around. Booleans are any bytes; rooms are inputs, or overlap them; lengths
+ * differ; places and counts are outside of 32 bits; vectors are too long, where they must not be read; each request for memory is
+ * refused in turn; vectors of a few elements are cut into 1 to 9 parts, by one thread or by several, and by pools that leave
+ * parts out, run them twice, or show that no part reads or writes what another one wrote; and the functions that are not in parts
+ * run once more by the threads of the process. `examples/c/run differential [CASES [PART OF A NAME]]` builds and runs it under
+ * sanitizers. It prints what differs, and its status is then 1.
  */
 #define _DEFAULT_SOURCE
 #include "reading.h"
@@ -13,8 +13,9 @@
 #include <stdatomic.h>
 #include <stdio.h>
 #include <sys/mman.h>
+#include <unistd.h>
 
-enum { SLOT = 1 << 11, MEMORY = (MOST_OPERANDS + 1) * SLOT, THREADS = 3 };
+enum { SECONDS = 60, SLOT = 1 << 11, MEMORY = (MOST_OPERANDS + 1) * SLOT, THREADS = 3 };
 
 /* As many bytes as the longest vector of integers has, and some more, which nobody may touch. */
 static const size_t far_bytes = ((size_t)CVL_MOST_ELEMENTS + 1) * 4 + (1 << 14);
@@ -30,10 +31,32 @@ static long calls, refused, faults, failed;
 static atomic_long requests;
 static long refuse_at = -1;
 
+/* What the parts of a call share: its rooms, and the memory that it asks for between its steps. */
+typedef struct Shared {
+    unsigned char *at, before[SLOT];
+    bool taken[SLOT]; /* which bytes a part of the step wrote */
+    size_t size;
+} Shared;
+
+static Shared shared[2 * MOST_OPERANDS];
+static size_t shared_count;
+static bool watches, in_part, misses;
+
+static void share(void *at, size_t size) {
+    misses = misses || size > SLOT || shared_count == sizeof shared / sizeof *shared;
+    if (misses || size == 0) return;
+    shared[shared_count].at = (unsigned char *)at;
+    shared[shared_count++].size = size;
+}
+
 /* The linker puts this in the place of malloc (--wrap). */
 void *__real_malloc(size_t size);
 void *__wrap_malloc(size_t size);
-void *__wrap_malloc(size_t size) { return requests++ == refuse_at ? NULL : __real_malloc(size); }
+void *__wrap_malloc(size_t size) {
+    void *const found = requests++ == refuse_at ? NULL : __real_malloc(size);
+    if (watches && !in_part && found != NULL) share(found, size);
+    return found;
+}
 
 /* ---- pools ---- */
 
@@ -60,6 +83,45 @@ static void run_twice(void *state, CvlPart part, void *work, size_t parts) {
     run_backwards(state, part, work, parts);
     run_backwards(state, part, work, parts);
     part(work, parts);
+}
+
+static bool meets;
+
+/* Turns over each byte that an earlier part of the step wrote. */
+static void turn_over(void) {
+    for (size_t j = 0; j < shared_count; j++) {
+        for (size_t k = 0; k < shared[j].size; k++) shared[j].at[k] ^= shared[j].taken[k] ? 0xff : 0;
+    }
+}
+
+/* Takes the bytes that a part wrote, and turns those of earlier parts back. No byte is written by two. */
+static void take_written(void) {
+    for (size_t j = 0; j < shared_count; j++) {
+        for (size_t k = 0; k < shared[j].size; k++) {
+            const bool wrote = shared[j].at[k] != shared[j].before[k];
+            meets = meets || (wrote && shared[j].taken[k]);
+            if (shared[j].taken[k]) shared[j].at[k] ^= 0xff;
+            shared[j].taken[k] = shared[j].taken[k] || wrote;
+        }
+    }
+}
+
+/*
+ * Runs each part while all that earlier parts of the step wrote is turned over. So a part that reads any of it has another
+ * result, and one that writes there too is seen. Threads would show neither but at the wrong time.
+ */
+static void run_apart(void *state, CvlPart part, void *work, size_t parts) {
+    const bool backwards = *(const bool *)state;
+    meets = meets || misses;
+    for (size_t j = 0; j < shared_count; j++) memset(shared[j].taken, 0, shared[j].size);
+    for (size_t k = 0; k < parts; k++) {
+        turn_over();
+        for (size_t j = 0; j < shared_count; j++) memcpy(shared[j].before, shared[j].at, shared[j].size);
+        in_part = true;
+        part(work, backwards ? parts - 1 - k : k);
+        in_part = false;
+        take_written();
+    }
 }
 
 /* ---- the rows ---- */
@@ -418,6 +480,22 @@ static void by_other_pools(const Row *row, const Given *g, CvlStatus expected) {
     }
 }
 
+/* The same result where each part runs as if the others had written anything. */
+static void by_parts_apart(const Row *row, const Given *g, CvlStatus expected) {
+    bool backwards = chance(2);
+    pool.run = run_apart, pool.state = &backwards;
+    shared_count = 0, meets = misses = false;
+    for (size_t k = 0; k < count_of(row); k++) {
+        if (is_written(row, k)) share(g->at[k], (is_array(row, k) ? g->len[k] : 1) * size_of(kind_of(row, k)));
+    }
+    memcpy(memory, before, MEMORY);
+    watches = true;
+    const CvlStatus status = call(row, g, -1);
+    watches = false;
+    if (!is_as(status, expected)) fail(row, "parts that are seen by others", status, expected);
+    else if (meets) fail(row, "two parts write one byte", status, expected);
+}
+
 static void try_one(const Row *row) {
     Given g;
     make(row, &g);
@@ -428,6 +506,7 @@ static void try_one(const Row *row) {
     if (!is_as(status, expected)) fail(row, "at random", status, expected);
     refuse_each(row, &g, expected);
     if (in_parts(row)) by_other_pools(row, &g, expected);
+    if (in_parts(row) && chance(2)) by_parts_apart(row, &g, expected);
 }
 
 /* ---- vectors that are too long: nothing of them is read, and no memory is asked for ---- */
@@ -482,6 +561,7 @@ static void too_long(const Row *row) {
 int main(int words, char **word) {
     const long cases = words > 1 ? atol(word[1]) : 150;
     const char *part_of_name = words > 2 ? word[2] : "";
+    alarm((unsigned)(SECONDS + 2 * cases));
     memory_at = memory, written_at = wanted, memory_size = MEMORY;
     setvbuf(stdout, NULL, _IONBF, 0);
     for (size_t k = 0; k < MOST_OPERANDS; k++) {
