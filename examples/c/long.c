@@ -1,16 +1,20 @@
 /*
- * Calls every function of cvl.h and cvl_parallel.h on vectors of 300,000 elements in 1,500 segments, of which some are empty and one is long, with
- * booleans that are 0 or 1 and with others. No call may have a fault. What it writes is compared with what plain loops make of the
- * same, and the memory that a function of cvl.h asks for with what it needs. It prints what differs, and its status is then 1. `examples/c/run long`
- * builds and runs it under sanitizers. The functions are those of calls.h, and the loops those of plain.h.
+ * Calls every function of cvl.h and cvl_parallel.h on vectors of 300,000 elements in 1,500 segments, of which some are empty and
+ * one is long, with booleans that are 0 or 1 and with others. No call may have a fault. What it writes is compared with what
+ * plain loops make of the same, and the memory that it asks for with what it needs: in parts beside what the parts ask for. It
+ * prints what differs, and its status is then 1. `examples/c/run long` builds and runs it under sanitizers. The functions are
+ * those of calls.h, and the loops those of plain.h.
  */
 #include "plain.h"
 
-enum { ELEMENTS = 300000, SEGMENTS = 1500 };
+#include <unistd.h>
+
+enum { ELEMENTS = 300000, SEGMENTS = 1500, PARTS = 3, SECONDS = 300 };
 
 /* ---- memory: the linker puts these in the place of malloc and realloc (--wrap) */
 
-static size_t asked;
+static size_t asked, asked_by_parts;
+static bool in_part;
 
 void *__real_malloc(size_t size);
 void *__real_realloc(void *block, size_t size);
@@ -18,13 +22,21 @@ void *__wrap_malloc(size_t size);
 void *__wrap_realloc(void *block, size_t size);
 
 void *__wrap_malloc(size_t size) {
-    asked += size;
+    *(in_part ? &asked_by_parts : &asked) += size;
     return __real_malloc(size);
 }
 
 void *__wrap_realloc(void *block, size_t size) {
-    asked += size;
+    *(in_part ? &asked_by_parts : &asked) += size;
     return __real_realloc(block, size);
+}
+
+/* Runs parts in turn. */
+static void run_parts(void *state, CvlPart part, void *work, size_t parts) {
+    (void)state;
+    in_part = true;
+    for (size_t k = 0; k < parts; k++) part(work, k);
+    in_part = false;
 }
 
 /* Whether a call by segments makes descriptors: a distribute, an index, and a permute that is no simple or back permute. */
@@ -56,18 +68,43 @@ static size_t memory_of(const Row *row, const char *call) {
     return descriptors;
 }
 
+/* Whether a call in parts keeps what stood in its room. */
+static bool keeps_room(const char *call) {
+    if (!by_segments(call)) return begins(call, "fst") || (call[4] == 'p' && !begins(call, "bck"));
+    return call[4] == 'p' || begins(call, "ext") || begins(call, "rep") || begins(call, "prd") || begins(call, "fst");
+}
+
+/*
+ * How many bytes a call in parts asks for beside its parts: for a copy of its room, and a bit for each place of a permute; of a
+ * text for the longest that its parts may write, or for as many integers as they may read.
+ */
+static size_t memory_in_parts(const Row *row, const char *call) {
+    const char *room = strpbrk(row->arrays, "IFSGMN");
+    const bool has_marks = !by_segments(call) && call[4] == 'p';
+    const size_t in_brackets = by_segments(call) ? segments : 0;
+    if (strchr(row->arrays, 'X') != NULL) return (is_bool(call) ? 2 : 12) * n + 3 * in_brackets + 2 * PARTS;
+    if (strchr(row->arrays, 't') != NULL) return (text_length + PARTS) / 2 * sizeof(int32_t);
+    if (!keeps_room(call)) return 0;
+    if (strchr(row->arrays, 'b') != NULL) return bytes_of(*room) + sizeof(int32_t) * segments; /* the rows' lengths, too */
+    if (!has_marks) return bytes_of(*room);
+    return (bytes_of(*room) + 3) / 4 * 4 + sizeof(uint32_t) * (array_of(*room).count / 32 + PARTS);
+}
+
+/* Whether the memory of a call is known: booleans that are not 0 and 1 may be copied, and a text grows where it isn't cut. */
+static bool is_known(const Row *row, bool odd) { return !odd && strpbrk(row->arrays, in_parts(row) ? "u" : "tuX") == NULL; }
+
 /* ---- each call */
 
-/* Makes the call, where true flags are 1, or any byte but 0. Booleans that are not 0 and 1 may be copied, and texts grow. */
+/* Makes the call, where true flags are 1, or any byte but 0. */
 static void check(const Row *row, bool odd) {
     char call[8];
     void *p[MOST_ARRAYS];
     name_call(row, call);
     hold_all(row, call);
     put_all(row, odd, p);
-    asked = 0;
+    asked = asked_by_parts = 0;
     const CvlStatus status = row->call(p);
-    const size_t needed = odd || in_parts(row) || strpbrk(row->arrays, "tuX") != NULL ? asked : memory_of(row, call);
+    const size_t needed = !is_known(row, odd) ? asked : in_parts(row) ? memory_in_parts(row, call) : memory_of(row, call);
     if (status.number != CVL_DONE || status.place != -1) {
         fail(row, "another status", status.number, CVL_DONE);
         return;
@@ -77,7 +114,9 @@ static void check(const Row *row, bool odd) {
 }
 
 int main(void) {
-    pool = cvl_pool_alone(3);
+    alarm(SECONDS);
+    pool = cvl_pool_alone(PARTS);
+    pool.run = run_parts;
     n = ELEMENTS, segments = SEGMENTS, trues = trues_in(0, n), text_room = 3 * n;
     make_arrays(n, segments);
     for (size_t k = 0; k < ROWS; k++) {
