@@ -10,8 +10,9 @@
 #include <stdlib.h>
 #include <string.h>
 #include <sys/mman.h>
+#include <unistd.h>
 
-enum { ROOM = 8, TEXT_ROOM = 32, UNTOUCHED = 77 };
+enum { ROOM = 8, TEXT_ROOM = 32, UNTOUCHED = 77, SECONDS = 300 };
 
 static int32_t ints[ROOM];
 static bool bools[ROOM];
@@ -32,6 +33,18 @@ static int refusing, spared;
 void *__real_malloc(size_t size);
 void *__wrap_malloc(size_t size);
 void *__wrap_malloc(size_t size) { return refusing && spared-- <= 0 ? NULL : __real_malloc(size); }
+
+/* An export that answers the number that a test names. */
+static uint32_t answered = CVL_DONE;
+CvlStatus __real_cvl_proved_seg_checked_reduce(
+    const int32_t *a, size_t a_len, const int32_t *lengths, size_t lengths_len, int32_t *out, size_t out_len);
+CvlStatus __wrap_cvl_proved_seg_checked_reduce(
+    const int32_t *a, size_t a_len, const int32_t *lengths, size_t lengths_len, int32_t *out, size_t out_len);
+CvlStatus __wrap_cvl_proved_seg_checked_reduce(
+    const int32_t *a, size_t a_len, const int32_t *lengths, size_t lengths_len, int32_t *out, size_t out_len) {
+    if (answered == CVL_DONE) return __real_cvl_proved_seg_checked_reduce(a, a_len, lengths, lengths_len, out, out_len);
+    return (CvlStatus){answered, 2};
+}
 
 static void fail(const char *call, const char *why) {
     printf("%s: %s\n", call, why);
@@ -451,6 +464,20 @@ static void checked_sums(void) {
     FAULT(cvl_checked_scan(too_many_ints, many, ints, 4), CVL_TOO_LONG, -1);
     FAULT(cvl_checked_reduce(too_many_ints, many, ints), CVL_TOO_LONG, -1);
     FAULT(cvl_seg_checked_reduce(a, 5, S(lengths, 3), ints, 2), CVL_LENGTH_MISMATCH, -1);
+}
+
+/* Whatever an export answers that it may find before it looks at all lengths, their faults come first. */
+static void late_faults(void) {
+    static const uint32_t late[] = {
+        CVL_DIVIDE_BY_ZERO, CVL_SHIFT_OUT_OF_RANGE, CVL_INDEX_OUT_OF_RANGE, CVL_INDEX_REPEATED, CVL_OVERFLOW, CVL_NO_RESOURCES,
+    };
+    for (size_t k = 0; k < sizeof late / sizeof *late; k++) {
+        answered = late[k];
+        FAULT(cvl_seg_checked_reduce(I(1, 2, 3), 3, S(I(2, -1, 2), 3), ints, 3), CVL_NEGATIVE_LENGTH, 1);
+        FAULT(cvl_seg_checked_reduce(I(1, 2, 3), 3, S(I(2, 0, 2), 3), ints, 3), CVL_LENGTH_MISMATCH, -1);
+        FAULT(cvl_seg_checked_reduce(I(1, 2, 3), 3, S(I(2, 0, 1), 3), ints, 3), late[k], 2);
+    }
+    answered = CVL_DONE;
 }
 
 static void sparse_products(void) {
@@ -1493,6 +1520,7 @@ static void longer_than_a_text(void) {
 }
 
 int main(void) {
+    alarm(SECONDS);
     const size_t far_bytes = ((size_t)CVL_MOST_ELEMENTS + 1) * sizeof *too_many_ints;
     too_many_ints = (int32_t *)mmap(NULL, far_bytes, PROT_READ, MAP_PRIVATE | MAP_ANONYMOUS | MAP_NORESERVE, -1, 0);
     if (too_many_ints == MAP_FAILED) abort();
@@ -1505,6 +1533,7 @@ int main(void) {
     ranges_of_permutes();
     pieces_of_texts();
     checked_sums();
+    late_faults();
     sparse_products();
     sparse_products_by_offsets();
     elements();
