@@ -681,15 +681,15 @@ static inline bool cvl_replace_bool_agrees(size_t vector_len, size_t out_len) {
 }
 
 static inline bool cvl_distribute_int_agrees(int64_t count, size_t out_len) {
-    return count >= 0 && count <= CVL_MOST_ELEMENTS && (size_t)count == out_len;
+    return (uint64_t)count == out_len;
 }
 
 static inline bool cvl_distribute_bool_agrees(int64_t count, size_t out_len) {
-    return count >= 0 && count <= CVL_MOST_ELEMENTS && (size_t)count == out_len;
+    return (uint64_t)count == out_len;
 }
 
 static inline bool cvl_index_agrees(int64_t count, size_t out_len) {
-    return count >= 0 && count <= CVL_MOST_ELEMENTS && (size_t)count == out_len;
+    return (uint64_t)count == out_len;
 }
 
 static inline bool cvl_make_descriptor_meets(CvlLengths lengths, size_t *total) {

