@@ -1,7 +1,7 @@
 """What stands in `include/cvl.h` and on its page beside the rows of the table: what all calls share, types, and the functions that
 have no row."""
 
-from table import MOST_ELEMENTS, MOST_OF_TEXT
+from table import MOST_ELEMENTS, MOST_OF_TEXT, MOST_STACK
 
 ABOUT = (
     "cvl.h: the vector calls of CVL, the C Vector Library, on a caller's own memory.",
@@ -29,6 +29,7 @@ ABOUT = (
     "read or write other memory.",
     "  - While a call is at work no other thread writes its arrays, or reads its rooms. Else the results are any, and the call may crash or write "
     "other memory.",
+    f"  - The thread that calls has CVL_MOST_STACK bytes of its stack left, {MOST_STACK // 1024} KiB. Else the call may crash, or write other memory.",
     "  - The program has one malloc, realloc and free. Else memory is given back to an allocator that it isn't from.",
     "  - The lengths of a descriptor live as long as calls take it. Else the call may crash or read other memory.",
     "All else is checked, from C and from every language that calls by name: whatever lengths, indices, operators and rooms are given, a call ends "

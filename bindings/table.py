@@ -83,6 +83,9 @@ CUTS = {
 MOST_ELEMENTS = 2147483647
 MOST_OF_TEXT = 4194304
 
+# The most bytes of its stack that a thread needs for a call: what examples/c/stack.c measures stays below it.
+MOST_STACK = 32768
+
 # The faults that calls share.
 TOO_LONG = Fault((13,), "13 TooLong", False)
 SUM_OF_N = Fault((7,), "7 LengthMismatch where the lengths do not add up to n", False)

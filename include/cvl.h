@@ -37,6 +37,7 @@
  *     call may crash, or read or write other memory.
  *   - While a call is at work no other thread writes its arrays, or reads its rooms. Else the results are any, and the call may
  *     crash or write other memory.
+ *   - The thread that calls has CVL_MOST_STACK bytes of its stack left, 32 KiB. Else the call may crash, or write other memory.
  *   - The program has one malloc, realloc and free. Else memory is given back to an allocator that it isn't from.
  *   - The lengths of a descriptor live as long as calls take it. Else the call may crash or read other memory.
  *
@@ -121,9 +122,9 @@ enum {
 
 /*
  * The most elements of a vector, and the greatest total of a descriptor: the greatest integer of 32 bits. And the most of a vector whose
- * text is read or written at once, since longer texts come in pieces.
+ * text is read or written at once, since longer texts come in pieces. And the most bytes of its stack that a thread needs for a call.
  */
-enum { CVL_MOST_ELEMENTS = 2147483647, CVL_MOST_OF_TEXT = 4194304 };
+enum { CVL_MOST_ELEMENTS = 2147483647, CVL_MOST_OF_TEXT = 4194304, CVL_MOST_STACK = 32768 };
 
 /* The lengths of segments, one for each, empty ones too: CvlLengths rows = {lengths, segments}. */
 typedef struct CvlLengths {

@@ -32,6 +32,7 @@ typedef void (*CvlPart)(void *work, size_t part);
  * Who runs the parts of calls. `parts` is into how many a long vector is cut: 0 are one, and more than 64 are 64; a call may have fewer.
  * `run` is called once for each step of a call. What it owes:
  *   - it runs part(work, k) once for each k below `parts`, in any order, by any threads, several at once or one after another;
+ *   - a thread that runs a part has CVL_MOST_STACK bytes of its stack left;
  *   - it returns when all have returned, and runs none of them later;
  *   - what the thread that called wrote before is seen by the parts, and what the parts wrote is seen after `run` returned; what starts and
  *     waits for threads, or takes and lets go of a lock, does that;

@@ -185,7 +185,7 @@ def header(template):
             "descriptors": comment(*spaced(about.DESCRIPTORS)),
             "of_descriptors": declared(about.OF_DESCRIPTORS),
             "statuses": statuses(),
-            "most": f"enum {{ CVL_MOST_ELEMENTS = {table.MOST_ELEMENTS}, CVL_MOST_OF_TEXT = {table.MOST_OF_TEXT} }};",
+            "most": f"enum {{ CVL_MOST_ELEMENTS = {table.MOST_ELEMENTS}, CVL_MOST_OF_TEXT = {table.MOST_OF_TEXT}, CVL_MOST_STACK = {table.MOST_STACK} }};",
             "operators": operators(),
             "families": sections(rows.FAMILIES.values(), "families", table.OF_FAMILIES),
             "calls": sections(rows.CALLS, "the calls of the table", table.OF_CALLS),

@@ -76,7 +76,8 @@ def constants():
             f"| Number | Constant | Name |\n|---|---|---|\n{statuses}".rstrip(),
             code(about.LENGTHS_TYPE),
             f"`CVL_MOST_ELEMENTS` is {table.MOST_ELEMENTS}, the most elements of a vector and the greatest total of a descriptor. `CVL_MOST_OF_TEXT` is "
-            f"{table.MOST_OF_TEXT}, the most elements whose text is read or written at once. The operators:",
+            f"{table.MOST_OF_TEXT}, the most elements whose text is read or written at once. `CVL_MOST_STACK` is {table.MOST_STACK}, the most bytes of its "
+            "stack that a thread needs for a call. The operators:",
             f"| Number | Constant | What it gives |\n|---|---|---|\n{operators}".rstrip(),
         ]
     )

@@ -94,6 +94,8 @@ def constants():
     lines += _constant("MOST_ELEMENTS", "usize", f"{table.MOST_ELEMENTS:_}", said)
     said = "The most elements whose text is read or written at once."
     lines += _constant("MOST_OF_TEXT", "usize", f"{table.MOST_OF_TEXT:_}", said)
+    said = "The most bytes of its stack that a thread needs for a call."
+    lines += _constant("MOST_STACK", "usize", f"{table.MOST_STACK:_}", said)
     for number, name in table.STATUSES:
         said = "All is done." if number == 0 else f"The number of the fault {name}."
         lines += _constant(in_c.constant(name), "u32", number, said)

@@ -20,6 +20,9 @@ pub const CVL_MOST_ELEMENTS: usize = 2_147_483_647;
 /// The most elements whose text is read or written at once.
 pub const CVL_MOST_OF_TEXT: usize = 4_194_304;
 
+/// The most bytes of its stack that a thread needs for a call.
+pub const CVL_MOST_STACK: usize = 32_768;
+
 /// All is done.
 pub const CVL_DONE: u32 = 0;
 
