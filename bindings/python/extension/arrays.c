@@ -159,25 +159,34 @@ static int refuse(PyArrayObject *array, const Operand *operand) {
     return -1;
 }
 
+/* A text has any number of dimensions. */
+static int look_at_text(Given *given, const Operand *operand) {
+    PyArrayObject *array = given->array;
+    if (PyArray_ITEMSIZE(array) != 1 || !has_flags(array, cvl_needs[KIND_TEXT].flags)) return refuse(array, operand);
+    given->at = PyArray_DATA(array);
+    given->count = (size_t)PyArray_SIZE(array);
+    return 0;
+}
+
 static int look_at(Given *given, const Operand *operand) {
     PyArrayObject *array = given->array;
+    if (array == NULL) return 0;
     const Need *need = &cvl_needs[operand->kind];
-    const int is_text = need->element == NULL;
-    if (is_text ? PyArray_ITEMSIZE(array) != 1 : PyArray_NDIM(array) != 1 || !has_elements(array, need->element)) {
+    if (need->element == NULL) return look_at_text(given, operand);
+    if (PyArray_NDIM(array) != 1 || !has_flags(array, need->flags) || !has_elements(array, need->element)) {
         return refuse(array, operand);
     }
-    if (!has_flags(array, need->flags)) return refuse(array, operand);
     given->at = PyArray_DATA(array);
-    given->count = (size_t)(is_text ? PyArray_SIZE(array) : PyArray_DIM(array, 0));
+    given->count = (size_t)PyArray_DIM(array, 0);
     return 0;
 }
 
 int cvl_look(Frame *frame) {
     const Family *family = frame->row->family;
     for (int k = 0; k < family->count; k++) {
-        if (frame->given[k].array != NULL && look_at(&frame->given[k], &family->operands[k]) < 0) return -1;
+        if (look_at(&frame->given[k], &family->operands[k]) < 0) return -1;
     }
-    return frame->room.array == NULL ? 0 : look_at(&frame->room, frame->out);
+    return look_at(&frame->room, frame->out);
 }
 
 void cvl_tell_change(void) { PyErr_SetString(PyExc_RuntimeError, "an argument was changed during the call"); }
