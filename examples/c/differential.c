@@ -492,7 +492,7 @@ static void by_parts_apart(const Row *row, const Given *g, CvlStatus expected) {
     watches = true;
     const CvlStatus status = call(row, g, -1);
     watches = false;
-    if (!is_as(status, expected)) fail(row, "parts that are seen by others", status, expected);
+    if (!is_as(status, expected)) fail(row, "a part that reads what others wrote", status, expected);
     else if (meets) fail(row, "two parts write one byte", status, expected);
 }
 

@@ -90,6 +90,11 @@ static size_t memory_in_parts(const Row *row, const char *call) {
     return (bytes_of(*room) + 3) / 4 * 4 + sizeof(uint32_t) * (array_of(*room).count / 32 + PARTS);
 }
 
+/* How many bytes the parts themselves may ask for: each as much as the whole call does, or those of a text as it grows. */
+static size_t most_of_parts(const Row *row, const char *call) {
+    return strpbrk(row->arrays, "tX") != NULL ? 4 * text_room : PARTS * memory_of(row, call);
+}
+
 /* Whether the memory of a call is known: booleans that are not 0 and 1 may be copied, and a text grows where it isn't cut. */
 static bool is_known(const Row *row, bool odd) { return !odd && strpbrk(row->arrays, in_parts(row) ? "u" : "tuX") == NULL; }
 
@@ -110,6 +115,9 @@ static void check(const Row *row, bool odd) {
         return;
     }
     if (asked != needed) fail(row, "other bytes of memory", (long long)asked, (long long)needed);
+    if (is_known(row, odd) && asked_by_parts > most_of_parts(row, call)) {
+        fail(row, "more bytes of memory in parts", (long long)asked_by_parts, (long long)most_of_parts(row, call));
+    }
     compare(row, call);
 }
 
