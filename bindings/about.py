@@ -30,6 +30,9 @@ ABOUT = (
     "  - While a call is at work no other thread writes its arrays, or reads its rooms. Else the results are any, and the call may crash or write "
     "other memory.",
     f"  - The thread that calls has CVL_MOST_STACK bytes of its stack left, {MOST_STACK // 1024} KiB. Else the call may crash, or write other memory.",
+    "  - A handler of a signal that interrupts a call returns: it leaves the call by no longjmp, siglongjmp, exception or "
+    "pthread_exit. Else threads of the library go on to read and write what the call had, also on the stack that is left, and "
+    "cvl_set_threads may wait for ever.",
     "  - The program has one malloc, realloc and free. Else memory is given back to an allocator that it isn't from.",
     "  - The lengths of a descriptor live as long as calls take it. Else the call may crash or read other memory.",
     "All else is checked, from C and from every language that calls by name: whatever lengths, indices, operators and rooms are given, a call ends "
@@ -89,30 +92,42 @@ THREADS = (
     "on. A shorter call runs on the thread that calls, and so does a call that reads one element, reads a nested text, or scans after a carry. What a call "
     "answers and writes is the same by any number of threads. By several it may take memory for a copy of its room; where there is none, it runs on the "
     "thread that calls.",
-    "One call at a time has the threads. Another one meanwhile runs on the thread that calls it, so that no call waits for another, and none waits for "
-    "cvl_set_threads. A call in parts on a pool of the caller's, of cvl_parallel.h, takes the threads of that pool alone.",
-    "Between calls the threads sleep. They block all signals, so that handlers run on the program's own threads; a handler calls nothing of the library. "
-    "The child of a fork has none of the threads, and may set a number of its own, also where the fork came in the middle of a call by another thread. "
-    "At exit nothing is owed: the threads end with the process. The shared object stays where it is after dlclose, so that they never go on in memory that "
-    "is gone; cvl_set_threads(1) ends them. An object of one's own that has the archive inside is linked by -z nodelete where it may be unloaded, or calls "
-    "cvl_set_threads(1) before.",
+    "One call at a time has the threads. Another one meanwhile runs on the thread that calls it, and so does a call that comes "
+    "while cvl_set_threads waits or is at work: no call waits for another, or for a number to be set. A call in parts on a pool "
+    "of the caller's, of cvl_parallel.h, takes the threads of that pool alone.",
+    "Between calls the threads sleep. One that waits for a second without work ends, and the next long call starts it again, "
+    "with the processors and the priority of the thread that calls; if it can't be started then, the call runs on those that "
+    "there are. So they keep no process alive that its own threads have left.",
+    "The threads block the signals that are sent to a process, so that handlers run on the program's own threads. They do not "
+    "block those that a thread gets for what it does, SIGSEGV, SIGBUS, SIGFPE, SIGILL, SIGTRAP and SIGSYS: if a program guards "
+    "the pages of its arrays, its handler runs on the thread that touches one. A handler calls nothing of the library, and "
+    "leaves no call but by its return. A thread that is cancelled ends its call first.",
+    "The child of a fork has none of the threads, also if the fork came in the middle of a call by another thread, and may set "
+    "a number of its own. It is known by its number, and by a handler of pthread_atfork, since the first process of a namespace "
+    "may have its parent's number; after _Fork or clone, which run no handlers, by its number alone.",
+    "At exit nothing is owed: the threads end with the process. The shared object stays where it is after dlclose, so that they "
+    "never go on in memory that is gone; cvl_set_threads(1) ends them. An object of one's own that has the archive inside is "
+    "linked by -z nodelete where it may be unloaded, or calls cvl_set_threads(1) before.",
 )
 OF_THREADS = (
     (
         "cvl_set_threads",
         (
-            "Says how many threads there are for long calls, 1 to 64, with the one that calls. The answer is 0; EINVAL where it is no such number; or the "
-            "number of an error of POSIX, as EAGAIN, where a thread can't be started; after either there are as many as before. It waits for the call that "
-            "has the threads. Several threads may say a number at once.",
+            "Says how many threads there are for long calls, 1 to 64, with the one that calls. The answer is 0; EINVAL where it "
+            "is no such number; or the number of an error of POSIX, as EAGAIN, where a thread can't be started; after either "
+            "there are as many as before. It waits for the call that has the threads, if there is one, and for no call that "
+            "comes later. Several threads may say a number at once.",
         ),
         "int cvl_set_threads(size_t threads);",
     ),
     (
         "cvl_threads",
         (
-            "How many threads there are: what cvl_set_threads said last, before that what CVL_NUM_THREADS says, a number from 1 to 64 in digits alone, and "
-            "else 1. The variable is read once, by the first call that asks, which is this one or a long call; where so many can't be started, there is one. "
-            "In the child of a fork there is one until it says another number; where nobody had asked before the fork, it begins as any program does.",
+            "How many threads there are: what cvl_set_threads said last, before that what CVL_NUM_THREADS says, a number from 1 "
+            "to 64 in digits alone, and else 1. The variable is read once, by the first call of either function or the first "
+            "long call; the threads are started by long calls, and if one can't be, the number stays. It waits for nobody. In "
+            "the child of a fork there is one until it says another number; where nobody had asked before the fork, it begins "
+            "as any program does.",
         ),
         "size_t cvl_threads(void);",
     ),

@@ -36,7 +36,7 @@ typedef void (*CvlPart)(void *work, size_t part);
  *   - it returns when all have returned, and runs none of them later;
  *   - what the thread that called wrote before is seen by the parts, and what the parts wrote is seen after `run` returned; what starts and
  *     waits for threads, or takes and lets go of a lock, does that;
- *   - no exception and no longjmp leaves a part, which throws none, or `run` itself.
+ *   - no exception and no longjmp leaves a part, which throws none, or `run` itself; that of a handler of a signal neither.
  * A part that is run twice does its work once. Where a pool leaves a part out of a step that only reads, as the first one of each call
  * is, the status is 100 NoResources, and the rooms are as they were. One of a step that writes is run by the thread that called, and the
  * call goes on, as if the pool had run it: by then other parts may have written, and no call keeps what stood in its room for that.
@@ -54,14 +54,18 @@ CvlPool cvl_pool_alone(size_t parts);
 typedef struct CvlThreads CvlThreads;
 
 /*
- * Starts threads, so many with the one that calls, 1 to 64, and tells where they are. The answer is 0, or the number of an error of
- * POSIX where one can't be started; then there are none. They block all signals, which go to the program's own threads.
+ * Starts threads, so many with the one that calls, 1 to 64, and tells where they are. The answer is 0; EINVAL if it is no such number; or
+ * the number of another error of POSIX, as EAGAIN, if a thread can't be started; after either there are none. The threads block the signals
+ * that are sent to a process, which go to the program's own threads, and none of those that a thread gets for what it does, as SIGSEGV.
+ *
+ * A thread that waits for a second without work ends, so that it keeps no process alive, and the next call that needs it starts it again. If
+ * it can't be started then, the call runs on those that there are. The threads are the program's to stop either way.
  */
 int cvl_threads_start(size_t threads, CvlThreads **started);
 
 /*
  * Ends the threads, and waits for them, and for a call that is at work. No call may begin on them then or later. A null pointer is
- * no threads. In the child of a fork, where there are none of them, it returns at once.
+ * no threads. In the child of a fork, where there are none of them, it returns at once. A thread that is cancelled in it ends them first.
  */
 void cvl_threads_stop(CvlThreads *threads);
 

@@ -1,18 +1,26 @@
-/* The pools of the library: the thread that calls, and POSIX threads. */
+/*
+ * The pools of the library: the thread that calls, and POSIX threads, which end if they wait in vain and start again if a call
+ * needs them.
+ */
 #include "pools.h"
+#include "process.h"
 
 #include <errno.h>
 #include <pthread.h>
 #include <signal.h>
-#include <unistd.h>
+#include <time.h>
+
+/* How many seconds a thread waits for parts before it ends, so that it keeps no process alive that would have ended. */
+enum { PATIENCE = 1 };
 
 struct CvlThreads {
-    pthread_t threads[CVL_MOST_PARTS];
-    size_t count; /* how many there are, without the one that calls */
-    pid_t process; /* the one in which they are */
+    size_t most;      /* how many there may be, with the one that calls */
+    uint64_t process; /* the one in which they are */
     pthread_mutex_t calls; /* held by the call whose parts are run */
     pthread_mutex_t lock;  /* held to read or write what follows */
     pthread_cond_t begun, ended;
+    pthread_t threads[CVL_MOST_PARTS];
+    size_t living; /* how many there are, without the one that calls; the others have ended, or were never started */
     CvlPart part;
     void *work;
     size_t parts, taken, done; /* how many parts there are, were taken, and are done */
@@ -42,31 +50,83 @@ static void take_parts(CvlThreads *t) {
     }
 }
 
+/* Waits for parts, and answers whether that was in vain. */
+static bool waits_in_vain(CvlThreads *t) {
+    struct timespec until;
+    clock_gettime(CLOCK_MONOTONIC, &until);
+    until.tv_sec += PATIENCE;
+    return pthread_cond_timedwait(&t->begun, &t->lock, &until) != 0;
+}
+
+/* Takes the thread that calls out of those that are waited for. */
+static void leave(CvlThreads *t) {
+    size_t k = 0;
+    while (!pthread_equal(t->threads[k], pthread_self())) k++;
+    t->threads[k] = t->threads[--t->living];
+    pthread_detach(pthread_self());
+}
+
+/*
+ * A signal that a thread gets for what it does, as touching a page that the program guards, kills the process if the thread
+ * blocks it.
+ */
+static void take_own_faults(void) {
+    static const int own[] = {SIGSEGV, SIGBUS, SIGFPE, SIGILL, SIGTRAP, SIGSYS};
+    sigset_t faults;
+    sigemptyset(&faults);
+    for (size_t k = 0; k < sizeof own / sizeof *own; k++) sigaddset(&faults, own[k]);
+    pthread_sigmask(SIG_UNBLOCK, &faults, NULL);
+}
+
+/* Parts that came while the time ran out are taken: who begins a call counts on each thread that has not left. */
 static void *wait_for_parts(void *threads) {
     CvlThreads *t = threads;
+    bool in_vain = 0;
+    take_own_faults();
     pthread_mutex_lock(&t->lock);
-    while (!t->stopping) {
+    while (!t->stopping && (!in_vain || t->taken < t->parts)) {
         take_parts(t);
-        if (!t->stopping) pthread_cond_wait(&t->begun, &t->lock);
+        in_vain = !t->stopping && waits_in_vain(t);
     }
+    if (!t->stopping) leave(t);
     pthread_mutex_unlock(&t->lock);
     return NULL;
 }
 
 /*
- * The threads are those of one process, and serve one call at a time: any other runs alone. No call is cancelled while it waits, since the
- * threads would be taken for ever.
+ * Starts threads until there are as many as so many parts need, and answers 0 or the number of an error. The lock is held. A
+ * thread begins with all signals blocked, since those that are sent to the process go to the program's own threads.
+ */
+static int start_missing(CvlThreads *t, size_t parts) {
+    const size_t needed = parts < t->most ? parts : t->most;
+    sigset_t all, before;
+    int failed = 0;
+    if (t->living + 1 >= needed) return 0;
+    sigfillset(&all);
+    pthread_sigmask(SIG_SETMASK, &all, &before);
+    while (failed == 0 && t->living + 1 < needed) {
+        failed = pthread_create(&t->threads[t->living], NULL, wait_for_parts, t);
+        if (failed == 0) t->living++;
+    }
+    pthread_sigmask(SIG_SETMASK, &before, NULL);
+    return failed;
+}
+
+/*
+ * The threads are those of one process, and serve one call at a time: any other runs alone. A thread that can't be started leaves
+ * its parts to the others. No call is cancelled while it waits, since the threads would be taken for ever.
  */
 void cvl_run_posix(void *state, CvlPart part, void *work, size_t parts) {
     CvlThreads *t = state;
     int cancels;
-    if (t == NULL || t->process != getpid() || pthread_mutex_trylock(&t->calls) != 0) {
+    if (t == NULL || t->process != cvl_process() || pthread_mutex_trylock(&t->calls) != 0) {
         cvl_run_alone(NULL, part, work, parts);
         return;
     }
     pthread_setcancelstate(PTHREAD_CANCEL_DISABLE, &cancels);
     pthread_mutex_lock(&t->lock);
     t->part = part, t->work = work, t->parts = parts, t->taken = 0, t->done = 0;
+    start_missing(t, parts);
     pthread_cond_broadcast(&t->begun);
     take_parts(t);
     while (t->done < t->parts) pthread_cond_wait(&t->ended, &t->lock);
@@ -77,53 +137,60 @@ void cvl_run_posix(void *state, CvlPart part, void *work, size_t parts) {
 }
 
 CvlPool cvl_pool_posix(CvlThreads *threads) {
-    const CvlPool pool = {threads == NULL ? 1 : threads->count + 1, cvl_run_posix, threads};
+    const CvlPool pool = {threads == NULL ? 1 : threads->most, cvl_run_posix, threads};
     return pool;
 }
 
-void cvl_threads_stop(CvlThreads *t) {
-    if (t == NULL) return;
-    if (t->process == getpid()) {
-        pthread_mutex_lock(&t->calls);
-        pthread_mutex_lock(&t->lock);
-        t->stopping = 1;
-        pthread_cond_broadcast(&t->begun);
-        pthread_mutex_unlock(&t->lock);
-        for (size_t k = 0; k < t->count; k++) pthread_join(t->threads[k], NULL);
-        pthread_mutex_unlock(&t->calls);
-        pthread_cond_destroy(&t->ended);
-        pthread_cond_destroy(&t->begun);
-        pthread_mutex_destroy(&t->lock);
-        pthread_mutex_destroy(&t->calls);
-    }
-    free(t);
+/* Waits for the call that is at work, and for the threads, which end. */
+static void end_all(CvlThreads *t) {
+    pthread_mutex_lock(&t->calls);
+    pthread_mutex_lock(&t->lock);
+    t->stopping = 1;
+    pthread_cond_broadcast(&t->begun);
+    pthread_mutex_unlock(&t->lock);
+    for (size_t k = 0; k < t->living; k++) pthread_join(t->threads[k], NULL);
+    pthread_mutex_unlock(&t->calls);
+    pthread_cond_destroy(&t->ended);
+    pthread_cond_destroy(&t->begun);
+    pthread_mutex_destroy(&t->lock);
+    pthread_mutex_destroy(&t->calls);
 }
 
-/* Starts the threads with all signals blocked, as they stay, and answers 0 or the number of an error. */
-static int start_blocked(CvlThreads *t, size_t threads) {
-    sigset_t all, before;
-    int failed;
-    sigfillset(&all);
-    failed = pthread_sigmask(SIG_SETMASK, &all, &before);
-    while (failed == 0 && t->count + 1 < threads && t->count + 1 < CVL_MOST_PARTS) {
-        failed = pthread_create(&t->threads[t->count], NULL, wait_for_parts, t);
-        if (failed == 0) t->count++;
-    }
-    pthread_sigmask(SIG_SETMASK, &before, NULL);
-    return failed;
+/* A thread that were cancelled while it waits would leave the threads half ended. */
+void cvl_threads_stop(CvlThreads *t) {
+    int cancels;
+    if (t == NULL) return;
+    pthread_setcancelstate(PTHREAD_CANCEL_DISABLE, &cancels);
+    if (t->process == cvl_process()) end_all(t);
+    free(t);
+    pthread_setcancelstate(cancels, &cancels);
+}
+
+CvlThreads *cvl_threads_made(size_t threads) {
+    pthread_condattr_t steady;
+    CvlThreads *t = calloc(1, sizeof *t);
+    if (t == NULL) return NULL;
+    t->most = threads;
+    t->process = cvl_process();
+    pthread_mutex_init(&t->calls, NULL);
+    pthread_mutex_init(&t->lock, NULL);
+    pthread_cond_init(&t->ended, NULL);
+    pthread_condattr_init(&steady);
+    pthread_condattr_setclock(&steady, CLOCK_MONOTONIC);
+    pthread_cond_init(&t->begun, &steady);
+    pthread_condattr_destroy(&steady);
+    return t;
 }
 
 int cvl_threads_start(size_t threads, CvlThreads **started) {
     if (started == NULL) return EINVAL;
     *started = NULL;
-    CvlThreads *t = calloc(1, sizeof *t);
+    if (threads < 1 || threads > CVL_MOST_PARTS) return EINVAL;
+    CvlThreads *t = cvl_threads_made(threads);
     if (t == NULL) return ENOMEM;
-    t->process = getpid();
-    pthread_mutex_init(&t->calls, NULL);
-    pthread_mutex_init(&t->lock, NULL);
-    pthread_cond_init(&t->begun, NULL);
-    pthread_cond_init(&t->ended, NULL);
-    const int failed = start_blocked(t, threads);
+    pthread_mutex_lock(&t->lock);
+    const int failed = start_missing(t, threads);
+    pthread_mutex_unlock(&t->lock);
     if (failed == 0) *started = t;
     else cvl_threads_stop(t);
     return failed;

@@ -1,28 +1,31 @@
 /*
- * The threads of the process. One word says whose they are, whether somebody has them, and how many there are. So they are taken by one
- * step, which a child of a fork, or a handler of signals, finds done or not done.
+ * The threads of the process. One word says whose they are, whether somebody has them, who waits to set another number, and how
+ * many there are. It is changed by single steps, so that a child of a fork, or a handler of signals, finds each done or not done.
  */
 #include "threads.h"
+#include "pools.h"
+#include "process.h"
 
 #include <errno.h>
 #include <pthread.h>
 #include <stdatomic.h>
 #include <time.h>
-#include <unistd.h>
 
-/* The parts of the word: how many threads there are, 0 before anybody asked; whether somebody has them; and above these the process. */
-enum { COUNT = 0xff, TAKEN = 0x100, PROCESS = 32 };
+/*
+ * The parts of the word: how many threads there are; whether somebody has them; how many wait to set a number; and above these
+ * the process.
+ */
+enum { COUNT = 0x7f, TAKEN = 0x80, WAITER = 0x100, WAITING = 0xff00 };
 
+/* It is 0 until somebody asks. */
 static _Atomic uint64_t word;
 
 /* The threads beside the one that calls, or null, and a pool of them: read and written by whoever has them. */
 static CvlThreads *threads;
 static CvlPool pool;
 
-static uint64_t here(void) { return (uint64_t)(uint32_t)getpid() << PROCESS; }
-
 /* Whether a word is this process's. A child of a fork has its parent's word, and none of its threads. */
-static bool is_here(uint64_t seen) { return seen >> PROCESS == here() >> PROCESS; }
+static bool is_here(uint64_t seen) { return seen >> CVL_PROCESS_FROM == cvl_process() >> CVL_PROCESS_FROM; }
 
 static size_t count_of(uint64_t seen) { return (size_t)(seen & COUNT); }
 
@@ -32,22 +35,27 @@ static bool change(uint64_t seen, uint64_t next) {
     return atomic_compare_exchange_strong_explicit(&word, &seen, next, memory_order_acquire, memory_order_relaxed);
 }
 
-static void give(uint64_t next) { atomic_store_explicit(&word, next, memory_order_release); }
-
-/* Sleeps in the place of waiting for a lock, which a child of a fork could find held for ever. */
+/* Sleeps instead of waiting for a lock, which a child of a fork could find held for ever. */
 static void nap(void) {
     const struct timespec time = {0, 50000};
     nanosleep(&time, NULL);
 }
 
-/* Has so many threads in the place of those that there are. The answer is 0, or the number of an error, and then these stay. */
+static void have(CvlThreads *next) {
+    threads = next;
+    pool = cvl_pool_posix(next);
+}
+
+/*
+ * Has so many threads instead of those that there are. The answer is 0, or the number of an error, and then these stay. They are
+ * freed once others are there: the child of a fork that comes between the two would free them again.
+ */
 static int start(size_t count) {
-    CvlThreads *next = NULL;
+    CvlThreads *const before = threads, *next = NULL;
     const int failed = count == 1 ? 0 : cvl_threads_start(count, &next);
     if (failed != 0) return failed;
-    cvl_threads_stop(threads);
-    threads = next;
-    pool = cvl_pool_posix(threads);
+    have(next);
+    cvl_threads_stop(before);
     return 0;
 }
 
@@ -75,47 +83,57 @@ static size_t asked_for(void) {
     return text == NULL ? 1 : number_of(text);
 }
 
-/* The word, once somebody has asked: the first that does reads the variable. */
+/* The word, once somebody has asked: the first that does reads the variable. A call starts the threads that it asks for. */
 static uint64_t asked(void) {
-    uint64_t seen = look();
-    if (seen == 0 && change(0, here() | TAKEN)) {
-        const size_t count = asked_for();
-        give(here() | (start(count) == 0 ? count : 1));
-    }
+    const uint64_t seen = look();
+    if (seen != 0) return seen;
+    change(0, cvl_process() | asked_for());
     return look();
 }
 
-/* How many threads a word says that there are here: 0 before anybody asked. */
-static size_t count_here(uint64_t seen) { return is_here(seen) ? count_of(seen) : seen != 0; }
+/* How many threads a word says that there are here. */
+static size_t count_here(uint64_t seen) { return is_here(seen) ? count_of(seen) : 1; }
 
-size_t cvl_threads(void) {
-    uint64_t seen = asked();
-    while (count_here(seen) == 0) {
-        nap();
-        seen = asked();
+size_t cvl_threads(void) { return count_here(asked()); }
+
+/* Takes the threads to set another number of them, and answers how many there are. Calls that come while this waits run alone. */
+static size_t take_to_set(void) {
+    uint64_t waits = 0;
+    for (;;) {
+        const uint64_t seen = look();
+        if (!is_here(seen)) {
+            if (change(seen, cvl_process() | TAKEN | 1)) return 1;
+        } else if (!(seen & TAKEN)) {
+            if (change(seen, (seen | TAKEN) - waits)) return count_of(seen);
+        } else if (waits == 0 && (seen & WAITING) != WAITING) {
+            if (change(seen, seen + WAITER)) waits = WAITER;
+        } else {
+            nap();
+        }
     }
-    return count_here(seen);
 }
 
 int cvl_set_threads(size_t count) {
     int cancels;
-    uint64_t seen = look();
     if (count < 1 || count > CVL_MOST_PARTS) return EINVAL;
+    const uint64_t seen = asked();
     if (is_here(seen) && count_of(seen) == count) return 0;
     pthread_setcancelstate(PTHREAD_CANCEL_DISABLE, &cancels);
-    while ((is_here(seen) && (seen & TAKEN)) || !change(seen, here() | TAKEN | count_here(seen))) {
-        nap();
-        seen = look();
-    }
+    const size_t before = take_to_set();
     const int failed = start(count);
-    give(failed == 0 ? here() | count : seen == 0 ? 0 : here() | count_here(seen));
+    /* by a sum, since others may begin to wait meanwhile */
+    atomic_fetch_add_explicit(&word, (failed == 0 ? count : before) - before - (uint64_t)TAKEN, memory_order_release);
     pthread_setcancelstate(cancels, &cancels);
     return failed;
 }
 
 const CvlPool *cvl_take_threads(void) {
     const uint64_t seen = asked();
-    return count_of(seen) > 1 && !(seen & TAKEN) && is_here(seen) && change(seen, seen | TAKEN) ? &pool : NULL;
+    if (count_of(seen) == 1 || (seen & (TAKEN | WAITING)) || !is_here(seen) || !change(seen, seen | TAKEN)) return NULL;
+    if (threads == NULL) have(cvl_threads_made(count_of(seen)));
+    if (threads != NULL) return &pool;
+    cvl_give_threads(cvl_done());
+    return NULL;
 }
 
 CvlStatus cvl_give_threads(CvlStatus status) {

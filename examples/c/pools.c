@@ -311,15 +311,15 @@ static void children(void) {
 
 static atomic_bool hold_waits, waits_are_held;
 
-/* The linker puts this in the place of pthread_cond_wait (--wrap): a thread that would wait keeps the lock while waits are held. */
-int __real_pthread_cond_wait(pthread_cond_t *condition, pthread_mutex_t *lock);
-int __wrap_pthread_cond_wait(pthread_cond_t *condition, pthread_mutex_t *lock);
-int __wrap_pthread_cond_wait(pthread_cond_t *condition, pthread_mutex_t *lock) {
+/* The linker puts this in place of pthread_cond_timedwait (--wrap): a thread that would wait keeps the lock while waits are held. */
+int __real_pthread_cond_timedwait(pthread_cond_t *condition, pthread_mutex_t *lock, const struct timespec *until);
+int __wrap_pthread_cond_timedwait(pthread_cond_t *condition, pthread_mutex_t *lock, const struct timespec *until);
+int __wrap_pthread_cond_timedwait(pthread_cond_t *condition, pthread_mutex_t *lock, const struct timespec *until) {
     while (atomic_load(&hold_waits)) {
         atomic_store(&waits_are_held, true);
         usleep(200);
     }
-    return __real_pthread_cond_wait(condition, lock);
+    return __real_pthread_cond_timedwait(condition, lock, until);
 }
 
 /* A child calls, and doesn't wait for the lock, which nobody there gives back. There are no other threads of a pool. */

@@ -12,7 +12,7 @@
 #include <sys/mman.h>
 #include <unistd.h>
 
-enum { STACK = 2 * CVL_MOST_STACK, THREADS = 4, MOST_STACKS = 64, PAINT = 0xa5, SECONDS = 300 };
+enum { STACK = 2 * CVL_MOST_STACK, THREADS = 4, MOST_STACKS = 256, PAINT = 0xa5, SECONDS = 300 };
 
 /* ---- memory: the linker puts this in the place of malloc (--wrap) */
 

@@ -91,10 +91,13 @@ fn an_error_has_its_number() {
 
 fn long_calls_run_on_them(before: usize) {
     let long = Long::new();
+    let a = ints(LONG);
     for threads in [4, 2, 1] {
         set(threads);
         long.calls_are_right().unwrap();
         long.faults_are_told();
+        // those that waited for a second without work have ended
+        assert_eq!(cvl::add_ruz(&a), Ok(sum(&a)));
         assert!(comes_to(before + threads - 1), "{} threads by {threads}", of_the_process());
     }
 }

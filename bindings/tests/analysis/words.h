@@ -16,6 +16,7 @@ enum { memory_order_relaxed, memory_order_acquire, memory_order_release };
 #define atomic_init(at, value) (*(at) = (value))
 #define atomic_load_explicit(at, order) (*(at))
 #define atomic_store_explicit(at, value, order) (*(at) = (value))
+#define atomic_fetch_add_explicit(at, value, order) (*(at) += (value))
 #define atomic_fetch_and_explicit(at, value, order) (*(at) &= (value))
 #define atomic_compare_exchange_strong_explicit(at, seen, next, order, other)                                                  \
     (*(at) == *(seen) ? (*(at) = (next), 1) : (*(seen) = *(at), 0))

@@ -1,11 +1,17 @@
-/* threads.c: the threads of the process, as one of them sees them, and the pools: threads.c and pools.c. */
+/* threads.c: the threads of the process, as one of them sees them, and the pools: threads.c, process.c and pools.c. */
 #include "drivers.h"
+#include "process.h"
 
 #include <errno.h>
 #include <unistd.h>
 
 extern pid_t process;
 extern char *variable;
+
+/* What the system does: the child of a fork begins, and the thread that was started last runs till it ends. */
+extern bool one_pool;
+void begin_child(void);
+void run_started(void);
 
 static void shared(size_t n) { (void)cvl_int_scan_shared(CVL_ADD, ints[n], n, room[n], n); }
 
@@ -29,6 +35,7 @@ static void children(void) {
     (void)cvl_set_threads(3);
     const CvlPool *const taken = cvl_take_threads();
     process = 8;
+    begin_child();
     shared(MOST);
     (void)cvl_threads();
     (void)cvl_set_threads(2);
@@ -39,12 +46,16 @@ static void children(void) {
 }
 
 static void pools(void) {
+    one_pool = 1;
     for (refused = 3; refused >= -1; refused--) {
         CvlThreads *threads = NULL;
         asked = 0;
         (void)cvl_threads_start(3, NULL);
+        (void)cvl_threads_start(0, &threads);
         if (cvl_threads_start(3, &threads) == 0) {
             pool = cvl_pool_posix(threads);
+            (void)cvl_int_scan_on(&pool, CVL_ADD, ints[MOST], MOST, room[MOST], MOST);
+            run_started();
             (void)cvl_int_scan_on(&pool, CVL_ADD, ints[MOST], MOST, room[MOST], MOST);
         }
         cvl_threads_stop(threads);
@@ -65,6 +76,7 @@ void variables(void) {
 
 void threads_of_process(void) {
     fill(5, 1);
+    cvl_watch_forks();
     shared(MOST);
     numbers();
     children();
