@@ -107,7 +107,8 @@ THREADS = (
     "may have its parent's number; after _Fork or clone, which run no handlers, by its number alone.",
     "At exit nothing is owed: the threads end with the process. The shared object stays where it is after dlclose, so that they "
     "never go on in memory that is gone; cvl_set_threads(1) ends them. An object of one's own that has the archive inside is "
-    "linked by -z nodelete where it may be unloaded, or calls cvl_set_threads(1) before.",
+    "linked by -z nodelete where it may be unloaded, or calls cvl_set_threads(1) before; a thread that has ended by itself at "
+    "that very moment, a second after its last work, may then still be about to return.",
 )
 OF_THREADS = (
     (

@@ -195,7 +195,8 @@ const char *cvl_fault_name(uint32_t number);
  *
  * At exit nothing is owed: the threads end with the process. The shared object stays where it is after dlclose, so that they
  * never go on in memory that is gone; cvl_set_threads(1) ends them. An object of one's own that has the archive inside is
- * linked by -z nodelete where it may be unloaded, or calls cvl_set_threads(1) before.
+ * linked by -z nodelete where it may be unloaded, or calls cvl_set_threads(1) before; a thread that has ended by itself at that
+ * very moment, a second after its last work, may then still be about to return.
  */
 /*
  * Says how many threads there are for long calls, 1 to 64, with the one that calls. The answer is 0; EINVAL where it is no such
