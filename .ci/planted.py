@@ -39,7 +39,7 @@ EDITS = {
     "docs/performance/draw": [("docs/performance.svg", "</svg>", "<!-- another --></svg>")],
     "docs/pictures/draw": [("docs/pictures/pack.svg", "</svg>", "<!-- another --></svg>")],
     "bindings/generate": [("include/cvl.h", "", "/* another */\n")],
-    # one of its files is made in the place of all, which take half a minute
+    # one of its files is made instead of all, which takes half a minute
     "crates/script_cases/generate": [
         ("crates/script_cases/generate", "names = list(FILES)", 'names = ["again"]'),
         ("crates/script_cases/data/generated-again.cases", "", "== case another\n"),

@@ -78,7 +78,7 @@ static void take_own_faults(void) {
     pthread_sigmask(SIG_UNBLOCK, &faults, NULL);
 }
 
-/* Parts that came while the time ran out are taken: who begins a call counts on each thread that has not left. */
+/* Parts that came while the time ran out are taken: a call counts on each thread that has not left. */
 static void *wait_for_parts(void *threads) {
     CvlThreads *t = threads;
     bool in_vain = 0;

@@ -36,7 +36,7 @@ int cvl_learn_kinds(void) {
 
 static int is_room(const Operand *operand) { return cvl_needs[operand->kind].flags == TO_WRITE; }
 
-/* What to write in the place of an object that is no array. A copy of a room would be another room, so none is advised. */
+/* What to write instead of an object that is no array. A copy of a room would be another room, so none is advised. */
 static PyObject *advice_for(const Operand *operand) {
     const char *written = cvl_needs[operand->kind].element->written;
     if (is_room(operand)) return PyUnicode_FromFormat("a room is made by numpy.empty(n, dtype=%s)", written);

@@ -1,5 +1,5 @@
-/* Threads that are refused: loaded before the C library, it lets so many more start as it is told, and refuses the others, as a
-   system does that has too many. */
+/* Threads that are refused: loaded before the C library, this starts as many more threads as a test says, and refuses the others,
+   as a system does that has too many. */
 #define _GNU_SOURCE
 #include <dlfcn.h>
 #include <errno.h>
