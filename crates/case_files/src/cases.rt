@@ -135,13 +135,32 @@ fn number_of<'a>(section: &Section<'a>, word: &str) -> Result<u64, Trouble<'a>> 
     word.parse().ok().ok_or(Trouble::Heading(section.heading))
 }
 
-/// Puts lines without their last line feed behind other bytes, so many times.
-fn put_times(place: &mut Vec<u8>, lines: &[u8], times: u64) -> Result<(), NoResources> {
-    let piece = lines.strip_suffix(b"\n".as_slice()).unwrap_or(lines);
+/// How many of a piece's copies are put behind one another at once.
+const COPIES_AT_ONCE: u64 = 1_000;
+
+/// Puts a piece behind other bytes, so many times.
+fn put_copies(place: &mut Vec<u8>, piece: &[u8], times: u64) -> Result<(), NoResources> {
     for _ in 0..times {
         place.extend_from_slice(piece)?;
     }
     Ok(())
+}
+
+/// Puts lines without their last line feed behind other bytes, so many times. They are often a single byte that is wanted twenty
+/// million times, so a thousand copies are put at once.
+fn put_times(
+    alloc: Global,
+    place: &mut Vec<u8>,
+    lines: &[u8],
+    times: u64,
+) -> Result<(), NoResources> {
+    let piece = lines.strip_suffix(b"\n".as_slice()).unwrap_or(lines);
+    let mut copies = Vec::new(alloc);
+    if times >= COPIES_AT_ONCE {
+        put_copies(&mut copies, piece, COPIES_AT_ONCE)?;
+    }
+    put_copies(place, &copies, times / COPIES_AT_ONCE)?;
+    put_copies(place, piece, times % COPIES_AT_ONCE)
 }
 
 /// Puts the bytes of the file of this name behind other bytes.
@@ -171,7 +190,7 @@ fn put_content<'a, R: Files + AllocGlobal>(
     match section.rest.strip_prefix("times ") {
         Some(times) => {
             let times = number_of(section, times)?;
-            Ok(put_times(place, &section.lines, times)?)
+            Ok(put_times(rt.alloc(), place, &section.lines, times)?)
         }
         None => put_file(rt, folder, section.rest, place),
     }

@@ -1,4 +1,17 @@
-"""The text of cases, each with what a plain reading makes of it."""
+"""The text of cases, each with what a plain reading makes of it.
+
+A case names the tiles and workers by which its calls go different ways, and one pair of them where all go the same way:
+
+- In tiles of fewer than 1,024 elements workers race for the tiles of a scan, a reduce, a pack, a permute, a division and a shift,
+  and no more of them than there are tiles. So each length of tiles counts, and each number of workers up to that of the tiles.
+- In longer tiles one thread makes these calls, whatever the tiles and the workers, up to 262,143 elements.
+- No other call goes by the tiles. Threads share one, an input or a text only from the lengths on that `long.py` and
+  `long_calls.py` are about, and then as many as the workers are, but no more than it has shares.
+
+Starting a thread takes longer than a call on a short vector: the thread that calls has taken all tiles before another one has
+begun. So most short vectors are cut into tiles for one worker, and some for several. `crates/test_runs` holds workers at each
+tile, so that they do race.
+"""
 
 import scripts
 
@@ -11,6 +24,11 @@ def number_lines(values):
 def tiles(*pairs):
     """Headings of lengths of tiles with numbers of workers, each as `1 2 3` and `1 5`."""
     return "".join(f"== tile {lengths} workers {workers}\n" for lengths, workers in pairs)
+
+
+def differing(workers, shares):
+    """Those of the numbers of workers, the last of which is the greatest, by which different numbers of threads take so many shares."""
+    return " ".join(map(str, {min(some, shares): some for some in workers}.values()))
 
 
 def refused(requests):

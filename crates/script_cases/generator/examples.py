@@ -4,7 +4,8 @@ from calls import GREATEST, LEAST
 from cases import number_lines, tiles
 from scripts import text_of
 
-SETTINGS = tiles(("2", "3"), ("4096", "1"))
+# in tiles, and by one thread at once; `examples.cases` has each script on several workers
+SETTINGS = tiles(("2", "1"), ("4096", "3"))
 
 
 def case(name, file, write, rows):

@@ -1,6 +1,6 @@
 """Long inputs that several threads read, and long texts that several threads write, in pieces that stand many times."""
 
-from cases import outcome, refused, tiles
+from cases import differing, outcome, refused, tiles
 from scripts import run, words_of
 
 # from how many bytes on several threads read an input, and how many each of them has at least; the same of the elements of a
@@ -10,6 +10,11 @@ LEAST_WRITTEN, LEAST_WRITTEN_EACH = 32768, 16384
 
 # how many elements a vector has at most whose text is made whole, and how many of a longer one are in a piece of its text
 MOST_WHOLE, PIECE = 262144, 65536
+
+def shares_of(count, least, each):
+    """How many threads at most share so many bytes or elements."""
+    return count // each if count >= least else 1
+
 
 SHOWN = "a = input {0}\nn = len_luz a\nwrite n\ns = xor_ruz a\nwrite s\ni = ind_luz 0 997 {1}\nt = bck_puz a i\nwrite t\n"
 
@@ -88,9 +93,12 @@ def inputs(rng):
                 runs = [with_piece(RUNS[k][0], share, share // 2, RUNS[k][1]) for k in (first, second, third)]
                 text += one_input(f"runs {first}, {second} and {third}", tiles(("4096", "3")), [piece for one in runs for piece in one])
     for length in [most + more for most in (LEAST_READ, 5 * LEAST_READ_EACH) for more in (-1, 0, 1)]:
+        shares = shares_of(length, LEAST_READ, LEAST_READ_EACH)
         for part in range(14):
             pieces = with_piece(" -7 12 340", length, length // 12 * part, "x") if part < 13 else filled(" -7 12 340", length)
-            text += one_input(f"{length} bytes with a wrong one in part {part}", tiles(("4096", "1 2 3 4 64")), pieces)
+            # as many threads as there are shares, and fewer, each number of them in turn
+            workers = differing([part % shares + 1, 64], shares)
+            text += one_input(f"{length} bytes with a wrong one in part {part}", tiles(("4096", workers)), pieces)
     for number, (filling, first, last) in enumerate(WHOLE):
         middle = LEAST_READ - len(first) - len(last)
         text += one_input(f"an input of one run, {number}", tiles(("4096", "3 4")), [(first, 1), *filled(filling, middle), (last, 1)])
@@ -168,6 +176,12 @@ def shape_pieces(words, shape):
     return shown, numbers
 
 
+def numbers_of_workers(count):
+    """Numbers of workers who share the text of so many elements or segments; the most alone where there is a share for each."""
+    shares = shares_of(count, LEAST_WRITTEN, LEAST_WRITTEN_EACH)
+    return differing([1, 2, 3, 64] if shares < 64 else [64], shares)
+
+
 def nests(number, shape):
     text = ""
     for words, lines in ((NUMBERS, "v = input 2\n"), (FLAGS, "v = input 2\nv = boo_wuz v\n")):
@@ -176,7 +190,8 @@ def nests(number, shape):
         # the first segment has no space before it
         first, times = shown[0]
         shown = [("v = [" + first[1:], 1), (first, times - 1), *shown[1:], ("]\n", 1)]
-        workers = "1 2 3 64" if sum(sum(some) * times for some, times in shape) < 64 * EACH else "64"
+        count = max(sum(measure(some) * times for some, times in shape) for measure in (sum, len))
+        workers = numbers_of_workers(count)
         text += f"== case nest {number} of {'numbers' if words is NUMBERS else 'flags'}\n{tiles(('4096', workers))}" \
             f"{section('input', lengths)}{section('input', numbers)}== script\nl = input 1\nd = mke_fov l\n{lines}write v d\n{section('text', shown)}"
     return text
@@ -186,12 +201,12 @@ def texts(rng):
     text = ""
     counts = [0, 1, 2, 1024, 1025, 1026, *(share + more for share in (LEAST_WRITTEN, 3 * EACH, 64 * EACH) for more in (0, 1, 2))]
     for count in counts:
-        workers = "1 2 3 64" if count < 64 * EACH else "64"
+        workers = numbers_of_workers(count)
         text += vectors(f"{count} numbers", workers, "v = input 1\nwrite v\n", NUMBERS, count)
         text += vectors(f"{count} flags", workers, "v = input 1\nv = boo_wuz v\nwrite v\n", FLAGS, count)
     for count in counts[6:9]:
         lengths = range(100)
-        text += vectors(f"{count} lengths", "1 2 3", "v = input 1\nv = mke_fov v\nwrite v\n", lengths, count, lengths)
+        text += vectors(f"{count} lengths", "1 3", "v = input 1\nv = mke_fov v\nwrite v\n", lengths, count, lengths)
     # the most whose text is made whole; behind the first element whole pieces and an element more, by one worker and by three
     for count in (MOST_WHOLE, *(1 + pieces * PIECE + more for pieces in (4, 6) for more in (0, 1))):
         for kind, lines, words, numbers in (

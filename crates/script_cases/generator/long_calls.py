@@ -1,12 +1,18 @@
 """Calls on long vectors, which workers race for or threads share, about the lengths from which on they do, with faults."""
 
 from calls import GREATEST, LEAST
-from cases import number_lines, refused, tiles, whole
+from cases import differing, number_lines, refused, tiles, whole
 
-# how many elements permutes have: a power of two, so that a stride of an odd number names each place once
-PLACES = 2**20
+# how many elements permutes have, of which four threads take 131,072 each: a power of two, so that a stride of an odd number names
+# each place once; and how many where memory is refused, of which two threads take as many
+PLACES, REFUSED_PLACES = 2**19, 2**18
 
-PERMUTED = f"n = dis_vuz {PLACES - 1} {PLACES}\nv = ind_luz 0 1 {PLACES}\ni = ind_luz 0 249989 {PLACES}\ni = and_wuz i n\n"
+
+def permuted(places):
+    return f"n = dis_vuz {places - 1} {places}\nv = ind_luz 0 1 {places}\ni = ind_luz 0 249989 {places}\ni = and_wuz i n\n"
+
+
+PERMUTED = permuted(PLACES)
 
 # in segments of half the places
 HALVES = f"h = dis_vuz {PLACES // 2} 2\nd = mke_fov h\nm = dis_vuz {PLACES // 2 - 1} {PLACES}\ni = and_wuz i m\n"
@@ -22,7 +28,7 @@ PERMUTES = [
 ]
 
 # places whose index is another one: one that is no place, or none for that of the place before
-FLAWS = [[(599_990, -1)], [(599_990, PLACES)], [(599_990, None)], [(170_000, None), (599_990, -1)], [(PLACES - 1, None)]]
+FLAWS = [[(299_990, -1)], [(299_990, PLACES)], [(299_990, None)], [(85_000, None), (299_990, -1)], [(PLACES - 1, None)]]
 
 
 def permutes(rng):
@@ -40,11 +46,12 @@ def permutes(rng):
             line = changed.count("\n") + 1
             stop = f"line {line}: fault " + ("11 IndexRepeated" if dict(flaws)[first] is None else "10 IndexOutOfRange") + f" at {first}\n"
             text += f"== case long {name} with a fault, {number}\n{settings}== script\n{changed}{call}== stop\n{stop}"
-    changed = PERMUTED + "i = rep_vuz i 599990 0\n"
+    start = permuted(REFUSED_PLACES)
+    changed = start + "i = rep_vuz i 199990 0\n"
     short = tiles(("4096", "4")) + refused(14)
-    text += f"== case a long permute where memory is refused\n{short}== script\n{PERMUTED}p = smp_puz v i\nx = ext_vuz p 0\nwrite x\n== text\nx = 0\n"
+    text += f"== case a long permute where memory is refused\n{short}== script\n{start}p = smp_puz v i\nx = ext_vuz p 0\nwrite x\n== text\nx = 0\n"
     text += f"== case a long permute at fault where memory is refused\n{short}== script\n{changed}p = smp_puz v i\n" \
-        "== stop\nline 6: fault 11 IndexRepeated at 599990\n"
+        "== stop\nline 6: fault 11 IndexRepeated at 199990\n"
     return text
 
 
@@ -105,7 +112,8 @@ STEPS = [1048576, -1048576, 4194304, -4194304, 4194303, -4194303, 8388608, -8388
 def blocks(rng):
     """Scans whose sums stop to fit at each place about the ends of blocks of 512."""
     text = ""
-    settings = tiles(("1024 65536", "1 3"))
+    # by one thread at once, and in tiles whose ends are no ends of blocks
+    settings = tiles(("4096", "1"), ("1000", "2"))
     ends = "r = tot_suz a\nn = max_ruz r\nwrite n\n"
     for place in BLOCK_PLACES:
         for first, second in PAIRS:
@@ -132,7 +140,7 @@ def divisions(rng):
         for count in (262143, 262144, 600000):
             start = f"a = dis_vuz 7 {count}\nb = dis_vuz {good} {count}\n"
             ends = f"q = {call} a b\ne = eql_wuz q a\nt = and_rub e\nwrite t\n"
-            settings = tiles(("4096", "1 4"))
+            settings = tiles(("4096", differing([1, 4], count // 131_072 if count >= 262_144 else 1)))
             text += f"== case {call} of {count} elements\n{settings}== script\n{start}{ends}== text\nt = T\n"
             flawed = start + f"b = rep_vuz b {count - 1} {wrong}\nb = rep_vuz b {count - 10} {wrong}\n"
             text += f"== case {call} of {count} elements with two faults\n{settings}== script\n{flawed}{ends}== stop\nline 5: fault {fault} at {count - 10}\n"
@@ -164,7 +172,7 @@ def turned(lengths):
 
 def walks(rng):
     text = ""
-    settings = tiles(("3 4096", "1 3"))
+    settings = tiles(("3", "3"), ("4096", "1"))
     count = sum(SUMMED)
     script = f"l = input 1\na = ind_luz 12345 {STRIDE} {count}\nz = dis_vuz 0 {count}\n" + REDUCED
     text += whole("reduces of short segments", settings, script, [number_lines(SUMMED)])

@@ -80,6 +80,11 @@ def script_of(rng, inputs):
 SEGMENTS = "l = input 1\nv = input 2\nd = mke_fov l\nwrite v d\ns = add_sez v d\nwrite s d\nr = add_rez v d\nwrite r\n"
 
 
+# the tiles and workers of a script, whose vectors are short: in one length of tiles by several workers or by one, and otherwise
+# in another, or by one thread
+RUN_ON = [tiles(("1", "3"), ("4096", "1")), tiles(("2", "3"), ("1", "1")), tiles(("2", "1"), ("4096", "3"))]
+
+
 def cases(rng):
     text = ""
     for number in range(300):
@@ -87,7 +92,8 @@ def cases(rng):
         vectors = [[rng.randint(-4, 4) for _ in range(count)], rng.sample(range(count), count)]
         lists = [[rng.randint(0, 3) for _ in range(rng.randint(0, 3))] for _ in range(rng.randint(0, 5))]
         inputs = [*map(number_lines, vectors), "[" + " ".join(f"[{number_lines(one)}]" for one in lists) + "]"]
-        settings = tiles(("1 2 4096", "1 3")) if number % 4 else tiles(("1", "3")) + refused(4)
+        # what a worker does who is refused memory is shown for each call by itself; here it is the line that is named, and the text
+        settings = RUN_ON[number % 4 - 1] if number % 4 else tiles(("1", "1" if number % 20 else "3")) + refused(4)
         text += whole(f"random script {number}", settings, script_of(rng, inputs), inputs)
     return text
 

@@ -40,17 +40,21 @@ PERMUTES = [
 ]
 
 
+# the two pairs of tiles and workers of a list: by one worker, and in half of the lists by several, who are two where there are two
+# tiles, and one where there is one
+LISTED = [tiles(("1", "3"), ("3", "1")), tiles(("2 4", "1")), tiles(("3", "2"), ("1", "1")), tiles(("4", "3"), ("2", "1"))]
+
+
 def permutes(rng):
-    """Every list of up to four indices, those from -1 to 4."""
+    """Every list of up to four indices, those from -1 to 4, each in tiles of two lengths."""
     text = ""
     for name, script, inputs, last in PERMUTES:
         rows = [[] for _ in range(4)]
         for number, index in enumerate(lists(range(-1, 5), 4)):
             made = {"i": index, "f": [rng.random() < 0.7 for _ in index], "l": cuts(rng, len(index), 3)}
             rows[number % 4].append([number_lines(made[kind]) for kind in last])
-        for tile, some in enumerate(rows, 1):
-            settings = tiles((tile, "2"), ((tile + 1) % 4 + 1, "1 3"))
-            text += each(f"{name} of every short list, in tiles of {tile}", settings, script + "\n", inputs, some)
+        for number, (settings, some) in enumerate(zip(LISTED, rows), 1):
+            text += each(f"{name} of every short list, part {number}", settings, script + "\n", inputs, some)
     return text
 
 
@@ -76,21 +80,26 @@ def with_empty(rng, lengths):
     return [*lengths[:place], 0, *lengths[place:]]
 
 
+def cut_and_raced(name, script, rows):
+    """The rows in each cut into tiles by one worker, and some of them raced for: so many that each kind of overflow is among them."""
+    inputs = [number_lines(OVERFLOWING)]
+    text = each(name, tiles(("1 2 3", "1")), script, inputs, rows)
+    return text + each(f"{name}, by several workers", tiles(("1", "3"), ("2", "2")), script, inputs, rows[::7])
+
+
 def checked(rng):
     text = ""
-    inputs = [number_lines(OVERFLOWING)]
-    settings = tiles(("1", "3"), ("2", "2"), ("3", "1"))
     vectors = lists(range(5), 4)
     for name in ("tot_suz", "tot_ruz"):
         rows = [[number_lines(v)] for v in vectors]
-        text += each(f"{name} of every short vector", settings, f"{NAMED}r = {name} v\nwrite r\n", inputs, rows)
+        text += cut_and_raced(f"{name} of every short vector", f"{NAMED}r = {name} v\nwrite r\n", rows)
     for name, by in (("tot_sez", " d"), ("tot_rez", "")):
         rows = []
         for number, v in enumerate(vectors):
             some = [lengths for k, lengths in enumerate(every_cut(len(v))) if len(v) < 4 or k % 4 == number % 4]
             rows += [[number_lines(v), number_lines(with_empty(rng, lengths))] for lengths in some]
         script = f"{NAMED}{LENGTHS.format(3)}r = {name} v d\nwrite r{by}\n"
-        text += each(f"{name} of every short vector in segments", settings, script, inputs, rows)
+        text += cut_and_raced(f"{name} of every short vector in segments", script, rows)
     return text
 
 
@@ -117,9 +126,9 @@ def first_segments(total):
 def in_tiles(rng):
     """Scans and reduces by each operator of the first elements, each number of them, flat and in segments."""
     text = ""
-    # more tiles and workers for a sum, and for an operator whose identity is no zero
+    # every cut for a sum, and for an operator whose identity is no zero; all operators are walked and joined alike
     for name, x, is_full in [(op, "z", op in ("add", "max")) for op in INT_MONOIDS] + [(op, "b", op == "xor") for op in BOOL_MONOIDS]:
-        settings = tiles(("1 2 3 4 5 6 7 8", "1"), ("1 2 3 5 7", "3"), ("2", "7")) if is_full else tiles(("1 4", "2"), ("3", "3"))
+        settings = tiles(("1 2 3 4 5 6 7 8", "1"), ("1", "3"), ("2", "7"), ("5", "2")) if is_full else tiles(("1", "2"), ("3", "3"), ("4", "1"))
         start = "a = input 1\n" + ("" if x == "z" else "a = boo_wuz a\n") + "o = input 2\n"
         flat = by_segments = start
         for count in range(LONGEST + 1):
@@ -140,7 +149,7 @@ def elementwise(rng):
     pairs = list(product(EDGES, repeat=2))
     for name in [*INT2, *COMPARE]:
         rows = [[number_lines(xs) for xs in zip(*pairs)]]
-        text += each(f"{name}_wuz of each two edges", tiles(("1 4096", "3")), f"a = input 1\nb = input 2\nr = {name}_wuz a b\nwrite r\n", [], rows)
+        text += each(f"{name}_wuz of each two edges", tiles(("2", "3")), f"a = input 1\nb = input 2\nr = {name}_wuz a b\nwrite r\n", [], rows)
     for name, (_, function) in PARTIAL.items():
         script = f"a = input 1\nb = input 2\nr = {name}_wuz a b\nwrite r\n"
         good = [pair for pair in product(EDGES, EDGES + list(range(32))) if function(*pair) is not None]
@@ -161,7 +170,9 @@ def again(rng):
     text += each("the least bad index of segments every time", tiles(("16", "8")), script, ["250 250 0 500"], [["0 250 500 500"]], 100)
     for name in ("add", "max"):
         script = f"l = input 1\nd = mke_fov l\nv = input 2\nr = {name}_sez v d\nwrite r d\n"
-        text += each(f"{name}_sez every time", tiles(("1 2 3 4 5 6", "1 2 3 64")), script, ["2 3"], [["1 2 3 4 5"]], 50)
+        # five elements are five tiles, three, two or one, for which no more workers race
+        text += each(f"{name}_sez every time", tiles(("1", "2 3 64"), ("2", "3"), ("3 4", "2")), script, ["2 3"], [["1 2 3 4 5"]], 50)
+        text += each(f"{name}_sez by one worker", tiles(("1 2 3 4", "1"), ("5", "64")), script, ["2 3"], [["1 2 3 4 5"]])
     return text
 
 

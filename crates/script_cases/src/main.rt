@@ -8,9 +8,11 @@
 #![tactic(auto)]
 
 mod differences;
+mod kept_room;
 mod outcomes;
 
 use crate::differences::{tell_difference, tell_flaw};
+use crate::kept_room::keep_room;
 use crate::outcomes::{comes_out, outcome_of};
 use case_files::{Case, SingleRun, Trouble, cases_of, runs_of};
 use cvl_base::NoResources;
@@ -151,5 +153,6 @@ fn run_words<R: Env + Files + AllocGlobal + Threads + Sync, W: Write, E: Write>(
 
 fn main(rt: HostRuntime) -> ExitCode {
     let (mut output, mut errors) = (rt.stdout(), rt.stderr());
+    let _room = keep_room(rt.alloc());
     ExitCode::from(run_words(&rt, &mut output, &mut errors).unwrap_or(FAILED))
 }
