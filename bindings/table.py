@@ -294,6 +294,16 @@ def word(kind):
     return {"ints": "integer", "flags": "boolean"}[kind]
 
 
+def joining(kind):
+    """The operators that join elements, by which scans and reduces are made."""
+    return MONOIDS if kind == "ints" else OF_FLAGS
+
+
+def first_to_last(operators):
+    """Operators whose numbers follow one another, as a page names them."""
+    return f"CVL_{operators[0]} to CVL_{operators[-1]}"
+
+
 SHAPE_ONE = "a and out have n elements."
 SHAPE_TWO = "a, b and out have n elements."
 PACKED = "out has room for so many; room for n is always enough. *count is how many they are, also where there is not room for them."
@@ -361,13 +371,13 @@ FAMILIES = (
     # ---- scans and reduces ----
     *twins(
         ("int_scan", "bool_scan"), "scans and reduces", lambda kind: (items(kind, "a"), room(kind)),
-        lambda kind: f"For each {word(kind)} those before it, joined by the operator, of CVL_{'ADD' if kind == 'ints' else 'AND'} to CVL_XOR.",
-        operators=lambda kind: MONOIDS if kind == "ints" else OF_FLAGS, in_place=(("a",),), cut=("scan", "n"), shape=SHAPE_ONE,
+        lambda kind: f"For each {word(kind)} those before it, joined by the operator, of {first_to_last(joining(kind))}.",
+        operators=joining, in_place=(("a",),), cut=("scan", "n"), shape=SHAPE_ONE,
     ),
     *twins(
         ("int_reduce", "bool_reduce"), "scans and reduces", lambda kind: (any_items(kind, "a"), single(one(kind))),
-        lambda kind: f"The {word(kind)}s joined by the operator, of CVL_{'ADD' if kind == 'ints' else 'AND'} to CVL_XOR.",
-        operators=lambda kind: MONOIDS if kind == "ints" else OF_FLAGS, cut=("reduce", "n"),
+        lambda kind: f"The {word(kind)}s joined by the operator, of {first_to_last(joining(kind))}.",
+        operators=joining, cut=("reduce", "n"),
     ),
     # ---- sums that never wrap ----
     family(
@@ -443,14 +453,14 @@ FAMILIES = (
     # ---- scans and reduces of segments ----
     *twins(
         ("seg_int_scan", "seg_bool_scan"), "scans and reduces of segments", lambda kind: (items(kind, "a"), lengths(), room(kind)),
-        lambda kind: f"For each {word(kind)} those before it in its segment, joined by the operator, of CVL_{'ADD' if kind == 'ints' else 'AND'} to CVL_XOR.",
-        operators=lambda kind: MONOIDS if kind == "ints" else OF_FLAGS, limit=None, in_place=(("a",),), faults=(SUM_OF_N,), cut=("seg_scan", "n"),
+        lambda kind: f"For each {word(kind)} those before it in its segment, joined by the operator, of {first_to_last(joining(kind))}.",
+        operators=joining, limit=None, in_place=(("a",),), faults=(SUM_OF_N,), cut=("seg_scan", "n"),
         shape=SHAPE_ONE,
     ),
     *twins(
         ("seg_int_reduce", "seg_bool_reduce"), "scans and reduces of segments", lambda kind: (any_items(kind, "a"), lengths(), room(kind, "segments")),
-        lambda kind: f"The {word(kind)}s of each segment joined by the operator, of CVL_{'ADD' if kind == 'ints' else 'AND'} to CVL_XOR.",
-        operators=lambda kind: MONOIDS if kind == "ints" else OF_FLAGS, limit=None, faults=(SUM_OF_N,), cut=("seg_reduce", "n"),
+        lambda kind: f"The {word(kind)}s of each segment joined by the operator, of {first_to_last(joining(kind))}.",
+        operators=joining, limit=None, faults=(SUM_OF_N,), cut=("seg_reduce", "n"),
         shape="a has n elements, out one for each segment.",
     ),
     # ---- packs and counts of segments ----
@@ -615,8 +625,8 @@ FAMILIES = (
     *twins(
         ("int_scan_after", "bool_scan_after"), "scans in parts, by threads of the caller's",
         lambda kind: (value("before", one(kind)), items(kind, "a"), room(kind)),
-        lambda kind: f"For each {word(kind)} `before`, joined by the operator, of CVL_{'ADD' if kind == 'ints' else 'AND'} to CVL_XOR, with those in front of it.",
-        operators=lambda kind: MONOIDS if kind == "ints" else OF_FLAGS, in_place=(("a",),), shape=SHAPE_ONE,
+        lambda kind: f"For each {word(kind)} `before`, joined by the operator, of {first_to_last(joining(kind))}, with those in front of it.",
+        operators=joining, in_place=(("a",),), shape=SHAPE_ONE,
     ),
     # ---- calls in parts ----
     family(

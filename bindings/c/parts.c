@@ -27,7 +27,7 @@ CvlStatus cvl_int2_on(const CvlPool *pool, uint32_t op, const int32_t *a, size_t
         w.b = b, w.b_len = b_len;
         w.out = out, w.size = sizeof *out, w.out_len = out_len;
         w.part = int2_part;
-        if (op >= CVL_DIV) w.look = int2_look;
+        if (op >= CVL_DIV && op <= CVL_RSH) w.look = int2_look;
         const bool done = cvl_in_places(pool, &w);
         cvl_let_go(&w);
         if (done) return w.told;

@@ -147,6 +147,11 @@ def operators():
     return "\n".join(f"    CVL_{found.name} = {found.number}{' ' if found is last else ','} /* {found.sentence} */" for found in table.OPERATORS)
 
 
+def of_operators():
+    flags = ", ".join(f"CVL_{name}" for name in table.OF_FLAGS)
+    return f"The numbers of operators. On two integers: {table.first_to_last(table.BINARY)}; on two booleans: {flags}."
+
+
 def statuses():
     return ",\n".join(f"    CVL_{constant(name)} = {number}" for number, name in table.STATUSES)
 
@@ -186,6 +191,7 @@ def header(template):
             "of_descriptors": declared(about.OF_DESCRIPTORS),
             "statuses": statuses(),
             "most": f"enum {{ CVL_MOST_ELEMENTS = {table.MOST_ELEMENTS}, CVL_MOST_OF_TEXT = {table.MOST_OF_TEXT}, CVL_MOST_STACK = {table.MOST_STACK} }};",
+            "of_operators": comment(of_operators()),
             "operators": operators(),
             "families": sections(rows.FAMILIES.values(), "families", table.OF_FAMILIES),
             "calls": sections(rows.CALLS, "the calls of the table", table.OF_CALLS),
@@ -264,7 +270,17 @@ def meets(family):
 
 def known(family):
     """Whether the operator is one of the family's, as an expression; or nothing."""
-    numbers = sorted(found.number for found in table.OPERATORS if found.name in family.operators)
+    return one_of(found.number for found in table.OPERATORS if found.name in family.operators)
+
+
+def may_fail(family):
+    """Whether the operator is one of the family's that have no value on some elements, as an expression; or nothing."""
+    return one_of(found.number for found in table.OPERATORS if found.name in family.operators and found.fault)
+
+
+def one_of(found):
+    """Whether the operator has one of these numbers, as an expression; or nothing if there are none."""
+    numbers = sorted(found)
     if not numbers:
         return ""
     firsts = [number for number in numbers if number - 1 not in numbers]

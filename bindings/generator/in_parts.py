@@ -169,7 +169,8 @@ def in_parts(row):
         lines.append(f"w.part = {row.name}_part;")
     if cut == "places" and faulty(family):
         texts.append(part_function(family, f"{row.name}_look", False))
-        lines.append(f"{'if (op >= CVL_DIV) ' if faulty(family) == 'by operator' else ''}w.look = {row.name}_look;")
+        by_operator = f"if ({in_c.may_fail(family)}) " if faulty(family) == "by operator" else ""
+        lines.append(f"{by_operator}w.look = {row.name}_look;")
     if cut == "segments":
         lines += segments_filled(found)
     lines += [f"const bool done = cvl_in_{RUNS.get(cut, cut)}(pool, &w);", "cvl_let_go(&w);", "if (done) return w.told;"]

@@ -1,5 +1,6 @@
-"""Whether the rows of `bindings/table.py` are held against the proved table of calls and against the exports: words of these are changed,
-one in each call or export at once, and each change has to be told; so is each limit that differs. A second, without the kit."""
+"""Whether the rows of `bindings/table.py` are held against the proved table of calls and against the exports: words of these are
+changed, one in each call or export at once, and each change has to be reported; so has each limit and each threshold that
+differs. A second, without the kit."""
 
 import pathlib
 import sys
@@ -94,6 +95,14 @@ class Held(unittest.TestCase):
             for other in (found[definition] - 1, found[definition] + 1, None):
                 told = list(limits.differences({**found, definition: other}))
                 self.assertEqual([line.split()[0] for line in told], [name])
+
+    def test_each_threshold(self):
+        proved, in_c = limits.read_thresholds(TOP)
+        self.assertEqual((len(in_c), list(limits.threshold_differences(proved, in_c))), (6, []))
+        for name in in_c:
+            for other in (in_c[name] - 1, in_c[name] + 1, None):
+                told = list(limits.threshold_differences({**proved, name: other}, in_c))
+                self.assertEqual([line.split()[0] for line in told], [f"CVL_{name}"])
 
 
 class Versions(unittest.TestCase):
