@@ -225,7 +225,7 @@ CvlPiece cvl_piece(const CvlWork *w, size_t k) {
     return p;
 }
 
-bool cvl_in_lengths(const CvlPool *pool, CvlWork *w) {
+bool cvl_lengths_in_parts(const CvlPool *pool, CvlWork *w) {
     size_t sum = 0;
     if (!cvl_reads(pool, w, lengths_part)) return 0;
     for (size_t k = 0; k < w->parts; k++) sum += w->counts[k];

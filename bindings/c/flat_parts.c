@@ -1,7 +1,7 @@
 /* Calls in parts on whole vectors: each part is a range of places, and what the parts tell is joined. */
 #include "parts.h"
 
-bool cvl_in_places(const CvlPool *pool, CvlWork *w) {
+bool cvl_places_in_parts(const CvlPool *pool, CvlWork *w) {
     if (!cvl_make_all(pool, w) || (w->look != NULL && !cvl_reads(pool, w, w->look))) return 0;
     w->told = cvl_done();
     return cvl_writes(pool, w, w->part);
@@ -14,7 +14,7 @@ static CvlStatus copy_part(CvlWork *w, size_t k) {
 }
 
 /* The parts are copied, and then the one element is written. */
-bool cvl_in_replace(const CvlPool *pool, CvlWork *w) {
+bool cvl_replace_in_parts(const CvlPool *pool, CvlWork *w) {
     w->told = cvl_done();
     if (!cvl_writes(pool, w, copy_part)) return 0;
     if (w->of_bools) *CVL_BOOL_ROOM(w->out, w->place) = w->value != 0;
@@ -58,7 +58,7 @@ static bool join_parts(const CvlPool *pool, CvlWork *w, CvlItem *sum) {
     return done;
 }
 
-bool cvl_in_reduce(const CvlPool *pool, CvlWork *w) {
+bool cvl_reduce_in_parts(const CvlPool *pool, CvlWork *w) {
     CvlItem sum;
     if (!join_parts(pool, w, &sum)) return 0;
     if (w->of_bools) *CVL_BOOL_ROOM(w->out, 0) = sum.flag;
@@ -67,7 +67,7 @@ bool cvl_in_reduce(const CvlPool *pool, CvlWork *w) {
     return 1;
 }
 
-bool cvl_in_scan(const CvlPool *pool, CvlWork *w) {
+bool cvl_scan_in_parts(const CvlPool *pool, CvlWork *w) {
     CvlItem sum;
     if (!cvl_make_all(pool, w) || !join_parts(pool, w, &sum)) return 0;
     w->told = cvl_done();
@@ -81,7 +81,7 @@ static CvlStatus total_part(CvlWork *w, size_t k) {
     return cvl_proved_exact_sum(CVL_INTS(w->a, from), w->from[k + 1] - from, &w->totals[k]);
 }
 
-bool cvl_in_checked_reduce(const CvlPool *pool, CvlWork *w) {
+bool cvl_checked_reduce_in_parts(const CvlPool *pool, CvlWork *w) {
     int64_t sum = 0;
     if (!cvl_reads(pool, w, total_part)) return 0;
     for (size_t k = 0; k < w->parts; k++) sum += w->totals[k];
@@ -96,7 +96,7 @@ static CvlStatus checked_look(CvlWork *w, size_t k) {
     return cvl_looked(cvl_proved_checked_scan_after(w->reached[k], CVL_INTS(w->a, from), w->from[k + 1] - from, NULL, 0));
 }
 
-bool cvl_in_checked_scan(const CvlPool *pool, CvlWork *w) {
+bool cvl_checked_scan_in_parts(const CvlPool *pool, CvlWork *w) {
     w->op = CVL_ADD, w->told = cvl_done();
     if (!cvl_reads(pool, w, total_part)) return 0;
     for (size_t k = 0; k + 1 < w->parts; k++) w->reached[k + 1] = w->reached[k] + w->totals[k];
@@ -118,7 +118,7 @@ static bool count_parts(const CvlPool *pool, CvlWork *w) {
     return 1;
 }
 
-bool cvl_in_count(const CvlPool *pool, CvlWork *w) {
+bool cvl_count_in_parts(const CvlPool *pool, CvlWork *w) {
     if (!count_parts(pool, w)) return 0;
     *CVL_INT_ROOM(w->out, 0) = (int32_t)w->other[w->parts];
     w->told = cvl_done();
@@ -134,7 +134,7 @@ static CvlStatus pack_part(CvlWork *w, size_t k) {
 }
 
 /* A pack of segments keeps what a pack of the whole keeps, once the lengths are those of the vector. */
-bool cvl_in_pack(const CvlPool *pool, CvlWork *w) {
+bool cvl_pack_in_parts(const CvlPool *pool, CvlWork *w) {
     w->other[0] = 0;
     if (!count_parts(pool, w)) return 0;
     const size_t count = w->other[w->parts];

@@ -28,7 +28,7 @@ CvlStatus cvl_int2_on(const CvlPool *pool, uint32_t op, const int32_t *a, size_t
         w.out = out, w.size = sizeof *out, w.out_len = out_len;
         w.part = int2_part;
         if (op >= CVL_DIV && op <= CVL_RSH) w.look = int2_look;
-        const bool done = cvl_in_places(pool, &w);
+        const bool done = cvl_places_in_parts(pool, &w);
         cvl_let_go(&w);
         if (done) return w.told;
     }
@@ -59,7 +59,7 @@ CvlStatus cvl_bool2_on(const CvlPool *pool, uint32_t op, const bool *a, size_t a
         w.out = out, w.size = sizeof *out, w.out_len = out_len;
         w.of_bools = 1;
         w.part = bool2_part;
-        const bool done = cvl_in_places(pool, &w);
+        const bool done = cvl_places_in_parts(pool, &w);
         cvl_let_go(&w);
         if (done) return w.told;
     }
@@ -86,7 +86,7 @@ CvlStatus cvl_int1_on(const CvlPool *pool, uint32_t op, const int32_t *a, size_t
         w.a = a, w.a_len = a_len;
         w.out = out, w.size = sizeof *out, w.out_len = out_len;
         w.part = int1_part;
-        const bool done = cvl_in_places(pool, &w);
+        const bool done = cvl_places_in_parts(pool, &w);
         cvl_let_go(&w);
         if (done) return w.told;
     }
@@ -114,7 +114,7 @@ CvlStatus cvl_bool1_on(const CvlPool *pool, uint32_t op, const bool *a, size_t a
         w.out = out, w.size = sizeof *out, w.out_len = out_len;
         w.of_bools = 1;
         w.part = bool1_part;
-        const bool done = cvl_in_places(pool, &w);
+        const bool done = cvl_places_in_parts(pool, &w);
         cvl_let_go(&w);
         if (done) return w.told;
     }
@@ -143,7 +143,7 @@ CvlStatus cvl_compare_on(const CvlPool *pool, uint32_t op, const int32_t *a, siz
         w.b = b, w.b_len = b_len;
         w.out = out, w.size = sizeof *out, w.out_len = out_len;
         w.part = compare_part;
-        const bool done = cvl_in_places(pool, &w);
+        const bool done = cvl_places_in_parts(pool, &w);
         cvl_let_go(&w);
         if (done) return w.told;
     }
@@ -171,7 +171,7 @@ CvlStatus cvl_int_from_bool_on(const CvlPool *pool, const bool *a, size_t a_len,
         w.out = out, w.size = sizeof *out, w.out_len = out_len;
         w.of_bools = 1;
         w.part = int_from_bool_part;
-        const bool done = cvl_in_places(pool, &w);
+        const bool done = cvl_places_in_parts(pool, &w);
         cvl_let_go(&w);
         if (done) return w.told;
     }
@@ -197,7 +197,7 @@ CvlStatus cvl_bool_from_int_on(const CvlPool *pool, const int32_t *a, size_t a_l
         w.a = a, w.a_len = a_len;
         w.out = out, w.size = sizeof *out, w.out_len = out_len;
         w.part = bool_from_int_part;
-        const bool done = cvl_in_places(pool, &w);
+        const bool done = cvl_places_in_parts(pool, &w);
         cvl_let_go(&w);
         if (done) return w.told;
     }
@@ -228,7 +228,7 @@ CvlStatus cvl_select_int_on(const CvlPool *pool, const bool *flags, size_t flags
         w.b = b, w.b_len = b_len;
         w.out = out, w.size = sizeof *out, w.out_len = out_len;
         w.part = select_int_part;
-        const bool done = cvl_in_places(pool, &w);
+        const bool done = cvl_places_in_parts(pool, &w);
         cvl_let_go(&w);
         if (done) return w.told;
     }
@@ -261,7 +261,7 @@ CvlStatus cvl_select_bool_on(const CvlPool *pool, const bool *flags, size_t flag
         w.out = out, w.size = sizeof *out, w.out_len = out_len;
         w.of_bools = 1;
         w.part = select_bool_part;
-        const bool done = cvl_in_places(pool, &w);
+        const bool done = cvl_places_in_parts(pool, &w);
         cvl_let_go(&w);
         if (done) return w.told;
     }
@@ -284,7 +284,7 @@ CvlStatus cvl_int_scan_on(const CvlPool *pool, uint32_t op, const int32_t *a, si
         w.op = op;
         w.a = a, w.a_len = a_len;
         w.out = out, w.size = sizeof *out, w.out_len = out_len;
-        const bool done = cvl_in_scan(pool, &w);
+        const bool done = cvl_scan_in_parts(pool, &w);
         cvl_let_go(&w);
         if (done) return w.told;
     }
@@ -307,7 +307,7 @@ CvlStatus cvl_bool_scan_on(const CvlPool *pool, uint32_t op, const bool *a, size
         w.a_is_flags = 1;
         w.out = out, w.size = sizeof *out, w.out_len = out_len;
         w.of_bools = 1;
-        const bool done = cvl_in_scan(pool, &w);
+        const bool done = cvl_scan_in_parts(pool, &w);
         cvl_let_go(&w);
         if (done) return w.told;
     }
@@ -328,7 +328,7 @@ CvlStatus cvl_int_reduce_on(const CvlPool *pool, uint32_t op, const int32_t *a, 
         w.op = op;
         w.a = a, w.a_len = a_len;
         w.out = out, w.size = sizeof *out;
-        const bool done = cvl_in_reduce(pool, &w);
+        const bool done = cvl_reduce_in_parts(pool, &w);
         cvl_let_go(&w);
         if (done) return w.told;
     }
@@ -350,7 +350,7 @@ CvlStatus cvl_bool_reduce_on(const CvlPool *pool, uint32_t op, const bool *a, si
         w.a = a, w.a_len = a_len;
         w.out = out, w.size = sizeof *out;
         w.of_bools = 1;
-        const bool done = cvl_in_reduce(pool, &w);
+        const bool done = cvl_reduce_in_parts(pool, &w);
         cvl_let_go(&w);
         if (done) return w.told;
     }
@@ -370,7 +370,7 @@ CvlStatus cvl_checked_scan_on(const CvlPool *pool, const int32_t *a, size_t a_le
     if (may && cvl_cut(pool, &w, a_len)) {
         w.a = a, w.a_len = a_len;
         w.out = out, w.size = sizeof *out, w.out_len = out_len;
-        const bool done = cvl_in_checked_scan(pool, &w);
+        const bool done = cvl_checked_scan_in_parts(pool, &w);
         cvl_let_go(&w);
         if (done) return w.told;
     }
@@ -390,7 +390,7 @@ CvlStatus cvl_checked_reduce_on(const CvlPool *pool, const int32_t *a, size_t a_
     if (may && cvl_cut(pool, &w, a_len)) {
         w.a = a, w.a_len = a_len;
         w.out = out, w.size = sizeof *out;
-        const bool done = cvl_in_checked_reduce(pool, &w);
+        const bool done = cvl_checked_reduce_in_parts(pool, &w);
         cvl_let_go(&w);
         if (done) return w.told;
     }
@@ -412,7 +412,7 @@ CvlStatus cvl_seg_checked_scan_on(const CvlPool *pool, const int32_t *a, size_t 
     if (may && cvl_cut_segments(pool, &w, a_len, lengths)) {
         w.a = a, w.a_len = a_len;
         w.out = out, w.size = sizeof *out, w.out_len = out_len;
-        const bool done = cvl_in_seg_checked_scan(pool, &w);
+        const bool done = cvl_seg_checked_scan_in_parts(pool, &w);
         cvl_let_go(&w);
         if (done) return w.told;
     }
@@ -434,7 +434,7 @@ CvlStatus cvl_seg_checked_reduce_on(const CvlPool *pool, const int32_t *a, size_
     if (may && cvl_cut_segments(pool, &w, a_len, lengths)) {
         w.a = a, w.a_len = a_len;
         w.out = out, w.size = sizeof *out, w.out_len = out_len;
-        const bool done = cvl_in_seg_checked_reduce(pool, &w);
+        const bool done = cvl_seg_checked_reduce_in_parts(pool, &w);
         cvl_let_go(&w);
         if (done) return w.told;
     }
@@ -454,7 +454,7 @@ CvlStatus cvl_count_on(const CvlPool *pool, const bool *flags, size_t flags_len,
     if (may && cvl_cut(pool, &w, flags_len)) {
         w.flags = flags, w.flags_len = flags_len;
         w.out = out, w.size = sizeof *out;
-        const bool done = cvl_in_count(pool, &w);
+        const bool done = cvl_count_in_parts(pool, &w);
         cvl_let_go(&w);
         if (done) return w.told;
     }
@@ -488,7 +488,7 @@ CvlStatus cvl_replace_int_on(const CvlPool *pool, const int32_t *vector, size_t 
         w.place = (size_t)index;
         w.value = value;
         w.out = out, w.size = sizeof *out, w.out_len = out_len;
-        const bool done = cvl_in_replace(pool, &w);
+        const bool done = cvl_replace_in_parts(pool, &w);
         cvl_let_go(&w);
         if (done) return w.told;
     }
@@ -514,7 +514,7 @@ CvlStatus cvl_replace_bool_on(const CvlPool *pool, const bool *vector, size_t ve
         w.value = value != 0;
         w.out = out, w.size = sizeof *out, w.out_len = out_len;
         w.of_bools = 1;
-        const bool done = cvl_in_replace(pool, &w);
+        const bool done = cvl_replace_in_parts(pool, &w);
         cvl_let_go(&w);
         if (done) return w.told;
     }
@@ -540,7 +540,7 @@ CvlStatus cvl_distribute_int_on(const CvlPool *pool, int32_t value, int64_t coun
         w.value = value;
         w.out = out, w.size = sizeof *out, w.out_len = out_len;
         w.part = distribute_int_part;
-        const bool done = cvl_in_places(pool, &w);
+        const bool done = cvl_places_in_parts(pool, &w);
         cvl_let_go(&w);
         if (done) return w.told;
     }
@@ -567,7 +567,7 @@ CvlStatus cvl_distribute_bool_on(const CvlPool *pool, bool value, int64_t count,
         w.out = out, w.size = sizeof *out, w.out_len = out_len;
         w.of_bools = 1;
         w.part = distribute_bool_part;
-        const bool done = cvl_in_places(pool, &w);
+        const bool done = cvl_places_in_parts(pool, &w);
         cvl_let_go(&w);
         if (done) return w.told;
     }
@@ -594,7 +594,7 @@ CvlStatus cvl_index_on(const CvlPool *pool, int32_t init, int32_t stride, int64_
         w.stride = stride;
         w.out = out, w.size = sizeof *out, w.out_len = out_len;
         w.part = index_part;
-        const bool done = cvl_in_places(pool, &w);
+        const bool done = cvl_places_in_parts(pool, &w);
         cvl_let_go(&w);
         if (done) return w.told;
     }
@@ -614,7 +614,7 @@ CvlStatus cvl_make_descriptor_on(const CvlPool *pool, CvlLengths lengths, size_t
     if (may && cvl_cut(pool, &w, lengths.segments)) {
         w.count = total;
         w.lengths = lengths.lengths, w.segments = lengths.segments;
-        const bool done = cvl_in_lengths(pool, &w);
+        const bool done = cvl_lengths_in_parts(pool, &w);
         cvl_let_go(&w);
         if (done) return w.told;
     }
@@ -645,7 +645,7 @@ CvlStatus cvl_seg_extract_int_on(const CvlPool *pool, const int32_t *vector, siz
         w.out = out, w.size = sizeof *out, w.out_len = out_len;
         w.part = seg_extract_int_part;
         w.rooms = w.first;
-        const bool done = cvl_in_segments(pool, &w);
+        const bool done = cvl_segments_in_parts(pool, &w);
         cvl_let_go(&w);
         if (done) return w.told;
     }
@@ -679,7 +679,7 @@ CvlStatus cvl_seg_extract_bool_on(const CvlPool *pool, const bool *vector, size_
         w.of_bools = 1;
         w.part = seg_extract_bool_part;
         w.rooms = w.first;
-        const bool done = cvl_in_segments(pool, &w);
+        const bool done = cvl_segments_in_parts(pool, &w);
         cvl_let_go(&w);
         if (done) return w.told;
     }
@@ -713,7 +713,7 @@ CvlStatus cvl_seg_replace_int_on(const CvlPool *pool, const int32_t *vector, siz
         w.out = out, w.size = sizeof *out, w.out_len = out_len;
         w.part = seg_replace_int_part;
         w.rooms = w.start;
-        const bool done = cvl_in_segments(pool, &w);
+        const bool done = cvl_segments_in_parts(pool, &w);
         cvl_let_go(&w);
         if (done) return w.told;
     }
@@ -753,7 +753,7 @@ CvlStatus cvl_seg_replace_bool_on(const CvlPool *pool, const bool *vector, size_
         w.of_bools = 1;
         w.part = seg_replace_bool_part;
         w.rooms = w.start;
-        const bool done = cvl_in_segments(pool, &w);
+        const bool done = cvl_segments_in_parts(pool, &w);
         cvl_let_go(&w);
         if (done) return w.told;
     }
@@ -780,7 +780,7 @@ CvlStatus cvl_seg_distribute_int_on(const CvlPool *pool, const int32_t *values, 
     if (may && cvl_cut_segments(pool, &w, out_len, lengths)) {
         w.a = values, w.a_len = values_len;
         w.out = out, w.size = sizeof *out, w.out_len = out_len;
-        const bool done = cvl_in_seg_copies(pool, &w);
+        const bool done = cvl_seg_copies_in_parts(pool, &w);
         cvl_let_go(&w);
         if (done) return w.told;
     }
@@ -805,7 +805,7 @@ CvlStatus cvl_seg_distribute_bool_on(const CvlPool *pool, const bool *values, si
         w.a_is_flags = 1;
         w.out = out, w.size = sizeof *out, w.out_len = out_len;
         w.of_bools = 1;
-        const bool done = cvl_in_seg_copies(pool, &w);
+        const bool done = cvl_seg_copies_in_parts(pool, &w);
         cvl_let_go(&w);
         if (done) return w.told;
     }
@@ -828,7 +828,7 @@ CvlStatus cvl_seg_index_on(const CvlPool *pool, const int32_t *inits, size_t ini
         w.a = inits, w.a_len = inits_len;
         w.b = strides, w.b_len = strides_len;
         w.out = out, w.size = sizeof *out, w.out_len = out_len;
-        const bool done = cvl_in_seg_numbers(pool, &w);
+        const bool done = cvl_seg_numbers_in_parts(pool, &w);
         cvl_let_go(&w);
         if (done) return w.told;
     }
@@ -853,7 +853,7 @@ CvlStatus cvl_seg_int_scan_on(const CvlPool *pool, uint32_t op, const int32_t *a
         w.op = op;
         w.a = a, w.a_len = a_len;
         w.out = out, w.size = sizeof *out, w.out_len = out_len;
-        const bool done = cvl_in_seg_scan(pool, &w);
+        const bool done = cvl_seg_scan_in_parts(pool, &w);
         cvl_let_go(&w);
         if (done) return w.told;
     }
@@ -879,7 +879,7 @@ CvlStatus cvl_seg_bool_scan_on(const CvlPool *pool, uint32_t op, const bool *a, 
         w.a_is_flags = 1;
         w.out = out, w.size = sizeof *out, w.out_len = out_len;
         w.of_bools = 1;
-        const bool done = cvl_in_seg_scan(pool, &w);
+        const bool done = cvl_seg_scan_in_parts(pool, &w);
         cvl_let_go(&w);
         if (done) return w.told;
     }
@@ -902,7 +902,7 @@ CvlStatus cvl_seg_int_reduce_on(const CvlPool *pool, uint32_t op, const int32_t 
         w.op = op;
         w.a = a, w.a_len = a_len;
         w.out = out, w.size = sizeof *out, w.out_len = out_len;
-        const bool done = cvl_in_seg_reduce(pool, &w);
+        const bool done = cvl_seg_reduce_in_parts(pool, &w);
         cvl_let_go(&w);
         if (done) return w.told;
     }
@@ -927,7 +927,7 @@ CvlStatus cvl_seg_bool_reduce_on(const CvlPool *pool, uint32_t op, const bool *a
         w.a = a, w.a_len = a_len;
         w.out = out, w.size = sizeof *out, w.out_len = out_len;
         w.of_bools = 1;
-        const bool done = cvl_in_seg_reduce(pool, &w);
+        const bool done = cvl_seg_reduce_in_parts(pool, &w);
         cvl_let_go(&w);
         if (done) return w.told;
     }
@@ -952,7 +952,7 @@ CvlStatus cvl_pack_int_on(const CvlPool *pool, const int32_t *values, size_t val
         w.flags_are_flags = 1;
         w.count = count;
         w.out = out, w.size = sizeof *out, w.out_len = out_len;
-        const bool done = cvl_in_pack(pool, &w);
+        const bool done = cvl_pack_in_parts(pool, &w);
         cvl_let_go(&w);
         if (done) return w.told;
     }
@@ -981,7 +981,7 @@ CvlStatus cvl_pack_bool_on(const CvlPool *pool, const bool *values, size_t value
         w.count = count;
         w.out = out, w.size = sizeof *out, w.out_len = out_len;
         w.of_bools = 1;
-        const bool done = cvl_in_pack(pool, &w);
+        const bool done = cvl_pack_in_parts(pool, &w);
         cvl_let_go(&w);
         if (done) return w.told;
     }
@@ -1008,7 +1008,7 @@ CvlStatus cvl_seg_pack_int_on(const CvlPool *pool, const int32_t *values, size_t
         w.flags_are_flags = 1;
         w.count = count;
         w.out = out, w.size = sizeof *out, w.out_len = out_len;
-        const bool done = cvl_in_pack(pool, &w);
+        const bool done = cvl_pack_in_parts(pool, &w);
         cvl_let_go(&w);
         if (done) return w.told;
     }
@@ -1037,7 +1037,7 @@ CvlStatus cvl_seg_pack_bool_on(const CvlPool *pool, const bool *values, size_t v
         w.count = count;
         w.out = out, w.size = sizeof *out, w.out_len = out_len;
         w.of_bools = 1;
-        const bool done = cvl_in_pack(pool, &w);
+        const bool done = cvl_pack_in_parts(pool, &w);
         cvl_let_go(&w);
         if (done) return w.told;
     }
@@ -1061,7 +1061,7 @@ CvlStatus cvl_seg_packed_lengths_on(const CvlPool *pool, const bool *flags, size
     if (may && cvl_cut_segments(pool, &w, flags_len, lengths)) {
         w.flags = flags, w.flags_len = flags_len;
         w.out = out, w.size = sizeof *out, w.out_len = out_len;
-        const bool done = cvl_in_seg_count(pool, &w);
+        const bool done = cvl_seg_count_in_parts(pool, &w);
         cvl_let_go(&w);
         if (done) return w.told;
     }
@@ -1083,7 +1083,7 @@ CvlStatus cvl_seg_count_on(const CvlPool *pool, const bool *flags, size_t flags_
     if (may && cvl_cut_segments(pool, &w, flags_len, lengths)) {
         w.flags = flags, w.flags_len = flags_len;
         w.out = out, w.size = sizeof *out, w.out_len = out_len;
-        const bool done = cvl_in_seg_count(pool, &w);
+        const bool done = cvl_seg_count_in_parts(pool, &w);
         cvl_let_go(&w);
         if (done) return w.told;
     }
@@ -1106,7 +1106,7 @@ CvlStatus cvl_permute_int_on(const CvlPool *pool, const int32_t *source, size_t 
         w.a = source, w.a_len = source_len;
         w.index = index;
         w.out = out, w.size = sizeof *out, w.out_len = out_len;
-        const bool done = cvl_in_ranges(pool, &w);
+        const bool done = cvl_ranges_in_parts(pool, &w);
         cvl_let_go(&w);
         if (done) return w.told;
     }
@@ -1132,7 +1132,7 @@ CvlStatus cvl_permute_bool_on(const CvlPool *pool, const bool *source, size_t so
         w.index = index;
         w.out = out, w.size = sizeof *out, w.out_len = out_len;
         w.of_bools = 1;
-        const bool done = cvl_in_ranges(pool, &w);
+        const bool done = cvl_ranges_in_parts(pool, &w);
         cvl_let_go(&w);
         if (done) return w.told;
     }
@@ -1159,7 +1159,7 @@ CvlStatus cvl_select_permute_int_on(const CvlPool *pool, const int32_t *source, 
         w.flags = flags, w.flags_len = flags_len;
         w.flags_are_flags = 1;
         w.out = out, w.size = sizeof *out, w.out_len = out_len;
-        const bool done = cvl_in_ranges(pool, &w);
+        const bool done = cvl_ranges_in_parts(pool, &w);
         cvl_let_go(&w);
         if (done) return w.told;
     }
@@ -1187,7 +1187,7 @@ CvlStatus cvl_select_permute_bool_on(const CvlPool *pool, const bool *source, si
         w.flags_are_flags = 1;
         w.out = out, w.size = sizeof *out, w.out_len = out_len;
         w.of_bools = 1;
-        const bool done = cvl_in_ranges(pool, &w);
+        const bool done = cvl_ranges_in_parts(pool, &w);
         cvl_let_go(&w);
         if (done) return w.told;
     }
@@ -1215,7 +1215,7 @@ CvlStatus cvl_default_permute_int_on(const CvlPool *pool, const int32_t *source,
         w.index = index;
         w.b = defaults, w.b_len = defaults_len;
         w.out = out, w.size = sizeof *out, w.out_len = out_len;
-        const bool done = cvl_in_ranges(pool, &w);
+        const bool done = cvl_ranges_in_parts(pool, &w);
         cvl_let_go(&w);
         if (done) return w.told;
     }
@@ -1245,7 +1245,7 @@ CvlStatus cvl_default_permute_bool_on(const CvlPool *pool, const bool *source, s
         w.b = defaults, w.b_len = defaults_len;
         w.out = out, w.size = sizeof *out, w.out_len = out_len;
         w.of_bools = 1;
-        const bool done = cvl_in_ranges(pool, &w);
+        const bool done = cvl_ranges_in_parts(pool, &w);
         cvl_let_go(&w);
         if (done) return w.told;
     }
@@ -1285,7 +1285,7 @@ CvlStatus cvl_back_permute_int_on(const CvlPool *pool, const int32_t *source, si
         w.out = out, w.size = sizeof *out, w.out_len = out_len;
         w.part = back_permute_int_part;
         w.look = back_permute_int_look;
-        const bool done = cvl_in_places(pool, &w);
+        const bool done = cvl_places_in_parts(pool, &w);
         cvl_let_go(&w);
         if (done) return w.told;
     }
@@ -1324,7 +1324,7 @@ CvlStatus cvl_back_permute_bool_on(const CvlPool *pool, const bool *source, size
         w.of_bools = 1;
         w.part = back_permute_bool_part;
         w.look = back_permute_bool_look;
-        const bool done = cvl_in_places(pool, &w);
+        const bool done = cvl_places_in_parts(pool, &w);
         cvl_let_go(&w);
         if (done) return w.told;
     }
@@ -1357,7 +1357,7 @@ CvlStatus cvl_seg_permute_int_on(const CvlPool *pool, const int32_t *source, siz
         w.out = out, w.size = sizeof *out, w.out_len = out_len;
         w.part = seg_permute_int_part;
         w.rooms = w.start;
-        const bool done = cvl_in_segments(pool, &w);
+        const bool done = cvl_segments_in_parts(pool, &w);
         cvl_let_go(&w);
         if (done) return w.told;
     }
@@ -1392,7 +1392,7 @@ CvlStatus cvl_seg_permute_bool_on(const CvlPool *pool, const bool *source, size_
         w.of_bools = 1;
         w.part = seg_permute_bool_part;
         w.rooms = w.start;
-        const bool done = cvl_in_segments(pool, &w);
+        const bool done = cvl_segments_in_parts(pool, &w);
         cvl_let_go(&w);
         if (done) return w.told;
     }
@@ -1429,7 +1429,7 @@ CvlStatus cvl_seg_select_permute_int_on(const CvlPool *pool, const int32_t *sour
         w.part = seg_select_permute_int_part;
         w.rooms = w.other;
         w.other_by = CVL_BY_FLAGS, w.other_len = out_len;
-        const bool done = cvl_in_segments(pool, &w);
+        const bool done = cvl_segments_in_parts(pool, &w);
         cvl_let_go(&w);
         if (done) return w.told;
     }
@@ -1471,7 +1471,7 @@ CvlStatus cvl_seg_select_permute_bool_on(const CvlPool *pool, const bool *source
         w.part = seg_select_permute_bool_part;
         w.rooms = w.other;
         w.other_by = CVL_BY_FLAGS, w.other_len = out_len;
-        const bool done = cvl_in_segments(pool, &w);
+        const bool done = cvl_segments_in_parts(pool, &w);
         cvl_let_go(&w);
         if (done) return w.told;
     }
@@ -1512,7 +1512,7 @@ CvlStatus cvl_seg_default_permute_int_on(const CvlPool *pool, const int32_t *sou
         w.part = seg_default_permute_int_part;
         w.rooms = w.other;
         w.other_by = CVL_BY_LENGTHS, w.other_lengths = default_lengths.lengths, w.other_len = defaults_len;
-        const bool done = cvl_in_segments(pool, &w);
+        const bool done = cvl_segments_in_parts(pool, &w);
         cvl_let_go(&w);
         if (done) return w.told;
     }
@@ -1558,7 +1558,7 @@ CvlStatus cvl_seg_default_permute_bool_on(const CvlPool *pool, const bool *sourc
         w.part = seg_default_permute_bool_part;
         w.rooms = w.other;
         w.other_by = CVL_BY_LENGTHS, w.other_lengths = default_lengths.lengths, w.other_len = defaults_len;
-        const bool done = cvl_in_segments(pool, &w);
+        const bool done = cvl_segments_in_parts(pool, &w);
         cvl_let_go(&w);
         if (done) return w.told;
     }
@@ -1597,7 +1597,7 @@ CvlStatus cvl_seg_back_permute_int_on(const CvlPool *pool, const int32_t *source
         w.part = seg_back_permute_int_part;
         w.rooms = w.start;
         w.other_by = CVL_BY_LENGTHS, w.other_lengths = lengths.lengths, w.other_len = source_len;
-        const bool done = cvl_in_segments(pool, &w);
+        const bool done = cvl_segments_in_parts(pool, &w);
         cvl_let_go(&w);
         if (done) return w.told;
     }
@@ -1637,7 +1637,7 @@ CvlStatus cvl_seg_back_permute_bool_on(const CvlPool *pool, const bool *source, 
         w.part = seg_back_permute_bool_part;
         w.rooms = w.start;
         w.other_by = CVL_BY_LENGTHS, w.other_lengths = lengths.lengths, w.other_len = source_len;
-        const bool done = cvl_in_segments(pool, &w);
+        const bool done = cvl_segments_in_parts(pool, &w);
         cvl_let_go(&w);
         if (done) return w.told;
     }
@@ -1663,7 +1663,7 @@ CvlStatus cvl_first_senders_on(const CvlPool *pool, const int32_t *index, size_t
         w.index = index;
         w.a_len = index_len;
         w.out = out, w.size = sizeof *out, w.out_len = out_len;
-        const bool done = cvl_in_senders(pool, &w);
+        const bool done = cvl_senders_in_parts(pool, &w);
         cvl_let_go(&w);
         if (done) return w.told;
     }
@@ -1688,7 +1688,7 @@ CvlStatus cvl_select_first_senders_on(const CvlPool *pool, const int32_t *index,
         w.flags_are_flags = 1;
         w.a_len = index_len;
         w.out = out, w.size = sizeof *out, w.out_len = out_len;
-        const bool done = cvl_in_senders(pool, &w);
+        const bool done = cvl_senders_in_parts(pool, &w);
         cvl_let_go(&w);
         if (done) return w.told;
     }
@@ -1721,7 +1721,7 @@ CvlStatus cvl_seg_first_senders_on(const CvlPool *pool, const int32_t *index, si
         w.part = seg_first_senders_part;
         w.rooms = w.other;
         w.other_by = CVL_BY_LENGTHS, w.other_lengths = result_lengths.lengths, w.other_len = out_len;
-        const bool done = cvl_in_segments(pool, &w);
+        const bool done = cvl_segments_in_parts(pool, &w);
         cvl_let_go(&w);
         if (done) return w.told;
     }
@@ -1757,7 +1757,7 @@ CvlStatus cvl_seg_select_first_senders_on(const CvlPool *pool, const int32_t *in
         w.part = seg_select_first_senders_part;
         w.rooms = w.other;
         w.other_by = CVL_BY_LENGTHS, w.other_lengths = result_lengths.lengths, w.other_len = out_len;
-        const bool done = cvl_in_segments(pool, &w);
+        const bool done = cvl_segments_in_parts(pool, &w);
         cvl_let_go(&w);
         if (done) return w.told;
     }
@@ -1784,7 +1784,7 @@ CvlStatus cvl_read_ints_on(const CvlPool *pool, const char *text, size_t text_le
         w.a = text, w.a_len = text_len;
         w.count = count;
         w.out = out, w.size = sizeof *out, w.out_len = out_len;
-        const bool done = cvl_in_read(pool, &w);
+        const bool done = cvl_read_in_parts(pool, &w);
         cvl_let_go(&w);
         if (done) return w.told;
     }
@@ -1805,7 +1805,7 @@ CvlStatus cvl_write_ints_on(const CvlPool *pool, const int32_t *a, size_t a_len,
         w.a = a, w.a_len = a_len;
         w.count = count;
         w.out = out, w.size = sizeof *out, w.out_len = out_len;
-        const bool done = cvl_in_write(pool, &w);
+        const bool done = cvl_write_in_parts(pool, &w);
         cvl_let_go(&w);
         if (done) return w.told;
     }
@@ -1828,7 +1828,7 @@ CvlStatus cvl_write_bools_on(const CvlPool *pool, const bool *a, size_t a_len, c
         w.count = count;
         w.out = out, w.size = sizeof *out, w.out_len = out_len;
         w.of_bools = 1;
-        const bool done = cvl_in_write(pool, &w);
+        const bool done = cvl_write_in_parts(pool, &w);
         cvl_let_go(&w);
         if (done) return w.told;
     }
@@ -1856,7 +1856,7 @@ CvlStatus cvl_seg_write_ints_on(const CvlPool *pool, const int32_t *a, size_t a_
         w.a = a, w.a_len = a_len;
         w.count = count;
         w.out = out, w.size = sizeof *out, w.out_len = out_len;
-        const bool done = cvl_in_write(pool, &w);
+        const bool done = cvl_write_in_parts(pool, &w);
         cvl_let_go(&w);
         if (done) return w.told;
     }
@@ -1882,7 +1882,7 @@ CvlStatus cvl_seg_write_bools_on(const CvlPool *pool, const bool *a, size_t a_le
         w.count = count;
         w.out = out, w.size = sizeof *out, w.out_len = out_len;
         w.of_bools = 1;
-        const bool done = cvl_in_write(pool, &w);
+        const bool done = cvl_write_in_parts(pool, &w);
         cvl_let_go(&w);
         if (done) return w.told;
     }
@@ -1915,7 +1915,7 @@ CvlStatus cvl_sparse_product_on(const CvlPool *pool, CvlLengths lengths, const i
         w.out = out, w.size = sizeof *out, w.out_len = out_len;
         w.part = sparse_product_part;
         w.rooms = w.first;
-        const bool done = cvl_in_segments(pool, &w);
+        const bool done = cvl_segments_in_parts(pool, &w);
         cvl_let_go(&w);
         if (done) return w.told;
     }
@@ -1951,7 +1951,7 @@ CvlStatus cvl_checked_sparse_product_on(const CvlPool *pool, CvlLengths lengths,
         w.out = out, w.size = sizeof *out, w.out_len = out_len;
         w.part = checked_sparse_product_part;
         w.rooms = w.first;
-        const bool done = cvl_in_segments(pool, &w);
+        const bool done = cvl_segments_in_parts(pool, &w);
         cvl_let_go(&w);
         if (done) return w.told;
     }

@@ -123,27 +123,27 @@ CVL_HIDDEN CvlPiece cvl_piece(const CvlWork *w, size_t k);
 /* ---- each way to cut a call: whether its parts are done, and then w->told is the answer ---- */
 
 /* Each part is a range of places; the faults of elements are looked at in all parts before one is written. */
-CVL_HIDDEN bool cvl_in_places(const CvlPool *pool, CvlWork *w);
-CVL_HIDDEN bool cvl_in_replace(const CvlPool *pool, CvlWork *w);
-CVL_HIDDEN bool cvl_in_reduce(const CvlPool *pool, CvlWork *w);
-CVL_HIDDEN bool cvl_in_scan(const CvlPool *pool, CvlWork *w);
-CVL_HIDDEN bool cvl_in_checked_reduce(const CvlPool *pool, CvlWork *w);
-CVL_HIDDEN bool cvl_in_checked_scan(const CvlPool *pool, CvlWork *w);
-CVL_HIDDEN bool cvl_in_count(const CvlPool *pool, CvlWork *w);
-CVL_HIDDEN bool cvl_in_pack(const CvlPool *pool, CvlWork *w);
-CVL_HIDDEN bool cvl_in_lengths(const CvlPool *pool, CvlWork *w);
-CVL_HIDDEN bool cvl_in_ranges(const CvlPool *pool, CvlWork *w);
-CVL_HIDDEN bool cvl_in_senders(const CvlPool *pool, CvlWork *w);
-CVL_HIDDEN bool cvl_in_segments(const CvlPool *pool, CvlWork *w);
-CVL_HIDDEN bool cvl_in_seg_scan(const CvlPool *pool, CvlWork *w);
-CVL_HIDDEN bool cvl_in_seg_reduce(const CvlPool *pool, CvlWork *w);
-CVL_HIDDEN bool cvl_in_seg_checked_scan(const CvlPool *pool, CvlWork *w);
-CVL_HIDDEN bool cvl_in_seg_checked_reduce(const CvlPool *pool, CvlWork *w);
-CVL_HIDDEN bool cvl_in_seg_count(const CvlPool *pool, CvlWork *w);
-CVL_HIDDEN bool cvl_in_seg_copies(const CvlPool *pool, CvlWork *w);
-CVL_HIDDEN bool cvl_in_seg_numbers(const CvlPool *pool, CvlWork *w);
-CVL_HIDDEN bool cvl_in_write(const CvlPool *pool, CvlWork *w);
-CVL_HIDDEN bool cvl_in_read(const CvlPool *pool, CvlWork *w);
+CVL_HIDDEN bool cvl_places_in_parts(const CvlPool *pool, CvlWork *w);
+CVL_HIDDEN bool cvl_replace_in_parts(const CvlPool *pool, CvlWork *w);
+CVL_HIDDEN bool cvl_reduce_in_parts(const CvlPool *pool, CvlWork *w);
+CVL_HIDDEN bool cvl_scan_in_parts(const CvlPool *pool, CvlWork *w);
+CVL_HIDDEN bool cvl_checked_reduce_in_parts(const CvlPool *pool, CvlWork *w);
+CVL_HIDDEN bool cvl_checked_scan_in_parts(const CvlPool *pool, CvlWork *w);
+CVL_HIDDEN bool cvl_count_in_parts(const CvlPool *pool, CvlWork *w);
+CVL_HIDDEN bool cvl_pack_in_parts(const CvlPool *pool, CvlWork *w);
+CVL_HIDDEN bool cvl_lengths_in_parts(const CvlPool *pool, CvlWork *w);
+CVL_HIDDEN bool cvl_ranges_in_parts(const CvlPool *pool, CvlWork *w);
+CVL_HIDDEN bool cvl_senders_in_parts(const CvlPool *pool, CvlWork *w);
+CVL_HIDDEN bool cvl_segments_in_parts(const CvlPool *pool, CvlWork *w);
+CVL_HIDDEN bool cvl_seg_scan_in_parts(const CvlPool *pool, CvlWork *w);
+CVL_HIDDEN bool cvl_seg_reduce_in_parts(const CvlPool *pool, CvlWork *w);
+CVL_HIDDEN bool cvl_seg_checked_scan_in_parts(const CvlPool *pool, CvlWork *w);
+CVL_HIDDEN bool cvl_seg_checked_reduce_in_parts(const CvlPool *pool, CvlWork *w);
+CVL_HIDDEN bool cvl_seg_count_in_parts(const CvlPool *pool, CvlWork *w);
+CVL_HIDDEN bool cvl_seg_copies_in_parts(const CvlPool *pool, CvlWork *w);
+CVL_HIDDEN bool cvl_seg_numbers_in_parts(const CvlPool *pool, CvlWork *w);
+CVL_HIDDEN bool cvl_write_in_parts(const CvlPool *pool, CvlWork *w);
+CVL_HIDDEN bool cvl_read_in_parts(const CvlPool *pool, CvlWork *w);
 
 /* Cuts a text at white space. */
 CVL_HIDDEN bool cvl_cut_text(const CvlPool *pool, CvlWork *w, const char *text, size_t n);

@@ -60,7 +60,7 @@ static bool are_all(CvlWork *w, size_t wanted) {
  * Where the parts wrote as many places as take part, no index is out of range or repeated, and the room holds the permute. Else what
  * stood there is put back.
  */
-bool cvl_in_ranges(const CvlPool *pool, CvlWork *w) {
+bool cvl_ranges_in_parts(const CvlPool *pool, CvlWork *w) {
     const size_t bytes = kept_bytes(w) + (w->out_len / 32 + w->parts) * sizeof(uint32_t);
     size_t wanted;
     w->rooms = w->from, w->told = cvl_done();
@@ -77,7 +77,7 @@ static CvlStatus senders_part(CvlWork *w, size_t k) {
 }
 
 /* Where as many indices name a place of a range as take part, none is out of range. */
-bool cvl_in_senders(const CvlPool *pool, CvlWork *w) {
+bool cvl_senders_in_parts(const CvlPool *pool, CvlWork *w) {
     size_t wanted;
     w->rooms = w->from, w->told = cvl_done();
     return count_sent(pool, w, &wanted) && cvl_make_all(pool, w) && cvl_keep(w, w->out_len * w->size) &&

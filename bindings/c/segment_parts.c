@@ -24,7 +24,7 @@ static CvlStatus scan_part(CvlWork *w, size_t k) {
     return cvl_first_of(cvl_scan_range(w, w->before[k], p.from, p.head), scan_of(w, p), cvl_scan_range(w, unit, p.tail, p.to));
 }
 
-bool cvl_in_seg_scan(const CvlPool *pool, CvlWork *w) {
+bool cvl_seg_scan_in_parts(const CvlPool *pool, CvlWork *w) {
     bool done = cvl_make_all(pool, w) && cvl_reads(pool, w, since_part);
     for (size_t k = 0; k + 1 < w->parts && done; k++) {
         if (cvl_piece(w, k).starts) w->before[k + 1] = w->sums[k];
@@ -51,7 +51,7 @@ static CvlStatus reduce_part(CvlWork *w, size_t k) {
         cvl_reduce_of(w, p.from, p.head, &w->heads[k]), reduce_whole(w, p), cvl_reduce_of(w, p.tail, p.to, &w->sums[k]));
 }
 
-bool cvl_in_seg_reduce(const CvlPool *pool, CvlWork *w) {
+bool cvl_seg_reduce_in_parts(const CvlPool *pool, CvlWork *w) {
     CvlItem so_far = {0};
     bool done = cvl_writes(pool, w, reduce_part);
     for (size_t k = 0; k < w->parts && done; k++) {
@@ -78,7 +78,7 @@ static CvlStatus count_part(CvlWork *w, size_t k) {
 }
 
 /* The counts of a segment that is cut are added. */
-bool cvl_in_seg_count(const CvlPool *pool, CvlWork *w) {
+bool cvl_seg_count_in_parts(const CvlPool *pool, CvlWork *w) {
     int32_t so_far = 0;
     const bool done = cvl_writes(pool, w, count_part);
     for (size_t k = 0; k < w->parts && done; k++) {
@@ -108,11 +108,11 @@ static CvlStatus checked_look(CvlWork *w, size_t k) {
         cvl_looked(cvl_proved_checked_scan(a + p.tail, p.to - p.tail, NULL, 0)));
 }
 
-bool cvl_in_seg_checked_scan(const CvlPool *pool, CvlWork *w) {
+bool cvl_seg_checked_scan_in_parts(const CvlPool *pool, CvlWork *w) {
     w->op = CVL_ADD;
     if (!cvl_reads(pool, w, total_part)) return 0;
     for (size_t k = 0; k + 1 < w->parts; k++) w->reached[k + 1] = w->totals[k] + (cvl_piece(w, k).starts ? 0 : w->reached[k]);
-    return cvl_reads(pool, w, checked_look) && cvl_in_seg_scan(pool, w);
+    return cvl_reads(pool, w, checked_look) && cvl_seg_scan_in_parts(pool, w);
 }
 
 /* The sums of the part's whole segments are looked at, and those of its pieces of others are told. */
@@ -125,7 +125,7 @@ static CvlStatus checked_sums_look(CvlWork *w, size_t k) {
         cvl_looked(cvl_proved_seg_checked_reduce(a + p.head, p.tail - p.head, lengths, p.count, NULL, 0)));
 }
 
-bool cvl_in_seg_checked_reduce(const CvlPool *pool, CvlWork *w) {
+bool cvl_seg_checked_reduce_in_parts(const CvlPool *pool, CvlWork *w) {
     int64_t so_far = 0;
     w->op = CVL_ADD;
     if (!cvl_reads(pool, w, checked_sums_look)) return 0;
@@ -135,7 +135,7 @@ bool cvl_in_seg_checked_reduce(const CvlPool *pool, CvlWork *w) {
         if (p.head > p.from && w->start[k] <= p.to && !cvl_fits(so_far)) return 0;
         if (p.cut) so_far = w->totals[k];
     }
-    return cvl_in_seg_reduce(pool, w);
+    return cvl_seg_reduce_in_parts(pool, w);
 }
 
 /* ---- copies of a value, and numbers by a stride ---- */
@@ -161,7 +161,7 @@ static CvlStatus copies_part(CvlWork *w, size_t k) {
     return status;
 }
 
-bool cvl_in_seg_copies(const CvlPool *pool, CvlWork *w) {
+bool cvl_seg_copies_in_parts(const CvlPool *pool, CvlWork *w) {
     w->told = cvl_done();
     return cvl_make_all(pool, w) && cvl_writes(pool, w, copies_part);
 }
@@ -188,7 +188,7 @@ static CvlStatus numbers_part(CvlWork *w, size_t k) {
     return status;
 }
 
-bool cvl_in_seg_numbers(const CvlPool *pool, CvlWork *w) {
+bool cvl_seg_numbers_in_parts(const CvlPool *pool, CvlWork *w) {
     w->told = cvl_done();
     return cvl_writes(pool, w, numbers_part);
 }
@@ -215,7 +215,7 @@ static bool cut_other(const CvlPool *pool, CvlWork *w) {
     return w->other[w->parts] == w->other_len && w->other_len <= CVL_MOST_ELEMENTS;
 }
 
-bool cvl_in_segments(const CvlPool *pool, CvlWork *w) {
+bool cvl_segments_in_parts(const CvlPool *pool, CvlWork *w) {
     w->told = cvl_done();
     return cut_other(pool, w) && cvl_make_all(pool, w) && cvl_keep(w, w->out_len * w->size) && cvl_writes_kept(pool, w, w->part);
 }

@@ -42,7 +42,7 @@ static CvlStatus put_text_part(CvlWork *w, size_t k) {
     return cvl_done();
 }
 
-bool cvl_in_write(const CvlPool *pool, CvlWork *w) {
+bool cvl_write_in_parts(const CvlPool *pool, CvlWork *w) {
     if (!cvl_make_all(pool, w) || !cvl_keep(w, text_place(w, w->parts))) return 0;
     memset(w->counts, 0, sizeof w->counts);
     if (!cvl_writes(pool, w, w->lengths == NULL ? write_part : seg_write_part)) return 0;
@@ -76,7 +76,7 @@ static CvlStatus put_read_part(CvlWork *w, size_t k) {
 }
 
 /* Where a part has a fault, or there are too many integers, the whole text is read again, and tells it. */
-bool cvl_in_read(const CvlPool *pool, CvlWork *w) {
+bool cvl_read_in_parts(const CvlPool *pool, CvlWork *w) {
     if (!cvl_keep(w, read_place(w, w->parts) * sizeof(int32_t)) || !cvl_writes(pool, w, read_part)) return 0;
     for (size_t k = 0; k < w->parts; k++) w->other[k + 1] = w->other[k] + w->counts[k];
     const size_t count = w->other[w->parts];

@@ -379,7 +379,7 @@ def guarded(test, answer, depth=1):
     return "\n".join([statement(f"if ({test}){KEPT}{{", depth), statement(f"return {answer};", depth + 1), statement("}", depth)])
 
 
-def placed_body(family):
+def in_place_or_apart(family):
     lines = []
     options = rows.in_place_exports(family)
     for exported, names in sorted(options, key=lambda option: -len(option[1])):
@@ -399,7 +399,7 @@ class Family:
         self.meets = self._helper("bool", "meets", meets(self.family))
         self.agrees = self._helper("bool", "agrees", agrees(self.family))
         if self.family.in_place:
-            text, self.call = function("CvlStatus", f"cvl_{self.name}_placed", self.arguments, placed_body(self.family))
+            text, self.call = function("CvlStatus", f"cvl_{self.name}_placed", self.arguments, in_place_or_apart(self.family))
             self.helpers.append(text)
         else:
             self.call = proved_call(self.family)

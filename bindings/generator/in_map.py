@@ -27,7 +27,7 @@ def differences(text, public, version=table.VERSION):
                 yield f"{name} came with {node} and is gone: programs that have it need the first number of the version to change"
 
 
-def written(text, public, version=table.VERSION):
+def symbol_versions(text, public, version=table.VERSION):
     """The file with the names that are new under the version at hand, whose own names may still change."""
     major, present = version.split(".")[0], _present(version)
     earlier = {node: names for node, names in nodes(text).items() if node != present and node.startswith(NODE.format(major, ""))}

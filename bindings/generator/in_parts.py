@@ -173,7 +173,7 @@ def in_parts(row):
         lines.append(f"{by_operator}w.look = {row.name}_look;")
     if cut == "segments":
         lines += segments_filled(found)
-    lines += [f"const bool done = cvl_in_{RUNS.get(cut, cut)}(pool, &w);", "cvl_let_go(&w);", "if (done) return w.told;"]
+    lines += [f"const bool done = cvl_{RUNS.get(cut, cut)}_in_parts(pool, &w);", "cvl_let_go(&w);", "if (done) return w.told;"]
     tests = ([f"!{found.meets}"] if found.meets else []) + ([found.agrees] if found.agrees else [])
     tests += ["index >= 0 && (uint64_t)index < vector_len"] if cut == "replace" else []
     body = [head, "    CvlWork w;"]

@@ -113,7 +113,7 @@ class Versions(unittest.TestCase):
         text, told = "", []
         for version, names in steps:
             told = list(in_map.differences(text, names.split(), version))
-            text = in_map.written(text, names.split(), version)
+            text = in_map.symbol_versions(text, names.split(), version)
         return {node: " ".join(sorted(names)) for node, names in in_map.nodes(text).items()}, told, text
 
     def test_a_name_stays_under_the_version_that_it_came_with(self):

@@ -93,7 +93,7 @@ static Array array_of(char letter) {
 
 static size_t bytes_of(char letter) { return array_of(letter).size * array_of(letter).count; }
 
-static size_t arrays_of(const Row *row) { return strlen(row->arrays); }
+static size_t array_count(const Row *row) { return strlen(row->arrays); }
 
 static bool in_parts(const Row *row) { return strcmp(row->name + strlen(row->name) - 3, "_on") == 0; }
 

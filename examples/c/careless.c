@@ -110,7 +110,7 @@ static void fill(char letter, unsigned char *at, bool any) {
 /* Puts each array of the call into a slot of its own, and fills it. */
 static void apart(const Row *row, unsigned char **at, bool any) {
     memset(arena, UNTOUCHED, (MOST_ARRAYS + 1) * slot);
-    for (size_t k = 0; k < arrays_of(row); k++) {
+    for (size_t k = 0; k < array_count(row); k++) {
         at[k] = arena + k * slot + slot / 2;
         fill(row->arrays[k], at[k], any);
     }
@@ -118,7 +118,7 @@ static void apart(const Row *row, unsigned char **at, bool any) {
 
 static CvlStatus call_at(const Row *row, unsigned char *const *at) {
     void *p[MOST_ARRAYS];
-    for (size_t k = 0; k < arrays_of(row); k++) p[k] = at[k];
+    for (size_t k = 0; k < array_count(row); k++) p[k] = at[k];
     calls++;
     const CvlStatus status = row->call(p);
     const char *made = strchr(row->arrays, 'h');
@@ -183,7 +183,7 @@ static void overlap_two(const Row *row, size_t i, size_t j) {
 static void overlaps(const Row *row) {
     slot = SHORT_SLOT;
     set_size(FEW);
-    for (size_t j = 0; j < arrays_of(row); j++) {
+    for (size_t j = 0; j < array_count(row); j++) {
         for (size_t i = 0; i < j; i++) {
             if (array_of(row->arrays[i]).is_room || array_of(row->arrays[j]).is_room) overlap_two(row, i, j);
         }
@@ -195,7 +195,7 @@ static void shared_inputs(const Row *row) {
     unsigned char *at[MOST_ARRAYS];
     slot = SHORT_SLOT;
     set_size(FEW);
-    for (size_t j = 0; j < arrays_of(row); j++) {
+    for (size_t j = 0; j < array_count(row); j++) {
         for (size_t i = 0; i < j; i++) {
             if (row->arrays[i] != row->arrays[j] || array_of(row->arrays[i]).is_room) continue;
             apart(row, at, false);
@@ -212,7 +212,7 @@ static void shared_inputs(const Row *row) {
 /* The call with these of its inputs, by a bit each, in the place of its room, and the same call apart. */
 static void compare_in_place(const Row *row, unsigned inputs, bool any) {
     unsigned char *at[MOST_ARRAYS];
-    const size_t room = arrays_of(row) - 1, bytes = bytes_of(row->arrays[room]);
+    const size_t room = array_count(row) - 1, bytes = bytes_of(row->arrays[room]);
     size_t first = 0;
     while ((inputs >> first & 1) == 0) first++;
     apart(row, at, any);
@@ -236,7 +236,7 @@ static void compare_in_place(const Row *row, unsigned inputs, bool any) {
 /* The call with several inputs in the place of its room, of which only one may be it, is refused with nothing written. */
 static void refuse_in_place(const Row *row, unsigned inputs) {
     unsigned char *at[MOST_ARRAYS];
-    const size_t room = arrays_of(row) - 1;
+    const size_t room = array_count(row) - 1;
     if (bytes_of(row->arrays[room]) == 0) return;
     apart(row, at, true);
     for (size_t k = 0; k < room; k++) {
@@ -253,10 +253,10 @@ static void in_place(const Row *row) {
     slot = LONG_SLOT;
     for (size_t s = 0; s < sizeof sizes / sizeof *sizes; s++) {
         set_size(sizes[s]);
-        for (unsigned inputs = 1; inputs < 1u << (arrays_of(row) - 1); inputs++) {
+        for (unsigned inputs = 1; inputs < 1u << (array_count(row) - 1); inputs++) {
             const bool several = (inputs & (inputs - 1)) != 0, one_alone = strchr(row->in_place, '/') != NULL;
             bool may = true;
-            for (size_t k = 0; k < arrays_of(row) - 1; k++) may = may && ((inputs >> k & 1) == 0 || may_be_in_place(row, k, arrays_of(row) - 1));
+            for (size_t k = 0; k < array_count(row) - 1; k++) may = may && ((inputs >> k & 1) == 0 || may_be_in_place(row, k, array_count(row) - 1));
             if (may && several && one_alone) refuse_in_place(row, inputs);
             for (int round = 0; may && !(several && one_alone) && round < 4; round++) compare_in_place(row, inputs, round > 0);
         }
@@ -282,7 +282,7 @@ static void compare_bytes(const Row *row, int way, unsigned char byte) {
     static unsigned char odd[MOST_ARRAYS][LONG_SLOT];
     unsigned char *at[MOST_ARRAYS];
     apart(row, at, false);
-    for (size_t j = 0; j < arrays_of(row); j++) {
+    for (size_t j = 0; j < array_count(row); j++) {
         if (strchr("fg", row->arrays[j]) == NULL) continue;
         for (size_t k = 0; k < bytes_of(row->arrays[j]); k++) {
             odd[j][k] = odd_byte(way, byte, k);
@@ -292,7 +292,7 @@ static void compare_bytes(const Row *row, int way, unsigned char byte) {
     const CvlStatus plain = call_at(row, at);
     remember(wanted);
     apart(row, at, false);
-    for (size_t j = 0; j < arrays_of(row); j++) {
+    for (size_t j = 0; j < array_count(row); j++) {
         if (strchr("fg", row->arrays[j]) == NULL) continue;
         memcpy(at[j], odd[j], bytes_of(row->arrays[j]));
         memcpy(wanted + (at[j] - arena), odd[j], bytes_of(row->arrays[j]));
@@ -319,7 +319,7 @@ static void odd_booleans(const Row *row) {
 /* Each array without elements may be null, and all at once; and it overlaps nothing, wherever it is. */
 static void nulls(const Row *row) {
     unsigned char *at[MOST_ARRAYS], *empty_at[MOST_ARRAYS];
-    const size_t all = arrays_of(row), over_the_last = all + 1;
+    const size_t all = array_count(row), over_the_last = all + 1;
     slot = SHORT_SLOT;
     set_size(0);
     apart(row, at, false);
@@ -352,14 +352,14 @@ static void map_pages(void) {
 static void guard(const Row *row, bool at_end) {
     unsigned char *at[MOST_ARRAYS], *guarded[MOST_ARRAYS];
     apart(row, at, false);
-    for (size_t k = 0; k < arrays_of(row); k++) {
+    for (size_t k = 0; k < array_count(row); k++) {
         const size_t bytes = bytes_of(row->arrays[k]);
         guarded[k] = pages[k] + PAGE + (at_end ? PAGE - bytes : 0);
         memcpy(guarded[k], at[k], bytes);
     }
     const CvlStatus plain = call_at(row, at), status = call_at(row, guarded);
     if (status.number != plain.number || status.place != plain.place) fail(row, "guarded", "another status", status);
-    for (size_t k = 0; k < arrays_of(row); k++) {
+    for (size_t k = 0; k < array_count(row); k++) {
         if (memcmp(guarded[k], at[k], bytes_of(row->arrays[k])) != 0) fail(row, "guarded", "another result", status);
     }
 }

@@ -12,7 +12,7 @@
 
 enum { THREADS = 4, SEGMENT = 400, LEAST_LAST = 8, WAYS = 4 };
 
-static CvlStatus told(uint32_t number, size_t place) {
+static CvlStatus status_at(uint32_t number, size_t place) {
     CvlStatus status;
     status.number = number;
     status.place = place == SIZE_MAX ? -1 : (int64_t)place;
@@ -37,43 +37,43 @@ static CvlStatus spoil_index(const Row *row, const char *call, const char *array
     const size_t last = last_before(n, *array), other = last_before(last, *array);
     const bool repeats = way == 1 && !begins(call, "bck") && !begins(call, "fst") && !begins(call, "prd");
     index[last] = repeats ? index[other] : way == 1 ? INT32_MAX : -1;
-    return told(repeats ? CVL_INDEX_REPEATED : CVL_INDEX_OUT_OF_RANGE, last);
+    return status_at(repeats ? CVL_INDEX_REPEATED : CVL_INDEX_OUT_OF_RANGE, last);
 }
 
 /* Sums that no longer fit: of a scan at its last place, of a reduce at the last segment, or at 0. */
 static CvlStatus spoil_sum(const Row *row, const char *call) {
     int32_t *a = ints_at(row, row->arrays);
     a[n - 3] = 1, a[n - 2] = INT32_MAX;
-    return told(CVL_OVERFLOW, call[4] == 's' ? n - 1 : by_segments(call) ? segments - 1 : 0);
+    return status_at(CVL_OVERFLOW, call[4] == 's' ? n - 1 : by_segments(call) ? segments - 1 : 0);
 }
 
 /* A length below 0, or lengths that add up to one more. */
 static CvlStatus spoil_lengths(const Row *row, const char *array, int way) {
     int32_t *last = ints_at(row, array) + segments - 1;
     *last = way == 2 ? -1 : *last + 1;
-    return way == 2 ? told(CVL_NEGATIVE_LENGTH, segments - 1) : told(n + 1 > CVL_MOST_ELEMENTS ? CVL_TOO_LONG : CVL_LENGTH_MISMATCH, SIZE_MAX);
+    return way == 2 ? status_at(CVL_NEGATIVE_LENGTH, segments - 1) : status_at(n + 1 > CVL_MOST_ELEMENTS ? CVL_TOO_LONG : CVL_LENGTH_MISMATCH, SIZE_MAX);
 }
 
 /* Spoils what a call is given, in the last places, and answers what it has to tell; a call that has no fault in this way tells none. */
 static CvlStatus spoil(const Row *row, const char *call, int way) {
     const char *index = strpbrk(row->arrays, "xyzw"), *place = strchr(row->arrays, 'e'), *cuts = strrchr(row->arrays, 'l');
-    if (way > 1) return cuts == NULL || (way == 3 && begins(call, "mke")) ? told(CVL_DONE, SIZE_MAX) : spoil_lengths(row, cuts, way);
+    if (way > 1) return cuts == NULL || (way == 3 && begins(call, "mke")) ? status_at(CVL_DONE, SIZE_MAX) : spoil_lengths(row, cuts, way);
     if (index != NULL && strstr(row->name, "_range") == NULL) return spoil_index(row, call, index, way);
-    if (way == 1 || strstr(row->name, "_after") != NULL || strstr(row->name, "exact") != NULL) return told(CVL_DONE, SIZE_MAX);
+    if (way == 1 || strstr(row->name, "_after") != NULL || strstr(row->name, "exact") != NULL) return status_at(CVL_DONE, SIZE_MAX);
     if (begins(call, "tot")) return spoil_sum(row, call);
     if (place != NULL) {
         ints_at(row, place)[segments - 1] = lengths[segments - 1];
-        return told(CVL_INDEX_OUT_OF_RANGE, segments - 1);
+        return status_at(CVL_INDEX_OUT_OF_RANGE, segments - 1);
     }
     if (begins(call, "div") || begins(call, "mod")) {
         ((int32_t *)(void *)memory[1])[n - 1] = 0;
-        return told(CVL_DIVIDE_BY_ZERO, n - 1);
+        return status_at(CVL_DIVIDE_BY_ZERO, n - 1);
     }
     if (begins(call, "lsh") || begins(call, "rsh")) {
         ((int32_t *)(void *)memory[1])[n - 1] = 32;
-        return told(CVL_SHIFT_OUT_OF_RANGE, n - 1);
+        return status_at(CVL_SHIFT_OUT_OF_RANGE, n - 1);
     }
-    return told(CVL_DONE, SIZE_MAX);
+    return status_at(CVL_DONE, SIZE_MAX);
 }
 
 /* ---- each call */
@@ -90,7 +90,7 @@ static bool tells(const Row *row, CvlStatus status, CvlStatus right) {
 /* The rooms of a call with a fault are as they were. */
 static void leaves(const Row *row) {
     faults++;
-    for (size_t j = 0; j < arrays_of(row); j++) {
+    for (size_t j = 0; j < array_count(row); j++) {
         const unsigned char *at = memory[j], *end = at + bytes_of(row->arrays[j]);
         while (array_of(row->arrays[j]).is_room && at < end && *at == UNTOUCHED) at++;
         if (array_of(row->arrays[j]).is_room && at < end) fail(row, "another byte after a fault", *at, UNTOUCHED);
@@ -111,7 +111,7 @@ static void with_faults(const Row *row, const char *call) {
 
 static void without_fault(const Row *row, const char *call) {
     const bool is_text = strpbrk(row->arrays, "tuX") != NULL;
-    const CvlStatus right = is_text && n > CVL_MOST_OF_TEXT ? told(CVL_TOO_LONG, SIZE_MAX) : told(CVL_DONE, SIZE_MAX);
+    const CvlStatus right = is_text && n > CVL_MOST_OF_TEXT ? status_at(CVL_TOO_LONG, SIZE_MAX) : status_at(CVL_DONE, SIZE_MAX);
     void *p[MOST_ARRAYS];
     for (size_t threads = 1; threads <= THREADS; threads += THREADS - 1) {
         if (cvl_set_threads(threads) != 0) abort();

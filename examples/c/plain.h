@@ -475,13 +475,13 @@ static void check_room(const Row *row, size_t j, size_t made, size_t written) {
 /* Holds all that a call reads. */
 static void hold_all(const Row *row, const char *call) {
     cut(strchr(row->arrays, 'e') != NULL);
-    for (size_t j = 0; j < arrays_of(row); j++) hold(row, j);
+    for (size_t j = 0; j < array_count(row); j++) hold(row, j);
     if (strpbrk(row->arrays, "tu") != NULL) text_length = write_text(held[0], false, by_segments(call)) - (by_segments(call) ? 0 : 2);
 }
 
 /* Gives a call what is held, where true flags are 1, or any byte but 0, and rooms. */
 static void put_all(const Row *row, bool odd, void **p) {
-    for (size_t j = 0; j < arrays_of(row); j++) {
+    for (size_t j = 0; j < array_count(row); j++) {
         put(row, j, odd);
         p[j] = memory[j];
     }
@@ -493,7 +493,7 @@ static void compare(const Row *row, const char *call) {
     stands_before = strstr(row->name, "_scan_after") != NULL ? &before : NULL;
     const size_t made = read_plainly(call);
     const size_t written = strchr(row->arrays, 'X') == NULL ? 0 : write_text(wanted, is_bool(call), by_segments(call));
-    for (size_t j = 0; j < arrays_of(row); j++) {
+    for (size_t j = 0; j < array_count(row); j++) {
         if (array_of(row->arrays[j]).is_room && row->arrays[j] != 'h') check_room(row, j, made, written);
     }
 }

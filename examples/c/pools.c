@@ -295,7 +295,7 @@ static void in_a_child(void) {
     check("a child did not call and stop", child > 0 && waitpid(child, &status, 0) == child && WIFEXITED(status) && WEXITSTATUS(status) == 0);
 }
 
-static void children(void) {
+static void calls_in_children(void) {
     pthread_t caller;
     bool right = true;
     for (int k = 0; k < 5; k++) in_a_child();
@@ -372,7 +372,7 @@ int main(void) {
     nested();
     at_once("calls at once on one pool are others", call_often);
     at_once("threads that start and stop pools at once", start_and_stop);
-    children();
+    calls_in_children();
     cancelled();
     const CvlPool pool = cvl_pool_posix(threads);
     check("after all that the pool calls otherwise", scans_by(&pool));

@@ -144,7 +144,7 @@ static void fill(const Row *row, void **p) {
     static CvlSegments descriptor;
     descriptor.lengths = lengths, descriptor.segments = 3, descriptor.some = true;
     n = 6, segments = 3, trues = 6, text_length = 7, text_room = 200;
-    for (size_t k = 0; k < arrays_of(row); k++) {
+    for (size_t k = 0; k < array_count(row); k++) {
         int32_t *ints = (int32_t *)(void *)memory[k];
         const char letter = row->arrays[k];
         p[k] = memory[k];

@@ -250,7 +250,7 @@ def counts(flags, d):
     return [segment.count(True) for segment in cut(flags, d)]
 
 
-def counted(count):
+def checked_count(count):
     if count < 0:
         raise Fault(12)
     if count > MOST_ELEMENTS:
@@ -313,7 +313,7 @@ CALLS = {
     "cpy_wuz": ("z", "z", place_by_place(lambda a: a)), "cpy_wub": ("b", "b", place_by_place(lambda a: a)),
     "int_wub": ("b", "z", place_by_place(int)), "boo_wuz": ("z", "b", place_by_place(bool)),
     "cnt_lub": ("b", "i", lambda f: f.count(True)), "cnt_leb": ("bd", "z", counts), "pck_fov": ("bd", "d", counts),
-    "ind_luz": ("iii", "z", lambda init, stride, count: strided(init, stride, counted(count))),
+    "ind_luz": ("iii", "z", lambda init, stride, count: strided(init, stride, checked_count(count))),
     "ind_lez": ("zzd", "z", ind_lez), "mke_fov": ("z", "d", mke_fov), "len_fos": ("d", "z", lambda d: d),
 }
 for name, function in INT2.items():
@@ -340,7 +340,7 @@ for x, one in (("z", "i"), ("b", "t")):
         f"def_pu{x}": (f"{x}z{x}", x, def_pu), f"def_pe{x}": (f"{x}z{x}dd", x, def_pe),
         f"len_lu{x}": (x, "i", len),
         f"pck_lu{x}": (f"{x}b", x, pck_lu), f"pck_le{x}": (f"{x}bd", x, pck_le),
-        f"dis_vu{x}": (f"{one}i", x, lambda value, count: [value] * counted(count)),
+        f"dis_vu{x}": (f"{one}i", x, lambda value, count: [value] * checked_count(count)),
         f"dis_ve{x}": (f"{x}d", x, dis_ve),
         f"ext_vu{x}": (f"{x}i", one, lambda vector, index: vector[inside(index, vector, 0)]),
         f"ext_ve{x}": (f"{x}zd", x, ext_ve),
