@@ -21,8 +21,9 @@ def read(top):
 def differences(limits):
     """The limits that the table has otherwise than the source."""
     for name, definition in DEFINITIONS.items():
-        if getattr(table, name) != limits.get(definition):
-            yield f"{name} is {getattr(table, name)} in bindings/table.py, and {definition} is {limits.get(definition)} in {SOURCE}"
+        here, proved = getattr(table, name), limits.get(definition)
+        if here != proved:
+            yield f"{name} is {here} in bindings/table.py, and {definition} is {proved} in {SOURCE}"
 
 
 def read_thresholds(top):
