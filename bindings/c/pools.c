@@ -156,12 +156,16 @@ static void end_all(CvlThreads *t) {
     pthread_mutex_destroy(&t->calls);
 }
 
-/* A thread that were cancelled while it waits would leave the threads half ended. */
+/*
+ * A thread that were cancelled while it waits would leave the threads half ended. The child of a fork takes the lock, unless it
+ * was held at the fork, so that the thread sanitizer knows that the parent's threads have done what they did.
+ */
 void cvl_threads_stop(CvlThreads *t) {
     int cancels;
     if (t == NULL) return;
     pthread_setcancelstate(PTHREAD_CANCEL_DISABLE, &cancels);
     if (t->process == cvl_process()) end_all(t);
+    else if (pthread_mutex_trylock(&t->lock) == 0) pthread_mutex_unlock(&t->lock);
     free(t);
     pthread_setcancelstate(cancels, &cancels);
 }

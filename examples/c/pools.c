@@ -295,10 +295,27 @@ static void in_a_child(void) {
     check("a child did not call and stop", child > 0 && waitpid(child, &status, 0) == child && WIFEXITED(status) && WEXITSTATUS(status) == 0);
 }
 
+/* Whether threads of the pool find that their time is up whenever they wait. */
+static atomic_bool ends_soon;
+
+/* A child of a process whose threads have ended by themselves. */
+static inline void child_after_threads(void) {
+    const CvlPool pool = cvl_pool_posix(threads);
+    atomic_store(&ends_soon, true);
+    check("threads that are about to end call otherwise", scans_by(&pool));
+    usleep(20000);
+    in_a_child();
+    atomic_store(&ends_soon, false);
+}
+
 static void calls_in_children(void) {
     pthread_t caller;
     bool right = true;
     for (int k = 0; k < 5; k++) in_a_child();
+#ifdef __SANITIZE_THREAD__
+    /* the address sanitizer may have a lock of its own at the fork, for a thread that ends */
+    for (int k = 0; k < 3; k++) child_after_threads();
+#endif
     atomic_store(&forks, true);
     if (pthread_create(&caller, NULL, call_meanwhile, &right) != 0) abort();
     for (int k = 0; k < 40; k++) in_a_child();
@@ -311,7 +328,10 @@ static void calls_in_children(void) {
 
 static atomic_bool hold_waits, waits_are_held;
 
-/* The linker puts this in place of pthread_cond_timedwait (--wrap): a thread that would wait keeps the lock while waits are held. */
+/*
+ * The linker puts this in place of pthread_cond_timedwait (--wrap): a thread that would wait keeps the lock while waits are held, and
+ * waits for a minute longer than the library says, or not at all.
+ */
 int __real_pthread_cond_timedwait(pthread_cond_t *condition, pthread_mutex_t *lock, const struct timespec *until);
 int __wrap_pthread_cond_timedwait(pthread_cond_t *condition, pthread_mutex_t *lock, const struct timespec *until);
 int __wrap_pthread_cond_timedwait(pthread_cond_t *condition, pthread_mutex_t *lock, const struct timespec *until) {
@@ -319,7 +339,8 @@ int __wrap_pthread_cond_timedwait(pthread_cond_t *condition, pthread_mutex_t *lo
         atomic_store(&waits_are_held, true);
         usleep(200);
     }
-    return __real_pthread_cond_timedwait(condition, lock, until);
+    const struct timespec end = {atomic_load(&ends_soon) ? 0 : until->tv_sec + 60, 0};
+    return __real_pthread_cond_timedwait(condition, lock, &end);
 }
 
 /* A child calls, and doesn't wait for the lock, which nobody there gives back. There are no other threads of a pool. */
