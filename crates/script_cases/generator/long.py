@@ -67,8 +67,8 @@ PIECES = [
     " 000000000000007", " -0 - 5 ", " 4 --5 ", " 3 +4 5 ", " 12-3 4 ", " 1x 2 ", " 1\x0b2 3\x0c ", " \x01 1 \xa0 2 ", " " * 16, "x", "-", "\r",
 ]
 
-# tokens of one byte and of several, with a sign and without
-FILLING = " 7 -12 340 0"
+# tokens of one byte and of several, with a sign and without; most bytes are those of long ones, which are sooner read
+FILLING = " 7 -12 340 0 1234567890 -987654321 2000000000 -1000000001"
 
 RUNS = [(" 10", " 2 "), (" \t\r\n", " "), (" 10", " y "), (" \t\r\n", " - "), (" +", " 3 ")]
 
@@ -95,7 +95,7 @@ def inputs(rng):
     for length in [most + more for most in (LEAST_READ, 5 * LEAST_READ_EACH) for more in (-1, 0, 1)]:
         shares = shares_of(length, LEAST_READ, LEAST_READ_EACH)
         for part in range(14):
-            pieces = with_piece(" -7 12 340", length, length // 12 * part, "x") if part < 13 else filled(" -7 12 340", length)
+            pieces = with_piece(FILLING, length, length // 12 * part, "x") if part < 13 else filled(FILLING, length)
             # as many threads as there are shares, and fewer, each number of them in turn
             workers = differing([part % shares + 1, 64], shares)
             text += one_input(f"{length} bytes with a wrong one in part {part}", tiles(("4096", workers)), pieces)
@@ -103,7 +103,7 @@ def inputs(rng):
         middle = LEAST_READ - len(first) - len(last)
         text += one_input(f"an input of one run, {number}", tiles(("4096", "3 4")), [(first, 1), *filled(filling, middle), (last, 1)])
     for piece in ("", " x "):
-        pieces = with_piece(" -7 12 340", LEAST_READ + 2, LEAST_READ // 2, piece)
+        pieces = with_piece(FILLING, LEAST_READ + 2, LEAST_READ // 2, piece)
         text += one_input(f"a long input with '{piece}' where memory is refused", tiles(("4096", "4")) + refused(5), pieces)
     return text
 
@@ -131,9 +131,17 @@ def elements(words, count, before, first="", between=" "):
     ]
 
 
+def again(count, numbers):
+    """Input 1, and lines that make `v` of it: so many numbers, again and again the same. A permute is sooner made than they are read."""
+    if count <= len(numbers):
+        return section("input", elements(numbers, count, "")) + "== script\nv = input 1\n"
+    lines = f"w = input 1\ni = ind_luz 0 1 {count}\nk = dis_vuz {len(numbers)} {count}\ni = mod_wuz i k\nv = bck_puz w i\n"
+    return section("input", elements(numbers, len(numbers), "")) + "== script\n" + lines
+
+
 def vectors(name, workers, lines, words, count, numbers=NUMBERS):
-    """A case whose last line writes so many words."""
-    return f"== case {name}\n{tiles(('4096', workers))}{section('input', elements(numbers, count, ''))}== script\n{lines}" \
+    """A case whose last line writes so many words, which `lines` makes of `v`."""
+    return f"== case {name}\n{tiles(('4096', workers))}{again(count, numbers)}{lines}" \
         + section("text", [*elements(words, count, "v = ["), ("]\n", 1)])
 
 
@@ -202,17 +210,17 @@ def texts(rng):
     counts = [0, 1, 2, 1024, 1025, 1026, *(share + more for share in (LEAST_WRITTEN, 3 * EACH, 64 * EACH) for more in (0, 1, 2))]
     for count in counts:
         workers = numbers_of_workers(count)
-        text += vectors(f"{count} numbers", workers, "v = input 1\nwrite v\n", NUMBERS, count)
-        text += vectors(f"{count} flags", workers, "v = input 1\nv = boo_wuz v\nwrite v\n", FLAGS, count)
+        text += vectors(f"{count} numbers", workers, "write v\n", NUMBERS, count)
+        text += vectors(f"{count} flags", workers, "v = boo_wuz v\nwrite v\n", FLAGS, count)
     for count in counts[6:9]:
         lengths = range(100)
-        text += vectors(f"{count} lengths", "1 3", "v = input 1\nv = mke_fov v\nwrite v\n", lengths, count, lengths)
+        text += vectors(f"{count} lengths", "1 3", "v = mke_fov v\nwrite v\n", lengths, count, lengths)
     # the most whose text is made whole; behind the first element whole pieces and an element more, by one worker and by three
     for count in (MOST_WHOLE, *(1 + pieces * PIECE + more for pieces in (4, 6) for more in (0, 1))):
         for kind, lines, words, numbers in (
             ("numbers", "", NUMBERS, NUMBERS), ("flags", "v = boo_wuz v\n", FLAGS, NUMBERS), ("lengths", "v = mke_fov v\n", range(11), range(11)),
         ):
-            text += vectors(f"{count} {kind}", "1 3", f"v = input 1\n{lines}write v\n", words, count, numbers)
+            text += vectors(f"{count} {kind}", "1 3", f"{lines}write v\n", words, count, numbers)
     for number, shape in enumerate(SHAPES):
         text += nests(number, shape)
     for name, lines in (("", "write v\n"), (" in segments", "l = dis_vuz 1 32770\nd = mke_fov l\nwrite v d\n")):
@@ -220,9 +228,8 @@ def texts(rng):
         settings = tiles(("4096", "3")) + refused(6)
         text += f"== case a long text{name} where memory is refused\n{settings}{section('input', elements(NUMBERS, count, ''))}" \
             f"== script\nv = input 1\n{lines}" + section("text", [*elements(words, count, "v = ["), ("]\n", 1)])
-    # five for the inputs' list, the input, the session's list, the vector and its name; and five for the write: its beginning, the list
-    # of its pieces, and three pieces
-    text += f"== case a text in pieces where memory is refused\n{tiles(('4096', '3')) + refused(10)}" \
-        f"{section('input', elements(NUMBERS, MOST_WHOLE + 2, ''))}== script\nv = input 1\nwrite v\n" \
+    # five for the inputs' list, the input, the session's list, the vector and its name; one at least for each other line that makes
+    # one; and five for the write: its beginning, the list of its pieces, and three pieces
+    text += f"== case a text in pieces where memory is refused\n{tiles(('4096', '3')) + refused(14)}{again(MOST_WHOLE + 2, NUMBERS)}write v\n" \
         + section("text", [*elements(NUMBERS, MOST_WHOLE + 2, "v = ["), ("]\n", 1)])
     return text

@@ -92,8 +92,8 @@ def cases(rng):
         vectors = [[rng.randint(-4, 4) for _ in range(count)], rng.sample(range(count), count)]
         lists = [[rng.randint(0, 3) for _ in range(rng.randint(0, 3))] for _ in range(rng.randint(0, 5))]
         inputs = [*map(number_lines, vectors), "[" + " ".join(f"[{number_lines(one)}]" for one in lists) + "]"]
-        # what a worker does who is refused memory is shown for each call by itself; here it is the line that is named, and the text
-        settings = RUN_ON[number % 4 - 1] if number % 4 else tiles(("1", "1" if number % 20 else "3")) + refused(4)
+        # `rows.py` refuses memory to the workers of each call; here it is about the line that is named, and the text before it
+        settings = RUN_ON[number % 4 - 1] if number % 4 else tiles(("1", "1" if number % 40 else "3")) + refused(4)
         text += whole(f"random script {number}", settings, script_of(rng, inputs), inputs)
     return text
 

@@ -200,6 +200,6 @@ def cases(rng):
         script = script_of(name)
         settings = tiles(("1", "3"), ("2", "5"), ("3", "2"), ("7", "1")) if is_raced(name) else tiles(("2", "3"))
         text += each(f"{name} of random arguments", settings, script, [], random_rows(rng, name))
-        settings = tiles(("1 4096" if is_raced(name) else "4096", "3")) + refused(2 * len(CALLS[name][0]) + 2)
+        settings = tiles(("4096", "3"), *([("1", "2")] if is_raced(name) else [])) + refused(2 * len(CALLS[name][0]) + 2)
         text += each(f"{name} where memory is refused", settings, script, [], refused_rows(rng, name))
     return text

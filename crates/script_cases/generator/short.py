@@ -40,9 +40,8 @@ PERMUTES = [
 ]
 
 
-# the two pairs of tiles and workers of a list: by one worker, and in half of the lists by several, who are two where there are two
-# tiles, and one where there is one
-LISTED = [tiles(("1", "3"), ("3", "1")), tiles(("2 4", "1")), tiles(("3", "2"), ("1", "1")), tiles(("4", "3"), ("2", "1"))]
+# the tiles and workers of the lists of each part: in tiles of two lengths, and in one part by several workers
+LISTED = [tiles(("1", "3"), ("3", "1")), tiles(("2 4", "1")), tiles(("1 3", "1")), tiles(("4", "3"), ("2", "1"))]
 
 
 def permutes(rng):
@@ -128,7 +127,8 @@ def in_tiles(rng):
     text = ""
     # every cut for a sum, and for an operator whose identity is no zero; all operators are walked and joined alike
     for name, x, is_full in [(op, "z", op in ("add", "max")) for op in INT_MONOIDS] + [(op, "b", op == "xor") for op in BOOL_MONOIDS]:
-        settings = tiles(("1 2 3 4 5 6 7 8", "1"), ("1", "3"), ("2", "7"), ("5", "2")) if is_full else tiles(("1", "2"), ("3", "3"), ("4", "1"))
+        settings = tiles(("1 2 3 4 5 6 7 8", "1"), ("1", "3"), ("5", "2")) if is_full else tiles(("1", "2"), ("3", "3"), ("4", "1"))
+        settings += tiles(("2", "7")) if name == "add" else ""
         start = "a = input 1\n" + ("" if x == "z" else "a = boo_wuz a\n") + "o = input 2\n"
         flat = by_segments = start
         for count in range(LONGEST + 1):
