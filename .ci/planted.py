@@ -51,9 +51,9 @@ THERE = (
     "crates/boards/must-fail/join_swapped.edit",
     "crates/test_runs/src/shown.rt::as_text",
     "crates/script_cases/data/scans.cases: a sum that wraps",
-    "bindings/tests/test_archive.py::test_a_compiler_with_options",
-    "examples/c/pools.c::main",
-    ".ci/test-resources: shares 2 'r = add_suz i'",
+    "tests/installation/test_archive.py::test_a_compiler_with_options",
+    "tests/c/pools.c::main",
+    "tests/process/resources: shares 2 'r = add_suz i'",
 )
 NOT_THERE = (
     "crates/boards/must-fail/no_such.edit",
@@ -62,9 +62,9 @@ NOT_THERE = (
     "crates/test_runs/src/no_such.rt::as_text",
     "crates/test_runs/src/requests.rt::requests_of",
     "crates/script_cases/data/scans.cases: a sum that",
-    "bindings/tests/test_archive.py::assertIn",
-    "examples/c/pools.c::mai",
-    ".ci/test-resources: shares 5 'r = add_suz i'",
-    ".ci/run: The check of the repository",
+    "tests/installation/test_archive.py::assertIn",
+    "tests/c/pools.c::mai",
+    "tests/process/resources: shares 5 'r = add_suz i'",
+    "tests/process/program: Runs the program the repository",
     "a test",
 )

@@ -83,7 +83,7 @@ CUTS = {
 MOST_ELEMENTS = 2147483647
 MOST_OF_TEXT = 4194304
 
-# The most bytes of its stack that a thread needs for a call: what examples/c/stack.c measures stays below it.
+# The most bytes of its stack that a thread needs for a call: what tests/c/stack.c measures stays below it.
 MOST_STACK = 32768
 
 # The faults that calls share.

@@ -7,7 +7,7 @@ from pages.texts import TOP, lines_of, outside_blocks
 
 def pages():
     """All pages, by their paths."""
-    return sorted(str(path.relative_to(TOP)) for files in ("*.md", "docs/*.md", "bindings/*.md") for path in TOP.glob(files))
+    return sorted(str(path.relative_to(TOP)) for files in ("*.md", "docs/*.md", "bindings/*.md", "tests/*.md") for path in TOP.glob(files))
 
 
 def anchors_of(page):
@@ -17,11 +17,11 @@ def anchors_of(page):
 
 
 def check_paths():
-    """A path below crates, docs, examples or .ci that a page names is there, or was built."""
+    """A path below crates, docs, examples, tests or .ci that a page names is there, or was built."""
     for page in pages():
         for number, line in outside_blocks(lines_of(page)):
-            for path in re.findall(r"`((?:crates|docs|examples|\.ci)/[A-Za-z0-9_./-]+)`", line):
-                if "/out/" not in path and not (TOP / path).exists():
+            for path in re.findall(r"`((?:crates|docs|examples|tests|\.ci)/[A-Za-z0-9_./-]+)`", line):
+                if "/out/" not in path and not any((folder / path).exists() for folder in (TOP, (TOP / page).parent)):
                     yield f"{page}:{number} {path} is not there"
 
 

@@ -34,7 +34,7 @@ FORMS = (
     (r"(crates/\w+/must-fail/\w+\.edit)", lambda text: True),
     (r"(crates/\w+/src/[\w/]+\.rt)::(\w+)", has_test),
     (rf"({CASES}/[\w-]+\.cases): (.+)", has_case),
-    (r"(\.ci/[\w-]+): (.+)", has_line),
+    (r"(tests/process/[\w-]+): (.+)", has_line),
     (r"((?!crates/)[\w./-]+)::(.+)", has_name),
 )
 

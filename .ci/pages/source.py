@@ -13,7 +13,7 @@ DEFINITIONS, ARCHITECTURE, LIST = "docs/definitions.md", "docs/architecture.md",
 UNNAMED_CRATES = {"embedding", "test_sharing"}
 
 # where programs stand
-WITH_PROGRAMS = ("*", ".ci/**/*", "bindings/**/*", "crates/*/*", "docs/**/*", "examples/**/*")
+WITH_PROGRAMS = ("*", ".ci/**/*", "bindings/**/*", "crates/*/*", "docs/**/*", "examples/**/*", "tests/**/*")
 
 MOST_COLUMNS = {"specs/**/*.antt": 140, "proofs/**/*.antt": 200, "src/**/*.rt": 130}
 

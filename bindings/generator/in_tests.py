@@ -6,7 +6,7 @@ import rows
 import table
 from in_c import held, on_segments, segments_name
 
-# The letters of arrays in examples/c/careless.c, by kind and how long they are.
+# The letters of arrays in tests/c/careless.c, by kind and how long they are.
 READ = {
     ("ints", "n"): "i", ("ints", "m"): "i", ("ints", "segments"): "s", ("ints", "offsets"): "b", ("flags", "n"): "f", ("flags", "m"): "f", ("flags", "segments"): "g",
     ("text", "n"): "t",
@@ -94,14 +94,14 @@ def _row(row, name, arguments, pool="", letters=None):
 
 
 def careless():
-    """`examples/c/careless_rows.h`."""
+    """`tests/c/careless_rows.h`."""
     plain = [*rows.CALLS, *rows.FAMILIES.values()]
     parts = [row for row in plain if row.family.cut is not None]
     descriptor = str.maketrans("l", "d")
     lines = [
         "/*",
         " * careless_rows.h: a row for each function of cvl.h and cvl_parallel.h: its name; a letter for each of its arrays; which may be the room,",
-        " * with a stroke between those that may not be it at once; and its arguments. examples/c/careless.c reads it.",
+        " * with a stroke between those that may not be it at once; and its arguments. tests/c/careless.c reads it.",
         " *",
         f" * {rows.NOTE}",
         " */",
@@ -167,14 +167,14 @@ def _reading_row(row, name, pool=""):
 
 
 def reading():
-    """`examples/c/reading_rows.h`."""
+    """`tests/c/reading_rows.h`."""
     found = [*rows.FAMILIES.values(), *rows.CALLS]
     parts = [row for row in found if row.family.cut is not None]
     lines = [
         "/*",
         " * reading_rows.h: a row for each function of cvl.h and cvl_parallel.h: its name; the plain reading that it is held against; its operands, each",
         " * by its role, its kind and how long it is; which may be the room, with a stroke where only one may be it; the operators; the operand that may",
-        " * be too long; whether it is a call of the table; and its arguments. examples/c/differential.c reads it.",
+        " * be too long; whether it is a call of the table; and its arguments. tests/c/differential.c reads it.",
         " *",
         f" * {rows.NOTE}",
         " */",

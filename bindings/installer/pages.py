@@ -24,7 +24,7 @@ MOVED = {
 # the examples: the folder of the repository, and its files
 EXAMPLES = (
     ("crates/script_cases/data/examples", ("*.cvl", "*.txt")),
-    ("examples/c", ("sparse_product.c", "sparse_transpose.c", "polynomial.c", "quicksort.c", "radix_sort.c", "distinct.c", "threads.c")),
+    ("examples/c", ("sparse_product.c", "sparse_transpose.c", "polynomial.c", "quicksort.c", "radix_sort.c", "distinct.c", "threads.c", "descriptors.c")),
     ("examples/cpp", ("*.cpp",)),
     ("examples/mpi", ("parts.c",)),
     ("bindings/python/examples", ("*.py",)),
@@ -33,7 +33,7 @@ EXAMPLES = (
 )
 
 # a name of a file or folder: one with a slash that begins as those of the repository, a page, or a command at its top
-FOLDERS = "crates|bindings|docs|examples|include|\\.ci"
+FOLDERS = "crates|bindings|docs|examples|include|tests|\\.ci"
 NAMED = re.compile(rf"(?<![\w/.~-])(?:\.{{0,2}}/?(?:{FOLDERS})/[\w./*-]*\w|[\w-]+\.md|\./install|\./cvl)(?![\w/])")
 LINK = re.compile(r"(!?)\[([^\]]*)\]\(([^)]*)\)")
 

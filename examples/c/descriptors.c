@@ -1,6 +1,6 @@
 /*
  * Four threads make calls on one constant descriptor at once, many times, and each result is held against that of one thread.
- * `examples/c/run descriptors` builds and runs it under the thread sanitizer.
+ * `tests/c/run descriptors` builds and runs it under the thread sanitizer.
  */
 #define CVL_SHORT_NAMES
 #include "cvl.h"

@@ -1,8 +1,8 @@
 /*
  * Four threads scan one vector together: each reduces the tiles that it takes, one of them scans the reduces, and each scans
  * the tiles that it takes after what stands before them. The result is held against a scan of the whole by one thread, for
- * each operator and several lengths of tiles. `examples/c/run threads` builds and runs it under sanitizers, and
- * `examples/c/run races` under the thread sanitizer.
+ * each operator and several lengths of tiles. `tests/c/run threads` builds and runs it under sanitizers, and
+ * `tests/c/run races` under the thread sanitizer.
  */
 #define CVL_SHORT_NAMES
 #include "cvl.h"

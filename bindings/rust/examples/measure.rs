@@ -1,4 +1,4 @@
-//! The time of ten calls, into memory that was written before, as a table in Markdown: the ten of `bindings/tests/measure`, which
+//! The time of ten calls, into memory that was written before, as a table in Markdown: the ten of `docs/performance/from_python`, which
 //! has those of Python and of numpy. Each time is the least of several runs, in microseconds.
 //!
 //! `cargo run --release --example measure` prints it.

@@ -1,0 +1,259 @@
+/*
+ * Calls each function of cvl.h on vectors of 4,194,304, 4,194,305, 8,388,613 and 67,108,864 elements, by one thread and by four, without a fault
+ * and with one in the last places, and holds what it answers and writes against plain loops. Texts end at 4,194,304 elements, and more
+ * are told. Then some calls on 2,147,483,647 booleans, the most of a vector, and on one more, of which nothing may be read; and faults in the
+ * last places of as many integers, zeros that the system has at hand, of which a page alone is written. It takes up to 6 GB of memory. It prints what differs, and its status is then 1. `tests/c/run lengths` builds and runs it; the functions
+ * are those of calls.h, and the loops those of plain.h. One of the lengths may be named alone.
+ */
+#define _DEFAULT_SOURCE
+#include "plain.h"
+
+#include <sys/mman.h>
+
+enum { THREADS = 4, SEGMENT = 400, LEAST_LAST = 8, WAYS = 4 };
+
+static CvlStatus status_at(uint32_t number, size_t place) {
+    CvlStatus status;
+    status.number = number;
+    status.place = place == SIZE_MAX ? -1 : (int64_t)place;
+    return status;
+}
+
+/* ---- faults in the last places */
+
+static int32_t *ints_at(const Row *row, const char *array) { return (int32_t *)(void *)memory[array - row->arrays]; }
+
+/* The last place before another one that takes part in a permute: each, or one whose flag is true. */
+static size_t last_before(size_t place, char letter) {
+    const bool by_flags = letter == 'z' || letter == 'w';
+    do place--;
+    while (by_flags && !flag_at(place));
+    return place;
+}
+
+/* Indices: out of range, or, in the second way, one that stands there already; those of back permutes, first senders and products may repeat. */
+static CvlStatus spoil_index(const Row *row, const char *call, const char *array, int way) {
+    int32_t *index = ints_at(row, array);
+    const size_t last = last_before(n, *array), other = last_before(last, *array);
+    const bool repeats = way == 1 && !begins(call, "bck") && !begins(call, "fst") && !begins(call, "prd");
+    index[last] = repeats ? index[other] : way == 1 ? INT32_MAX : -1;
+    return status_at(repeats ? CVL_INDEX_REPEATED : CVL_INDEX_OUT_OF_RANGE, last);
+}
+
+/* Sums that no longer fit: of a scan at its last place, of a reduce at the last segment, or at 0. */
+static CvlStatus spoil_sum(const Row *row, const char *call) {
+    int32_t *a = ints_at(row, row->arrays);
+    a[n - 3] = 1, a[n - 2] = INT32_MAX;
+    return status_at(CVL_OVERFLOW, call[4] == 's' ? n - 1 : by_segments(call) ? segments - 1 : 0);
+}
+
+/* A length below 0, or lengths that add up to one more. */
+static CvlStatus spoil_lengths(const Row *row, const char *array, int way) {
+    int32_t *last = ints_at(row, array) + segments - 1;
+    *last = way == 2 ? -1 : *last + 1;
+    return way == 2 ? status_at(CVL_NEGATIVE_LENGTH, segments - 1) : status_at(n + 1 > CVL_MOST_ELEMENTS ? CVL_TOO_LONG : CVL_LENGTH_MISMATCH, SIZE_MAX);
+}
+
+/* Spoils what a call is given, in the last places, and answers what it has to tell; a call that has no fault in this way tells none. */
+static CvlStatus spoil(const Row *row, const char *call, int way) {
+    const char *index = strpbrk(row->arrays, "xyzw"), *place = strchr(row->arrays, 'e'), *cuts = strrchr(row->arrays, 'l');
+    if (way > 1) return cuts == NULL || (way == 3 && begins(call, "mke")) ? status_at(CVL_DONE, SIZE_MAX) : spoil_lengths(row, cuts, way);
+    if (index != NULL && strstr(row->name, "_range") == NULL) return spoil_index(row, call, index, way);
+    if (way == 1 || strstr(row->name, "_after") != NULL || strstr(row->name, "exact") != NULL) return status_at(CVL_DONE, SIZE_MAX);
+    if (begins(call, "tot")) return spoil_sum(row, call);
+    if (place != NULL) {
+        ints_at(row, place)[segments - 1] = lengths[segments - 1];
+        return status_at(CVL_INDEX_OUT_OF_RANGE, segments - 1);
+    }
+    if (begins(call, "div") || begins(call, "mod")) {
+        ((int32_t *)(void *)memory[1])[n - 1] = 0;
+        return status_at(CVL_DIVIDE_BY_ZERO, n - 1);
+    }
+    if (begins(call, "lsh") || begins(call, "rsh")) {
+        ((int32_t *)(void *)memory[1])[n - 1] = 32;
+        return status_at(CVL_SHIFT_OUT_OF_RANGE, n - 1);
+    }
+    return status_at(CVL_DONE, SIZE_MAX);
+}
+
+/* ---- each call */
+
+static long calls, faults;
+
+static bool tells(const Row *row, CvlStatus status, CvlStatus right) {
+    calls++;
+    if (status.number != right.number) fail(row, "another status", status.number, right.number);
+    else if (status.place != right.place) fail(row, "another place", status.place, right.place);
+    return status.number == right.number && status.place == right.place;
+}
+
+/* The rooms of a call with a fault are as they were. */
+static void leaves(const Row *row) {
+    faults++;
+    for (size_t j = 0; j < array_count(row); j++) {
+        const unsigned char *at = memory[j], *end = at + bytes_of(row->arrays[j]);
+        while (array_of(row->arrays[j]).is_room && at < end && *at == UNTOUCHED) at++;
+        if (array_of(row->arrays[j]).is_room && at < end) fail(row, "another byte after a fault", *at, UNTOUCHED);
+    }
+}
+
+static void with_faults(const Row *row, const char *call) {
+    void *p[MOST_ARRAYS];
+    for (int way = 0; way < WAYS; way++) {
+        put_all(row, false, p);
+        const CvlStatus right = spoil(row, call, way);
+        for (size_t threads = 1; right.number != CVL_DONE && threads <= THREADS; threads += THREADS - 1) {
+            if (cvl_set_threads(threads) != 0) abort();
+            if (tells(row, row->call(p), right)) leaves(row);
+        }
+    }
+}
+
+static void without_fault(const Row *row, const char *call) {
+    const bool is_text = strpbrk(row->arrays, "tuX") != NULL;
+    const CvlStatus right = is_text && n > CVL_MOST_OF_TEXT ? status_at(CVL_TOO_LONG, SIZE_MAX) : status_at(CVL_DONE, SIZE_MAX);
+    void *p[MOST_ARRAYS];
+    for (size_t threads = 1; threads <= THREADS; threads += THREADS - 1) {
+        if (cvl_set_threads(threads) != 0) abort();
+        put_all(row, false, p);
+        if (!tells(row, row->call(p), right)) continue;
+        if (right.number == CVL_DONE) compare(row, call);
+        else leaves(row);
+    }
+}
+
+/* A call of the table, or a function that no call has; others are these again. */
+static bool is_call(const Row *row) {
+    static const char *const own[] = {"_after", "_range", "exact_sum", "read_ints", "write_"};
+    for (size_t k = 0; k < sizeof own / sizeof *own; k++) {
+        if (strstr(row->name, own[k]) != NULL && !in_parts(row)) return !begins(row->name, "cvl_segments_");
+    }
+    return strlen(row->name) == 11 && row->name[7] == '_';
+}
+
+static void each_call(size_t elements) {
+    n = elements, segments = elements / SEGMENT;
+    while ((segments - 1) % 5 == 0 || (segments - 1) * 37 % 200 < LEAST_LAST) segments++;
+    trues = trues_in(0, n), text_room = 3 * n;
+    for (size_t k = 0; k < ROWS; k++) {
+        char call[8];
+        if (!is_call(&rows[k])) continue;
+        name_call(&rows[k], call);
+        hold_all(&rows[k], call);
+        without_fault(&rows[k], call);
+        if (strpbrk(rows[k].arrays, "tuX") == NULL) with_faults(&rows[k], call);
+    }
+    printf("%zu elements: %ld calls, %ld of them with a fault\n", n, calls, faults);
+}
+
+/* ---- the most elements of a vector, and one more */
+
+static void check(const char *what, bool is_so) {
+    if (!is_so) {
+        printf("the most elements: %s\n", what);
+        failed = 1;
+    }
+}
+
+static bool is(CvlStatus status, uint32_t number, int64_t place) { return status.number == number && status.place == place; }
+
+/* An exclusive or of the flags before each place, in the place of the flags. */
+static bool scans_in_place(bool *flags, size_t count) {
+    bool right = is(cvl_xor_sub(flags, flags, count), CVL_DONE, -1), odd = false;
+    for (size_t k = 0; k < count && right; k++) {
+        right = flags[k] == odd;
+        odd ^= flag_at(k);
+    }
+    return right;
+}
+
+static void most_booleans(bool *flags, size_t most) {
+    int32_t count = 0;
+    bool found = false, odd = false;
+    size_t right = 0;
+    memset(flags, 1, most);
+    check("a count of as many", is(cvl_cnt_lub(flags, most, &count), CVL_DONE, -1) && (size_t)count == most);
+    for (size_t k = 0; k < most; k++) {
+        flags[k] = flag_at(k);
+        right += flags[k];
+    }
+    odd = right % 2 == 1;
+    check("a count", is(cvl_cnt_lub(flags, most, &count), CVL_DONE, -1) && (size_t)count == right);
+    check("a reduce", is(cvl_xor_rub(flags, most, &found), CVL_DONE, -1) && found == odd);
+    check("a reduce that is false", is(cvl_and_rub(flags, most, &found), CVL_DONE, -1) && !found);
+    check("the last element", is(cvl_ext_vub(flags, most, (int64_t)most - 1, &found), CVL_DONE, -1) && found == flag_at(most - 1));
+    check("an index behind it", is(cvl_ext_vub(flags, most, (int64_t)most, &found), CVL_INDEX_OUT_OF_RANGE, 0));
+    check("a scan in place", scans_in_place(flags, most));
+}
+
+/* Nothing of a vector that is too long is read. */
+static void one_more(const bool *far, size_t count) {
+    int32_t *ints = (int32_t *)(void *)(uintptr_t)far;
+    bool found;
+    check("a count of too many", is(cvl_cnt_lub(far, count, ints), CVL_OVERLAP, -1) && is(cvl_cnt_lub(far, count, (int32_t *)memory[0]), CVL_TOO_LONG, -1));
+    check("a reduce of too many", is(cvl_xor_rub(far, count, &found), CVL_TOO_LONG, -1));
+    check("a scan of too many", is(cvl_xor_sub(far, (bool *)(uintptr_t)far, count), CVL_TOO_LONG, -1));
+    check("copies of too many", is(cvl_dis_vub(true, (int64_t)count, (bool *)(uintptr_t)far), CVL_TOO_LONG, -1));
+}
+
+static void most_of_all(void) {
+    const size_t most = CVL_MOST_ELEMENTS, bytes = most + 1;
+    bool *flags = (bool *)mmap(NULL, bytes, PROT_READ | PROT_WRITE, MAP_PRIVATE | MAP_ANONYMOUS | MAP_NORESERVE, -1, 0);
+    bool *far = (bool *)mmap(NULL, bytes, PROT_NONE, MAP_PRIVATE | MAP_ANONYMOUS | MAP_NORESERVE, -1, 0);
+    if (flags == MAP_FAILED || far == MAP_FAILED) abort();
+    for (size_t threads = 1; threads <= THREADS; threads += THREADS - 1) {
+        if (cvl_set_threads(threads) != 0) abort();
+        most_booleans(flags, most);
+        one_more(far, bytes);
+    }
+    munmap(flags, bytes);
+    printf("%zu booleans\n", most);
+}
+
+/* ---- faults in the last places of the longest vectors of integers ---- */
+
+static int32_t *far_zeros(size_t count) {
+    int32_t *found = (int32_t *)mmap(NULL, count * sizeof *found, PROT_READ | PROT_WRITE, MAP_PRIVATE | MAP_ANONYMOUS | MAP_NORESERVE, -1, 0);
+    if (found == MAP_FAILED) abort();
+    return found;
+}
+
+static void last_faults(int32_t *a, int32_t *room, size_t most) {
+    const CvlLengths cut = {a, most};
+    const int64_t last = (int64_t)most - 1;
+    size_t total = 7;
+    a[last] = -1;
+    check("a length below 0 at the last place", is(cvl_mke_fov(cut, &total), CVL_NEGATIVE_LENGTH, last) && total == 7);
+    check("an index below 0 at the last place", is(cvl_bck_puz(a, most, a, room, most), CVL_INDEX_OUT_OF_RANGE, last));
+    a[last] = 32;
+    check("a shift by 32 at the last place", is(cvl_lsh_wuz(room, a, room, most), CVL_SHIFT_OUT_OF_RANGE, last));
+    a[last] = 0, a[last - 1] = INT32_MAX, a[last - 2] = 1;
+    check("a sum that no longer fits at the last place", is(cvl_tot_suz(a, a, most), CVL_OVERFLOW, last));
+    check("a sum of all that no longer fits", is(cvl_tot_ruz(a, most, room), CVL_OVERFLOW, 0));
+    check("a room after a fault", room[0] == 0 && room[last] == 0 && a[last] == 0 && a[last - 1] == INT32_MAX && a[last - 2] == 1);
+    a[last - 1] = a[last - 2] = 0;
+}
+
+static void last_places(void) {
+    const size_t most = CVL_MOST_ELEMENTS;
+    int32_t *a = far_zeros(most), *room = far_zeros(most);
+    for (size_t threads = 1; threads <= THREADS; threads += THREADS - 1) {
+        if (cvl_set_threads(threads) != 0) abort();
+        last_faults(a, room, most);
+    }
+    munmap(a, most * sizeof *a);
+    munmap(room, most * sizeof *room);
+    printf("%zu integers\n", most);
+}
+
+int main(int words, char **word) {
+    static const size_t all[] = {4194304, 4194305, 8388613, 67108864};
+    const size_t named = words > 1 ? (size_t)atol(word[1]) : 0, longest_one = named > 0 && named < CVL_MOST_ELEMENTS ? named : all[3];
+    pool = cvl_pool_alone(1);
+    setvbuf(stdout, NULL, _IONBF, 0);
+    make_arrays(longest_one, longest_one / SEGMENT + 10);
+    for (size_t k = 0; k < sizeof all / sizeof *all && named == 0; k++) each_call(all[k]);
+    if (named > 0 && named < CVL_MOST_ELEMENTS) each_call(named);
+    else most_of_all(), last_places();
+    return failed ? EXIT_FAILURE : EXIT_SUCCESS;
+}

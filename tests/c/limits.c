@@ -1,0 +1,267 @@
+/*
+ * Calls on texts, lists, vectors and counts that are exactly as long as may be, and longer by one: whole and in parts, with
+ * memory and without. The first are taken; the others are 13 TooLong, with all rooms as they were. It prints what differs, and
+ * its status is then 1. `tests/c/run limits` builds and runs it.
+ */
+#define _DEFAULT_SOURCE
+#include "cvl_parallel.h"
+
+#include <stdio.h>
+#include <stdlib.h>
+#include <string.h>
+#include <sys/mman.h>
+#include <unistd.h>
+
+enum { MOST = CVL_MOST_OF_TEXT, MANY = MOST + 1, PARTS = 3, FEW = 10, TEXT = 3 * MANY + 2 * FEW, UNTOUCHED = 77, SECONDS = 300 };
+
+static char text[TEXT], text_room[TEXT];
+static size_t text_length;
+static int32_t zeros[MANY], lengths[MANY], int_room[MANY], length_room[MANY];
+static bool flags[MANY];
+static size_t count, lists;
+static CvlPool pool;
+static int failed, calls;
+
+static void fail(const char *call, const char *why, long long got, long long right) {
+    printf("%s: %s: %lld and not %lld\n", call, why, got, right);
+    failed = 1;
+}
+
+/* ---- memory: the linker puts these in the place of malloc and realloc (--wrap) */
+
+static bool refusing;
+static long refused;
+
+void *__real_malloc(size_t size);
+void *__real_realloc(void *block, size_t size);
+void *__wrap_malloc(size_t size);
+void *__wrap_realloc(void *block, size_t size);
+
+void *__wrap_malloc(size_t size) {
+    refused += refusing;
+    return refusing ? NULL : __real_malloc(size);
+}
+
+void *__wrap_realloc(void *block, size_t size) {
+    refused += refusing;
+    return refusing ? NULL : __real_realloc(block, size);
+}
+
+/* ---- rooms */
+
+static void reset(void) {
+    memset(text_room, UNTOUCHED, sizeof text_room);
+    memset(int_room, UNTOUCHED, sizeof int_room);
+    memset(length_room, UNTOUCHED, sizeof length_room);
+    count = lists = UNTOUCHED;
+}
+
+static bool is_untouched(const void *room, size_t bytes) {
+    const unsigned char *at = (const unsigned char *)room;
+    return at[0] == UNTOUCHED && memcmp(at, at + 1, bytes - 1) == 0;
+}
+
+static bool are_untouched(void) {
+    return is_untouched(text_room, sizeof text_room) && is_untouched(int_room, sizeof int_room) &&
+        is_untouched(length_room, sizeof length_room) && count == UNTOUCHED && lists == UNTOUCHED;
+}
+
+/* The call has this status, without a place, and has left all rooms as they were but where it is done. */
+static void tells(const char *call, CvlStatus status, uint32_t right, bool left) {
+    calls++;
+    if (status.number != right) fail(call, "another status", status.number, right);
+    if (status.place != -1) fail(call, "a place", (long long)status.place, -1);
+    if (status.number != CVL_DONE && !left) fail(call, "something was written", 1, 0);
+}
+
+/* ---- texts and lists */
+
+static CvlLengths segments_of(size_t segments) {
+    const CvlLengths found = {lengths, segments};
+    return found;
+}
+
+/* Puts a text of two bytes, so many times, between two others. */
+static void put_text(const char *before, const char *each, size_t times, const char *behind) {
+    text_length = strlen(before);
+    memcpy(text, before, text_length);
+    for (size_t k = 0; k < times; k++, text_length += 2) memcpy(text + text_length, each, 2);
+    memcpy(text + text_length, behind, strlen(behind));
+    text_length += strlen(behind);
+}
+
+static void put_words(size_t words) { put_text("", "1 ", words, ""); }
+static void put_lists(size_t empty) { put_text("[", "[]", empty, "]"); }
+static void put_one_list(size_t words) { put_text("[[", "1 ", words, "]]"); }
+
+/* Few elements, all of them in the first of so many segments. */
+static void put_segments(size_t segments) {
+    memset(lengths, 0, sizeof lengths);
+    lengths[0] = segments > 0 ? FEW : 0;
+}
+
+/* Two segments of so many elements. */
+static void put_halves(size_t elements) {
+    lengths[0] = (int32_t)(elements / 2);
+    lengths[1] = (int32_t)(elements - elements / 2);
+}
+
+static CvlStatus read_words(size_t words) { return cvl_read_ints(text, text_length, int_room, words, &count); }
+static CvlStatus read_words_on(size_t words) { return cvl_read_ints_on(&pool, text, text_length, int_room, words, &count); }
+static CvlStatus read_words_after(size_t words) { return cvl_read_ints_after(3, text, text_length, int_room, words, &count); }
+static CvlStatus read_lists(size_t empty) {
+    return cvl_seg_read_ints(text, text_length, int_room, 0, &count, length_room, empty, &lists);
+}
+static CvlStatus read_list(size_t words) {
+    return cvl_seg_read_ints(text, text_length, int_room, words, &count, length_room, 1, &lists);
+}
+static CvlStatus write_ints(size_t elements) { return cvl_write_ints(zeros, elements, text_room, TEXT, &count); }
+static CvlStatus write_ints_on(size_t elements) { return cvl_write_ints_on(&pool, zeros, elements, text_room, TEXT, &count); }
+static CvlStatus write_bools(size_t elements) { return cvl_write_bools(flags, elements, text_room, TEXT, &count); }
+static CvlStatus write_bools_on(size_t elements) { return cvl_write_bools_on(&pool, flags, elements, text_room, TEXT, &count); }
+static CvlStatus write_segments(size_t segments) {
+    return cvl_seg_write_ints(zeros, FEW, segments_of(segments), text_room, TEXT, &count);
+}
+static CvlStatus write_segments_on(size_t segments) {
+    return cvl_seg_write_ints_on(&pool, zeros, FEW, segments_of(segments), text_room, TEXT, &count);
+}
+static CvlStatus write_halves(size_t elements) {
+    return cvl_seg_write_bools(flags, elements, segments_of(2), text_room, TEXT, &count);
+}
+static CvlStatus write_halves_on(size_t elements) {
+    return cvl_seg_write_bools_on(&pool, flags, elements, segments_of(2), text_room, TEXT, &count);
+}
+
+/* A call, what it is made of, and the count that it tells: so many for each, and some more. */
+static const struct Row {
+    const char *name;
+    void (*put)(size_t most);
+    CvlStatus (*call)(size_t most);
+    size_t each, more;
+} rows[] = {
+    {"cvl_read_ints", put_words, read_words, 1, 0},
+    {"cvl_read_ints_on", put_words, read_words_on, 1, 0},
+    {"cvl_read_ints_after", put_words, read_words_after, 1, 0},
+    {"cvl_seg_read_ints, many lists", put_lists, read_lists, 0, 0},
+    {"cvl_seg_read_ints, one list", put_one_list, read_list, 1, 0},
+    {"cvl_write_ints", put_halves, write_ints, 2, 1},
+    {"cvl_write_ints_on", put_halves, write_ints_on, 2, 1},
+    {"cvl_write_bools", put_halves, write_bools, 2, 1},
+    {"cvl_write_bools_on", put_halves, write_bools_on, 2, 1},
+    {"cvl_seg_write_ints, many segments", put_segments, write_segments, 3, 2 * FEW},
+    {"cvl_seg_write_ints_on, many segments", put_segments, write_segments_on, 3, 2 * FEW},
+    {"cvl_seg_write_bools, two segments", put_halves, write_halves, 2, 5},
+    {"cvl_seg_write_bools_on, two segments", put_halves, write_halves_on, 2, 5},
+};
+
+static void with_memory(const struct Row *row, size_t most, uint32_t right) {
+    reset();
+    const CvlStatus status = row->call(most);
+    tells(row->name, status, right, right == CVL_DONE || are_untouched());
+    const size_t wanted = row->each * most + row->more, wanted_lists = row->put == put_lists ? most : lists;
+    if (right == CVL_DONE && count != wanted) fail(row->name, "another count", (long long)count, (long long)wanted);
+    if (right == CVL_DONE && lists != wanted_lists) fail(row->name, "other lists", (long long)lists, (long long)wanted_lists);
+}
+
+/* Without memory the call says so, or it asks for none, and what is too long is told as ever. */
+static void without_memory(const struct Row *row, size_t most, uint32_t right) {
+    reset();
+    refusing = true, refused = 0;
+    const CvlStatus status = row->call(most);
+    refusing = false;
+    tells(row->name, status, right == CVL_DONE && refused > 0 ? (uint32_t)CVL_NO_RESOURCES : right, are_untouched());
+}
+
+static void texts(void) {
+    for (size_t k = 0; k < sizeof rows / sizeof *rows; k++) {
+        for (size_t most = MOST; most <= MANY; most++) {
+            const uint32_t right = most == MOST ? CVL_DONE : CVL_TOO_LONG;
+            rows[k].put(most);
+            with_memory(&rows[k], most, right);
+            without_memory(&rows[k], most, right);
+        }
+    }
+}
+
+/* ---- counts */
+
+/* The families that take a count, whole and in parts. */
+static CvlStatus counted(int which, int64_t times, size_t room) {
+    switch (which) {
+    case 0: return cvl_distribute_int(9, times, int_room, room);
+    case 1: return cvl_distribute_bool(true, times, (bool *)(void *)int_room, room);
+    case 2: return cvl_index(5, 3, times, int_room, room);
+    case 3: return cvl_distribute_int_on(&pool, 9, times, int_room, room);
+    case 4: return cvl_distribute_bool_on(&pool, true, times, (bool *)(void *)int_room, room);
+    default: return cvl_index_on(&pool, 5, 3, times, int_room, room);
+    }
+}
+
+/* A count, how long the room is said to be, and the status. */
+static const struct Count {
+    int64_t times;
+    size_t room;
+    uint32_t right;
+} counts[] = {
+    {3, 3, CVL_DONE},
+    {2, 3, CVL_LENGTH_MISMATCH},
+    {4, 3, CVL_LENGTH_MISMATCH},
+    {-1, 3, CVL_NEGATIVE_LENGTH},
+    {-1, SIZE_MAX, CVL_NEGATIVE_LENGTH},
+    {INT64_MIN, 0, CVL_NEGATIVE_LENGTH},
+    {(int64_t)3 - ((int64_t)1 << 32), 3, CVL_NEGATIVE_LENGTH},
+    {CVL_MOST_ELEMENTS, 3, CVL_LENGTH_MISMATCH},
+    {(int64_t)CVL_MOST_ELEMENTS + 1, 3, CVL_TOO_LONG},
+    {(int64_t)CVL_MOST_ELEMENTS + 1, (size_t)CVL_MOST_ELEMENTS + 1, CVL_TOO_LONG},
+    {((int64_t)1 << 32) + 3, 3, CVL_TOO_LONG},
+    {((int64_t)1 << 32) + 3, ((size_t)1 << 32) + 3, CVL_TOO_LONG},
+    {INT64_MAX, SIZE_MAX, CVL_TOO_LONG},
+};
+
+static void numbers(void) {
+    for (size_t k = 0; k < sizeof counts / sizeof *counts; k++) {
+        for (int which = 0; which < 6; which++) {
+            char name[40];
+            sprintf(name, "a count of %lld", (long long)counts[k].times);
+            memset(int_room, UNTOUCHED, FEW * sizeof *int_room);
+            const CvlStatus status = counted(which, counts[k].times, counts[k].room);
+            tells(name, status, counts[k].right, is_untouched(int_room, FEW * sizeof *int_room));
+        }
+    }
+}
+
+/* ---- vectors as long as may be: their first elements have a fault, so that no other is looked at */
+
+static void vectors(void) {
+    const size_t most = CVL_MOST_ELEMENTS, bytes = (most + 1) * sizeof(int32_t);
+    int32_t *a = (int32_t *)mmap(NULL, bytes, PROT_READ | PROT_WRITE, MAP_PRIVATE | MAP_ANONYMOUS | MAP_NORESERVE, -1, 0);
+    int32_t *room = (int32_t *)mmap(NULL, bytes, PROT_READ, MAP_PRIVATE | MAP_ANONYMOUS | MAP_NORESERVE, -1, 0);
+    if (a == MAP_FAILED || room == MAP_FAILED) abort();
+    a[0] = -1;
+    for (size_t n = most; n <= most + 1; n++) {
+        const CvlStatus status[] = {
+            cvl_int2(CVL_DIV, a, n, a + 1, n, room, n),
+            cvl_back_permute_int(a, n, a, n, room, n),
+            cvl_first_senders(a, n, room, n),
+        };
+        const uint32_t of_elements[] = {CVL_DIVIDE_BY_ZERO, CVL_INDEX_OUT_OF_RANGE, CVL_INDEX_OUT_OF_RANGE};
+        for (size_t k = 0; k < sizeof status / sizeof *status; k++, calls++) {
+            const uint32_t right = n == most ? of_elements[k] : CVL_TOO_LONG;
+            if (status[k].number != right) fail("a long vector", "another status", status[k].number, right);
+            if (status[k].place != (n == most ? 0 : -1)) fail("a long vector", "another place", (long long)status[k].place, 0);
+        }
+    }
+    munmap(a, bytes);
+    munmap(room, bytes);
+}
+
+int main(void) {
+    alarm(SECONDS);
+    setvbuf(stdout, NULL, _IONBF, 0);
+    pool = cvl_pool_alone(PARTS);
+    texts();
+    numbers();
+    vectors();
+    printf("%d calls at the limits\n", calls);
+    return failed ? EXIT_FAILURE : EXIT_SUCCESS;
+}
