@@ -1,7 +1,7 @@
 //! The time of ten calls, into memory that was written before, as a table in Markdown: the ten of `docs/performance/from_python`, which
 //! has those of Python and of numpy. Each time is the least of several runs, in microseconds.
 //!
-//! `cargo run --release --example measure` prints it.
+//! `docs/performance/from_rust` builds and runs it.
 
 use std::time::Instant;
 
