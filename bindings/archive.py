@@ -7,6 +7,7 @@ import shlex
 import subprocess
 import tempfile
 
+import generated
 import proved
 import table
 
@@ -86,16 +87,14 @@ def compiling(flags=()):
     return [*program("CC"), *words_of("CPPFLAGS"), *optimized, *STANDARD, "-fno-lto", unnamed, "-I", str(TOP / "include"), *flags]
 
 
-def compiled(work, flags=()):
-    """The objects of the C over the exports."""
+def compiled(work, written, flags=()):
+    """The objects of the C over the exports, by hand and below the folder `written`."""
+    flags = [*flags, f"-ffile-prefix-map={written}=.", *(f"-iquote{top / 'bindings/c'}" for top in (TOP, written))]
     found = []
-    for path in sorted((TOP / "bindings/c").glob("*.c")):
+    for path in generated.both(written, "bindings/c", "*.c").values():
         found.append(work / f"{path.stem}.o")
         run(*compiling(flags), "-c", path, "-o", found[-1])
     return found
-
-
-PUBLIC = TOP / "bindings/c/public"
 
 
 def library(folder, archive, flags=()):
@@ -103,7 +102,9 @@ def library(folder, archive, flags=()):
     with tempfile.TemporaryDirectory() as work:
         work = pathlib.Path(work)
         exports, _ = renamed(work, archive)
-        return joined(work, folder / "libcvl.a", [exports, *compiled(work, flags)], PUBLIC.read_text().split())
+        written = generated.below(work / "written")
+        public = (written / "bindings/c/public").read_text().split()
+        return joined(work, folder / "libcvl.a", [exports, *compiled(work, written, flags)], public)
 
 
 def linking():

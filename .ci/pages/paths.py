@@ -1,13 +1,35 @@
 """The paths, the pages and the links that pages name."""
 
+import functools
 import re
+import sys
+import tempfile
 
 from pages.texts import TOP, lines_of, outside_blocks
 
+sys.path.append(str(TOP / "bindings"))
+
+import generated
+
+HEADER, HEADER_PAGE = "include/cvl.h", "docs/header.md"
+
+
+@functools.lru_cache
+def header_page():
+    """The lines of the page of the header, which an install has, and the repository has not."""
+    with tempfile.TemporaryDirectory() as folder:
+        return (generated.below(folder) / HEADER_PAGE).read_text().splitlines()
+
 
 def pages():
-    """All pages, by their paths."""
-    return sorted(str(path.relative_to(TOP)) for files in ("*.md", "docs/*.md", "bindings/*.md", "tests/*.md") for path in TOP.glob(files))
+    """The lines of all pages, by their paths."""
+    paths = sorted(str(path.relative_to(TOP)) for files in ("*.md", "docs/*.md", "bindings/*.md", "tests/*.md") for path in TOP.glob(files))
+    return {**{path: lines_of(path) for path in paths}, HEADER_PAGE: header_page()}
+
+
+def linked(path):
+    """The lines of what a link leads to. Links to the header lead to its page in an install."""
+    return header_page() if path.resolve() == TOP / HEADER else path.read_text().splitlines()
 
 
 def anchors_of(page):
@@ -18,8 +40,8 @@ def anchors_of(page):
 
 def check_paths():
     """A path below crates, docs, examples, tests or .ci that a page names is there, or was built."""
-    for page in pages():
-        for number, line in outside_blocks(lines_of(page)):
+    for page, lines in pages().items():
+        for number, line in outside_blocks(lines):
             for path in re.findall(r"`((?:crates|docs|examples|tests|\.ci)/[A-Za-z0-9_./-]+)`", line):
                 if "/out/" not in path and not any((folder / path).exists() for folder in (TOP, (TOP / page).parent)):
                     yield f"{page}:{number} {path} is not there"
@@ -27,23 +49,23 @@ def check_paths():
 
 def check_links():
     """A link leads to a file, or to a heading of its page or of another one."""
-    for page in pages():
-        folder, own = (TOP / page).parent, anchors_of(lines_of(page))
-        for number, line in outside_blocks(lines_of(page)):
+    for page, lines in pages().items():
+        folder, own = (TOP / page).parent, anchors_of(lines)
+        for number, line in outside_blocks(lines):
             for link in re.findall(r"\]\(([^)]+)\)", line):
                 path, _, heading = link.partition("#")
                 if link.startswith("http"):
                     continue
                 if path and not (folder / path).exists():
                     yield f"{page}:{number} {link} is not there"
-                elif heading and f"#{heading}" not in (anchors_of((folder / path).read_text().splitlines()) if path else own):
+                elif heading and f"#{heading}" not in (anchors_of(linked(folder / path)) if path else own):
                     yield f"{page}:{number} no heading {link}"
 
 
 def check_named_pages():
     """A page that another names in a word of code is there."""
-    for page in pages():
-        for number, line in outside_blocks(lines_of(page)):
+    for page, lines in pages().items():
+        for number, line in outside_blocks(lines):
             for name in re.findall(r"`([a-z-]+\.md)`", line):
                 if not any((folder / name).exists() for folder in ((TOP / page).parent, TOP / "docs", TOP)):
                     yield f"{page}:{number} {name} is not there"

@@ -1,4 +1,4 @@
-"""What is written of the header on a page: `docs/header.md`."""
+"""What is written of the header on a page, which an install has: `docs/header.md`."""
 
 import re
 
@@ -10,8 +10,6 @@ import table
 HEAD = """# The header for C
 
 What `include/cvl.h` says. [Programs over the installed library](programs.md) shows how a program is built, [Calls from code of one's own](embedding.md) how one is without installing, and [Common mistakes](mistakes.md) what goes wrong first.
-
-The page is written, as the header is, by `bindings/generate` from `bindings/table.py`.
 """
 
 

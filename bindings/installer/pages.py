@@ -4,6 +4,7 @@ it leads to. Other pages of the repository are named by their titles."""
 
 import re
 
+import generated
 import proved
 
 TOP = proved.TOP
@@ -32,6 +33,9 @@ EXAMPLES = (
     ("bindings/fortran/examples", ("*.f90",)),
 )
 
+# where pages of the repository lead to that speak of the header
+HEADER = "../include/cvl.h"
+
 # a name of a file or folder: one with a slash that begins as those of the repository, a page, or a command at its top
 FOLDERS = "crates|bindings|docs|examples|include|tests|\\.ci"
 NAMED = re.compile(rf"(?<![\w/.~-])(?:\.{{0,2}}/?(?:{FOLDERS})/[\w./*-]*\w|[\w-]+\.md|\./install|\./cvl)(?![\w/])")
@@ -39,10 +43,10 @@ LINK = re.compile(r"(!?)\[([^\]]*)\]\(([^)]*)\)")
 
 
 def moved(text):
-    """A text with the names of folders that stand elsewhere."""
+    """A text with the names of folders that stand elsewhere, and with links to the page of the header, which only an install has."""
     for old, new in MOVED.items():
         text = re.sub(rf"{re.escape(old[:-1])}(?=/|\b)", new[:-1], text)
-    return text
+    return text.replace(f"]({HEADER}", "](header.md")
 
 
 def examples():
@@ -160,8 +164,10 @@ def _index(titles):
     return "\n".join(["# Cimorelua", "", said, "", "| The pages |", "|---|", *rows, ""])
 
 
-def _texts():
-    return {name: (TOP / f"docs/{name}.md").read_text() for name in PAGES}
+def _texts(written):
+    """The text of each page, of which one stands below the folder `written`."""
+    found = generated.both(written, "docs", "*.md")
+    return {name: found[f"{name}.md"].read_text() for name in PAGES}
 
 
 def _pictures(texts):
@@ -170,18 +176,18 @@ def _pictures(texts):
     return {f"{DOC}/docs/{name}": TOP / "docs" / name for name in sorted(shown)}
 
 
-def files(folder):
+def files(folder, written):
     """Where the pages that are written into a folder go, and what they show and name."""
     found = {f"{DOC}/docs/{name}.md": folder / f"{name}.md" for name in PAGES}
     found.update({f"{DOC}/README.md": folder / "README.md", f"{DOC}/LICENSE": TOP / "LICENSE"})
-    return {**found, **_pictures(_texts().values()), **examples()}
+    return {**found, **_pictures(_texts(written).values()), **examples()}
 
 
-def write(folder):
+def write(folder, written):
     """Writes the pages into a folder."""
-    texts = _texts()
+    texts = _texts(written)
     headers = {f"include/{path.name}" for path in (TOP / "include").glob("*.h")} | {"include/cvl.f90"}
-    installed = Installed({*files(folder), *headers})
+    installed = Installed({*files(folder, written), *headers})
     for name, text in texts.items():
         (folder / f"{name}.md").write_text(page(text, installed))
     (folder / "README.md").write_text(_index({name: text.split("\n")[0][2:] for name, text in texts.items()}))

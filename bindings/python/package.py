@@ -20,6 +20,10 @@ import zipfile
 
 HERE = pathlib.Path(__file__).resolve().parent
 TOP = HERE.parent.parent
+sys.path.append(str(TOP / "bindings"))
+
+import generated
+
 NAME = "cvl"
 FLAGS = ["-std=c11", "-O2", "-fPIC", "-fvisibility=hidden", "-Wall", "-Wextra", "-Wshadow"]
 LINKED = ["-shared", "-pthread", "-Wl,--exclude-libs,ALL", "-Wl,-z,relro", "-Wl,-z,now", "-Wl,-s"]
@@ -88,14 +92,15 @@ def library(work):
     return run(sys.executable, TOP / "bindings/archive", work).strip().split("\n")[-1]
 
 
-def compiled(work, archive):
-    """The compiled module, in the folder `work`."""
+def compiled(work, written, archive):
+    """The compiled module, in the folder `work`, of what stands here and below the folder `written`."""
     folders = [TOP / "include", python_headers(), numpy_found()[1]]
     # the module is the same wherever it is built
+    maps = [f"-ffile-prefix-map={top}/=" for top in (TOP, written)]
     included = [word for folder in folders for word in ("-isystem", folder)]
-    flags = [*FLAGS, f"-ffile-prefix-map={TOP}/=", *included, *words_of("CFLAGS")]
+    flags = [*FLAGS, *maps, "-iquote", HERE / "extension", *included, *words_of("CFLAGS")]
     objects = []
-    for path in sorted((HERE / "extension").glob("*.c")):
+    for path in generated.both(written, "bindings/python/extension", "*.c").values():
         objects.append(work / f"{path.stem}.o")
         run(*compiler(), *flags, "-c", path, "-o", objects[-1])
     made = work / f"_calls{sysconfig.get_config_var('EXT_SUFFIX')}"
@@ -145,8 +150,9 @@ def tag(module):
 
 def contents(work, archive):
     """Each file of a wheel by its name there, and the tag of the wheel."""
-    module = compiled(work, archive or library(work))
-    package = sorted(path for path in (HERE / NAME).iterdir() if path.suffix in (".py", ".pyi", ".typed"))
+    written = generated.below(work / "written")
+    module = compiled(work, written, archive or library(work))
+    package = generated.both(written, f"bindings/python/{NAME}", "*.py", "*.pyi", "*.typed").values()
     found = {f"{NAME}/{path.name}": path.read_bytes() for path in [*package, module]}
     described, tagged = f"{NAME}-{version()}.dist-info", tag(module)
     found[f"{described}/METADATA"] = metadata().encode()

@@ -12,6 +12,7 @@ TOP = pathlib.Path(__file__).resolve().parents[2]
 sys.path.insert(0, str(TOP / "bindings"))
 
 import archive
+import generated
 import proved
 from installer import building
 from trees import Tree
@@ -219,7 +220,7 @@ class ForACpu(Tree):
             self.program(f"programs/{name}", f"""echo "{name}|$*" >> '{self.log}'
                 for word in "$@"; do [ "$before" != -o ] || made=$word; before=$word; done
                 {make}""")
-        sources = sorted(path.name for path in (TOP / "bindings/c").glob("*.c"))
+        sources = [*generated.both(generated.below(self.top / "written"), "bindings/c", "*.c")]
         given = {name: "" for name in ("CC", "CPPFLAGS", "CFLAGS", "LDFLAGS", "LD", "OBJCOPY", "NM", "AR")}
         given.update(CVL_ARCHIVE=str(self.write("libcvl_c.a")), CVL_PROGRAM=str(self.write("program")))
         for cpu in ("", "x86-64-v3"):

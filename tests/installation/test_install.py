@@ -13,10 +13,11 @@ sys.dont_write_bytecode = True
 TOP = pathlib.Path(__file__).resolve().parents[2]
 sys.path.insert(0, str(TOP / "bindings"))
 
+import generated
 import proved
 from installer import building, checks, obstacles, package, pages, prefixes, putting, removing
 from trees import Tree
-from whole import Used, Whole, install
+from whole import Used, Whole, install, written
 
 
 class Installs(Whole):
@@ -36,9 +37,10 @@ class Installs(Whole):
     def test_all_is_put_and_all_is_removed(self):
         self.install(self.root)
         site = self.root / "lib/python3.11/site-packages/cvl"
-        for given, there in ((TOP / "bindings/python/cvl", site), (TOP / "bindings/rust/src", self.root / "share/cvl/rust/src")):
-            wanted = {path.name for path in given.iterdir() if path.suffix in (".py", ".pyi", ".rs", ".typed")}
+        for given, there in (("bindings/python/cvl", site), ("bindings/rust/src", self.root / "share/cvl/rust/src")):
+            wanted = {*generated.both(written(), given, "*.py", "*.pyi", "*.rs", "*.typed")}
             self.assertEqual({path.name for path in there.iterdir()} - {self.module}, wanted)
+            self.assertTrue({"calls.py", "calls.rs"} & wanted)
         self.assertTrue((site / self.module).is_file() and (site.parent / "cvl-1.0.0.dist-info/METADATA").is_file())
         for name in ("bin/cvl", "include/cvl.h", "include/cvl.f90", "share/man/man3/cvl.3", "share/doc/cvl/LICENSE"):
             self.assertIn(name, self.found())
@@ -64,7 +66,8 @@ class Installs(Whole):
             **{f"include/{path.name}": f"include/{path.name}" for path in (TOP / "include").glob("*.h")},
         }  # fmt: skip
         for name, source in wanted.items():
-            self.assertEqual((self.root / name).read_bytes(), (TOP / source).read_bytes(), name)
+            (source,) = (top / source for top in (TOP, written()) if (top / source).exists())
+            self.assertEqual((self.root / name).read_bytes(), source.read_bytes(), name)
         for name, said in {"bin/cvl": "cvl", "lib/libcvl.a": "libcvl.a", "lib/libcvl.so.1.0.0": "libcvl.so.1.0.0"}.items():
             self.assertEqual((self.root / name).read_text(), said)
         links = {name: os.readlink(self.root / name) for name in self.found() if (self.root / name).is_symlink()}
@@ -167,7 +170,7 @@ class Stopped(Tree):
         unset = {name: "" for name in ("CC", "CPPFLAGS", "CFLAGS", "LDFLAGS", "DESTDIR")}
         environment = {**unset, "CVL_PROGRAM": "a", "CVL_ARCHIVE": "b", **{name: str(said) for name, said in variables.items()}}
         with mock.patch.object(building.Build, "run", run), mock.patch.dict(os.environ, environment), \
-                mock.patch.object(removing, "uninstall", run), \
+                mock.patch.object(removing, "uninstall", run), mock.patch.object(generated, "below", lambda folder: written()), \
                 mock.patch.object(checks, "command", lambda *given: None), mock.patch("sys.stderr"), \
                 self.assertRaises(SystemExit) as stopped:  # fmt: skip
             install.main([str(word) for word in given])
@@ -324,12 +327,12 @@ class Pages(Tree):
 
     def setUp(self):
         super().setUp()
-        pages.write(self.top)
-        self.files = pages.files(self.top)
+        pages.write(self.top, written())
+        self.files = pages.files(self.top, written())
         headers = {f"include/{path.name}": path for path in (TOP / "include").glob("*.h")}
-        self.headers = {**headers, "include/cvl.f90": TOP / "bindings/fortran/cvl.f90"}
+        self.headers = {**headers, "include/cvl.f90": written() / "bindings/fortran/cvl.f90"}
         self.crates = {str(path): path for path in (TOP / "bindings/rust").glob("**/README.md")}
-        self.manual = {"share/man/man1/cvl.1": TOP / "docs/cvl.1", "share/man/man3/cvl.3": TOP / "docs/cvl.3"}
+        self.manual = {"share/man/man1/cvl.1": TOP / "docs/cvl.1", "share/man/man3/cvl.3": written() / "docs/cvl.3"}
         self.installed = pages.Installed({*self.files, *self.headers})
 
     def test_each_name_is_there(self):
@@ -350,8 +353,9 @@ class Pages(Tree):
         self.assertEqual(pages.page(text, self.installed), "# Page\n\nKept.\n\nKept too.\n\n## Last\n\nEnd.\n")
 
     def test_the_pages_are_whole(self):
+        sources = generated.both(written(), "docs", "*.md")
         for name in pages.PAGES:
-            before, after = ((folder / f"{name}.md").read_text() for folder in (TOP / "docs", self.top))
+            before, after = (path.read_text() for path in (sources[f"{name}.md"], self.top / f"{name}.md"))
             self.assertGreater(len(after), 0.6 * len(before), name)
             self.assertEqual(after.split("\n")[0], before.split("\n")[0])
             self.assertEqual(after.count("!["), before.count("!["), f"the pictures of {name}")

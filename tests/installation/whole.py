@@ -1,5 +1,6 @@
 """The whole command install without what it proves, and a small library that it installs."""
 
+import functools
 import importlib.machinery
 import importlib.util
 import os
@@ -7,12 +8,14 @@ import pathlib
 import string
 import subprocess
 import sys
+import tempfile
 from unittest import mock
 
 sys.dont_write_bytecode = True
 TOP = pathlib.Path(__file__).resolve().parents[2]
 sys.path.insert(0, str(TOP / "bindings"))
 
+import generated
 from installer import building, checks, package, prefixes
 from trees import Tree
 
@@ -27,6 +30,14 @@ def command(name):
 
 install = command("install")
 
+FOLDER, below = tempfile.TemporaryDirectory(), generated.below
+
+
+@functools.lru_cache
+def written():
+    """The folder below which stands what `bindings/generate` writes for a build, once for all tests."""
+    return below(FOLDER.name)
+
 
 class Whole(Tree):
     """The whole command, without what it proves and links."""
@@ -38,6 +49,7 @@ class Whole(Tree):
 
     def install(self, *given, destination=""):
         with mock.patch.object(building.Build, "run", lambda build, work: self.build(work)), \
+                mock.patch.object(generated, "below", lambda folder: written()), \
                 mock.patch.object(checks, "command", lambda *given: None), \
                 mock.patch.object(checks, "compiler", lambda *given: None), \
                 mock.patch.object(checks, "python", lambda name: self.python), mock.patch.object(package, "_run", self.built), \
@@ -49,8 +61,8 @@ class Whole(Tree):
         if words == ("--check",):
             return ""
         made = pathlib.Path(words[-1])
-        sources = [path for path in (TOP / "bindings/python/cvl").iterdir() if path.suffix in (".py", ".pyi", ".typed")]
-        texts = {f"cvl/{path.name}": path.read_text() for path in sources}
+        sources = generated.both(written(), "bindings/python/cvl", "*.py", "*.pyi", "*.typed")
+        texts = {f"cvl/{name}": path.read_text() for name, path in sources.items()}
         texts.update({f"cvl/{self.module}": "module", "cvl-1.0.0.dist-info/METADATA": "Name: cvl"})
         for name, text in texts.items():
             (made / name).parent.mkdir(parents=True, exist_ok=True)

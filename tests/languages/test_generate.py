@@ -1,10 +1,16 @@
 """Whether the rows of `bindings/table.py` are held against the proved table of calls and against the exports: words of these are
 changed, one in each call or export at once, and each change has to be reported; so has each limit and each threshold that
-differs. A second, without the kit."""
+differs. And what is written where: for a build, and in the repository. Some seconds, without the kit."""
 
+import importlib.machinery
+import importlib.util
+import os
 import pathlib
+import subprocess
 import sys
+import tempfile
 import unittest
+from unittest import mock
 
 sys.dont_write_bytecode = True
 TOP = pathlib.Path(__file__).resolve().parents[2]
@@ -12,6 +18,7 @@ sys.path[:0] = [str(TOP / "bindings"), str(TOP / "bindings/generator")]
 
 import call_table
 import exports
+import generated
 import in_map
 import limits
 import packages
@@ -143,3 +150,120 @@ class Versions(unittest.TestCase):
     def test_another_first_number_begins_anew(self):
         found, told, _ = self.after(("1.0.0", "cvl_a cvl_b"), ("1.1.0", "cvl_a cvl_b cvl_c"), ("2.0.0", "cvl_a cvl_d"))
         self.assertEqual((found, told), ({"CVL_2.0": "cvl_a cvl_d"}, []))
+
+
+def program(path):
+    """A program of the repository as a module."""
+    loader = importlib.machinery.SourceFileLoader(pathlib.Path(path).name, str(TOP / path))
+    module = importlib.util.module_from_spec(importlib.util.spec_from_loader(loader.name, loader))
+    loader.exec_module(module)
+    return module
+
+
+generate = program("bindings/generate")
+
+
+class Folder(unittest.TestCase):
+    def setUp(self):
+        folder = tempfile.TemporaryDirectory(prefix="a blank ")
+        self.addCleanup(folder.cleanup)
+        self.top = pathlib.Path(folder.name)
+
+    def found(self, folder):
+        return {str(path.relative_to(folder)) for path in folder.rglob("*") if path.is_file()}
+
+
+class Places(Folder):
+    """Where a small generator puts its files, over a repository of its own."""
+
+    TEXTS = {"include/one.h": "one\n", "bindings/c/cvl.map": "names\n", "include.md": "a page\n", "docs/two.3": "two\n"}
+    FOR_BUILD = {"include.md", "docs/two.3"}
+
+    def run_it(self, *words, differences=()):
+        """What it tells, and nothing where all is well."""
+        found = mock.patch.object(generate, "texts", lambda: (dict(self.TEXTS), list(differences)))
+        with found, mock.patch.object(generate, "TOP", self.top / "repository"):
+            try:
+                generate.main([str(word) for word in words])
+            except SystemExit as stopped:
+                return stopped.code
+        return None
+
+    def test_a_build_gets_what_the_repository_has_not(self):
+        self.assertIsNone(self.run_it())
+        self.assertEqual(self.found(self.top), {f"repository/{name}" for name in set(self.TEXTS) - self.FOR_BUILD})
+        self.assertIsNone(self.run_it("--check"))
+        self.assertIsNone(self.run_it(self.top / "build"))
+        self.assertEqual(self.found(self.top / "build"), self.FOR_BUILD)
+        for name in self.FOR_BUILD:
+            self.assertEqual((self.top / "build" / name).read_text(), self.TEXTS[name])
+
+    def test_a_file_for_a_build_in_the_repository_is_told_and_nothing_is_written(self):
+        for name in self.FOR_BUILD:
+            path = self.top / "repository" / name
+            generate.write(path, self.TEXTS[name])
+            for words in ((), ("--check",), (self.top / "build",)):
+                self.assertIn(f"{name} stands in the repository", self.run_it(*words))
+            self.assertEqual(self.found(self.top), {f"repository/{name}"})
+            path.unlink()
+
+    def test_rows_that_differ_are_told_and_nothing_is_written(self):
+        for words in ((), ("--check",), (self.top / "build",)):
+            self.assertIn("a row differs", self.run_it(*words, differences=["a row differs"]))
+        self.assertEqual(self.found(self.top), set())
+
+    def test_another_text_in_the_repository_is_told(self):
+        self.run_it()
+        for name in set(self.TEXTS) - self.FOR_BUILD:
+            generate.write(self.top / "repository" / name, "another\n")
+            self.assertIn(name, self.run_it("--check"))
+            self.run_it()
+
+    def test_what_has_its_text_is_left_alone(self):
+        for words, folder in ((), "repository"), ((self.top / "build",), "build"):
+            self.run_it(*words)
+            paths = [self.top / folder / name for name in self.found(self.top / folder)]
+            for path in paths:
+                os.utime(path, (1000, 1000))
+            paths[0].write_text("another\n")
+            self.run_it(*words)
+            self.assertEqual([path.stat().st_mtime == 1000 for path in paths], [False] + [True] * (len(paths) - 1))
+
+    def test_words(self):
+        for words in (("--other",), ("-h",), ("a", "b"), ("--check", "a")):
+            self.assertEqual(self.run_it(*words), generate.__doc__)
+
+
+class Packages(Folder):
+    """What builds find: what is written by hand and for a build, of this repository."""
+
+    @classmethod
+    def setUpClass(cls):
+        folder = tempfile.TemporaryDirectory()
+        cls.addClassCleanup(folder.cleanup)
+        cls.written = generated.below(folder.name)
+
+    def test_each_file_has_one_place(self):
+        self.assertEqual(self.found(self.written), {path for path in generate.texts()[0] if not (TOP / path).exists()})
+
+    def test_both_are_found(self):
+        found = generated.both(self.written, "bindings/rust", "src/*.rs", "cvl-sys/src/*.rs")
+        self.assertEqual((found["src/lib.rs"], found["src/calls.rs"]), (TOP / "bindings/rust/src/lib.rs", self.written / "bindings/rust/src/calls.rs"))
+        self.assertEqual(list(found), sorted(found))
+        self.assertIn("cvl-sys/src/functions.rs", found)
+
+    def test_a_generator_that_fails_ends_the_build_with_its_words(self):
+        (self.top / "file").touch()
+        with self.assertRaisesRegex(SystemExit, "NotADirectoryError"):
+            generated.below(self.top / "file")
+
+    def test_the_crates_for_rust(self):
+        for words in ((), ("--links",), ()):
+            subprocess.run([TOP / "bindings/rust/package", *words, self.top / "crates"], check=True)
+            paths = {str(path.relative_to(self.top / "crates")): path for path in (self.top / "crates").rglob("*") if path.is_file()}
+            for name in ("Cargo.toml", "LICENSE", "src/lib.rs", "src/calls.rs", "tests/calls.rs", "cvl-sys/LICENSE", "cvl-sys/src/functions.rs"):
+                by_hand = (TOP / "bindings/rust" / name).exists()
+                self.assertEqual(paths[name].is_symlink(), by_hand and bool(words), name)
+                source = TOP if by_hand else self.written
+                self.assertEqual(paths[name].read_bytes(), (source / "bindings/rust" / name).read_bytes(), name)
+        self.assertEqual(subprocess.run([TOP / "bindings/rust/package"], capture_output=True).returncode, 1)
