@@ -1,4 +1,5 @@
-"""What is written for the tests in C: a row for each function, of how a careless program calls it."""
+"""What is written for the tests in C: a row for each function, of how a careless program calls it, and of what a plain reading makes of it.
+The words of the rows are those of tests/c/calls.h and tests/c/reading.h."""
 
 import re
 
@@ -6,18 +7,24 @@ import rows
 import table
 from in_c import held, on_segments, segments_name
 
-# The letters of arrays in tests/c/careless.c, by kind and how long they are.
+# what an array of a call holds, by its kind and how long it is
 READ = {
-    ("ints", "n"): "i", ("ints", "m"): "i", ("ints", "segments"): "s", ("ints", "offsets"): "b", ("flags", "n"): "f", ("flags", "m"): "f", ("flags", "segments"): "g",
-    ("text", "n"): "t",
-}
+    ("ints", "n"): "INTS", ("ints", "m"): "INTS", ("ints", "segments"): "SEGMENT_INTS", ("ints", "offsets"): "OFFSETS",
+    ("flags", "n"): "FLAGS", ("flags", "m"): "FLAGS", ("flags", "segments"): "SEGMENT_FLAGS", ("text", "n"): "TEXT",
+}  # fmt: skip
 WRITTEN = {
-    ("ints", "n"): "I", ("ints", "segments"): "S", ("ints", "trues"): "M", ("flags", "n"): "F", ("flags", "segments"): "G", ("flags", "trues"): "N",
-    ("text", "n"): "X", ("marks", "n"): "K", ("marks", "trues"): "L",
-}
-SINGLE = {"int": "o", "flag": "p", "sum": "q", "size": "c"}
+    ("ints", "n"): "ROOM_FOR_INTS", ("ints", "segments"): "ROOM_FOR_SEGMENT_INTS", ("ints", "trues"): "ROOM_FOR_TRUE_INTS",
+    ("flags", "n"): "ROOM_FOR_FLAGS", ("flags", "segments"): "ROOM_FOR_SEGMENT_FLAGS", ("flags", "trues"): "ROOM_FOR_TRUE_FLAGS",
+    ("text", "n"): "ROOM_FOR_TEXT", ("marks", "n"): "ROOM_FOR_MARKS", ("marks", "trues"): "ROOM_FOR_TRUE_MARKS",
+}  # fmt: skip
+SINGLE = {"int": "ONE_INT", "flag": "ONE_FLAG", "sum": "ONE_SUM", "size": "ONE_COUNT"}
 VALUES = {"init": "5", "stride": "3", "lowest": "0"}
 OF_KINDS = {"int": "5", "flag": "true", "sum": "5", "size": "2"}
+PLACES = ("FIRST", "SECOND", "THIRD", "FOURTH", "FIFTH")
+
+
+def _listed(words):
+    return f"LIST({', '.join(words)})"
 
 
 def _selects(row):
@@ -33,21 +40,27 @@ def _extent(row, operand):
     return "segments" if operand.extent in ("segments", "lengths_room") else "n"
 
 
-def _letter(row, operand):
+def _index(row, operand):
+    """Which places an index names."""
+    if operand.extent == "segments":
+        return "SEGMENT_PLACES"
+    return "INDEX" + ("_OF_TRUES" if _selects(row) else "") + ("_IN_SEGMENTS" if row.cuts else "")
+
+
+def _holds(row, operand):
+    """What an array of a call holds; nothing of an operand that is no array."""
     if operand.name == "columns":
-        return "x"
+        return "INDEX"
     if operand.name == "index" and operand.role == "reads":
-        if operand.extent == "segments":
-            return "e"
-        return {(False, False): "x", (True, False): "y", (False, True): "z", (True, True): "w"}[bool(row.cuts), _selects(row)]
+        return _index(row, operand)
     if operand.role == "reads":
         nested = operand.kind == "text" and len(row.rooms) > 1
-        return "u" if nested else READ[operand.kind, operand.extent]
+        return "NESTED_TEXT" if nested else READ[operand.kind, operand.extent]
     if operand.role == "lengths":
-        return "l"
+        return "LENGTHS"
     if operand.role == "room":
         return WRITTEN[operand.kind, _extent(row, operand)]
-    return SINGLE[operand.kind] if operand.role in ("single", "told") else ""
+    return SINGLE[operand.kind] if operand.role in ("single", "told") else None
 
 
 def _size(row, operand):
@@ -79,34 +92,34 @@ def _given(row, argument, places):
     return VALUES.get(operand.name, value)
 
 
-def _in_place(row, arrays):
-    may = [str(arrays.index(names[0])) for names in row.family.in_place if len(names) == 1]
+def _in_place(row, named):
+    """Which of these operands may be the room, and whether one of them alone."""
+    may = [PLACES[k] for k, name in enumerate(named) if any(name in names for names in row.family.in_place)]
     both = any(len(names) > 1 for names in row.family.in_place)
-    return ("" if both else "/").join(may)
+    return " | ".join(may + (["ONE_ALONE"] if len(may) > 1 and not both else [])) or "NONE"
 
 
-def _row(row, name, arguments, pool="", letters=None):
-    arrays = [operand.name for operand in row.operands if _letter(row, operand)]
-    text = "".join(_letter(row, operand) for operand in row.operands)
+def _row(row, name, arguments, pool="", descriptor=False):
+    arrays = {operand.name: _holds(row, operand) for operand in row.operands if _holds(row, operand)}
+    holds = ["DESCRIPTOR" if descriptor and found == "LENGTHS" else found for found in arrays.values()]
     places = {found: k for k, found in enumerate(arrays)}
     words = ", ".join([*([pool] if pool else []), *(_given(row, argument, places) for argument in arguments)])
-    return f'ROW({name}, "{text.translate(letters) if letters else text}", "{_in_place(row, arrays)}", ({words}))'
+    return f"ROW({name}, {_listed(holds)}, {_in_place(row, arrays)}, ({words}))"
 
 
 def careless():
     """`tests/c/careless_rows.h`."""
     plain = [*rows.CALLS, *rows.FAMILIES.values()]
     parts = [row for row in plain if row.family.cut is not None]
-    descriptor = str.maketrans("l", "d")
     lines = [
         "/*",
-        " * careless_rows.h: a row for each function of cvl.h and cvl_parallel.h: its name; a letter for each of its arrays; which may be the room,",
-        " * with a stroke between those that may not be it at once; and its arguments. tests/c/careless.c reads it.",
+        " * careless_rows.h: a row for each function of cvl.h and cvl_parallel.h: its name; what each of its arrays holds; which may be the room;",
+        " * and its arguments. tests/c/calls.h reads it.",
         " *",
         f" * {rows.NOTE}",
         " */",
         *(_row(row, f"cvl_{row.name}", row.arguments) for row in plain),
-        *(_row(row, f"cvl_{segments_name(row)}", held(row.arguments), letters=descriptor) for row in on_segments()),
+        *(_row(row, f"cvl_{segments_name(row)}", held(row.arguments), descriptor=True) for row in on_segments()),
         *(_row(row, f"cvl_{row.name}_on", row.arguments, "&pool") for row in parts),
         "",
     ]
@@ -115,12 +128,16 @@ def careless():
 
 # ---- the rows of the test that holds each function against a plain reading ----
 
-ROLES = {"reads": "r", "lengths": "l", "value": "v", "place": "p", "count": "c", "room": "R", "single": "S", "told": "T"}
-KINDS = {"ints": "i", "flags": "f", "text": "t", "marks": "m", "int": "i", "flag": "f", "sum": "q", "size": "z"}
+ROLES = {
+    "reads": "READS", "lengths": "CUTS", "value": "VALUE", "place": "PLACE", "count": "COPIES", "room": "WRITES", "single": "WRITES_ONE",
+    "told": "COUNTS",
+}  # fmt: skip
+KINDS = {"ints": "INT", "flags": "FLAG", "text": "BYTE", "marks": "WORD", "int": "INT", "flag": "FLAG", "sum": "SUM", "size": "SIZE"}
 EXTENTS = {
-    "n": "n", "m": "m", "segments": "s", "count": "c", "trues": "t", "total": "a", "room": "r", "range": "g", "marks": "k", "lengths_room": "r", "offsets": "e", None: "-",
-}
-TYPES = {"i": "int32_t", "f": "bool", "t": "char", "m": "uint32_t", "q": "int64_t", "z": "size_t"}
+    "n": "OF_N", "m": "OF_M", "segments": "OF_SEGMENTS", "count": "OF_COPIES", "trues": "OF_TRUES", "total": "OF_TOTAL", "room": "OF_ROOM",
+    "range": "OF_RANGE", "marks": "OF_MARKS", "lengths_room": "OF_ROOM", "offsets": "OF_OFFSETS", None: "ALONE",
+}  # fmt: skip
+TYPES = {"INT": "int32_t", "FLAG": "bool", "BYTE": "char", "WORD": "uint32_t", "SUM": "int64_t", "SIZE": "size_t"}
 
 
 def _model(name):
@@ -131,8 +148,9 @@ def _model(name):
     return {"INT2": "PAIRS", "BOOL2": "PAIRS", "INT1": "ONES", "BOOL1": "ONES"}.get("_".join(words).upper(), "_".join(words).upper())
 
 
-def _spelled(row):
-    return "".join(f"{ROLES[o.role]}{KINDS[o.kind]}{EXTENTS[o.extent]}" for o in row.operands)
+def _operand(operand):
+    """An operand as its role, its kind and how long it is."""
+    return f"{{{ROLES[operand.role]}, {KINDS[operand.kind]}, {EXTENTS[operand.extent]}}}"
 
 
 def _argument(row, argument):
@@ -152,18 +170,32 @@ def _argument(row, argument):
     return f"({'const ' if operand.role == 'reads' else ''}{kind} *)g->at[{k}]"
 
 
+def _operators(names):
+    """Operators as runs of those whose numbers follow one another, each from the first to the last."""
+    found = sorted((operator for operator in table.OPERATORS if operator.name in names), key=lambda operator: operator.number)
+    runs = []
+    for operator in found:
+        if runs and runs[-1][-1].number + 1 == operator.number:
+            runs[-1].append(operator)
+        else:
+            runs.append([operator])
+    return " | ".join(f"OPERATORS(CVL_{run[0].name}, CVL_{run[-1].name})" for run in runs) or "NO_OPERATORS"
+
+
 def _reading_row(row, name, pool=""):
-    numbers = [found.number for found in table.OPERATORS if found.name in row.family.operators]
-    fixed = [found.number for found in table.OPERATORS if found.name == row.operator]
-    operators = sum(1 << number for number in fixed or numbers)
     limit = rows.limited(row.family)
-    place = row.operands.index(limit) if limit is not None else -1
-    may = "".join(str(k) for k, o in enumerate(row.operands) if any(o.name in names for names in row.family.in_place))
-    one = any(len(names) > 1 for names in row.family.in_place) or len(may) < 2
     words = ", ".join([*([pool] if pool else []), *(_argument(row, argument) for argument in row.arguments)])
-    is_call = "true" if row.call else "false"
-    text = f'ROW({name}, {_model(row.family.name)}, "{_spelled(row)}", "{may}{"" if one else "/"}", {operators:#x}, {place}, {is_call}, ({words}))'
-    return text
+    columns = [
+        name,
+        _model(row.family.name),
+        _listed(map(_operand, row.operands)),
+        _in_place(row, [operand.name for operand in row.operands]),
+        _operators([row.operator] if row.operator else row.family.operators),
+        "NO_LIMIT" if limit is None else f"LIMIT_OF({row.operands.index(limit)})",
+        "CALL" if row.call else "FAMILY",
+        f"({words})",
+    ]
+    return f"ROW({', '.join(columns)})"
 
 
 def reading():
@@ -173,8 +205,8 @@ def reading():
     lines = [
         "/*",
         " * reading_rows.h: a row for each function of cvl.h and cvl_parallel.h: its name; the plain reading that it is held against; its operands, each",
-        " * by its role, its kind and how long it is; which may be the room, with a stroke where only one may be it; the operators; the operand that may",
-        " * be too long; whether it is a call of the table; and its arguments. tests/c/differential.c reads it.",
+        " * by its role, its kind and how long it is; which may be the room; the operators; the operand that may be too long; whether it is a call of the",
+        " * table; and its arguments. tests/c/differential.c reads it.",
         " *",
         f" * {rows.NOTE}",
         " */",

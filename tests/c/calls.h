@@ -5,6 +5,7 @@
 #define CALLS_H
 
 #include "cvl_parallel.h"
+#include "rows.h"
 
 #include <stdlib.h>
 #include <string.h>
@@ -26,20 +27,35 @@ static CvlLengths lengths_at(const void *lengths) {
 /* Three parts of the thread that calls, where a build for tests cuts so few elements. */
 static CvlPool pool;
 
-/* A function: its name, a letter for each array, the inputs that may be the room, and the call with these arrays. */
+/*
+ * What an array of a call holds. An index names places of the whole vector, or of the element's own segment; one of trues names a place
+ * for each true flag, and is -1 where the flag is false. What is of segments has an element for each of them.
+ */
+typedef enum Holds {
+    NO_MORE,
+    INTS, FLAGS, INDEX, INDEX_IN_SEGMENTS, INDEX_OF_TRUES, INDEX_OF_TRUES_IN_SEGMENTS, SEGMENT_INTS, SEGMENT_FLAGS, SEGMENT_PLACES,
+    LENGTHS, OFFSETS, DESCRIPTOR, TEXT, NESTED_TEXT,
+    /* what is written */
+    ROOM_FOR_INTS, ROOM_FOR_FLAGS, ROOM_FOR_TRUE_INTS, ROOM_FOR_TRUE_FLAGS, ROOM_FOR_SEGMENT_INTS, ROOM_FOR_SEGMENT_FLAGS,
+    ROOM_FOR_OFFSETS, ROOM_FOR_MARKS, ROOM_FOR_TRUE_MARKS, ROOM_FOR_TEXT, ONE_INT, ONE_FLAG, ONE_SUM, ONE_COUNT, NEW_DESCRIPTOR
+} Holds;
+
+/* A function: its name, what each of its arrays holds, which inputs may be the room, and the call with these arrays. */
 typedef struct Row {
-    const char *name, *arrays, *in_place;
+    const char *name;
+    Holds arrays[MOST_ARRAYS + 1];
+    unsigned in_place;
     CvlStatus (*call)(void **p);
 } Row;
 
 /* The functions that no row is written for. */
 #define OTHERS(X)                                                                                                              \
-    X(cvl_segments_free, "h", "", (p[0]))                                                                                      \
-    X(cvl_segments_new, "lh", "", (lengths_at(p[0]), p[1]))                                                                    \
-    X(cvl_segments_total, "dc", "", (p[0], p[1]))                                                                              \
-    X(cvl_segments_from_offsets, "bSh", "", (p[0], segments + 1, p[1], segments, p[2]))                                        \
-    X(cvl_segments_offsets, "dO", "", (p[0], p[1], segments + 1))                                                              \
-    X(cvl_segments_numbers, "dI", "", (p[0], p[1], n))
+    X(cvl_segments_free, LIST(NEW_DESCRIPTOR), NONE, (p[0]))                                                                   \
+    X(cvl_segments_new, LIST(LENGTHS, NEW_DESCRIPTOR), NONE, (lengths_at(p[0]), p[1]))                                         \
+    X(cvl_segments_total, LIST(DESCRIPTOR, ONE_COUNT), NONE, (p[0], p[1]))                                                     \
+    X(cvl_segments_from_offsets, LIST(OFFSETS, ROOM_FOR_SEGMENT_INTS, NEW_DESCRIPTOR), NONE, (p[0], segments + 1, p[1], segments, p[2])) \
+    X(cvl_segments_offsets, LIST(DESCRIPTOR, ROOM_FOR_OFFSETS), NONE, (p[0], p[1], segments + 1))                              \
+    X(cvl_segments_numbers, LIST(DESCRIPTOR, ROOM_FOR_INTS), NONE, (p[0], p[1], n))
 
 #define ROW(name, arrays, in_place, arguments) static CvlStatus call_##name(void **p) { return name arguments; }
 OTHERS(ROW)
@@ -57,43 +73,63 @@ enum { ROWS = sizeof rows / sizeof *rows };
 
 typedef struct Array {
     size_t size, count;
-    bool is_room;
 } Array;
 
-/* What the letter of an array means: integers, flags, lengths, offsets, indices, texts, a descriptor, words of marks, and in upper case and by
- * o, p, q, c and h the rooms. */
-static Array array_of(char letter) {
+/* The size of an element of an array, and how many it has. */
+static Array array_of(Holds holds) {
     const size_t of_int = sizeof(int32_t);
-    switch (letter) {
-    case 'i': case 'x': case 'y': case 'z': case 'w': return (Array){of_int, n, false};
-    case 'f': return (Array){1, n, false};
-    case 'l': case 's': case 'e': return (Array){of_int, segments, false};
-    case 'b': return (Array){of_int, segments + 1, false};
-    case 'g': return (Array){1, segments, false};
-    case 't': case 'u': return (Array){1, text_length, false};
-    case 'd': return (Array){sizeof(CvlSegments), 1, false};
-    case 'I': return (Array){of_int, n, true};
-    case 'F': return (Array){1, n, true};
-    case 'S': return (Array){of_int, segments, true};
-    case 'O': return (Array){of_int, segments + 1, true};
-    case 'G': return (Array){1, segments, true};
-    case 'M': return (Array){of_int, trues, true};
-    case 'N': return (Array){1, trues, true};
-    case 'K': return (Array){sizeof(uint32_t), words_of(n), true};
-    case 'L': return (Array){sizeof(uint32_t), words_of(trues), true};
-    case 'X': return (Array){1, text_room, true};
-    case 'o': return (Array){of_int, 1, true};
-    case 'p': return (Array){1, 1, true};
-    case 'q': return (Array){sizeof(int64_t), 1, true};
-    case 'c': return (Array){sizeof(size_t), 1, true};
-    case 'h': return (Array){sizeof(CvlSegments), 1, true};
-    default: abort();
+    switch (holds) {
+    case INTS: case INDEX: case INDEX_IN_SEGMENTS: case INDEX_OF_TRUES: case INDEX_OF_TRUES_IN_SEGMENTS: case ROOM_FOR_INTS:
+        return (Array){of_int, n};
+    case FLAGS: case ROOM_FOR_FLAGS: return (Array){1, n};
+    case LENGTHS: case SEGMENT_INTS: case SEGMENT_PLACES: case ROOM_FOR_SEGMENT_INTS: return (Array){of_int, segments};
+    case SEGMENT_FLAGS: case ROOM_FOR_SEGMENT_FLAGS: return (Array){1, segments};
+    case OFFSETS: case ROOM_FOR_OFFSETS: return (Array){of_int, segments + 1};
+    case ROOM_FOR_TRUE_INTS: return (Array){of_int, trues};
+    case ROOM_FOR_TRUE_FLAGS: return (Array){1, trues};
+    case ROOM_FOR_MARKS: return (Array){sizeof(uint32_t), words_of(n)};
+    case ROOM_FOR_TRUE_MARKS: return (Array){sizeof(uint32_t), words_of(trues)};
+    case TEXT: case NESTED_TEXT: return (Array){1, text_length};
+    case ROOM_FOR_TEXT: return (Array){1, text_room};
+    case ONE_INT: return (Array){of_int, 1};
+    case ONE_FLAG: return (Array){1, 1};
+    case ONE_SUM: return (Array){sizeof(int64_t), 1};
+    case ONE_COUNT: return (Array){sizeof(size_t), 1};
+    case DESCRIPTOR: case NEW_DESCRIPTOR: return (Array){sizeof(CvlSegments), 1};
+    case NO_MORE: break;
     }
+    abort();
 }
 
-static size_t bytes_of(char letter) { return array_of(letter).size * array_of(letter).count; }
+static size_t bytes_of(Holds holds) { return array_of(holds).size * array_of(holds).count; }
 
-static size_t array_count(const Row *row) { return strlen(row->arrays); }
+static size_t array_count(const Row *row) {
+    size_t count = 0;
+    while (row->arrays[count] != NO_MORE) count++;
+    return count;
+}
+
+static inline bool is_room(Holds holds) { return holds >= ROOM_FOR_INTS; }
+static inline bool is_index(Holds holds) { return holds >= INDEX && holds <= INDEX_OF_TRUES_IN_SEGMENTS; }
+static inline bool is_flags(Holds holds) { return holds == FLAGS || holds == SEGMENT_FLAGS; }
+static inline bool is_read_text(Holds holds) { return holds == TEXT || holds == NESTED_TEXT; }
+static inline bool is_text(Holds holds) { return is_read_text(holds) || holds == ROOM_FOR_TEXT; }
+
+/* The first array of a call that holds this, or that is so; or how many arrays there are. */
+static inline size_t first_with(const Row *row, Holds holds) {
+    size_t j = 0;
+    while (row->arrays[j] != NO_MORE && row->arrays[j] != holds) j++;
+    return j;
+}
+
+static inline size_t first_that(const Row *row, bool (*is)(Holds holds)) {
+    size_t j = 0;
+    while (row->arrays[j] != NO_MORE && !is(row->arrays[j])) j++;
+    return j;
+}
+
+static inline bool has(const Row *row, Holds holds) { return row->arrays[first_with(row, holds)] != NO_MORE; }
+static inline bool has_some(const Row *row, bool (*is)(Holds holds)) { return row->arrays[first_that(row, is)] != NO_MORE; }
 
 static bool in_parts(const Row *row) { return strcmp(row->name + strlen(row->name) - 3, "_on") == 0; }
 

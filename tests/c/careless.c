@@ -56,13 +56,13 @@ static unsigned char any_byte(void) {
     return (unsigned char)(random % 2 == 0 ? random >> 1 & 1 : random >> 8);
 }
 
-static int32_t index_at(char letter, size_t k) {
+static int32_t index_at(Holds holds, size_t k) {
     size_t start, end;
     segment_of(k, &start, &end);
-    switch (letter) {
-    case 'x': return (int32_t)(n - 1 - k);
-    case 'y': return (int32_t)(end - 1 - k);
-    case 'z': return flag_at(k) ? (int32_t)trues_from(0, k) : -1;
+    switch (holds) {
+    case INDEX: return (int32_t)(n - 1 - k);
+    case INDEX_IN_SEGMENTS: return (int32_t)(end - 1 - k);
+    case INDEX_OF_TRUES: return flag_at(k) ? (int32_t)trues_from(0, k) : -1;
     default: return flag_at(k) ? (int32_t)trues_from(start, k) : -1;
     }
 }
@@ -76,14 +76,14 @@ static CvlSegments described(void) {
 }
 
 /* Fills an input of a call that has no fault, or of one with any integers and flags; a room is as if nobody had written it. */
-static void fill(char letter, unsigned char *at, bool any) {
-    const Array array = array_of(letter);
+static void fill(Holds holds, unsigned char *at, bool any) {
+    const Array array = array_of(holds);
     int32_t *ints = (int32_t *)(void *)at;
-    if (array.is_room) {
-        memset(at, letter == 'h' ? 0 : UNTOUCHED, array.size * array.count);
+    if (is_room(holds)) {
+        memset(at, holds == NEW_DESCRIPTOR ? 0 : UNTOUCHED, array.size * array.count);
         return;
     }
-    if (letter == 'd') {
+    if (holds == DESCRIPTOR) {
         /* field by field over zeros, since the bytes between the fields are compared too */
         CvlSegments *descriptor = (CvlSegments *)(void *)at;
         const CvlSegments made = described();
@@ -94,15 +94,15 @@ static void fill(char letter, unsigned char *at, bool any) {
         return;
     }
     for (size_t k = 0; k < array.count; k++) {
-        switch (letter) {
-        case 'i': case 's': ints[k] = int_at(k, any); break;
-        case 'f': case 'g': at[k] = any ? any_byte() : flag_at(k); break;
-        case 'l': ints[k] = length_at(k); break;
-        case 'b': ints[k] = k == 0 ? 0 : ints[k - 1] + length_at(k - 1); break;
-        case 'e': ints[k] = 0; break;
-        case 't': at[k] = (unsigned char)"3 1 4 1"[k]; break;
-        case 'u': at[k] = (unsigned char)"[[3 1]]"[k]; break;
-        default: ints[k] = index_at(letter, k);
+        switch (holds) {
+        case INTS: case SEGMENT_INTS: ints[k] = int_at(k, any); break;
+        case FLAGS: case SEGMENT_FLAGS: at[k] = any ? any_byte() : flag_at(k); break;
+        case LENGTHS: ints[k] = length_at(k); break;
+        case OFFSETS: ints[k] = k == 0 ? 0 : ints[k - 1] + length_at(k - 1); break;
+        case SEGMENT_PLACES: ints[k] = 0; break;
+        case TEXT: at[k] = (unsigned char)"3 1 4 1"[k]; break;
+        case NESTED_TEXT: at[k] = (unsigned char)"[[3 1]]"[k]; break;
+        default: ints[k] = index_at(holds, k);
         }
     }
 }
@@ -121,8 +121,7 @@ static CvlStatus call_at(const Row *row, unsigned char *const *at) {
     for (size_t k = 0; k < array_count(row); k++) p[k] = at[k];
     calls++;
     const CvlStatus status = row->call(p);
-    const char *made = strchr(row->arrays, 'h');
-    if (made != NULL && status.number == CVL_DONE) cvl_segments_free(p[made - row->arrays]);
+    if (has(row, NEW_DESCRIPTOR) && status.number == CVL_DONE) cvl_segments_free(p[first_with(row, NEW_DESCRIPTOR)]);
     return status;
 }
 
@@ -143,7 +142,7 @@ static void set_size(size_t elements) {
 static long down(long x, long to) { return x - (x % to + to) % to; }
 
 static bool may_be_in_place(const Row *row, size_t input, size_t room) {
-    return array_of(row->arrays[room]).is_room && strchr(row->in_place, (char)('0' + input)) != NULL;
+    return is_room(row->arrays[room]) && (row->in_place >> input & 1) != 0;
 }
 
 /* The call with array j moved to `by` bytes after array i: it is refused with nothing written where they overlap, unless it is in
@@ -185,7 +184,7 @@ static void overlaps(const Row *row) {
     set_size(FEW);
     for (size_t j = 0; j < array_count(row); j++) {
         for (size_t i = 0; i < j; i++) {
-            if (array_of(row->arrays[i]).is_room || array_of(row->arrays[j]).is_room) overlap_two(row, i, j);
+            if (is_room(row->arrays[i]) || is_room(row->arrays[j])) overlap_two(row, i, j);
         }
     }
 }
@@ -197,7 +196,7 @@ static void shared_inputs(const Row *row) {
     set_size(FEW);
     for (size_t j = 0; j < array_count(row); j++) {
         for (size_t i = 0; i < j; i++) {
-            if (row->arrays[i] != row->arrays[j] || array_of(row->arrays[i]).is_room) continue;
+            if (row->arrays[i] != row->arrays[j] || is_room(row->arrays[i])) continue;
             apart(row, at, false);
             memset(at[j], UNTOUCHED, bytes_of(row->arrays[j]));
             at[j] = at[i];
@@ -254,7 +253,7 @@ static void in_place(const Row *row) {
     for (size_t s = 0; s < sizeof sizes / sizeof *sizes; s++) {
         set_size(sizes[s]);
         for (unsigned inputs = 1; inputs < 1u << (array_count(row) - 1); inputs++) {
-            const bool several = (inputs & (inputs - 1)) != 0, one_alone = strchr(row->in_place, '/') != NULL;
+            const bool several = (inputs & (inputs - 1)) != 0, one_alone = (row->in_place & ONE_ALONE) != 0;
             bool may = true;
             for (size_t k = 0; k < array_count(row) - 1; k++) may = may && ((inputs >> k & 1) == 0 || may_be_in_place(row, k, array_count(row) - 1));
             if (may && several && one_alone) refuse_in_place(row, inputs);
@@ -283,7 +282,7 @@ static void compare_bytes(const Row *row, int way, unsigned char byte) {
     unsigned char *at[MOST_ARRAYS];
     apart(row, at, false);
     for (size_t j = 0; j < array_count(row); j++) {
-        if (strchr("fg", row->arrays[j]) == NULL) continue;
+        if (!is_flags(row->arrays[j])) continue;
         for (size_t k = 0; k < bytes_of(row->arrays[j]); k++) {
             odd[j][k] = odd_byte(way, byte, k);
             at[j][k] = odd[j][k] != 0;
@@ -293,7 +292,7 @@ static void compare_bytes(const Row *row, int way, unsigned char byte) {
     remember(wanted);
     apart(row, at, false);
     for (size_t j = 0; j < array_count(row); j++) {
-        if (strchr("fg", row->arrays[j]) == NULL) continue;
+        if (!is_flags(row->arrays[j])) continue;
         memcpy(at[j], odd[j], bytes_of(row->arrays[j]));
         memcpy(wanted + (at[j] - arena), odd[j], bytes_of(row->arrays[j]));
     }
@@ -304,7 +303,7 @@ static void compare_bytes(const Row *row, int way, unsigned char byte) {
 
 static void odd_booleans(const Row *row) {
     static const size_t sizes[] = {1, 3, FEW, 17, 100};
-    if (strpbrk(row->arrays, "fg") == NULL) return;
+    if (!has_some(row, is_flags)) return;
     slot = SHORT_SLOT;
     for (size_t s = 0; s < sizeof sizes / sizeof *sizes; s++) {
         set_size(sizes[s]);
@@ -380,7 +379,7 @@ static void guards(const Row *row) {
 static void descriptors(void) {
     static const int32_t lengths[] = {2, 0, 3}, below[] = {2, -1};
     const CvlLengths of_three = {lengths, 3}, of_below = {below, 2};
-    const Row row = {"a descriptor", "", "", NULL};
+    const Row row = {"a descriptor", {NO_MORE}, NONE, NULL};
     CvlSegments made = CVL_NO_SEGMENTS;
     size_t total = 0;
     if (cvl_segments_total(&made, &total).number != CVL_NO_DESCRIPTOR) fail(&row, "before it is made", "there is one", cvl_segments_free(&made));

@@ -70,12 +70,12 @@ static void run_backwards(void *state, CvlPart part, void *work, size_t parts) {
 /* Leaves out one part: in each step, in the first, or in later ones alone. */
 static void run_with_gap(void *state, CvlPart part, void *work, size_t parts) {
     const char *which = (const char *)state;
-    const bool gap = *which == 'a' || (*which == 'f') == (runs == 0);
+    const bool gap = strcmp(which, "all") == 0 || (strcmp(which, "first") == 0) == (runs == 0);
     const size_t left_out = parts - 1 - runs % parts;
     runs++;
     for (size_t k = 0; k < parts; k++) {
         if (!gap || k != left_out) part(work, k);
-        else skipped += *which != 'l';
+        else skipped += strcmp(which, "later") != 0;
     }
 }
 
@@ -155,9 +155,11 @@ static CvlStatus cvl_segments_of_offsets(const int32_t *offsets, size_t offsets_
 }
 
 #define OTHERS(X)                                                                                                              \
-    X(cvl_segments_offsets_of, TELL_OFFSETS, "liaRie", "", 0, -1, false, (lengths_of(g, 0), (int32_t *)g->at[1], g->len[1])) \
-    X(cvl_segments_numbers_of, TELL_NUMBERS, "liaRia", "", 0, -1, false, (lengths_of(g, 0), (int32_t *)g->at[1], g->len[1])) \
-    X(cvl_segments_of_offsets, FROM_OFFSETS, "rieRis", "", 0, -1, false,                                                  \
+    X(cvl_segments_offsets_of, TELL_OFFSETS, LIST({CUTS, INT, OF_TOTAL}, {WRITES, INT, OF_OFFSETS}), NONE, NO_OPERATORS, NO_LIMIT, FAMILY, \
+      (lengths_of(g, 0), (int32_t *)g->at[1], g->len[1]))                                                                      \
+    X(cvl_segments_numbers_of, TELL_NUMBERS, LIST({CUTS, INT, OF_TOTAL}, {WRITES, INT, OF_TOTAL}), NONE, NO_OPERATORS, NO_LIMIT, FAMILY, \
+      (lengths_of(g, 0), (int32_t *)g->at[1], g->len[1]))                                                                      \
+    X(cvl_segments_of_offsets, FROM_OFFSETS, LIST({READS, INT, OF_OFFSETS}, {WRITES, INT, OF_SEGMENTS}), NONE, NO_OPERATORS, NO_LIMIT, FAMILY, \
       ((const int32_t *)g->at[0], g->len[0], (int32_t *)g->at[1], g->len[1]))
 
 #define ROW(name, model, operands, in_place, operators, limited, is_call, arguments)                                         \
@@ -224,7 +226,7 @@ static void fill_index(int32_t *index, size_t count, size_t places, bool once) {
 
 static bool has_negative(const Given *g, const Row *row) {
     for (size_t k = 0; k < count_of(row); k++) {
-        for (size_t s = 0; role_of(row, k) == 'l' && s < g->len[k]; s++) {
+        for (size_t s = 0; role_of(row, k) == CUTS && s < g->len[k]; s++) {
             const int32_t length = ((const int32_t *)g->at[k])[s];
             if (length < 0 || length > MOST_PLACES / 4) return true;
         }
@@ -274,11 +276,11 @@ static void fill_row_offsets(int32_t *offsets, size_t count, size_t entries) {
 
 /* The indices of first senders, most times each a place of its segment of the result; those whose flag is false are no places. */
 static void fill_senders(const Row *row, Given *g) {
-    const bool selects = kind_of(row, 1) == 'f';
-    const size_t out = operand(row, "R", 0), many = g->len[0];
+    const bool selects = kind_of(row, 1) == FLAG;
+    const size_t out = operand(row, WRITES), many = g->len[0];
     int32_t *index = (int32_t *)g->at[0];
     if (has_negative(g, row)) return;
-    const Cuts from = cuts_of(row, g, 0, many), to = cuts_of(row, g, 1, g->len[out] + (extent_of(row, out) == 'g' ? below(9) : 0));
+    const Cuts from = cuts_of(row, g, 0, many), to = cuts_of(row, g, 1, g->len[out] + (extent_of(row, out) == OF_RANGE ? below(9) : 0));
     for (size_t s = 0; s < from.count && s < to.count; s++) {
         const size_t length = to.start[s + 1] - to.start[s];
         for (size_t k = from.start[s]; k < from.start[s + 1] && k < many; k++) {
@@ -322,14 +324,14 @@ static void fill(const Row *row, Given *g, size_t k, size_t n, size_t m) {
     int32_t *ints = (int32_t *)g->at[k];
     unsigned char *bytes = (unsigned char *)g->at[k];
     const bool small = chance(2), plain = chance(2);
-    if (role_of(row, k) == 'l') fill_lengths(ints, g->len[k], strchr("na", extent_of(row, k)) != NULL ? n : m);
-    if (role_of(row, k) != 'r') return;
-    for (size_t j = 0; j < g->len[k] && kind_of(row, k) == 'i'; j++) ints[j] = small ? (int32_t)below(19) - 9 : any_int();
-    for (size_t j = 0; j < g->len[k] && kind_of(row, k) == 'f'; j++) bytes[j] = chance(2) ? 0 : plain || chance(2) ? 1 : (unsigned char)below(256);
-    if (kind_of(row, k) == 't') fill_text(row, (char *)g->at[k], g->len[k]);
+    if (role_of(row, k) == CUTS) fill_lengths(ints, g->len[k], extent_of(row, k) == OF_N || extent_of(row, k) == OF_TOTAL ? n : m);
+    if (role_of(row, k) != READS) return;
+    for (size_t j = 0; j < g->len[k] && kind_of(row, k) == INT; j++) ints[j] = small ? (int32_t)below(19) - 9 : any_int();
+    for (size_t j = 0; j < g->len[k] && kind_of(row, k) == FLAG; j++) bytes[j] = chance(2) ? 0 : plain || chance(2) ? 1 : (unsigned char)below(256);
+    if (kind_of(row, k) == BYTE) fill_text(row, (char *)g->at[k], g->len[k]);
     if (row->model == FROM_OFFSETS) fill_offsets(ints, g->len[k]);
-    if (extent_of(row, k) == 'e' && is_by_offsets(row)) fill_row_offsets(ints, g->len[k], n);
-    if (row->model == PAIRS && k == 1 && g->op >= CVL_DIV && kind_of(row, k) == 'i') {
+    if (extent_of(row, k) == OF_OFFSETS && is_by_offsets(row)) fill_row_offsets(ints, g->len[k], n);
+    if (row->model == PAIRS && k == 1 && g->op >= CVL_DIV && kind_of(row, k) == INT) {
         for (size_t j = 0; j < g->len[k]; j++) ints[j] = g->op >= CVL_LSH ? (int32_t)below(32) : ints[j] == 0 ? 7 : ints[j];
         /* several, so that the first is told from the others */
         for (size_t bad = chance(3) ? 1 + below(3) : 0; bad > 0 && g->len[k] > 0; bad--) {
@@ -339,13 +341,13 @@ static void fill(const Row *row, Given *g, size_t k, size_t n, size_t m) {
 }
 
 /* How many elements an array of an extent has. */
-static size_t long_as(char extent, size_t n, size_t m, size_t segments, int64_t count, size_t room) {
+static size_t long_as(Extent extent, size_t n, size_t m, size_t segments, int64_t count, size_t room) {
     switch (extent) {
-    case 'n': case 'a': return n;
-    case 'm': return m;
-    case 's': return segments;
-    case 'e': return segments + 1;
-    case 'c': return count < 0 || count > MOST_PLACES ? 0 : (size_t)count;
+    case OF_N: case OF_TOTAL: return n;
+    case OF_M: return m;
+    case OF_SEGMENTS: return segments;
+    case OF_OFFSETS: return segments + 1;
+    case OF_COPIES: return count < 0 || count > MOST_PLACES ? 0 : (size_t)count;
     default: return room;
     }
 }
@@ -353,26 +355,30 @@ static size_t long_as(char extent, size_t n, size_t m, size_t segments, int64_t 
 static void fill_numbers(const Row *row, Given *g, size_t n) {
     static const int64_t far[] = {-1, (int64_t)1 << 32, ((int64_t)1 << 32) + 1, INT64_MIN, INT64_MAX, (int64_t)CVL_MOST_ELEMENTS + 1, (int64_t)1 << 31};
     for (size_t k = 0; k < count_of(row); k++) {
-        const char role = role_of(row, k), kind = kind_of(row, k);
-        if (role == 'v') g->number[k] = kind == 'f' ? (int64_t)below(2) : kind == 'q' ? any_int() * (chance(3) ? (int64_t)5 : 1) : kind == 'z' ? (int64_t)below(n + 2) : any_int();
-        if (role == 'v' && kind == 'z' && chance(20)) g->number[k] = chance(2) ? INT64_MAX : CVL_MOST_ELEMENTS + (int64_t)below(2);
-        if (role == 'p') g->number[k] = chance(4) ? (chance(2) ? (int64_t)n : far[below(7)]) : (int64_t)below(n);
-        if (role == 'c') g->number[k] = chance(6) ? far[below(7)] : (int64_t)n;
+        const Role role = role_of(row, k);
+        const Kind kind = kind_of(row, k);
+        if (role == VALUE) g->number[k] = kind == FLAG ? (int64_t)below(2) : kind == SUM ? any_int() * (chance(3) ? (int64_t)5 : 1) : kind == SIZE ? (int64_t)below(n + 2) : any_int();
+        if (role == VALUE && kind == SIZE && chance(20)) g->number[k] = chance(2) ? INT64_MAX : CVL_MOST_ELEMENTS + (int64_t)below(2);
+        if (role == PLACE) g->number[k] = chance(4) ? (chance(2) ? (int64_t)n : far[below(7)]) : (int64_t)below(n);
+        if (role == COPIES) g->number[k] = chance(6) ? far[below(7)] : (int64_t)n;
     }
 }
 
 /* A room on an input, from the first to the last element, or somewhere over it. */
 static void move_rooms(const Row *row, Given *g) {
-    const size_t room = operand(row, "R", 0), count = count_of(row);
-    if (row->in_place[0] != 0 && chance(3)) {
-        for (const char *may = row->in_place; *may != 0; may++) {
-            if (*may != '/' && (chance(2) || may == row->in_place)) g->at[*may - '0'] = g->at[room];
+    const size_t room = operand(row, WRITES), count = count_of(row);
+    if (row->in_place != NONE && chance(3)) {
+        bool is_first = true;
+        for (size_t k = 0; k < count; k++) {
+            if ((row->in_place >> k & 1) == 0) continue;
+            if (chance(2) || is_first) g->at[k] = g->at[room];
+            is_first = false;
         }
     }
     for (size_t k = 0; k < count && chance(6); k++) {
         const size_t other = below(count);
         if (!is_written(row, k) || other == k || g->at[other] == NULL) continue;
-        g->at[k] = (unsigned char *)g->at[other] + (below(9) - 4) * size_of(kind_of(row, k) == 'q' ? 'z' : kind_of(row, k));
+        g->at[k] = (unsigned char *)g->at[other] + (below(9) - 4) * size_of(kind_of(row, k));
         if (size_of(kind_of(row, k)) == sizeof(size_t)) g->at[k] = memory + ((unsigned char *)g->at[k] - memory) / 8 * 8;
     }
 }
@@ -386,23 +392,23 @@ static uint32_t operator_for(const Row *row, uint32_t from) {
 
 static void make(const Row *row, Given *g) {
     const size_t n = chance(9) ? below(MOST_PLACES / 4) : below(14), m = chance(3) ? below(14) : n + below(5);
-    const size_t segments = chance(9) ? 0 : 1 + below(5), count = count_of(row), marks = operand(row, "R", 'm');
+    const size_t segments = chance(9) ? 0 : 1 + below(5), count = count_of(row), marks = operand_of(row, WRITES, WORD);
     memset(g, 0, sizeof *g);
     fill_bytes();
     g->op = chance(30) && !row->is_call ? (uint32_t)below(24) : operator_for(row, (uint32_t)below(32));
     fill_numbers(row, g, n);
-    const int64_t times = operand(row, "c", 0) < count ? g->number[operand(row, "c", 0)] : 0;
+    const int64_t times = operand(row, COPIES) < count ? g->number[operand(row, COPIES)] : 0;
     for (size_t k = 0; k < count; k++) {
-        const bool text = kind_of(row, k) == 't';
+        const bool text = kind_of(row, k) == BYTE;
         const size_t room = chance(3) ? below(n + 2) : text ? 40 + 14 * n : n + below(3);
-        g->len[k] = role_of(row, k) == 'l' ? segments : text && role_of(row, k) == 'r' ? below(160) : long_as(extent_of(row, k), n, m, segments, times, room);
+        g->len[k] = role_of(row, k) == CUTS ? segments : text && role_of(row, k) == READS ? below(160) : long_as(extent_of(row, k), n, m, segments, times, room);
         g->at[k] = memory + k * SLOT + SLOT / 4 + 8 * below(16);
         if (!row->is_call && is_array(row, k) && chance(25)) g->len[k] += below(2) == 0 && g->len[k] > 0 ? (size_t)-1 : 1;
     }
     if (marks < count) g->len[marks] = (g->len[marks - 1] + 31) / 32 + (chance(20) ? 1 : 0);
     for (size_t k = 0; k < count; k++) fill(row, g, k, n, m);
     for (size_t k = 0; k < count; k++) {
-        if (extent_of(row, k) == 't') g->len[k] = trues_of(row, g, 2, 0, g->len[2]) + (chance(12) ? 1 : 0);
+        if (extent_of(row, k) == OF_TRUES) g->len[k] = trues_of(row, g, 2, 0, g->len[2]) + (chance(12) ? 1 : 0);
     }
     if (row->model >= PERMUTE && row->model <= SEG_BACK_PERMUTE) fill_indices(row, g, n, m);
     if (row->model == SEG_EXTRACT || row->model == SEG_REPLACE || row->model == PERMUTE_RANGE || row->model == SELECT_PERMUTE_RANGE) fill_indices(row, g, n, n);
@@ -529,13 +535,13 @@ static void make_without_fault(const Row *row, Given *g) {
 
 static void too_long(const Row *row) {
     Given g;
-    const size_t count = count_of(row), lengths = operand(row, "l", 0);
+    const size_t count = count_of(row), lengths = operand(row, CUTS);
     choose_pool();
     if (row->limited >= 0) {
         do make_without_fault(row, &g);
         while (reading(row, &g).number != CVL_DONE);
         for (size_t k = 0; k < count; k++) {
-            if (!is_array(row, k) || role_of(row, k) == 'l' || extent_of(row, k) != extent_of(row, (size_t)row->limited)) continue;
+            if (!is_array(row, k) || role_of(row, k) == CUTS || extent_of(row, k) != extent_of(row, (size_t)row->limited)) continue;
             g.at[k] = far_memory[k], g.len[k] = most_of(row) + 1;
         }
         is_too_long(row, &g, "too long");
@@ -544,13 +550,13 @@ static void too_long(const Row *row) {
         do make_without_fault(row, &g);
         while (reading(row, &g).number != CVL_DONE);
         for (size_t k = 0; k < count; k++) {
-            if (extent_of(row, k) == 's' && role_of(row, k) == 'r') g.at[k] = far_memory[k], g.len[k] = most_of(row) + 1;
+            if (extent_of(row, k) == OF_SEGMENTS && role_of(row, k) == READS) g.at[k] = far_memory[k], g.len[k] = most_of(row) + 1;
         }
         g.at[lengths] = far_memory[lengths], g.len[lengths] = most_of(row) + 1;
-        if (role_of(row, count - 1) == 'R' && extent_of(row, count - 1) == 's') g.at[count - 1] = far_memory[count - 1], g.len[count - 1] = most_of(row) + 1;
+        if (role_of(row, count - 1) == WRITES && extent_of(row, count - 1) == OF_SEGMENTS) g.at[count - 1] = far_memory[count - 1], g.len[count - 1] = most_of(row) + 1;
         is_too_long(row, &g, "too many lengths");
     }
-    if (row->in_place[0] == '0' && strchr(row->in_place, '/') == NULL && lengths == count) {
+    if ((row->in_place & FIRST) != 0 && (row->in_place & ONE_ALONE) == 0 && lengths == count) {
         make_without_fault(row, &g);
         for (size_t k = 0; k < count; k++) g.at[k] = far_memory[0], g.len[k] = SIZE_MAX;
         g.op = operator_for(row, 0);

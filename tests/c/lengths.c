@@ -21,56 +21,58 @@ static CvlStatus status_at(uint32_t number, size_t place) {
 
 /* ---- faults in the last places */
 
-static int32_t *ints_at(const Row *row, const char *array) { return (int32_t *)(void *)memory[array - row->arrays]; }
+static int32_t *ints_at(size_t array) { return (int32_t *)(void *)memory[array]; }
 
 /* The last place before another one that takes part in a permute: each, or one whose flag is true. */
-static size_t last_before(size_t place, char letter) {
-    const bool by_flags = letter == 'z' || letter == 'w';
+static size_t last_before(size_t place, Holds index) {
+    const bool by_flags = index == INDEX_OF_TRUES || index == INDEX_OF_TRUES_IN_SEGMENTS;
     do place--;
     while (by_flags && !flag_at(place));
     return place;
 }
 
 /* Indices: out of range, or, in the second way, one that stands there already; those of back permutes, first senders and products may repeat. */
-static CvlStatus spoil_index(const Row *row, const char *call, const char *array, int way) {
-    int32_t *index = ints_at(row, array);
-    const size_t last = last_before(n, *array), other = last_before(last, *array);
+static CvlStatus spoil_index(const Row *row, const char *call, size_t array, int way) {
+    int32_t *index = ints_at(array);
+    const size_t last = last_before(n, row->arrays[array]), other = last_before(last, row->arrays[array]);
     const bool repeats = way == 1 && !begins(call, "bck") && !begins(call, "fst") && !begins(call, "prd");
     index[last] = repeats ? index[other] : way == 1 ? INT32_MAX : -1;
     return status_at(repeats ? CVL_INDEX_REPEATED : CVL_INDEX_OUT_OF_RANGE, last);
 }
 
 /* Sums that no longer fit: of a scan at its last place, of a reduce at the last segment, or at 0. */
-static CvlStatus spoil_sum(const Row *row, const char *call) {
-    int32_t *a = ints_at(row, row->arrays);
+static CvlStatus spoil_sum(const char *call) {
+    int32_t *a = ints_at(0);
     a[n - 3] = 1, a[n - 2] = INT32_MAX;
     return status_at(CVL_OVERFLOW, call[4] == 's' ? n - 1 : by_segments(call) ? segments - 1 : 0);
 }
 
 /* A length below 0, or lengths that add up to one more. */
-static CvlStatus spoil_lengths(const Row *row, const char *array, int way) {
-    int32_t *last = ints_at(row, array) + segments - 1;
+static CvlStatus spoil_lengths(size_t array, int way) {
+    int32_t *last = ints_at(array) + segments - 1;
     *last = way == 2 ? -1 : *last + 1;
     return way == 2 ? status_at(CVL_NEGATIVE_LENGTH, segments - 1) : status_at(n + 1 > CVL_MOST_ELEMENTS ? CVL_TOO_LONG : CVL_LENGTH_MISMATCH, SIZE_MAX);
 }
 
 /* Spoils what a call is given, in the last places, and answers what it has to tell; a call that has no fault in this way tells none. */
 static CvlStatus spoil(const Row *row, const char *call, int way) {
-    const char *index = strpbrk(row->arrays, "xyzw"), *place = strchr(row->arrays, 'e'), *cuts = strrchr(row->arrays, 'l');
-    if (way > 1) return cuts == NULL || (way == 3 && begins(call, "mke")) ? status_at(CVL_DONE, SIZE_MAX) : spoil_lengths(row, cuts, way);
-    if (index != NULL && strstr(row->name, "_range") == NULL) return spoil_index(row, call, index, way);
+    const size_t index = first_that(row, is_index), all = array_count(row);
+    size_t cuts = all; /* the last lengths */
+    while (cuts > 0 && row->arrays[cuts - 1] != LENGTHS) cuts--;
+    if (way > 1) return cuts == 0 || (way == 3 && begins(call, "mke")) ? status_at(CVL_DONE, SIZE_MAX) : spoil_lengths(cuts - 1, way);
+    if (index < all && strstr(row->name, "_range") == NULL) return spoil_index(row, call, index, way);
     if (way == 1 || strstr(row->name, "_after") != NULL || strstr(row->name, "exact") != NULL) return status_at(CVL_DONE, SIZE_MAX);
-    if (begins(call, "tot")) return spoil_sum(row, call);
-    if (place != NULL) {
-        ints_at(row, place)[segments - 1] = lengths[segments - 1];
+    if (begins(call, "tot")) return spoil_sum(call);
+    if (has(row, SEGMENT_PLACES)) {
+        ints_at(first_with(row, SEGMENT_PLACES))[segments - 1] = lengths[segments - 1];
         return status_at(CVL_INDEX_OUT_OF_RANGE, segments - 1);
     }
     if (begins(call, "div") || begins(call, "mod")) {
-        ((int32_t *)(void *)memory[1])[n - 1] = 0;
+        ints_at(1)[n - 1] = 0;
         return status_at(CVL_DIVIDE_BY_ZERO, n - 1);
     }
     if (begins(call, "lsh") || begins(call, "rsh")) {
-        ((int32_t *)(void *)memory[1])[n - 1] = 32;
+        ints_at(1)[n - 1] = 32;
         return status_at(CVL_SHIFT_OUT_OF_RANGE, n - 1);
     }
     return status_at(CVL_DONE, SIZE_MAX);
@@ -92,8 +94,8 @@ static void leaves(const Row *row) {
     faults++;
     for (size_t j = 0; j < array_count(row); j++) {
         const unsigned char *at = memory[j], *end = at + bytes_of(row->arrays[j]);
-        while (array_of(row->arrays[j]).is_room && at < end && *at == UNTOUCHED) at++;
-        if (array_of(row->arrays[j]).is_room && at < end) fail(row, "another byte after a fault", *at, UNTOUCHED);
+        while (is_room(row->arrays[j]) && at < end && *at == UNTOUCHED) at++;
+        if (is_room(row->arrays[j]) && at < end) fail(row, "another byte after a fault", *at, UNTOUCHED);
     }
 }
 
@@ -110,8 +112,7 @@ static void with_faults(const Row *row, const char *call) {
 }
 
 static void without_fault(const Row *row, const char *call) {
-    const bool is_text = strpbrk(row->arrays, "tuX") != NULL;
-    const CvlStatus right = is_text && n > CVL_MOST_OF_TEXT ? status_at(CVL_TOO_LONG, SIZE_MAX) : status_at(CVL_DONE, SIZE_MAX);
+    const CvlStatus right = has_some(row, is_text) && n > CVL_MOST_OF_TEXT ? status_at(CVL_TOO_LONG, SIZE_MAX) : status_at(CVL_DONE, SIZE_MAX);
     void *p[MOST_ARRAYS];
     for (size_t threads = 1; threads <= THREADS; threads += THREADS - 1) {
         if (cvl_set_threads(threads) != 0) abort();
@@ -141,7 +142,7 @@ static void each_call(size_t elements) {
         name_call(&rows[k], call);
         hold_all(&rows[k], call);
         without_fault(&rows[k], call);
-        if (strpbrk(rows[k].arrays, "tuX") == NULL) with_faults(&rows[k], call);
+        if (!has_some(&rows[k], is_text)) with_faults(&rows[k], call);
     }
     printf("%zu elements: %ld calls, %ld of them with a fault\n", n, calls, faults);
 }

@@ -49,7 +49,7 @@ static bool makes_descriptors(const char *call) {
 static size_t descriptors_of(const Row *row, const char *call) {
     size_t count = 0;
     if (!by_segments(call) || !makes_descriptors(call)) return 0;
-    for (const char *letter = row->arrays; *letter != 0; letter++) count += *letter == 'l' || *letter == 'd';
+    for (size_t j = 0; j < array_count(row); j++) count += row->arrays[j] == LENGTHS || row->arrays[j] == DESCRIPTOR;
     return count * segments * 2 * sizeof(int32_t);
 }
 
@@ -74,29 +74,32 @@ static bool keeps_room(const char *call) {
     return call[4] == 'p' || begins(call, "ext") || begins(call, "rep") || begins(call, "prd") || begins(call, "fst");
 }
 
+/* A room for elements, and not for a text, for marks or for a number. */
+static bool is_room_for_elements(Holds holds) { return holds >= ROOM_FOR_INTS && holds <= ROOM_FOR_SEGMENT_FLAGS; }
+
 /*
  * How many bytes a call in parts asks for beside its parts: for a copy of its room, and a bit for each place of a permute; of a
  * text for the longest that its parts may write, or for as many integers as they may read.
  */
 static size_t memory_in_parts(const Row *row, const char *call) {
-    const char *room = strpbrk(row->arrays, "IFSGMN");
+    const Holds room = row->arrays[first_that(row, is_room_for_elements)];
     const bool has_marks = !by_segments(call) && call[4] == 'p';
     const size_t in_brackets = by_segments(call) ? segments : 0;
-    if (strchr(row->arrays, 'X') != NULL) return (is_bool(call) ? 2 : 12) * n + 3 * in_brackets + 2 * PARTS;
-    if (strchr(row->arrays, 't') != NULL) return (text_length + PARTS) / 2 * sizeof(int32_t);
+    if (has(row, ROOM_FOR_TEXT)) return (is_bool(call) ? 2 : 12) * n + 3 * in_brackets + 2 * PARTS;
+    if (has(row, TEXT)) return (text_length + PARTS) / 2 * sizeof(int32_t);
     if (!keeps_room(call)) return 0;
-    if (strchr(row->arrays, 'b') != NULL) return bytes_of(*room) + sizeof(int32_t) * segments; /* the rows' lengths, too */
-    if (!has_marks) return bytes_of(*room);
-    return (bytes_of(*room) + 3) / 4 * 4 + sizeof(uint32_t) * (array_of(*room).count / 32 + PARTS);
+    if (has(row, OFFSETS)) return bytes_of(room) + sizeof(int32_t) * segments; /* the rows' lengths, too */
+    if (!has_marks) return bytes_of(room);
+    return (bytes_of(room) + 3) / 4 * 4 + sizeof(uint32_t) * (array_of(room).count / 32 + PARTS);
 }
 
 /* How many bytes the parts themselves may ask for: each as much as the whole call does, or those of a text as it grows. */
 static size_t most_of_parts(const Row *row, const char *call) {
-    return strpbrk(row->arrays, "tX") != NULL ? 4 * text_room : PARTS * memory_of(row, call);
+    return has(row, TEXT) || has(row, ROOM_FOR_TEXT) ? 4 * text_room : PARTS * memory_of(row, call);
 }
 
 /* Whether the memory of a call is known: booleans that are not 0 and 1 may be copied, and a text grows where it isn't cut. */
-static bool is_known(const Row *row, bool odd) { return !odd && strpbrk(row->arrays, in_parts(row) ? "u" : "tuX") == NULL; }
+static bool is_known(const Row *row, bool odd) { return !odd && !(in_parts(row) ? has(row, NESTED_TEXT) : has_some(row, is_text)); }
 
 /* ---- each call */
 
@@ -129,7 +132,7 @@ int main(void) {
     make_arrays(n, segments);
     for (size_t k = 0; k < ROWS; k++) {
         check(&rows[k], false);
-        if (strpbrk(rows[k].arrays, "fg") != NULL) check(&rows[k], true);
+        if (has_some(&rows[k], is_flags)) check(&rows[k], true);
     }
     if (!failed) printf("%d functions on %d elements as they should be\n", (int)ROWS, (int)ELEMENTS);
     return failed ? EXIT_FAILURE : EXIT_SUCCESS;

@@ -68,23 +68,27 @@ static void hold_indices(int32_t *numbers, bool cut_up, bool by_flags) {
 
 /* Holds array j. The last flags of a call say which elements take part; those before it are elements. */
 static void hold(const Row *row, size_t j) {
-    const char letter = row->arrays[j];
-    const bool takes_part = strchr(row->arrays + j + 1, 'f') == NULL;
-    const bool is_text = letter == 't' || letter == 'u'; /* which is as long as its numbers make it */
-    const size_t count = is_text || array_of(letter).count > n ? n : array_of(letter).count;
+    const Holds holds = row->arrays[j];
+    const size_t others = is_read_text(holds) ? n : array_of(holds).count; /* a text is as long as its numbers make it */
+    const size_t count = others > n ? n : others;
+    bool takes_part = true;
+    for (size_t k = j + 1; k < array_count(row); k++) takes_part = takes_part && row->arrays[k] != FLAGS;
     for (size_t k = 0; k < count; k++) {
-        switch (letter) {
-        case 'f': held[j][k] = takes_part ? flag_at(k) : k % 5 < 2; break;
-        case 'g': held[j][k] = k % 4 < 3; break;
-        case 'l': held[j][k] = lengths[k]; break;
-        case 'b': held[j][k] = (int32_t)starts[k]; break;
-        case 'e': held[j][k] = (int32_t)(k % (size_t)lengths[k]); break;
+        switch (holds) {
+        case FLAGS: held[j][k] = takes_part ? flag_at(k) : k % 5 < 2; break;
+        case SEGMENT_FLAGS: held[j][k] = k % 4 < 3; break;
+        case LENGTHS: held[j][k] = lengths[k]; break;
+        case OFFSETS: held[j][k] = (int32_t)starts[k]; break;
+        case SEGMENT_PLACES: held[j][k] = (int32_t)(k % (size_t)lengths[k]); break;
         default: held[j][k] = (int32_t)((k * 7907 + j) % 31 + 1); /* none divides by 0, shifts too far or adds up to too much */
         }
     }
     /* the values of a matrix, so that no row adds up to too much */
     for (size_t k = 0; j == 2 && k < count && strstr(row->name, "sparse_product") != NULL; k++) held[j][k] %= 2;
-    if (strchr("xyzw", letter) != NULL) hold_indices(held[j], letter == 'y' || letter == 'w', letter == 'z' || letter == 'w');
+    if (is_index(holds)) {
+        const bool cut_up = holds == INDEX_IN_SEGMENTS || holds == INDEX_OF_TRUES_IN_SEGMENTS;
+        hold_indices(held[j], cut_up, holds == INDEX_OF_TRUES || holds == INDEX_OF_TRUES_IN_SEGMENTS);
+    }
 }
 
 /* ---- texts */
@@ -408,15 +412,15 @@ static unsigned char *memory[MOST_ARRAYS];
 
 /* Puts what array j holds where the call finds it. True flags are 1, or any byte but 0. */
 static void put(const Row *row, size_t j, bool odd) {
-    const char letter = row->arrays[j];
-    const Array array = array_of(letter);
+    const Holds holds = row->arrays[j];
+    const Array array = array_of(holds);
     const CvlSegments descriptor = {lengths, segments, true};
-    if (array.is_room) {
-        memset(memory[j], letter == 'h' ? 0 : UNTOUCHED, bytes_of(letter));
-    } else if (letter == 'd') {
+    if (is_room(holds)) {
+        memset(memory[j], holds == NEW_DESCRIPTOR ? 0 : UNTOUCHED, bytes_of(holds));
+    } else if (holds == DESCRIPTOR) {
         memcpy(memory[j], &descriptor, sizeof descriptor);
-    } else if (letter == 't' || letter == 'u') {
-        memcpy(memory[j], letter == 't' ? text + 1 : text, text_length);
+    } else if (is_read_text(holds)) {
+        memcpy(memory[j], holds == TEXT ? text + 1 : text, text_length);
     } else if (array.size == 1) {
         for (size_t k = 0; k < array.count; k++) memory[j][k] = (unsigned char)(!held[j][k] ? 0 : odd ? k % 255 + 1 : 1);
     } else {
@@ -427,8 +431,8 @@ static void put(const Row *row, size_t j, bool odd) {
 /* What a function tells as a count: the elements or the bytes of the room before it; of a nested text the lists, too. */
 static size_t count_of(const Row *row, size_t j, size_t made, size_t written) {
     switch (row->arrays[j - 1]) {
-    case 'X': return written;
-    case 'S': return segments;
+    case ROOM_FOR_TEXT: return written;
+    case ROOM_FOR_SEGMENT_INTS: return segments;
     default: return made;
     }
 }
@@ -437,34 +441,35 @@ static size_t count_of(const Row *row, size_t j, size_t made, size_t written) {
 static int32_t marks_at(size_t places, size_t k) { return places - 32 * k >= 32 ? -1 : (int32_t)(((uint32_t)1 << (places - 32 * k)) - 1); }
 
 /* The number that an element of a room has to have: of a text its byte. */
-static int32_t right_at(char letter, bool are_lengths, size_t k) {
-    switch (letter) {
-    case 'K': return marks_at(n, k);
-    case 'L': return marks_at(trues, k);
-    case 'X': return text[k];
-    case 'S': return are_lengths ? lengths[k] : wanted[k];
+static int32_t right_at(Holds holds, bool are_lengths, size_t k) {
+    switch (holds) {
+    case ROOM_FOR_MARKS: return marks_at(n, k);
+    case ROOM_FOR_TRUE_MARKS: return marks_at(trues, k);
+    case ROOM_FOR_TEXT: return text[k];
+    case ROOM_FOR_SEGMENT_INTS: return are_lengths ? lengths[k] : wanted[k];
     default: return wanted[k];
     }
 }
 
 /* Room j holds what is wanted, at its front, and is as it was behind that. */
 static void check_room(const Row *row, size_t j, size_t made, size_t written) {
-    const char letter = row->arrays[j];
-    const Array array = array_of(letter);
-    const bool are_lengths = letter == 'S' && row->arrays[0] == 'u';
+    const Holds holds = row->arrays[j];
+    const Array array = array_of(holds);
+    const bool are_lengths = holds == ROOM_FOR_SEGMENT_INTS && row->arrays[0] == NESTED_TEXT;
+    const bool are_marks = holds == ROOM_FOR_MARKS || holds == ROOM_FOR_TRUE_MARKS;
     const unsigned char *at = memory[j];
-    size_t elements = are_lengths ? segments : letter == 'X' ? written : made;
-    if (strchr("KLqc", letter) != NULL) elements = array.count;
-    if (letter == 'c') wanted[0] = (int32_t)count_of(row, j, made, written);
+    size_t elements = are_lengths ? segments : holds == ROOM_FOR_TEXT ? written : made;
+    if (are_marks || holds == ONE_SUM || holds == ONE_COUNT) elements = array.count;
+    if (holds == ONE_COUNT) wanted[0] = (int32_t)count_of(row, j, made, written);
     for (size_t k = 0; k < elements; k++, at += array.size) {
         int32_t found = *at;
         if (array.size > 1) memcpy(&found, at, sizeof found);
-        if (found != right_at(letter, are_lengths, k)) {
-            fail(row, "another element", found, right_at(letter, are_lengths, k));
+        if (found != right_at(holds, are_lengths, k)) {
+            fail(row, "another element", found, right_at(holds, are_lengths, k));
             return;
         }
     }
-    for (const unsigned char *end = memory[j] + bytes_of(letter); at < end; at++) {
+    for (const unsigned char *end = memory[j] + bytes_of(holds); at < end; at++) {
         if (*at != UNTOUCHED) {
             fail(row, "another byte behind the elements", *at, UNTOUCHED);
             return;
@@ -474,9 +479,9 @@ static void check_room(const Row *row, size_t j, size_t made, size_t written) {
 
 /* Holds all that a call reads. */
 static void hold_all(const Row *row, const char *call) {
-    cut(strchr(row->arrays, 'e') != NULL);
+    cut(has(row, SEGMENT_PLACES));
     for (size_t j = 0; j < array_count(row); j++) hold(row, j);
-    if (strpbrk(row->arrays, "tu") != NULL) text_length = write_text(held[0], false, by_segments(call)) - (by_segments(call) ? 0 : 2);
+    if (has_some(row, is_read_text)) text_length = write_text(held[0], false, by_segments(call)) - (by_segments(call) ? 0 : 2);
 }
 
 /* Gives a call what is held, where true flags are 1, or any byte but 0, and rooms. */
@@ -492,9 +497,9 @@ static void compare(const Row *row, const char *call) {
     const int32_t before = is_bool(call) ? 1 : 5;
     stands_before = strstr(row->name, "_scan_after") != NULL ? &before : NULL;
     const size_t made = read_plainly(call);
-    const size_t written = strchr(row->arrays, 'X') == NULL ? 0 : write_text(wanted, is_bool(call), by_segments(call));
+    const size_t written = !has(row, ROOM_FOR_TEXT) ? 0 : write_text(wanted, is_bool(call), by_segments(call));
     for (size_t j = 0; j < array_count(row); j++) {
-        if (array_of(row->arrays[j]).is_room && row->arrays[j] != 'h') check_room(row, j, made, written);
+        if (is_room(row->arrays[j]) && row->arrays[j] != NEW_DESCRIPTOR) check_room(row, j, made, written);
     }
 }
 

@@ -7,6 +7,7 @@
  */
 #define _DEFAULT_SOURCE
 #include "cvl_parallel.h"
+#include "rows.h"
 
 #include <pthread.h>
 #include <signal.h>
@@ -78,36 +79,41 @@ static char spoken[2 * MOST];
 static const CvlLengths cut = {lengths, SEGMENTS}, ones_of_segments = {ones, SEGMENTS};
 #define BOOL_ROOM ((bool *)rooms.out)
 
-/* A call of each kind, with a letter for each of its steps: r for one that only reads, w for one that writes, also into memory of its own. */
+/* What a step of a call does: it reads alone, or it writes, also into memory of its own. */
+typedef enum Step { NO_MORE, READS, WRITES } Step;
+
+enum { MOST_STEPS = 6 };
+
+/* A call of each kind, with its steps. */
 #define KINDS(X)                                                                                                               \
-    X(add_wuz, "rw", a, a, rooms.out, MOST)                                                                                    \
-    X(div_wuz, "rrw", a, ones, rooms.out, MOST)                                                                                \
-    X(rep_vuz, "rw", a, 7, 5, rooms.out, MOST)                                                                                 \
-    X(add_ruz, "rr", a, MOST, rooms.out)                                                                                       \
-    X(add_suz, "rrw", a, rooms.out, MOST)                                                                                      \
-    X(ior_sub, "rrrw", truths, BOOL_ROOM, MOST)                                                                                \
-    X(xor_sub, "rrwrw", (const bool *)any_bytes, BOOL_ROOM, MOST)                                                              \
-    X(tot_ruz, "rr", a, MOST, rooms.out)                                                                                       \
-    X(tot_suz, "rrrw", a, rooms.out, MOST)                                                                                     \
-    X(cnt_lub, "rr", truths, MOST, rooms.out)                                                                                  \
-    X(pck_luz, "rrrw", a, truths, MOST, rooms.out, MOST, &rooms.count)                                                         \
-    X(dis_vuz, "rw", 5, MOST, rooms.out)                                                                                       \
-    X(bck_puz, "rrw", a, MOST, in_order, rooms.out, MOST)                                                                      \
-    X(smp_puz, "rw", a, in_order, rooms.out, MOST)                                                                             \
-    X(def_puz, "rw", a, in_order, MOST, ones, rooms.out, MOST)                                                                 \
-    X(mke_fov, "rr", cut, &rooms.count)                                                                                        \
-    X(add_sez, "rrrw", a, cut, rooms.out, MOST)                                                                                \
-    X(add_rez, "rrw", a, MOST, cut, rooms.out)                                                                                 \
-    X(tot_sez, "rrrrrw", a, cut, rooms.out, MOST)                                                                              \
-    X(tot_rez, "rrrw", a, MOST, cut, rooms.out)                                                                                \
-    X(cnt_leb, "rrw", truths, MOST, cut, rooms.out)                                                                            \
-    X(dis_vez, "rrw", lengths, cut, rooms.out, MOST)                                                                           \
-    X(ind_lez, "rrw", lengths, firsts, cut, rooms.out, MOST)                                                                   \
-    X(ext_vez, "rrw", a, MOST, firsts, cut, rooms.out)                                                                         \
-    X(bck_pez, "rrrw", a, MOST, firsts, cut, ones_of_segments, rooms.out, SEGMENTS)                                            \
-    X(read_ints, "rww", spoken, sizeof spoken, rooms.out, MOST, &rooms.count)                                                  \
-    X(write_ints, "rww", a, MOST, rooms.text, sizeof rooms.text, &rooms.count)                                                 \
-    X(seg_write_ints, "rrww", a, MOST, cut, rooms.text, sizeof rooms.text, &rooms.count)
+    X(add_wuz, LIST(READS, WRITES), a, a, rooms.out, MOST)                                                                     \
+    X(div_wuz, LIST(READS, READS, WRITES), a, ones, rooms.out, MOST)                                                           \
+    X(rep_vuz, LIST(READS, WRITES), a, 7, 5, rooms.out, MOST)                                                                  \
+    X(add_ruz, LIST(READS, READS), a, MOST, rooms.out)                                                                         \
+    X(add_suz, LIST(READS, READS, WRITES), a, rooms.out, MOST)                                                                 \
+    X(ior_sub, LIST(READS, READS, READS, WRITES), truths, BOOL_ROOM, MOST)                                                     \
+    X(xor_sub, LIST(READS, READS, WRITES, READS, WRITES), (const bool *)any_bytes, BOOL_ROOM, MOST)                            \
+    X(tot_ruz, LIST(READS, READS), a, MOST, rooms.out)                                                                         \
+    X(tot_suz, LIST(READS, READS, READS, WRITES), a, rooms.out, MOST)                                                          \
+    X(cnt_lub, LIST(READS, READS), truths, MOST, rooms.out)                                                                    \
+    X(pck_luz, LIST(READS, READS, READS, WRITES), a, truths, MOST, rooms.out, MOST, &rooms.count)                              \
+    X(dis_vuz, LIST(READS, WRITES), 5, MOST, rooms.out)                                                                        \
+    X(bck_puz, LIST(READS, READS, WRITES), a, MOST, in_order, rooms.out, MOST)                                                 \
+    X(smp_puz, LIST(READS, WRITES), a, in_order, rooms.out, MOST)                                                              \
+    X(def_puz, LIST(READS, WRITES), a, in_order, MOST, ones, rooms.out, MOST)                                                  \
+    X(mke_fov, LIST(READS, READS), cut, &rooms.count)                                                                          \
+    X(add_sez, LIST(READS, READS, READS, WRITES), a, cut, rooms.out, MOST)                                                     \
+    X(add_rez, LIST(READS, READS, WRITES), a, MOST, cut, rooms.out)                                                            \
+    X(tot_sez, LIST(READS, READS, READS, READS, READS, WRITES), a, cut, rooms.out, MOST)                                       \
+    X(tot_rez, LIST(READS, READS, READS, WRITES), a, MOST, cut, rooms.out)                                                     \
+    X(cnt_leb, LIST(READS, READS, WRITES), truths, MOST, cut, rooms.out)                                                       \
+    X(dis_vez, LIST(READS, READS, WRITES), lengths, cut, rooms.out, MOST)                                                      \
+    X(ind_lez, LIST(READS, READS, WRITES), lengths, firsts, cut, rooms.out, MOST)                                              \
+    X(ext_vez, LIST(READS, READS, WRITES), a, MOST, firsts, cut, rooms.out)                                                    \
+    X(bck_pez, LIST(READS, READS, READS, WRITES), a, MOST, firsts, cut, ones_of_segments, rooms.out, SEGMENTS)                 \
+    X(read_ints, LIST(READS, WRITES, WRITES), spoken, sizeof spoken, rooms.out, MOST, &rooms.count)                            \
+    X(write_ints, LIST(READS, WRITES, WRITES), a, MOST, rooms.text, sizeof rooms.text, &rooms.count)                           \
+    X(seg_write_ints, LIST(READS, READS, WRITES, WRITES), a, MOST, cut, rooms.text, sizeof rooms.text, &rooms.count)
 
 #define KIND(name, steps, ...)                                                                                                 \
     static CvlStatus plain_##name(void) { return cvl_##name(__VA_ARGS__); }                                                    \
@@ -116,7 +122,8 @@ KINDS(KIND)
 #undef KIND
 
 typedef struct Kind {
-    const char *name, *steps;
+    const char *name;
+    Step steps[MOST_STEPS + 1];
     CvlStatus (*plain)(void), (*parts)(const CvlPool *pool);
 } Kind;
 
@@ -154,13 +161,14 @@ static void leave_out(const Kind *kind) {
     memset(&rooms, UNTOUCHED, sizeof rooms);
     check(kind->name, kind->plain().number == CVL_DONE);
     memcpy(right, &rooms, sizeof rooms);
-    const size_t steps = strlen(kind->steps);
+    size_t steps = 0;
+    while (kind->steps[steps] != NO_MORE) steps++;
     check(kind->name, call_with_gap(kind, steps, 0).number == CVL_DONE && steps_run == steps && memcmp(&rooms, right, sizeof rooms) == 0);
     for (size_t k = 0; k < steps * PARTS; k++) {
         const CvlStatus status = call_with_gap(kind, k / PARTS, k % PARTS);
         const bool told = status.number == CVL_NO_RESOURCES && status.place == -1 && is_untouched();
         const bool done = status.number == CVL_DONE && memcmp(&rooms, right, sizeof rooms) == 0;
-        check(kind->name, kind->steps[k / PARTS] == 'r' ? told : done);
+        check(kind->name, kind->steps[k / PARTS] == READS ? told : done);
     }
 }
 

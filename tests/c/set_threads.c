@@ -146,19 +146,21 @@ static void fill(const Row *row, void **p) {
     n = 6, segments = 3, trues = 6, text_length = 7, text_room = 200;
     for (size_t k = 0; k < array_count(row); k++) {
         int32_t *ints = (int32_t *)(void *)memory[k];
-        const char letter = row->arrays[k];
+        const Holds holds = row->arrays[k];
         p[k] = memory[k];
-        if (bytes_of(letter) > sizeof memory[k]) abort();
+        if (bytes_of(holds) > sizeof memory[k]) abort();
         memset(memory[k], 0, sizeof memory[k]);
-        for (size_t place = 0; place < 6 && strchr("ixyzwse", letter) != NULL; place++) {
-            ints[place] = letter == 'i' || letter == 's' ? 1 : letter == 'x' || letter == 'z' ? (int32_t)place : letter == 'e' ? 0 : (int32_t)(place % 2);
+        for (int32_t place = 0; place < 6; place++) {
+            if (holds == INTS || holds == SEGMENT_INTS) ints[place] = 1;
+            if (holds == INDEX || holds == INDEX_OF_TRUES) ints[place] = place;
+            if (holds == INDEX_IN_SEGMENTS || holds == INDEX_OF_TRUES_IN_SEGMENTS) ints[place] = place % 2;
+            if (holds == OFFSETS && place <= 3) ints[place] = 2 * place;
         }
-        if (letter == 'f' || letter == 'g') memset(memory[k], 1, 6);
-        for (int32_t s = 0; letter == 'b' && s <= 3; s++) ints[s] = 2 * s;
-        if (letter == 'l') p[k] = lengths;
-        if (letter == 'd') p[k] = &descriptor;
-        if (letter == 't') memcpy(memory[k], "3 1 4 1", 7);
-        if (letter == 'u') memcpy(memory[k], "[[3 1]]", 7);
+        if (is_flags(holds)) memset(memory[k], 1, 6);
+        if (holds == LENGTHS) p[k] = lengths;
+        if (holds == DESCRIPTOR) p[k] = &descriptor;
+        if (holds == TEXT) memcpy(memory[k], "3 1 4 1", 7);
+        if (holds == NESTED_TEXT) memcpy(memory[k], "[[3 1]]", 7);
     }
 }
 

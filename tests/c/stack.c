@@ -118,7 +118,7 @@ static void measure_all(size_t threads) {
         char call[8];
         name_call(&rows[k], call);
         hold_all(&rows[k], call);
-        for (int odd = 0; odd < (strpbrk(rows[k].arrays, "fg") == NULL ? 1 : 2); odd++) {
+        for (int odd = 0; odd < (has_some(&rows[k], is_flags) ? 2 : 1); odd++) {
             measure(&rows[k], call, odd, false, threads);
             measure(&rows[k], call, odd, true, threads);
         }
