@@ -3,6 +3,7 @@
 import textwrap
 
 import in_c
+import in_examples
 import rows
 import table
 
@@ -428,132 +429,36 @@ def module():
     return "\n".join(lines[:-1]) + TAIL
 
 
-# ---- the program that runs the examples ----
+# ---- the calls as the program has them that tries each on its example ----
 
-
-def _number(word):
-    """An integer; the least of 32 bits has no literal."""
-    return "-2147483647 - 1" if word == "-2147483648" else word
-
-
-def _literal(operand, words, single=False):
-    """The words of an example as a literal."""
-    if operand.kind == "text":
-        return words.replace("\\n", '" // new_line("a") // "')
-    found = [f".{word}." if operand.kind in ("flag", "flags") else _number(word) for word in words.split()]
-    if rows.is_array(operand) or operand.role == "lengths":
-        return f"[{TYPES[operand.kind]} :: {', '.join(found)}]"
-    # of one value the kind stands behind it
-    return f"{found[0]}_{_type(operand).partition('(')[2][:-1]}"
-
-
-def _filled(operand):
-    """What a room holds before a call."""
-    return '"?"' if _is_text(operand) else ".true." if operand.kind in ("flag", "flags") else "77"
-
-
-def _length(operand, row):
-    """How long the room of an example is: of a range and of marks, what the example says."""
-    words = row.example[operand.name]
-    if _is_text(operand):
-        return len(words) - 2
-    return len(words.split())
-
-
-def _room(operand, row):
-    """The declaration of a room."""
-    if _is_text(operand):
-        return f"character({_length(operand, row)}) :: {operand.name}"
-    return f"{_type(operand)} :: {operand.name}" + (f"({_length(operand, row)})" if rows.is_array(operand) else "")
-
-
-def _words_of(row, operand, place):
-    """An operand as it is given."""
-    if operand == place or operand.role in ("room", "single", "told"):
-        return operand.name
-    return _literal(operand, row.example[operand.name])
-
-
-def _example(procedure, example):
-    """The lines of a subroutine that runs an example through one procedure."""
-    row, place = procedure.row, procedure.place
-    row = row if row.example else ExampleOf(row, example)
-    written = [place] if place else row.written
-    operator = [f"CVL_{example.operator}"] if "op" in procedure.words else []
-    arguments = ", ".join([*operator, *(_words_of(row, operand, place) for operand in procedure.operands), "status"])
-    own = f"{row.name}{'_in' if place else ''}" if procedure.row.call or procedure.public[4:] == example.name else f"{procedure.public[4:]}_{example.name}"
-    name = f"test_{own}"
-    lines = [f"    subroutine {name}()"]
-    for operand in written:
-        kept = place and f"{_type(operand)} :: {operand.name}({len(row.example[operand.name].split())})"
-        lines.append(f"        {kept or _room(operand, row)}")
-    lines.append("")
-    for operand in written:
-        held = _literal(operand, row.example[operand.name]) if place else _filled(operand)
-        lines += _folded(f"{operand.name} = {held}", "        ")
-    lines += _folded(f"call {procedure.public}({arguments})", "        ")
-    for operand in written:
-        wanted = _literal(operand, row.example["out" if place else operand.name])
-        lines += _folded(f'call same("{name[5:]}", status, {_agree(operand, wanted)})', "        ")
-    return name, [*lines, f"    end subroutine {name}", ""]
-
-
-def _agree(operand, wanted):
-    """Whether a room holds what is wanted."""
-    compared = f"{operand.name} {'.eqv.' if operand.kind in ('flag', 'flags') else '=='} {wanted}"
-    compared = f"all({compared})" if rows.is_array(operand) and operand.kind != "text" else compared
-    return f"logical({compared})" if operand.kind in ("flag", "flags") else compared
-
-
-class ExampleOf:
-    """A family with the example of one of its calls."""
-
-    def __init__(self, family, call):
-        self.name, self.family, self.call, self.operands = family.name, family.family, None, family.operands
-        self.written, self.example = family.written, call.example
-
-
-def _examples():
-    """Each procedure, but those that take numbers of 32 bits, with its example: of a family those of its calls."""
-    for row in rows.CALLS:
-        for procedure in _forms(row):
-            if not procedure.narrow:
-                yield _example(procedure, row)
-        for procedure in _forms(rows.FAMILIES[row.family.name]):
-            if not procedure.narrow:
-                yield _example(procedure, row)
-    for row in rows.FAMILIES.values():
-        if row.example:
-            yield _example(Procedure(row), row)
-
-
-PROGRAM_HEAD = f"""! The example of each call, through its subroutine, in place, and through its family.
+TRIED_HEAD = f"""! Each subroutine on the operands of an example, by the name of the call or the family, and `in` where an operand is the room.
 !
 ! {rows.NOTE}
-program calls
-    use cvl
-    implicit none
-    type(cvl_status) :: status
-    integer :: count_of_wrong = 0
-
-"""
-
-PROGRAM_TAIL = """    subroutine same(name, status, agrees)
-        character(*), intent(in) :: name
-        type(cvl_status), intent(in) :: status
-        logical, intent(in) :: agrees
-
-        if (status%number == CVL_DONE .and. agrees) return
-        count_of_wrong = count_of_wrong + 1
-        print "(2a, i0)", name, " is not its example, with the status ", status%number
-    end subroutine same
-end program calls
 """
 
 
-def program():
-    """`bindings/fortran/tests/calls.f90`."""
-    found = list(_examples())
-    lines = [f"    call {name}()" for name, _ in found]
-    lines += ["    if (count_of_wrong > 0) error stop 1", f'    print "(a)", "{len(found)} examples"', "contains"]
-    return PROGRAM_HEAD + "\n".join([*lines, *(line for _, part in found for line in part), ""]) + PROGRAM_TAIL
+def _held(operand):
+    """Which part of an operand holds it."""
+    if operand.kind in ("text", "flags", "flag"):
+        return operand.kind
+    if rows.is_array(operand) or operand.role == "lengths":
+        return "ints"
+    return {"integer(c_int32_t)": "int", "integer(c_int64_t)": "number", "integer(c_size_t)": "count"}[_type(operand)]
+
+
+def _tried(procedure):
+    """The lines that make one call."""
+    row, place = procedure.row, procedure.place
+    key = f"{row.name}{' in' if place else ''}"
+    operator = ["op"] if "op" in procedure.words else []
+    held = [f"o({row.operands.index(operand) + 1})%{_held(operand)}" for operand in procedure.operands]
+    yield f'        case ("{key}")'
+    if place:
+        yield f"            place = {row.operands.index(place) + 1}"
+    yield from _folded(f"call {procedure.public}({', '.join([*operator, *held, 'status'])})", "            ")
+
+
+def tried_calls():
+    """`bindings/fortran/tests/calls.inc`."""
+    found = [procedure for row in in_examples.with_family() for procedure in _forms(row) if not procedure.narrow]
+    return TRIED_HEAD + "\n".join([*(line for procedure in found for line in _tried(procedure)), ""])

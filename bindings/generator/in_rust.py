@@ -372,77 +372,54 @@ def numbers():
     return "\n".join([*lines, "}", ""])
 
 
-EXAMPLES_HEAD = f"""//! The example of each call: its result, the same in a room, and in the place of an argument.
+# ---- the calls as a test has them that tries each on its example ----
+
+TRIED_HEAD = f"""//! Each function on the operands of its example: what it gives; the same into a room; and in the place of an operand.
 //!
 //! {rows.NOTE}
 
-#![allow(clippy::bool_assert_comparison)]
+use super::{{numbers, told, Call}};
 
-use super::{{differ, refuses}};
+pub const CALLS: &[Call] = &[
 """
 
-
-def _room_of_example(function):
-    """A room for the example, with other elements than the result's."""
-    if function.result.kind == "text":
-        return f"let mut room = [b'?'; {len(function.row.example['out'].strip(chr(34)))}];"
-    words = ["7" if function.result.kind == "ints" else "true"] * len(function.given)
-    return f"let mut room = [{', '.join(words)}];"
+OF_EXAMPLE = {"int": "{} as i32", "flag": "{} != 0", "sum": "{}", "size": "{} as usize"}
 
 
-def _example_test(function):
-    """The lines of a test of the example."""
-    yield from _example(function)
-    if function.fills and not _has_ranges(function):
-        yield _room_of_example(function)
-        yield from _example_into(function)
-        yield from _other_lengths(function)
-        yield f"assert_eq!(room, {'*b' if function.result.kind == 'text' else ''}{_result(function)});"
-        for place in function.in_place[:1]:
-            yield from _example_within(function, place)
+def _of_given(operand):
+    """An operand of what a test is given."""
+    if operand == packages.COUNT:
+        return 'given.len("out") as i64'
+    if operand.role == "lengths":
+        return f'&given.segments("{operand.name}")'
+    if operand.role == "reads":
+        return f'given.{operand.kind}("{operand.name}")'
+    number = f'given.number("{operand.name}")'
+    return OF_EXAMPLE[operand.kind].format(number) if operand.role == "value" else number
 
 
-def _example_into(function):
-    given = [*_example_arguments(function, operands=_beside_room(function)), "&mut room"]
-    if function.counts:
-        yield from _asserted(f"cvl::{function.name}_into({', '.join(given)})?", function.row.example["count"])
+def _tried(function):
+    """A function with its forms, as one line."""
+    operator = _operator(function, f"cvl::Operator::{_operator_of_example(function)}")
+
+    def called(end, operands, rooms, place=None):
+        words = [f"&mut room.{o.kind}" if o == place else _of_given(o) for o in operands]
+        return f"cvl::{function.name}{end}({', '.join([*operator, *words, *(f'&mut room.{o.kind}' for o in rooms)])})"
+
+    gives = fills = within = "None"
+    if _has_ranges(function):
+        fills = f"Some(|given, room| told({called('', function.operands, function.row.rooms)}))"
     else:
-        yield from shown(f"cvl::{function.name}_into", given, "?;", indent="")
+        gives = f"Some(|given| numbers({called('', function.operands, [])}))"
+    if function.fills and not _has_ranges(function):
+        fills = f"Some(|given, room| told({called('_into', _beside_room(function), [function.result])}))"
+        for place in function.in_place[:1]:
+            words = called("_in", function.operands, [], place)
+            within = f'Some(("{place.name}", |{"given" if "given." in words else "_"}, room| {words}))'
+    return f'    Call {{ name: "{function.name}", gives: {gives}, fills: {fills}, within: {within} }},'
 
 
-def _other_lengths(function):
-    """Rooms and arrays of another length: they are refused, and what stands in the room stays."""
-    lengths = "&[room.len() - 1]" if function.counts else "&[room.len() - 1, room.len() + 1]"
-    given = ", ".join([*_example_arguments(function, operands=_beside_room(function)), "room"])
-    if not function.is_sized:
-        yield from shown("refuses", [lengths, f"|room| cvl::{function.name}_into({given}).map(|_| ())", "room[0]"], ";", indent="")
-    for k, operand in enumerate(function.operands):
-        if _has_partner(function, operand):
-            at = k + len(_operator(function, ""))
-            given = _example_arguments(function, operands=_beside_room(function))
-            given[at] = _shorter(function, operand)
-            yield from shown("differ", [f"cvl::{function.name}_into({', '.join([*given, '&mut room'])})"], ";", indent="")
-            given = _example_arguments(function)
-            given[at] = _shorter(function, operand)
-            if len(_alike(function, operand.extent)) > 1:
-                yield from shown("differ", [f"cvl::{function.name}({', '.join(given)})"], ";", indent="")
-
-
-def _has_partner(function, operand):
-    """Whether an array has to be as long as another, as lengths say, or as the room."""
-    if operand.role != "reads" or operand.kind == "text":
-        return False
-    return len(_alike(function, operand.extent)) > 1 or function.result.extent == operand.extent
-
-
-def _shorter(function, operand):
-    return f"&[{', '.join(function.words(operand)[:-1])}]"
-
-
-def examples():
-    """`bindings/rust/tests/examples/mod.rs`."""
-    lines = [EXAMPLES_HEAD]
-    for function in [*packages.CALLS, *filter(_has_example, FAMILIES)]:
-        body = [*_example_test(function), "Ok(())"]
-        lines += ["#[test]", f"fn {function.name}() -> Result<(), cvl::Fault> {{", *(f"    {line}" for line in body), "}", ""]
-    return "\n".join(lines)
+def tried_calls():
+    """`bindings/rust/tests/examples/calls.rs`."""
+    tried = [*packages.CALLS, *filter(_has_example, FAMILIES)]
+    return TRIED_HEAD + "\n".join([*map(_tried, tried), "];", ""])

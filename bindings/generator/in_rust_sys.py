@@ -5,6 +5,7 @@ import re
 import textwrap
 
 import in_c
+import in_examples
 import rows
 import table
 
@@ -115,82 +116,55 @@ def differences():
         yield f"{name} is declared by cvl-sys, and is no name of the library"
 
 
-# ---- the examples as tests: of each call, its family and what has the same operands ----
+# ---- the functions as a test has them that tries each on its example ----
 
-EXAMPLES_HEAD = f"""//! The example of each call and of each family that is none, by all functions that have its operands.
+FUNCTIONS_HEAD = f"""//! Each function that has the operands of an example: of which call or family, its name, and the call on what a test holds.
 //!
 //! {rows.NOTE}
 
 use cvl_sys::*;
 
-use super::{{descriptor, each, given}};
+use super::Held;
+
+pub type Function = fn(&Held) -> CvlStatus;
+
+pub const FUNCTIONS: &[(&str, &str, Function)] = &[
 """
 
-
-def _read(operand, words):
-    """What an operand that is read holds in the example."""
-    return f"*b{words}" if operand.kind == "text" else f"[{', '.join(words.split())}]"
+VALUES = {"int": "{} as i32", "flag": "{} != 0", "sum": "{}", "size": "{} as usize"}
 
 
-def _of_example(row, name):
-    """The words of an operand in the example, as Rust has them."""
-    operand = next(found for found in row.operands if found.name == name)
-    return _read(operand, row.example[name]) if operand.role in ("reads", "lengths", "room") else row.example[name]
-
-
-def _other(operand, wanted):
-    """What is no result of the example: what stands in a room before."""
-    if operand.kind == "flag":
-        return {"true": "false", "false": "true"}[wanted]
-    if operand.kind == "flags":
-        return re.sub(r"true|false", lambda word: {"true": "false", "false": "true"}[word[0]], wanted)
-    if operand.role != "room":
-        return "99"
-    length = len(wanted.strip("*b").strip('"')) if operand.kind == "text" else wanted.count(",") + 1
-    return f"[99; {length}]"
-
-
-def _passed(row, argument):
-    """An argument of a call of the example."""
+def _held(argument):
+    """An argument of a call, of what a test holds."""
     operand = argument.operand
     if operand is None:
-        return f"CVL_{row.operator or 'ADD'}"
+        return "held.operator()"
     if argument.size:
-        return f"{operand.name}.len()"
+        return f'held.len("{operand.name}")'
     if operand.role == "lengths":
-        of = "&descriptor" if argument.type == "const CvlSegments *" else "given"
-        return f"{of}(&{operand.name})"
-    if operand.role in ("reads", "room"):
-        return f"{operand.name}.as_{'mut_' if operand.role == 'room' else ''}ptr()"
-    return f"&mut {operand.name}" if operand.role in ("single", "told") else row.example[operand.name]
+        return f'&held.descriptor("{operand.name}")' if argument.type == "const CvlSegments *" else f'held.lengths("{operand.name}")'
+    if operand.role in ("place", "count"):
+        return f'held.number("{operand.name}")'
+    return VALUES[operand.kind].format(f'held.number("{operand.name}")') if operand.role == "value" else f'held.at("{operand.name}")'
 
 
-def _calls_of(row):
-    """Each function with the operands of the row's example, and its arguments."""
-    family = rows.FAMILIES[row.family.name]
-    for found in [row, family] if row.call else [row]:
-        yield f"cvl_{found.name}", found.arguments, False
-        if row.family.cut is not None:
-            yield f"cvl_{found.name}_on", found.arguments, True
-    if family in in_c.on_segments():
-        yield f"cvl_{in_c.segments_name(family)}", in_c.held(family.arguments), False
+def _tried(row, name, arguments, pool=False):
+    """A function as one line."""
+    operator = f"CVL_{row.operator}" if row.operator else None
+    words = [operator if argument.operand is None and operator else _held(argument) for argument in arguments]
+    given = ", ".join((["&cvl_pool_alone(3)"] if pool else []) + words)
+    return f'    ("{row.name}", "{name}", |held| unsafe {{ {name}({given}) }}),'
 
 
-def _test(row):
-    read = [operand for operand in row.takes if operand.role in ("reads", "lengths")]
-    written = [operand for operand in row.written if operand.name in row.example]
-    wanted = [_of_example(row, operand.name) for operand in written]
-    before = [_other(operand, words) for operand, words in zip(written, wanted)]
-    yield from ("#[test]", f"fn {row.name}() {{")
-    yield from (f"    let {operand.name} = {_of_example(row, operand.name)};" for operand in read)
-    yield f"    each!({', '.join(operand.name for operand in written)} => {', '.join(before)} => {', '.join(wanted)};"
-    for name, arguments, pool in _calls_of(row):
-        words = (["&cvl_pool_alone(3)"] if pool else []) + [_passed(row, argument) for argument in arguments]
-        yield from shown(name, words, ",", indent=" " * 8)
-    yield from ("    );", "}", "")
+def _functions_of(row):
+    yield _tried(row, f"cvl_{row.name}", row.arguments)
+    if row.family.cut is not None:
+        yield _tried(row, f"cvl_{row.name}_on", row.arguments, pool=True)
+    if not row.call and row in in_c.on_segments():
+        name = f"cvl_{in_c.segments_name(row)}"
+        yield _tried(row, name, in_c.held(row.arguments))
 
 
-def examples():
-    """`cvl-sys/tests/examples/mod.rs`."""
-    tested = [*rows.CALLS, *(row for row in rows.FAMILIES.values() if row.example)]
-    return "\n".join([EXAMPLES_HEAD, *(line for row in tested for line in _test(row))])
+def tried_functions():
+    """`cvl-sys/tests/examples/functions.rs`."""
+    return FUNCTIONS_HEAD + "\n".join([*(line for row in in_examples.with_family() for line in _functions_of(row)), "];", ""])

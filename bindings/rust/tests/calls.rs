@@ -1,10 +1,6 @@
-//! The examples of the calls, and what stands in none: faults and rooms, empty vectors, texts, parts, and what threads share.
+//! What stands in no example of a call: faults and rooms, empty vectors, texts, parts, and what threads share.
 
-#[rustfmt::skip]
-mod examples;
 mod limit;
-
-use std::fmt::Debug;
 
 use cvl::{Fault, Operator, Segments};
 
@@ -12,24 +8,6 @@ const MOST: i64 = cvl::MOST_ELEMENTS as i64;
 
 fn told(fault: Fault) -> (u32, Option<u64>) {
     (fault.number(), fault.place())
-}
-
-/// A call into a room of each of these lengths is refused, and the room stays.
-fn refuses<T: Copy + PartialEq + Debug>(
-    lengths: &[usize],
-    fill: impl Fn(&mut [T]) -> Result<(), Fault>,
-    before: T,
-) {
-    for &length in lengths {
-        let mut room = vec![before; length];
-        assert_eq!(fill(&mut room).map_err(told), Err((7, None)));
-        assert_eq!(room, vec![before; length]);
-    }
-}
-
-/// A call on vectors that are not equally long, or not as long as lengths or the room say.
-fn differ<T>(found: Result<T, Fault>) {
-    assert_eq!(found.map(|_| ()).map_err(told), Err((7, None)));
 }
 
 #[test]

@@ -1,13 +1,10 @@
-//! The functions as C has them: the example of each, and those that are no call.
+//! The functions as C has them that are no call, types, and what a caller gets wrong.
 
 use std::ffi::CStr;
 use std::mem::size_of;
 use std::ptr::{null, null_mut};
 
 use cvl_sys::*;
-
-#[rustfmt::skip]
-mod examples;
 
 /// Lengths as the library takes them.
 fn given(lengths: &[i32]) -> CvlLengths {
@@ -34,20 +31,6 @@ extern "C" {
     /// Ends the process after so many seconds, for a test that could wait for ever.
     fn alarm(seconds: u32) -> u32;
 }
-
-/// Makes each call over the same before, and compares what it writes.
-macro_rules! each {
-    ($($written:ident),+ => $($before:expr),+ => $($wanted:expr),+;) => {};
-    ($($written:ident),+ => $($before:expr),+ => $($wanted:expr),+; $call:expr, $($more:tt)*) => {
-        {
-            $(let mut $written = $before;)+
-            assert_eq!(unsafe { $call }, crate::DONE);
-            $(assert_eq!($written, $wanted, "{}", stringify!($call));)+
-        }
-        each!($($written),+ => $($before),+ => $($wanted),+; $($more)*);
-    };
-}
-use each;
 
 fn text(found: *const u8) -> &'static str {
     unsafe { CStr::from_ptr(found.cast()) }.to_str().unwrap()
