@@ -229,6 +229,12 @@ class Places(Folder):
             self.run_it(*words)
             self.assertEqual([path.stat().st_mtime == 1000 for path in paths], [False] + [True] * (len(paths) - 1))
 
+    def test_the_repository_is_no_folder_for_a_build(self):
+        (self.top / "link").symlink_to(self.top / "repository")
+        for folder in ("repository", "link", "repository/new/.."):
+            self.assertIn("FOLDER is the repository", self.run_it(self.top / folder))
+        self.assertEqual(self.found(self.top), set())
+
     def test_words(self):
         for words in (("--other",), ("-h",), ("a", "b"), ("--check", "a")):
             self.assertEqual(self.run_it(*words), generate.__doc__)
@@ -266,4 +272,10 @@ class Packages(Folder):
                 self.assertEqual(paths[name].is_symlink(), by_hand and bool(words), name)
                 source = TOP if by_hand else self.written
                 self.assertEqual(paths[name].read_bytes(), (source / "bindings/rust" / name).read_bytes(), name)
-        self.assertEqual(subprocess.run([TOP / "bindings/rust/package"], capture_output=True).returncode, 1)
+
+    def test_no_crates_without_a_folder_of_their_own(self):
+        for words in ((), ("--links",), ("a", "b"), (TOP / "bindings/rust",), ("--links", TOP / "bindings/rust/src/..")):
+            told = subprocess.run([TOP / "bindings/rust/package", *words], capture_output=True, text=True, cwd=self.top)
+            self.assertEqual((told.returncode, told.stdout), (1, ""))
+            self.assertIn("FOLDER", told.stderr)
+        self.assertEqual(self.found(self.top), set())
