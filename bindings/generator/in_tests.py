@@ -5,7 +5,7 @@ import re
 
 import rows
 import table
-from in_c import held, on_segments, segments_name
+from in_c import constant, held, on_segments, segments_name
 
 # what an array of a call holds, by its kind and how long it is
 READ = {
@@ -121,6 +121,26 @@ def careless():
         *(_row(row, f"cvl_{row.name}", row.arguments) for row in plain),
         *(_row(row, f"cvl_{segments_name(row)}", held(row.arguments), descriptor=True) for row in on_segments()),
         *(_row(row, f"cvl_{row.name}_on", row.arguments, "&pool") for row in parts),
+        "",
+    ]
+    return "\n".join(lines)
+
+
+def _operator_row(found):
+    """An operator with its letters and its fault."""
+    said = dict(table.STATUSES)
+    return f"OPERATOR({found.name.lower()}, CVL_{found.name}, CVL_{constant(said[found.fault.numbers[0] if found.fault else 0])})"
+
+
+def operators():
+    """`tests/c/operator_rows.h`."""
+    lines = [
+        "/*",
+        " * operator_rows.h: a row for each operator: its letters in the names of calls, its number, and its fault. tests/c/operators.h reads it.",
+        " *",
+        f" * {rows.NOTE}",
+        " */",
+        *map(_operator_row, table.OPERATORS),
         "",
     ]
     return "\n".join(lines)

@@ -320,6 +320,20 @@ static void fill_text(const Row *row, char *text, size_t length) {
     for (; nested && depth > 0 && at < length && !(spoiled && chance(4)); depth--) text[at++] = ']';
 }
 
+/* The fault of an operator, where it has one. */
+static uint32_t fault_of(uint32_t op) {
+    size_t k = 0;
+    while (k < ALL_OPERATORS && operators[k].number != op) k++;
+    return k < ALL_OPERATORS ? operators[k].fault : (uint32_t)CVL_DONE;
+}
+
+/* Elements on which an operator has a value; then sometimes some on which it has none, several, so that the first is told from the others. */
+static void fill_seconds(uint32_t fault, int32_t *ints, size_t count) {
+    const bool shifts = fault == CVL_SHIFT_OUT_OF_RANGE;
+    for (size_t j = 0; j < count; j++) ints[j] = shifts ? (int32_t)below(32) : ints[j] == 0 ? 7 : ints[j];
+    for (size_t bad = chance(3) ? 1 + below(3) : 0; bad > 0 && count > 0; bad--) ints[below(count)] = shifts ? (chance(2) ? 32 : -1) : 0;
+}
+
 static void fill(const Row *row, Given *g, size_t k, size_t n, size_t m) {
     int32_t *ints = (int32_t *)g->at[k];
     unsigned char *bytes = (unsigned char *)g->at[k];
@@ -331,13 +345,7 @@ static void fill(const Row *row, Given *g, size_t k, size_t n, size_t m) {
     if (kind_of(row, k) == BYTE) fill_text(row, (char *)g->at[k], g->len[k]);
     if (row->model == FROM_OFFSETS) fill_offsets(ints, g->len[k]);
     if (extent_of(row, k) == OF_OFFSETS && is_by_offsets(row)) fill_row_offsets(ints, g->len[k], n);
-    if (row->model == PAIRS && k == 1 && g->op >= CVL_DIV && kind_of(row, k) == INT) {
-        for (size_t j = 0; j < g->len[k]; j++) ints[j] = g->op >= CVL_LSH ? (int32_t)below(32) : ints[j] == 0 ? 7 : ints[j];
-        /* several, so that the first is told from the others */
-        for (size_t bad = chance(3) ? 1 + below(3) : 0; bad > 0 && g->len[k] > 0; bad--) {
-            ints[below(g->len[k])] = g->op >= CVL_LSH ? (chance(2) ? 32 : -1) : 0;
-        }
-    }
+    if (row->model == PAIRS && k == 1 && kind_of(row, k) == INT && fault_of(g->op) != CVL_DONE) fill_seconds(fault_of(g->op), ints, g->len[k]);
 }
 
 /* How many elements an array of an extent has. */

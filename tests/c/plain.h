@@ -7,6 +7,7 @@
 #define PLAIN_H
 
 #include "calls.h"
+#include "operators.h"
 
 #include <stdio.h>
 
@@ -120,51 +121,23 @@ static size_t write_text(const int32_t *numbers, bool are_flags, bool cut_up) {
 
 static bool begins(const char *name, const char *with) { return strncmp(name, with, strlen(with)) == 0; }
 
-static const char *const operators[] = {"add", "mul", "min", "max", "and", "ior", "xor", "sub", "div", "mod", "lsh", "rsh",
-                                        "grt", "les", "geq", "leq", "eql", "neq", "not", "cpy", "tot", "int", "boo"};
-
-enum { TOT = CVL_CPY + 1, INT, BOO };
+/* What is an operator of names of calls alone: exact sums and conversions. */
+enum { TOT = 1000, INT, BOO };
 
 static uint32_t operator_of(const char *call) {
-    uint32_t op = 0;
-    while (!begins(call, operators[op])) op++;
-    return op;
+    for (size_t k = 0; k < ALL_OPERATORS; k++) {
+        if (begins(call, operators[k].letters)) return operators[k].number;
+    }
+    return begins(call, "tot") ? TOT : begins(call, "int") ? INT : BOO;
 }
 
 static int32_t joined(uint32_t op, int32_t a, int32_t b) {
-    switch (op) {
-    case TOT:
-    case CVL_ADD: return (int32_t)((uint32_t)a + (uint32_t)b);
-    case CVL_MUL: return (int32_t)((uint32_t)a * (uint32_t)b);
-    case CVL_MIN: return a < b ? a : b;
-    case CVL_MAX: return a > b ? a : b;
-    case CVL_AND: return a & b;
-    case CVL_IOR: return a | b;
-    case CVL_XOR: return a ^ b;
-    case CVL_SUB: return (int32_t)((uint32_t)a - (uint32_t)b);
-    case CVL_DIV: return a / b;
-    case CVL_MOD: return a % b;
-    case CVL_LSH: return (int32_t)((uint32_t)a << b);
-    case CVL_RSH: return a >> b;
-    case CVL_GRT: return a > b;
-    case CVL_LES: return a < b;
-    case CVL_GEQ: return a >= b;
-    case CVL_LEQ: return a <= b;
-    case CVL_EQL: return a == b;
-    default: return a != b;
-    }
+    int64_t value = 0;
+    operated(op == TOT ? (uint32_t)CVL_ADD : op, a, b, &value);
+    return (int32_t)value;
 }
 
-/* What an operator joins nothing to. */
-static int32_t unit_of(uint32_t op, bool is_bool) {
-    switch (op) {
-    case CVL_MUL: return 1;
-    case CVL_MIN: return INT32_MAX;
-    case CVL_MAX: return INT32_MIN;
-    case CVL_AND: return is_bool ? 1 : -1;
-    default: return 0;
-    }
-}
+static int32_t unit_of(uint32_t op, bool is_bool) { return (int32_t)unit(op == TOT ? (uint32_t)CVL_ADD : op, is_bool); }
 
 static bool is_bool(const char *call) { return call[6] == 'b'; }
 

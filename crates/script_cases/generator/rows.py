@@ -1,12 +1,13 @@
 """Random arguments of each call, good ones and some that are at fault, with rows for them."""
 
+import calls
 from calls import CALLS, GREATEST, LEAST, Fault, cut
 from cases import each, number_lines, refused, tiles
 
 EDGES = [LEAST, LEAST + 1, -65536, -33, -32, -2, -1, 0, 1, 2, 31, 32, 65535, GREATEST - 1, GREATEST]
 
 # the calls by what their arguments have to do with one another
-PARTIAL = ("div_wuz", "mod_wuz", "lsh_wuz", "rsh_wuz")
+PARTIAL = tuple(f"{name}_wuz" for name in calls.PARTIAL)
 A_SEGMENT = ("ext_vez", "ext_veb", "rep_vez", "rep_veb")
 BY_COUNT = ("dis_vez", "dis_veb", "ind_lez")
 ONE_ELEMENT = ("ext_vuz", "ext_vub", "rep_vuz", "rep_vub")
