@@ -299,9 +299,20 @@ def joining(kind):
     return MONOIDS if kind == "ints" else OF_FLAGS
 
 
-def first_to_last(operators):
-    """Operators whose numbers follow one another, as a page names them."""
-    return f"CVL_{operators[0]} to CVL_{operators[-1]}"
+def runs(names):
+    """The operators of these names in the order of their numbers, those together whose numbers follow one another."""
+    found = []
+    for operator in sorted((operator for operator in OPERATORS if operator.name in names), key=lambda operator: operator.number):
+        if found and found[-1][-1].number + 1 == operator.number:
+            found[-1].append(operator)
+        else:
+            found.append([operator])
+    return found
+
+
+def first_to_last(names):
+    """Operators as a page names them: of each run the first and the last."""
+    return " and ".join(f"CVL_{run[0].name} to CVL_{run[-1].name}" if len(run) > 1 else f"CVL_{run[0].name}" for run in runs(names))
 
 
 SHAPE_ONE = "a and out have n elements."

@@ -191,15 +191,8 @@ def _argument(row, argument):
 
 
 def _operators(names):
-    """Operators as runs of those whose numbers follow one another, each from the first to the last."""
-    found = sorted((operator for operator in table.OPERATORS if operator.name in names), key=lambda operator: operator.number)
-    runs = []
-    for operator in found:
-        if runs and runs[-1][-1].number + 1 == operator.number:
-            runs[-1].append(operator)
-        else:
-            runs.append([operator])
-    return " | ".join(f"OPERATORS(CVL_{run[0].name}, CVL_{run[-1].name})" for run in runs) or "NO_OPERATORS"
+    """Operators as runs, each from the first to the last."""
+    return " | ".join(f"OPERATORS(CVL_{run[0].name}, CVL_{run[-1].name})" for run in table.runs(names)) or "NO_OPERATORS"
 
 
 def _reading_row(row, name, pool=""):
