@@ -15,7 +15,7 @@ def folder(tells, prefix):
     else the usual."""
     for found in tells["folders"]:
         below = pathlib.PurePath(found)
-        if below.is_relative_to(prefix) and re.match(r"lib[0-9]*$", below.relative_to(prefix).parts[0]):
+        if prefix in below.parents and re.match(r"lib[0-9]*$", below.relative_to(prefix).parts[0]):
             return str(below.relative_to(prefix))
     return "lib/python{}.{}/site-packages".format(*tells["version"])
 
