@@ -151,7 +151,7 @@ static CvlStatus cvl_segments_of_offsets(const int32_t *offsets, size_t offsets_
     const bool is_made = segments.some && segments.lengths == out && segments.segments == out_len;
     const bool is_before = segments.some && segments.lengths == offsets && segments.segments == offsets_len;
     const bool right = status.number == CVL_DONE ? is_made : status.number == CVL_OVERLAP ? is_before : !segments.some;
-    return right ? status : told(UINT32_MAX, -1);
+    return right ? status : status_of(UINT32_MAX, -1);
 }
 
 #define OTHERS(X)                                                                                                              \

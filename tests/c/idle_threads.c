@@ -217,5 +217,5 @@ int main(void) {
     TRY(ends_in_a_pool);
     TRY(time_is_up_in_a_call);
     TRY(ends_and_calls);
-    return told("threads without work end, and start again");
+    return result_of_tests("threads without work end, and start again");
 }

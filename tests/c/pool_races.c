@@ -163,5 +163,5 @@ int main(void) {
     TRY(parts_by_two);
     TRY(runs_between_instructions);
     for (int k = 0; k < 5; k++) TRY(stopped_under_a_call);
-    return told("pools that run parts at once, or are stopped, are as they should be");
+    return result_of_tests("pools that run parts at once, or are stopped, are as they should be");
 }

@@ -320,5 +320,5 @@ int main(void) {
     TRY(setters_wait_for_one_call);
     TRY(at_once);
     /* the threads are left as they are */
-    return told("the threads of the process are as they should be");
+    return result_of_tests("the threads of the process are as they should be");
 }

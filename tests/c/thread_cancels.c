@@ -148,5 +148,5 @@ int main(void) {
     TRY(each_entry);
     TRY(in_a_call);
     TRY(in_a_wait);
-    return told("threads that are cancelled leave all as it should be");
+    return result_of_tests("threads that are cancelled leave all as it should be");
 }

@@ -203,7 +203,7 @@ int main(int count, char **words) {
     fill_vectors();
     if (count == 2 && strcmp(words[1], "namespaces") == 0) {
         TRY(namespaces);
-        return told("the first process of a namespace has no threads but its own");
+        return result_of_tests("the first process of a namespace has no threads but its own");
     }
     TRY(forks);
     TRY(forks_while_one_waits);
@@ -212,5 +212,5 @@ int main(int count, char **words) {
     TRY(forks_without_handlers);
     if (CHILDREN_START) TRY(freed_in_a_child);
     TRY(freed_and_forked);
-    return told("children of forks have no threads but their own");
+    return result_of_tests("children of forks have no threads but their own");
 }

@@ -162,5 +162,5 @@ int main(void) {
     fill_vectors();
     TRY(own_pages);
     TRY(each_signal);
-    return told("threads take the signals of what they do, and no others");
+    return result_of_tests("threads take the signals of what they do, and no others");
 }

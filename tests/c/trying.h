@@ -67,7 +67,7 @@ static inline void run_test(const char *name, void (*test)(void)) {
 }
 #define TRY(test) run_test(PROGRAM ": " #test, test)
 
-static inline int told(const char *what) {
+static inline int result_of_tests(const char *what) {
     if (!failed) printf("%s\n", what);
     return failed ? EXIT_FAILURE : EXIT_SUCCESS;
 }
