@@ -124,11 +124,6 @@ CALLS = [Call(row) for row in rows.CALLS]
 BESIDE = [row for row in rows.FAMILIES.values() if row.name not in {call.family.name for call in CALLS}]
 
 
-def number_of(name):
-    """The number that a status has by its name."""
-    return next(number for number, said in table.STATUSES if said == name)
-
-
 def differences(calls):
     """The calls that give segments in the proved table of calls alone, or here alone."""
     for call in CALLS:
