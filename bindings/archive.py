@@ -1,5 +1,5 @@
-"""The library for C, as an archive and as a shared object: the exports, the C over them, and the parts in C of the kit. In the library an
-export has a name of its own, as cvl_proved_int2 for cvl_int2, which no other object sees."""
+"""The library for C, as an archive and as a shared object: the proved exports, as cvl_proved_int2, the C over them, as cvl_int2, and
+the parts in C of the kit. No other object sees the exports."""
 
 import os
 import pathlib
@@ -67,15 +67,6 @@ def joined(work, made, objects, public):
     return made
 
 
-def renamed(work, archive):
-    """The exports under names of their own, as an archive, and these names."""
-    names = {name: name.replace("cvl_", "cvl_proved_", 1) for name in sorted(symbols(archive)) if name.startswith("cvl_")}
-    made, pairs = work / "libcvl_exports.a", work / "renamed"
-    pairs.write_text("".join(f"{name} {new}\n" for name, new in names.items()))
-    run(*program("OBJCOPY"), f"--redefine-syms={pairs}", archive, made)
-    return made, names.values()
-
-
 STANDARD = ["-std=c11", "-D_POSIX_C_SOURCE=200809L", "-fPIC", "-fvisibility=default", "-Wall", "-Wextra", "-Wshadow"]
 
 
@@ -101,10 +92,9 @@ def library(folder, archive, flags=()):
     """The whole library as an archive in the folder, of which other objects see the names of the headers alone."""
     with tempfile.TemporaryDirectory() as work:
         work = pathlib.Path(work)
-        exports, _ = renamed(work, archive)
         written = generated.below(work / "written")
         public = (written / "bindings/c/public").read_text().split()
-        return joined(work, folder / "libcvl.a", [exports, *compiled(work, written, flags)], public)
+        return joined(work, folder / "libcvl.a", [archive, *compiled(work, written, flags)], public)
 
 
 def linking():
@@ -128,8 +118,7 @@ def shared(made):
 
 
 def proved_alone(folder, archive):
-    """The exports under names of their own with the parts of the kit, as an archive in the folder."""
+    """The exports with the parts of the kit, as an archive in the folder."""
+    names = sorted(name for name in symbols(archive) if name.startswith("cvl_proved_"))
     with tempfile.TemporaryDirectory() as work:
-        work = pathlib.Path(work)
-        exports, names = renamed(work, archive)
-        return joined(work, folder / "libcvl_proved.a", [exports], names)
+        return joined(pathlib.Path(work), folder / "libcvl_proved.a", [archive], names)

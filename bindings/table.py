@@ -33,7 +33,7 @@ Operator = namedtuple("Operator", "name number sentence fault")
 
 # An export.
 #
-#   exported   its name in crates/cvl_c, without cvl_
+#   exported   its name in crates/cvl_c, without cvl_proved_
 #   operators  the names of those that it takes
 #   limit      the extent that has a limit, beside that of lengths: MOST_ELEMENTS, or MOST_OF_TEXT where a text is read or written
 #   in_place   which operands may be the room, each a tuple: alone, or together

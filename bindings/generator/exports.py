@@ -1,9 +1,9 @@
-"""The exports of `crates/cvl_c`, read from its source: each name, and its parameters with their types."""
+"""The exports of `crates/cvl_c`, read from its source: each name without `cvl_proved_`, and its parameters with their types."""
 
 import re
 
 SOURCE = "crates/cvl_c/src"
-EXPORT = re.compile(r'pub extern "C" fn (\w+)\(([^)]*)\)')
+EXPORT = re.compile(r'pub extern "C" fn cvl_proved_(\w+)\(([^)]*)\)')
 
 
 def read(top):

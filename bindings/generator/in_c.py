@@ -239,8 +239,8 @@ def proved_declaration(name, found):
         words.append(kept(f"{TYPES[kind]}{parameter}"))
         if "[" in kind:
             words.append(kept(f"size_t {parameter}_len"))
-    answer = {"cvl_are_flags": "bool", "cvl_make_flags": "void"}.get(name, "CvlStatus")
-    return wrapped(f"CVL_HIDDEN {answer} {name.replace('cvl_', 'cvl_proved_', 1)}({', '.join(words)});")
+    answer = {"are_flags": "bool", "make_flags": "void"}.get(name, "CvlStatus")
+    return wrapped(f"CVL_HIDDEN {answer} cvl_proved_{name}({', '.join(words)});")
 
 
 def length_of(operand):

@@ -207,29 +207,29 @@ def _export_differences(name, wanted, family, found):
     if family.operators:
         wanted = [("op", ("u32",)), *wanted]
     if [left for left, _ in parameters] != [left for left, _ in wanted]:
-        yield f"cvl_{name} has the parameters {[left for left, _ in parameters]}, and its row {[left for left, _ in wanted]}"
+        yield f"{name} has the parameters {[left for left, _ in parameters]}, and its row {[left for left, _ in wanted]}"
     for (left, right), (_, types) in zip(parameters, wanted):
         if right not in types:
-            yield f"cvl_{name} takes {left} as {right}, and its row says {' or '.join(types)}"
+            yield f"{name} takes {left} as {right}, and its row says {' or '.join(types)}"
     for operand in family.operands:
         if dict(parameters).get(operand.name) == "&[bool]" and not operand.copied:
-            yield f"cvl_{name} takes no flags but 0 and 1 as {operand.name}, and its row doesn't copy others"
+            yield f"{name} takes no flags but 0 and 1 as {operand.name}, and its row doesn't copy others"
 
 
 def export_differences(exports):
     """In what the rows differ from the exports."""
-    named = {"cvl_are_flags", "cvl_make_flags"}
+    named = {"are_flags", "make_flags"}
     for row in FAMILIES.values():
         family = row.family
-        named.add(f"cvl_{family.exported}")
-        found = exports.get(f"cvl_{family.exported}", [])
+        named.add(family.exported)
+        found = exports.get(family.exported, [])
         yield from _export_differences(family.exported, [(o.name, _types(o)) for o in family.operands], family, found)
         if any(right == "Global" for _, right in found) != family.asks:
-            yield f"cvl_{family.exported} {'asks' if not family.asks else 'does not ask'} for memory, and its row says the other"
+            yield f"{family.exported} {'asks' if not family.asks else 'does not ask'} for memory, and its row says the other"
         for name, rooms in in_place_exports(family):
-            named.add(f"cvl_{name}")
+            named.add(name)
             left = [o for o in family.operands if o.role != "room" and (o.name not in rooms or o.name == rooms[0])]
-            yield from _export_differences(name, [(o.name, _types(o, o.name in rooms)) for o in left], family, exports.get(f"cvl_{name}", []))
+            yield from _export_differences(name, [(o.name, _types(o, o.name in rooms)) for o in left], family, exports.get(name, []))
     for name in sorted(named ^ set(exports)):
         yield f"{name} is {'no export' if name in named else 'an export without a row'}"
 

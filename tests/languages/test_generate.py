@@ -81,7 +81,7 @@ class Held(unittest.TestCase):
         self.assertEqual(set(changed), {line.split()[0] for line in found})
 
     def test_each_parameter_of_each_export(self):
-        held = {name: said for name, said in self.exports.items() if name not in ("cvl_are_flags", "cvl_make_flags")}
+        held = {name: said for name, said in self.exports.items() if name not in ("are_flags", "make_flags")}
         for k in range(2 * MOST_OPERANDS):
             some = {name: said for name, said in held.items() if k < len(said)}
             self.exports_told({name: said[:k] + said[k + 1 :] for name, said in some.items()})
@@ -93,7 +93,7 @@ class Held(unittest.TestCase):
 
     def test_each_export(self):
         self.assertEqual({line.split()[0] for line in rows.export_differences({})}, set(self.exports))
-        self.exports_told({"cvl_new": []})
+        self.exports_told({"new": []})
 
     def test_each_limit(self):
         found = limits.read(TOP)

@@ -11,7 +11,7 @@ use std::alloc::Global;
 
 /// For each integer the sum of those before it, which never wraps: `tot_suz`.
 #[unsafe(no_mangle)]
-pub extern "C" fn cvl_checked_scan(a: &[i32], out: &mut [i32]) -> CvlStatus
+pub extern "C" fn cvl_proved_checked_scan(a: &[i32], out: &mut [i32]) -> CvlStatus
     ensures { Told (in_room (length out.old) (in_limit a.now (checked_scan_of a.now))) result out.old out.new }
 {
     told_over::<i32>(scan(a, out))
@@ -19,7 +19,7 @@ pub extern "C" fn cvl_checked_scan(a: &[i32], out: &mut [i32]) -> CvlStatus
 
 /// The sum of the integers, which never wraps: `tot_ruz`.
 #[unsafe(no_mangle)]
-pub extern "C" fn cvl_checked_reduce(a: &[i32], out: &mut i32) -> CvlStatus
+pub extern "C" fn cvl_proved_checked_reduce(a: &[i32], out: &mut i32) -> CvlStatus
     ensures { Told (in_limit a.now (checked_reduce_of a.now)) result out.old out.new }
 {
     told_one(reduce(a), out)
@@ -27,7 +27,11 @@ pub extern "C" fn cvl_checked_reduce(a: &[i32], out: &mut i32) -> CvlStatus
 
 /// For each integer the sum of those before it in its segment, which never wraps: `tot_sez`.
 #[unsafe(no_mangle)]
-pub extern "C" fn cvl_seg_checked_scan(a: &[i32], lengths: &[i32], out: &mut [i32]) -> CvlStatus
+pub extern "C" fn cvl_proved_seg_checked_scan(
+    a: &[i32],
+    lengths: &[i32],
+    out: &mut [i32],
+) -> CvlStatus
     ensures { Told (in_room (length out.old) (by_segments lengths.now (checked_seg_scan_of a.now))) result out.old out.new }
 {
     told_over::<i32>(scan_each(a, lengths, out))
@@ -35,7 +39,7 @@ pub extern "C" fn cvl_seg_checked_scan(a: &[i32], lengths: &[i32], out: &mut [i3
 
 /// The sum of each segment, which never wraps: `tot_rez`.
 #[unsafe(no_mangle)]
-pub extern "C" fn cvl_seg_checked_reduce(
+pub extern "C" fn cvl_proved_seg_checked_reduce(
     alloc: Global,
     a: &[i32],
     lengths: &[i32],

@@ -18,7 +18,7 @@ use std::alloc::Global;
 
 /// The number of true flags: `cnt_lub`.
 #[unsafe(no_mangle)]
-pub extern "C" fn cvl_count(flags: &[u8], out: &mut i32) -> CvlStatus
+pub extern "C" fn cvl_proved_count(flags: &[u8], out: &mut i32) -> CvlStatus
     ensures { Told (in_limit flags.now (Ok (pos (count_of (flags_of flags.now))))) result out.old out.new }
 {
     told_one(count(flags), out)
@@ -26,7 +26,7 @@ pub extern "C" fn cvl_count(flags: &[u8], out: &mut i32) -> CvlStatus
 
 /// The integer at the place that an index names: `ext_vuz`.
 #[unsafe(no_mangle)]
-pub extern "C" fn cvl_extract_int(vector: &[i32], index: i32, out: &mut i32) -> CvlStatus
+pub extern "C" fn cvl_proved_extract_int(vector: &[i32], index: i32, out: &mut i32) -> CvlStatus
     ensures { Told (extract_of vector.now index) result out.old out.new }
 {
     told_one(extract(vector, index), out)
@@ -34,7 +34,7 @@ pub extern "C" fn cvl_extract_int(vector: &[i32], index: i32, out: &mut i32) -> 
 
 /// The flag at the place that an index names: `ext_vub`.
 #[unsafe(no_mangle)]
-pub extern "C" fn cvl_extract_bool(vector: &[u8], index: i32, out: &mut bool) -> CvlStatus
+pub extern "C" fn cvl_proved_extract_bool(vector: &[u8], index: i32, out: &mut bool) -> CvlStatus
     ensures { Told (extract_flag_of vector.now index) result out.old out.new }
 {
     *out = flag_of(or_tell!(extract(vector, index)));
@@ -43,7 +43,7 @@ pub extern "C" fn cvl_extract_bool(vector: &[u8], index: i32, out: &mut bool) ->
 
 /// The integers with another one at the place that an index names: `rep_vuz`.
 #[unsafe(no_mangle)]
-pub extern "C" fn cvl_replace_int(
+pub extern "C" fn cvl_proved_replace_int(
     alloc: Global,
     vector: &[i32],
     index: i32,
@@ -57,7 +57,7 @@ pub extern "C" fn cvl_replace_int(
 
 /// The flags with another one at the place that an index names: `rep_vub`.
 #[unsafe(no_mangle)]
-pub extern "C" fn cvl_replace_bool(
+pub extern "C" fn cvl_proved_replace_bool(
     vector: &[u8],
     index: i32,
     value: bool,
@@ -70,7 +70,7 @@ pub extern "C" fn cvl_replace_bool(
 
 /// So many copies of an integer: `dis_vuz`.
 #[unsafe(no_mangle)]
-pub extern "C" fn cvl_distribute_int(value: i32, count: i32, out: &mut [i32]) -> CvlStatus
+pub extern "C" fn cvl_proved_distribute_int(value: i32, count: i32, out: &mut [i32]) -> CvlStatus
     ensures { Told (in_room (length out.old) (distribute_within most_places value count)) result out.old out.new }
 {
     told_over::<i32>(distribute_over(value, count, out))
@@ -78,7 +78,7 @@ pub extern "C" fn cvl_distribute_int(value: i32, count: i32, out: &mut [i32]) ->
 
 /// So many copies of a boolean: `dis_vub`.
 #[unsafe(no_mangle)]
-pub extern "C" fn cvl_distribute_bool(value: bool, count: i32, out: &mut [bool]) -> CvlStatus
+pub extern "C" fn cvl_proved_distribute_bool(value: bool, count: i32, out: &mut [bool]) -> CvlStatus
     ensures { Told (in_room (length out.old) (distribute_within most_places value count)) result out.old out.new }
 {
     told_over::<bool>(distribute_over(value, count, out))
@@ -86,7 +86,7 @@ pub extern "C" fn cvl_distribute_bool(value: bool, count: i32, out: &mut [bool])
 
 /// So many numbers from a first one on in equal steps: `ind_luz`.
 #[unsafe(no_mangle)]
-pub extern "C" fn cvl_index(init: i32, stride: i32, count: i32, out: &mut [i32]) -> CvlStatus
+pub extern "C" fn cvl_proved_index(init: i32, stride: i32, count: i32, out: &mut [i32]) -> CvlStatus
     ensures { Told (in_room (length out.old) (index_within most_places init stride count)) result out.old out.new }
 {
     told_over::<i32>(index_over(init, stride, count, out))

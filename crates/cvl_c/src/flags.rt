@@ -8,7 +8,7 @@ use flag_calls::{are_flags, make_flags};
 
 /// Whether each byte is 0 or 1.
 #[unsafe(no_mangle)]
-pub extern "C" fn cvl_are_flags(bytes: &[u8]) -> bool
+pub extern "C" fn cvl_proved_are_flags(bytes: &[u8]) -> bool
     ensures { result ≡ list_all is_flag bytes.now }
 {
     are_flags(bytes)
@@ -16,7 +16,7 @@ pub extern "C" fn cvl_are_flags(bytes: &[u8]) -> bool
 
 /// Makes each byte that is not 0 a 1.
 #[unsafe(no_mangle)]
-pub extern "C" fn cvl_make_flags(bytes: &mut [u8])
+pub extern "C" fn cvl_proved_make_flags(bytes: &mut [u8])
     ensures { bytes.new ≡ map as_flag bytes.old }
 {
     make_flags(bytes)

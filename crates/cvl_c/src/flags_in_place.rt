@@ -21,9 +21,9 @@ use flag_calls::{
     select_flags_in_second, select_in_first, select_in_second,
 };
 
-/// `cvl_bool2` over `a`.
+/// `cvl_proved_bool2` over `a`.
 #[unsafe(no_mangle)]
-pub extern "C" fn cvl_bool2_in_first(op: u32, a: &mut [u8], b: &[u8]) -> CvlStatus
+pub extern "C" fn cvl_proved_bool2_in_first(op: u32, a: &mut [u8], b: &[u8]) -> CvlStatus
     ensures { Told (as_bytes (by_operator (bool_binary op)
         (λ o. in_limit a.old (bools2_of o (flags_of a.old) (flags_of b.now))))) result a.old a.new }
 {
@@ -32,9 +32,9 @@ pub extern "C" fn cvl_bool2_in_first(op: u32, a: &mut [u8], b: &[u8]) -> CvlStat
     told_over::<u8>(bool2_in_first(op, a, b))
 }
 
-/// `cvl_bool2` over `b`.
+/// `cvl_proved_bool2` over `b`.
 #[unsafe(no_mangle)]
-pub extern "C" fn cvl_bool2_in_second(op: u32, a: &[u8], b: &mut [u8]) -> CvlStatus
+pub extern "C" fn cvl_proved_bool2_in_second(op: u32, a: &[u8], b: &mut [u8]) -> CvlStatus
     ensures { Told (as_bytes (by_operator (bool_binary op)
         (λ o. in_limit a.now (bools2_of o (flags_of a.now) (flags_of b.old))))) result b.old b.new }
 {
@@ -43,9 +43,9 @@ pub extern "C" fn cvl_bool2_in_second(op: u32, a: &[u8], b: &mut [u8]) -> CvlSta
     told_over::<u8>(bool2_in_second(op, a, b))
 }
 
-/// `cvl_bool2` of `a` and itself, over `a`.
+/// `cvl_proved_bool2` of `a` and itself, over `a`.
 #[unsafe(no_mangle)]
-pub extern "C" fn cvl_bool2_in_both(op: u32, a: &mut [u8]) -> CvlStatus
+pub extern "C" fn cvl_proved_bool2_in_both(op: u32, a: &mut [u8]) -> CvlStatus
     ensures { Told (as_bytes (by_operator (bool_binary op)
         (λ o. in_limit a.old (bools2_of o (flags_of a.old) (flags_of a.old))))) result a.old a.new }
 {
@@ -54,9 +54,9 @@ pub extern "C" fn cvl_bool2_in_both(op: u32, a: &mut [u8]) -> CvlStatus
     told_over::<u8>(bool2_in_both(op, a))
 }
 
-/// `cvl_bool1` over `a`.
+/// `cvl_proved_bool1` over `a`.
 #[unsafe(no_mangle)]
-pub extern "C" fn cvl_bool1_in(op: u32, a: &mut [u8]) -> CvlStatus
+pub extern "C" fn cvl_proved_bool1_in(op: u32, a: &mut [u8]) -> CvlStatus
     ensures { Told (as_bytes (by_operator (unary op)
         (λ o. in_limit a.old (Ok (bools1_of o (flags_of a.old)))))) result a.old a.new }
 {
@@ -65,27 +65,35 @@ pub extern "C" fn cvl_bool1_in(op: u32, a: &mut [u8]) -> CvlStatus
     told_over::<u8>(bool1_in(op, a))
 }
 
-/// `cvl_select_int` over `a`.
+/// `cvl_proved_select_int` over `a`.
 #[unsafe(no_mangle)]
-pub extern "C" fn cvl_select_int_in_first(flags: &[u8], a: &mut [i32], b: &[i32]) -> CvlStatus
+pub extern "C" fn cvl_proved_select_int_in_first(
+    flags: &[u8],
+    a: &mut [i32],
+    b: &[i32],
+) -> CvlStatus
     ensures { Told (in_limit flags.now (choose_of (flags_of flags.now) a.old b.now)) result a.old a.new }
 {
     or_tell!(check_limit(flags));
     told_over::<i32>(select_in_first(flags, a, b))
 }
 
-/// `cvl_select_int` over `b`.
+/// `cvl_proved_select_int` over `b`.
 #[unsafe(no_mangle)]
-pub extern "C" fn cvl_select_int_in_second(flags: &[u8], a: &[i32], b: &mut [i32]) -> CvlStatus
+pub extern "C" fn cvl_proved_select_int_in_second(
+    flags: &[u8],
+    a: &[i32],
+    b: &mut [i32],
+) -> CvlStatus
     ensures { Told (in_limit flags.now (choose_of (flags_of flags.now) a.now b.old)) result b.old b.new }
 {
     or_tell!(check_limit(flags));
     told_over::<i32>(select_in_second(flags, a, b))
 }
 
-/// `cvl_select_bool` over `a`.
+/// `cvl_proved_select_bool` over `a`.
 #[unsafe(no_mangle)]
-pub extern "C" fn cvl_select_bool_in_first(flags: &[u8], a: &mut [u8], b: &[u8]) -> CvlStatus
+pub extern "C" fn cvl_proved_select_bool_in_first(flags: &[u8], a: &mut [u8], b: &[u8]) -> CvlStatus
     ensures { Told (as_bytes (in_limit flags.now
         (choose_of (flags_of flags.now) (flags_of a.old) (flags_of b.now)))) result a.old a.new }
 {
@@ -93,9 +101,13 @@ pub extern "C" fn cvl_select_bool_in_first(flags: &[u8], a: &mut [u8], b: &[u8])
     told_over::<u8>(select_flags_in_first(flags, a, b))
 }
 
-/// `cvl_select_bool` over `b`.
+/// `cvl_proved_select_bool` over `b`.
 #[unsafe(no_mangle)]
-pub extern "C" fn cvl_select_bool_in_second(flags: &[u8], a: &[u8], b: &mut [u8]) -> CvlStatus
+pub extern "C" fn cvl_proved_select_bool_in_second(
+    flags: &[u8],
+    a: &[u8],
+    b: &mut [u8],
+) -> CvlStatus
     ensures { Told (as_bytes (in_limit flags.now
         (choose_of (flags_of flags.now) (flags_of a.now) (flags_of b.old)))) result b.old b.new }
 {
@@ -103,25 +115,25 @@ pub extern "C" fn cvl_select_bool_in_second(flags: &[u8], a: &[u8], b: &mut [u8]
     told_over::<u8>(select_flags_in_second(flags, a, b))
 }
 
-/// `cvl_bool_scan` over `a`.
+/// `cvl_proved_bool_scan` over `a`.
 #[unsafe(no_mangle)]
-pub extern "C" fn cvl_bool_scan_in(op: u32, a: &mut [bool]) -> CvlStatus
+pub extern "C" fn cvl_proved_bool_scan_in(op: u32, a: &mut [bool]) -> CvlStatus
     ensures { Told (by_operator (bool_binary op) (λ o. in_limit a.old (Ok (bool_scan_of o a.old)))) result a.old a.new }
 {
     told_over::<bool>(bool_scan(op, a))
 }
 
-/// `cvl_bool_scan_after` over `a`.
+/// `cvl_proved_bool_scan_after` over `a`.
 #[unsafe(no_mangle)]
-pub extern "C" fn cvl_bool_scan_after_in(op: u32, before: bool, a: &mut [bool]) -> CvlStatus
+pub extern "C" fn cvl_proved_bool_scan_after_in(op: u32, before: bool, a: &mut [bool]) -> CvlStatus
     ensures { Told (by_operator (bool_binary op) (λ o. in_limit a.old (Ok (bool_scan_after o before a.old)))) result a.old a.new }
 {
     told_over::<bool>(bool_scan_from(op, before, a))
 }
 
-/// `cvl_seg_bool_scan` over `a`.
+/// `cvl_proved_seg_bool_scan` over `a`.
 #[unsafe(no_mangle)]
-pub extern "C" fn cvl_seg_bool_scan_in(op: u32, a: &mut [bool], lengths: &[i32]) -> CvlStatus
+pub extern "C" fn cvl_proved_seg_bool_scan_in(op: u32, a: &mut [bool], lengths: &[i32]) -> CvlStatus
     ensures { Told (by_operator (bool_binary op)
         (λ o. by_segments lengths.now (seg_scan_of (bool_join_of o) (bool_unit_of o) a.old))) result a.old a.new }
 {

@@ -11,7 +11,7 @@ use std::alloc::Global;
 
 /// Each integer at its index: `smp_puz`.
 #[unsafe(no_mangle)]
-pub extern "C" fn cvl_permute_int(
+pub extern "C" fn cvl_proved_permute_int(
     alloc: Global,
     source: &[i32],
     index: &[i32],
@@ -24,7 +24,7 @@ pub extern "C" fn cvl_permute_int(
 
 /// Each boolean at its index: `smp_pub`.
 #[unsafe(no_mangle)]
-pub extern "C" fn cvl_permute_bool(
+pub extern "C" fn cvl_proved_permute_bool(
     alloc: Global,
     source: &[bool],
     index: &[i32],
@@ -37,7 +37,7 @@ pub extern "C" fn cvl_permute_bool(
 
 /// Each integer whose flag is true at its index: `sel_puz`.
 #[unsafe(no_mangle)]
-pub extern "C" fn cvl_select_permute_int(
+pub extern "C" fn cvl_proved_select_permute_int(
     alloc: Global,
     source: &[i32],
     index: &[i32],
@@ -52,7 +52,7 @@ pub extern "C" fn cvl_select_permute_int(
 
 /// Each boolean whose flag is true at its index: `sel_pub`.
 #[unsafe(no_mangle)]
-pub extern "C" fn cvl_select_permute_bool(
+pub extern "C" fn cvl_proved_select_permute_bool(
     alloc: Global,
     source: &[bool],
     index: &[i32],
@@ -67,7 +67,7 @@ pub extern "C" fn cvl_select_permute_bool(
 
 /// Each integer at its index, and at a place to which none goes its default: `def_puz`.
 #[unsafe(no_mangle)]
-pub extern "C" fn cvl_default_permute_int(
+pub extern "C" fn cvl_proved_default_permute_int(
     alloc: Global,
     source: &[i32],
     index: &[i32],
@@ -82,7 +82,7 @@ pub extern "C" fn cvl_default_permute_int(
 
 /// Each boolean at its index, and at a place to which none goes its default: `def_pub`.
 #[unsafe(no_mangle)]
-pub extern "C" fn cvl_default_permute_bool(
+pub extern "C" fn cvl_proved_default_permute_bool(
     alloc: Global,
     source: &[bool],
     index: &[i32],
@@ -97,7 +97,11 @@ pub extern "C" fn cvl_default_permute_bool(
 
 /// At each place the integer at the place's index: `bck_puz`.
 #[unsafe(no_mangle)]
-pub extern "C" fn cvl_back_permute_int(source: &[i32], index: &[i32], out: &mut [i32]) -> CvlStatus
+pub extern "C" fn cvl_proved_back_permute_int(
+    source: &[i32],
+    index: &[i32],
+    out: &mut [i32],
+) -> CvlStatus
     ensures { Told (in_room (length out.old) (in_limit index.now (back_of source.now index.now))) result out.old out.new }
 {
     told_over::<i32>(back(source, index, out))
@@ -105,7 +109,7 @@ pub extern "C" fn cvl_back_permute_int(source: &[i32], index: &[i32], out: &mut 
 
 /// At each place the boolean at the place's index: `bck_pub`.
 #[unsafe(no_mangle)]
-pub extern "C" fn cvl_back_permute_bool(
+pub extern "C" fn cvl_proved_back_permute_bool(
     source: &[bool],
     index: &[i32],
     out: &mut [bool],

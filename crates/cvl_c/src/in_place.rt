@@ -19,9 +19,9 @@ use cvl_base::{IntBinary, Unary};
 use elementwise::{int1_in, int2_in_both, int2_in_first, int2_in_second};
 use scan_walks::{checked_scan_in, checked_seg_scan_in};
 
-/// `cvl_int2` over `a`.
+/// `cvl_proved_int2` over `a`.
 #[unsafe(no_mangle)]
-pub extern "C" fn cvl_int2_in_first(op: u32, a: &mut [i32], b: &[i32]) -> CvlStatus
+pub extern "C" fn cvl_proved_int2_in_first(op: u32, a: &mut [i32], b: &[i32]) -> CvlStatus
     ensures { Told (by_operator (int_binary op) (λ o. in_limit a.old (ints2_of o a.old b.now))) result a.old a.new }
 {
     let op = or_tell!(operator_of::<IntBinary>(op));
@@ -29,9 +29,9 @@ pub extern "C" fn cvl_int2_in_first(op: u32, a: &mut [i32], b: &[i32]) -> CvlSta
     told_over::<i32>(int2_in_first(op, a, b))
 }
 
-/// `cvl_int2` over `b`.
+/// `cvl_proved_int2` over `b`.
 #[unsafe(no_mangle)]
-pub extern "C" fn cvl_int2_in_second(op: u32, a: &[i32], b: &mut [i32]) -> CvlStatus
+pub extern "C" fn cvl_proved_int2_in_second(op: u32, a: &[i32], b: &mut [i32]) -> CvlStatus
     ensures { Told (by_operator (int_binary op) (λ o. in_limit a.now (ints2_of o a.now b.old))) result b.old b.new }
 {
     let op = or_tell!(operator_of::<IntBinary>(op));
@@ -39,9 +39,9 @@ pub extern "C" fn cvl_int2_in_second(op: u32, a: &[i32], b: &mut [i32]) -> CvlSt
     told_over::<i32>(int2_in_second(op, a, b))
 }
 
-/// `cvl_int2` of `a` and itself, over `a`.
+/// `cvl_proved_int2` of `a` and itself, over `a`.
 #[unsafe(no_mangle)]
-pub extern "C" fn cvl_int2_in_both(op: u32, a: &mut [i32]) -> CvlStatus
+pub extern "C" fn cvl_proved_int2_in_both(op: u32, a: &mut [i32]) -> CvlStatus
     ensures { Told (by_operator (int_binary op) (λ o. in_limit a.old (ints2_of o a.old a.old))) result a.old a.new }
 {
     let op = or_tell!(operator_of::<IntBinary>(op));
@@ -49,9 +49,9 @@ pub extern "C" fn cvl_int2_in_both(op: u32, a: &mut [i32]) -> CvlStatus
     told_over::<i32>(int2_in_both(op, a))
 }
 
-/// `cvl_int1` over `a`.
+/// `cvl_proved_int1` over `a`.
 #[unsafe(no_mangle)]
-pub extern "C" fn cvl_int1_in(op: u32, a: &mut [i32]) -> CvlStatus
+pub extern "C" fn cvl_proved_int1_in(op: u32, a: &mut [i32]) -> CvlStatus
     ensures { Told (by_operator (unary op) (λ o. in_limit a.old (Ok (ints1_of o a.old)))) result a.old a.new }
 {
     let op = or_tell!(operator_of::<Unary>(op));
@@ -60,43 +60,43 @@ pub extern "C" fn cvl_int1_in(op: u32, a: &mut [i32]) -> CvlStatus
     done()
 }
 
-/// `cvl_int_scan` over `a`.
+/// `cvl_proved_int_scan` over `a`.
 #[unsafe(no_mangle)]
-pub extern "C" fn cvl_int_scan_in(op: u32, a: &mut [i32]) -> CvlStatus
+pub extern "C" fn cvl_proved_int_scan_in(op: u32, a: &mut [i32]) -> CvlStatus
     ensures { Told (by_operator (int_monoid op) (λ o. in_limit a.old (Ok (int_scan_of o a.old)))) result a.old a.new }
 {
     told_over::<i32>(int_scan(op, a))
 }
 
-/// `cvl_int_scan_after` over `a`.
+/// `cvl_proved_int_scan_after` over `a`.
 #[unsafe(no_mangle)]
-pub extern "C" fn cvl_int_scan_after_in(op: u32, before: i32, a: &mut [i32]) -> CvlStatus
+pub extern "C" fn cvl_proved_int_scan_after_in(op: u32, before: i32, a: &mut [i32]) -> CvlStatus
     ensures { Told (by_operator (int_monoid op) (λ o. in_limit a.old (Ok (int_scan_after o before a.old)))) result a.old a.new }
 {
     told_over::<i32>(int_scan_from(op, before, a))
 }
 
-/// `cvl_checked_scan` over `a`.
+/// `cvl_proved_checked_scan` over `a`.
 #[unsafe(no_mangle)]
-pub extern "C" fn cvl_checked_scan_in(a: &mut [i32]) -> CvlStatus
+pub extern "C" fn cvl_proved_checked_scan_in(a: &mut [i32]) -> CvlStatus
     ensures { Told (in_limit a.old (checked_scan_of a.old)) result a.old a.new }
 {
     or_tell!(check_limit(a));
     told_over::<i32>(checked_scan_in(a))
 }
 
-/// `cvl_seg_int_scan` over `a`.
+/// `cvl_proved_seg_int_scan` over `a`.
 #[unsafe(no_mangle)]
-pub extern "C" fn cvl_seg_int_scan_in(op: u32, a: &mut [i32], lengths: &[i32]) -> CvlStatus
+pub extern "C" fn cvl_proved_seg_int_scan_in(op: u32, a: &mut [i32], lengths: &[i32]) -> CvlStatus
     ensures { Told (by_operator (int_monoid op)
         (λ o. by_segments lengths.now (seg_scan_of (int_join_of o) (int_unit_of o) a.old))) result a.old a.new }
 {
     told_over::<i32>(seg_int_scan(op, a, lengths))
 }
 
-/// `cvl_seg_checked_scan` over `a`.
+/// `cvl_proved_seg_checked_scan` over `a`.
 #[unsafe(no_mangle)]
-pub extern "C" fn cvl_seg_checked_scan_in(a: &mut [i32], lengths: &[i32]) -> CvlStatus
+pub extern "C" fn cvl_proved_seg_checked_scan_in(a: &mut [i32], lengths: &[i32]) -> CvlStatus
     ensures { Told (by_segments lengths.now (checked_seg_scan_of a.old)) result a.old a.new }
 {
     let d = or_tell!(segments(lengths));

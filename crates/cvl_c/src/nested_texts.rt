@@ -19,7 +19,7 @@ use value_texts::nest_text_alone;
 
 /// The integers of a nested text, and the lengths of its lists.
 #[unsafe(no_mangle)]
-pub extern "C" fn cvl_seg_read_ints(
+pub extern "C" fn cvl_proved_seg_read_ints(
     alloc: Global,
     text: &[u8],
     out: &mut [i32],
@@ -41,7 +41,7 @@ pub extern "C" fn cvl_seg_read_ints(
 
 /// The text of the integers, cut into segments, in brackets.
 #[unsafe(no_mangle)]
-pub extern "C" fn cvl_seg_write_ints(
+pub extern "C" fn cvl_proved_seg_write_ints(
     alloc: Global,
     a: &[i32],
     lengths: &[i32],
@@ -58,7 +58,7 @@ pub extern "C" fn cvl_seg_write_ints(
 
 /// The text of the booleans, each `T` or `F`, cut into segments, in brackets.
 #[unsafe(no_mangle)]
-pub extern "C" fn cvl_seg_write_bools(
+pub extern "C" fn cvl_proved_seg_write_bools(
     alloc: Global,
     a: &[bool],
     lengths: &[i32],

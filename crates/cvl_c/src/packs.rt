@@ -12,7 +12,7 @@ use c_calls::status::{CvlStatus, told_over};
 
 /// The integers whose flag is true, in order: `pck_luz`.
 #[unsafe(no_mangle)]
-pub extern "C" fn cvl_pack_int(
+pub extern "C" fn cvl_proved_pack_int(
     values: &[i32],
     flags: &[bool],
     out: &mut [i32],
@@ -25,7 +25,7 @@ pub extern "C" fn cvl_pack_int(
 
 /// The booleans whose flag is true, in order: `pck_lub`.
 #[unsafe(no_mangle)]
-pub extern "C" fn cvl_pack_bool(
+pub extern "C" fn cvl_proved_pack_bool(
     values: &[bool],
     flags: &[bool],
     out: &mut [bool],
@@ -38,7 +38,7 @@ pub extern "C" fn cvl_pack_bool(
 
 /// The integers of each segment whose flag is true, in order, one segment after another: `pck_lez`.
 #[unsafe(no_mangle)]
-pub extern "C" fn cvl_seg_pack_int(
+pub extern "C" fn cvl_proved_seg_pack_int(
     values: &[i32],
     flags: &[bool],
     lengths: &[i32],
@@ -52,7 +52,7 @@ pub extern "C" fn cvl_seg_pack_int(
 
 /// The booleans of each segment whose flag is true, in order, one segment after another: `pck_leb`.
 #[unsafe(no_mangle)]
-pub extern "C" fn cvl_seg_pack_bool(
+pub extern "C" fn cvl_proved_seg_pack_bool(
     values: &[bool],
     flags: &[bool],
     lengths: &[i32],
@@ -66,7 +66,11 @@ pub extern "C" fn cvl_seg_pack_bool(
 
 /// The lengths of the segments of what a pack of segments keeps, empty ones included: `pck_fov`.
 #[unsafe(no_mangle)]
-pub extern "C" fn cvl_packed_lengths(flags: &[u8], lengths: &[i32], out: &mut [i32]) -> CvlStatus
+pub extern "C" fn cvl_proved_packed_lengths(
+    flags: &[u8],
+    lengths: &[i32],
+    out: &mut [i32],
+) -> CvlStatus
     ensures { Told (in_room (length out.old) (by_segments lengths.now (counts_of (flags_of flags.now)))) result out.old out.new }
 {
     told_over::<i32>(count_each(flags, lengths, out))
@@ -74,7 +78,7 @@ pub extern "C" fn cvl_packed_lengths(flags: &[u8], lengths: &[i32], out: &mut [i
 
 /// The number of true flags of each segment: `cnt_leb`.
 #[unsafe(no_mangle)]
-pub extern "C" fn cvl_seg_count(flags: &[u8], lengths: &[i32], out: &mut [i32]) -> CvlStatus
+pub extern "C" fn cvl_proved_seg_count(flags: &[u8], lengths: &[i32], out: &mut [i32]) -> CvlStatus
     ensures { Told (in_room (length out.old) (by_segments lengths.now (counts_of (flags_of flags.now)))) result out.old out.new }
 {
     told_over::<i32>(count_each(flags, lengths, out))

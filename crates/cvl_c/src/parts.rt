@@ -34,7 +34,7 @@ fn told_range<T>(answer: Result<usize, Fault>, written: &mut usize) -> CvlStatus
 
 /// What the integers add up to, in 64 bits, where it always fits: what a part of a checked sum tells to the next.
 #[unsafe(no_mangle)]
-pub extern "C" fn cvl_exact_sum(a: &[i32], out: &mut i64) -> CvlStatus
+pub extern "C" fn cvl_proved_exact_sum(a: &[i32], out: &mut i64) -> CvlStatus
     ensures { Told (few_enough (length a.now) (Ok (total_of a.now))) result out.old out.new }
 {
     told_one(exact_sum(a), out)
@@ -42,7 +42,11 @@ pub extern "C" fn cvl_exact_sum(a: &[i32], out: &mut i64) -> CvlStatus
 
 /// For each integer `before` and those before it, added up, which never wraps.
 #[unsafe(no_mangle)]
-pub extern "C" fn cvl_checked_scan_after(before: i64, a: &[i32], out: &mut [i32]) -> CvlStatus
+pub extern "C" fn cvl_proved_checked_scan_after(
+    before: i64,
+    a: &[i32],
+    out: &mut [i32],
+) -> CvlStatus
     ensures { Told (in_room (length out.old) (few_enough (length a.now) (checked_scan_after before a.now)))
         result out.old out.new }
 {
@@ -51,7 +55,7 @@ pub extern "C" fn cvl_checked_scan_after(before: i64, a: &[i32], out: &mut [i32]
 
 /// The integers that go to one range of a simple permute's result, from place `lowest` on, by a bit for each place of it.
 #[unsafe(no_mangle)]
-pub extern "C" fn cvl_permute_int_range(
+pub extern "C" fn cvl_proved_permute_int_range(
     source: &[i32],
     index: &[i32],
     lowest: usize,
@@ -67,7 +71,7 @@ pub extern "C" fn cvl_permute_int_range(
 
 /// The same of booleans, whose bytes are moved as they are.
 #[unsafe(no_mangle)]
-pub extern "C" fn cvl_permute_bool_range(
+pub extern "C" fn cvl_proved_permute_bool_range(
     source: &[u8],
     index: &[i32],
     lowest: usize,
@@ -83,7 +87,7 @@ pub extern "C" fn cvl_permute_bool_range(
 
 /// The integers that go to one range of a select permute's result, from place `lowest` on, by a bit for each place of it.
 #[unsafe(no_mangle)]
-pub extern "C" fn cvl_select_permute_int_range(
+pub extern "C" fn cvl_proved_select_permute_int_range(
     source: &[i32],
     index: &[i32],
     flags: &[bool],
@@ -103,7 +107,7 @@ pub extern "C" fn cvl_select_permute_int_range(
 
 /// The same of booleans, whose bytes are moved as they are.
 #[unsafe(no_mangle)]
-pub extern "C" fn cvl_select_permute_bool_range(
+pub extern "C" fn cvl_proved_select_permute_bool_range(
     source: &[u8],
     index: &[i32],
     flags: &[bool],
@@ -124,7 +128,7 @@ pub extern "C" fn cvl_select_permute_bool_range(
 /// The integers of a piece of a text, whose fault stands at its place in the whole, where the pieces before it have so many
 /// words.
 #[unsafe(no_mangle)]
-pub extern "C" fn cvl_read_ints_after(
+pub extern "C" fn cvl_proved_read_ints_after(
     alloc: Global,
     before: usize,
     text: &[u8],

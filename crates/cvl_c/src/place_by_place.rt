@@ -19,7 +19,7 @@ use flag_calls::{bool1_over, bool2_over, int_from_bool_over, select_flags_over};
 
 /// The operator on each two integers at the same place: `add_wuz` and its like.
 #[unsafe(no_mangle)]
-pub extern "C" fn cvl_int2(op: u32, a: &[i32], b: &[i32], out: &mut [i32]) -> CvlStatus
+pub extern "C" fn cvl_proved_int2(op: u32, a: &[i32], b: &[i32], out: &mut [i32]) -> CvlStatus
     ensures { Told (in_room (length out.old) (by_operator (int_binary op) (λ o. in_limit a.now (ints2_of o a.now b.now))))
         result out.old out.new }
 {
@@ -28,7 +28,7 @@ pub extern "C" fn cvl_int2(op: u32, a: &[i32], b: &[i32], out: &mut [i32]) -> Cv
 
 /// The operator on each integer: `not_wuz` and `cpy_wuz`.
 #[unsafe(no_mangle)]
-pub extern "C" fn cvl_int1(op: u32, a: &[i32], out: &mut [i32]) -> CvlStatus
+pub extern "C" fn cvl_proved_int1(op: u32, a: &[i32], out: &mut [i32]) -> CvlStatus
     ensures { Told (in_room (length out.old) (by_operator (unary op) (λ o. in_limit a.now (Ok (ints1_of o a.now)))))
         result out.old out.new }
 {
@@ -39,7 +39,7 @@ pub extern "C" fn cvl_int1(op: u32, a: &[i32], out: &mut [i32]) -> CvlStatus
 
 /// The comparison of each two integers at the same place: `grt_wuz` and its like.
 #[unsafe(no_mangle)]
-pub extern "C" fn cvl_compare(op: u32, a: &[i32], b: &[i32], out: &mut [bool]) -> CvlStatus
+pub extern "C" fn cvl_proved_compare(op: u32, a: &[i32], b: &[i32], out: &mut [bool]) -> CvlStatus
     ensures { Told (in_room (length out.old) (by_operator (comparison op) (λ o. in_limit a.now (compare_of o a.now b.now))))
         result out.old out.new }
 {
@@ -48,7 +48,7 @@ pub extern "C" fn cvl_compare(op: u32, a: &[i32], b: &[i32], out: &mut [bool]) -
 
 /// The operator on each two flags at the same place: `and_wub` and its like.
 #[unsafe(no_mangle)]
-pub extern "C" fn cvl_bool2(op: u32, a: &[u8], b: &[u8], out: &mut [u8]) -> CvlStatus
+pub extern "C" fn cvl_proved_bool2(op: u32, a: &[u8], b: &[u8], out: &mut [u8]) -> CvlStatus
     ensures { Told (in_room (length out.old) (as_bytes (by_operator (bool_binary op)
         (λ o. in_limit a.now (bools2_of o (flags_of a.now) (flags_of b.now)))))) result out.old out.new }
 {
@@ -59,7 +59,7 @@ pub extern "C" fn cvl_bool2(op: u32, a: &[u8], b: &[u8], out: &mut [u8]) -> CvlS
 
 /// The operator on each flag: `not_wub` and `cpy_wub`.
 #[unsafe(no_mangle)]
-pub extern "C" fn cvl_bool1(op: u32, a: &[u8], out: &mut [u8]) -> CvlStatus
+pub extern "C" fn cvl_proved_bool1(op: u32, a: &[u8], out: &mut [u8]) -> CvlStatus
     ensures { Told (in_room (length out.old) (as_bytes (by_operator (unary op)
         (λ o. in_limit a.now (Ok (bools1_of o (flags_of a.now))))))) result out.old out.new }
 {
@@ -70,7 +70,7 @@ pub extern "C" fn cvl_bool1(op: u32, a: &[u8], out: &mut [u8]) -> CvlStatus
 
 /// 1 for each true flag, and 0 for each false one: `int_wub`.
 #[unsafe(no_mangle)]
-pub extern "C" fn cvl_int_from_bool(a: &[u8], out: &mut [i32]) -> CvlStatus
+pub extern "C" fn cvl_proved_int_from_bool(a: &[u8], out: &mut [i32]) -> CvlStatus
     ensures { Told (in_room (length out.old) (in_limit a.now (Ok (ints_from_bools (flags_of a.now))))) result out.old out.new }
 {
     or_tell!(check_limit(a));
@@ -79,7 +79,7 @@ pub extern "C" fn cvl_int_from_bool(a: &[u8], out: &mut [i32]) -> CvlStatus
 
 /// True for each integer that isn't 0: `boo_wuz`.
 #[unsafe(no_mangle)]
-pub extern "C" fn cvl_bool_from_int(a: &[i32], out: &mut [bool]) -> CvlStatus
+pub extern "C" fn cvl_proved_bool_from_int(a: &[i32], out: &mut [bool]) -> CvlStatus
     ensures { Told (in_room (length out.old) (in_limit a.now (Ok (bools_from_ints a.now)))) result out.old out.new }
 {
     told_over::<bool>(bool_from_int(a, out))
@@ -87,7 +87,12 @@ pub extern "C" fn cvl_bool_from_int(a: &[i32], out: &mut [bool]) -> CvlStatus
 
 /// At each place the integer of `a` where the flag is true, else that of `b`: `sel_wuz`.
 #[unsafe(no_mangle)]
-pub extern "C" fn cvl_select_int(flags: &[u8], a: &[i32], b: &[i32], out: &mut [i32]) -> CvlStatus
+pub extern "C" fn cvl_proved_select_int(
+    flags: &[u8],
+    a: &[i32],
+    b: &[i32],
+    out: &mut [i32],
+) -> CvlStatus
     ensures { Told (in_room (length out.old) (in_limit flags.now (choose_of (flags_of flags.now) a.now b.now)))
         result out.old out.new }
 {
@@ -96,7 +101,12 @@ pub extern "C" fn cvl_select_int(flags: &[u8], a: &[i32], b: &[i32], out: &mut [
 
 /// At each place the flag of `a` where that of `flags` is true, else that of `b`: `sel_wub`.
 #[unsafe(no_mangle)]
-pub extern "C" fn cvl_select_bool(flags: &[u8], a: &[u8], b: &[u8], out: &mut [u8]) -> CvlStatus
+pub extern "C" fn cvl_proved_select_bool(
+    flags: &[u8],
+    a: &[u8],
+    b: &[u8],
+    out: &mut [u8],
+) -> CvlStatus
     ensures { Told (in_room (length out.old) (as_bytes (in_limit flags.now
         (choose_of (flags_of flags.now) (flags_of a.now) (flags_of b.now))))) result out.old out.new }
 {

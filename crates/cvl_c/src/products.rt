@@ -11,7 +11,7 @@ use std::alloc::Global;
 
 /// The product of a sparse matrix with the vector `x`, whose sums and products are wrapped to 32 bits.
 #[unsafe(no_mangle)]
-pub extern "C" fn cvl_sparse_product(
+pub extern "C" fn cvl_proved_sparse_product(
     alloc: Global,
     lengths: &[i32],
     columns: &[i32],
@@ -27,7 +27,7 @@ pub extern "C" fn cvl_sparse_product(
 
 /// The same product in whole numbers, which never wraps.
 #[unsafe(no_mangle)]
-pub extern "C" fn cvl_checked_sparse_product(
+pub extern "C" fn cvl_proved_checked_sparse_product(
     alloc: Global,
     lengths: &[i32],
     columns: &[i32],
@@ -43,7 +43,7 @@ pub extern "C" fn cvl_checked_sparse_product(
 
 /// The product of a sparse matrix whose rows come by their offsets, of which there is one more than rows.
 #[unsafe(no_mangle)]
-pub extern "C" fn cvl_sparse_product_by_offsets(
+pub extern "C" fn cvl_proved_sparse_product_by_offsets(
     alloc: Global,
     offsets: &[i32],
     columns: &[i32],
@@ -59,7 +59,7 @@ pub extern "C" fn cvl_sparse_product_by_offsets(
 
 /// The same product in whole numbers, which never wraps.
 #[unsafe(no_mangle)]
-pub extern "C" fn cvl_checked_sparse_product_by_offsets(
+pub extern "C" fn cvl_proved_checked_sparse_product_by_offsets(
     alloc: Global,
     offsets: &[i32],
     columns: &[i32],

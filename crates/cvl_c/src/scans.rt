@@ -12,7 +12,7 @@ use c_calls::status::{CvlStatus, told_one, told_over};
 
 /// For each integer those before it, joined by the operator: `add_suz` and its like.
 #[unsafe(no_mangle)]
-pub extern "C" fn cvl_int_scan(op: u32, a: &[i32], out: &mut [i32]) -> CvlStatus
+pub extern "C" fn cvl_proved_int_scan(op: u32, a: &[i32], out: &mut [i32]) -> CvlStatus
     ensures { Told (in_room (length out.old) (by_operator (int_monoid op) (λ o. in_limit a.now (Ok (int_scan_of o a.now)))))
         result out.old out.new }
 {
@@ -21,7 +21,7 @@ pub extern "C" fn cvl_int_scan(op: u32, a: &[i32], out: &mut [i32]) -> CvlStatus
 
 /// The integers joined by the operator: `add_ruz` and its like.
 #[unsafe(no_mangle)]
-pub extern "C" fn cvl_int_reduce(op: u32, a: &[i32], out: &mut i32) -> CvlStatus
+pub extern "C" fn cvl_proved_int_reduce(op: u32, a: &[i32], out: &mut i32) -> CvlStatus
     ensures { Told (by_operator (int_monoid op) (λ o. in_limit a.now (Ok (int_reduce_of o a.now)))) result out.old out.new }
 {
     told_one(int_reduce(op, a), out)
@@ -29,7 +29,7 @@ pub extern "C" fn cvl_int_reduce(op: u32, a: &[i32], out: &mut i32) -> CvlStatus
 
 /// For each boolean those before it, joined by the operator: `and_sub` and its like.
 #[unsafe(no_mangle)]
-pub extern "C" fn cvl_bool_scan(op: u32, a: &[bool], out: &mut [bool]) -> CvlStatus
+pub extern "C" fn cvl_proved_bool_scan(op: u32, a: &[bool], out: &mut [bool]) -> CvlStatus
     ensures { Told (in_room (length out.old) (by_operator (bool_binary op) (λ o. in_limit a.now (Ok (bool_scan_of o a.now)))))
         result out.old out.new }
 {
@@ -38,7 +38,7 @@ pub extern "C" fn cvl_bool_scan(op: u32, a: &[bool], out: &mut [bool]) -> CvlSta
 
 /// The flags joined by the operator: `and_rub` and its like.
 #[unsafe(no_mangle)]
-pub extern "C" fn cvl_bool_reduce(op: u32, a: &[u8], out: &mut bool) -> CvlStatus
+pub extern "C" fn cvl_proved_bool_reduce(op: u32, a: &[u8], out: &mut bool) -> CvlStatus
     ensures { Told (by_operator (bool_binary op) (λ o. in_limit a.now (Ok (bool_reduce_of o (flags_of a.now)))))
         result out.old out.new }
 {

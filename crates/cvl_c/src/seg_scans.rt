@@ -13,7 +13,7 @@ use c_calls::status::{CvlStatus, told_over};
 
 /// For each integer those before it in its segment, joined by the operator: `add_sez` and its like.
 #[unsafe(no_mangle)]
-pub extern "C" fn cvl_seg_int_scan(
+pub extern "C" fn cvl_proved_seg_int_scan(
     op: u32,
     a: &[i32],
     lengths: &[i32],
@@ -27,7 +27,7 @@ pub extern "C" fn cvl_seg_int_scan(
 
 /// The integers of each segment joined by the operator: `add_rez` and its like.
 #[unsafe(no_mangle)]
-pub extern "C" fn cvl_seg_int_reduce(
+pub extern "C" fn cvl_proved_seg_int_reduce(
     op: u32,
     a: &[i32],
     lengths: &[i32],
@@ -41,7 +41,7 @@ pub extern "C" fn cvl_seg_int_reduce(
 
 /// For each boolean those before it in its segment, joined by the operator: `and_seb` and its like.
 #[unsafe(no_mangle)]
-pub extern "C" fn cvl_seg_bool_scan(
+pub extern "C" fn cvl_proved_seg_bool_scan(
     op: u32,
     a: &[bool],
     lengths: &[i32],
@@ -55,7 +55,7 @@ pub extern "C" fn cvl_seg_bool_scan(
 
 /// The flags of each segment joined by the operator: `and_reb` and its like.
 #[unsafe(no_mangle)]
-pub extern "C" fn cvl_seg_bool_reduce(
+pub extern "C" fn cvl_proved_seg_bool_reduce(
     op: u32,
     a: &[u8],
     lengths: &[i32],

@@ -13,7 +13,7 @@ use std::alloc::Global;
 
 /// Each integer at its index in its segment: `smp_pez`.
 #[unsafe(no_mangle)]
-pub extern "C" fn cvl_seg_permute_int(
+pub extern "C" fn cvl_proved_seg_permute_int(
     alloc: Global,
     source: &[i32],
     index: &[i32],
@@ -30,7 +30,7 @@ pub extern "C" fn cvl_seg_permute_int(
 
 /// Each boolean at its index in its segment: `smp_peb`.
 #[unsafe(no_mangle)]
-pub extern "C" fn cvl_seg_permute_bool(
+pub extern "C" fn cvl_proved_seg_permute_bool(
     alloc: Global,
     source: &[bool],
     index: &[i32],
@@ -47,7 +47,7 @@ pub extern "C" fn cvl_seg_permute_bool(
 
 /// Each integer whose flag is true at its index in its segment of the result: `sel_pez`.
 #[unsafe(no_mangle)]
-pub extern "C" fn cvl_seg_select_permute_int(
+pub extern "C" fn cvl_proved_seg_select_permute_int(
     alloc: Global,
     source: &[i32],
     index: &[i32],
@@ -65,7 +65,7 @@ pub extern "C" fn cvl_seg_select_permute_int(
 
 /// Each boolean whose flag is true at its index in its segment of the result: `sel_peb`.
 #[unsafe(no_mangle)]
-pub extern "C" fn cvl_seg_select_permute_bool(
+pub extern "C" fn cvl_proved_seg_select_permute_bool(
     alloc: Global,
     source: &[bool],
     index: &[i32],
@@ -83,7 +83,7 @@ pub extern "C" fn cvl_seg_select_permute_bool(
 
 /// Each integer at its index in its segment of the defaults, and at a place to which none goes its default: `def_pez`.
 #[unsafe(no_mangle)]
-pub extern "C" fn cvl_seg_default_permute_int(
+pub extern "C" fn cvl_proved_seg_default_permute_int(
     alloc: Global,
     source: &[i32],
     index: &[i32],
@@ -103,7 +103,7 @@ pub extern "C" fn cvl_seg_default_permute_int(
 
 /// Each boolean at its index in its segment of the defaults, and at a place to which none goes its default: `def_peb`.
 #[unsafe(no_mangle)]
-pub extern "C" fn cvl_seg_default_permute_bool(
+pub extern "C" fn cvl_proved_seg_default_permute_bool(
     alloc: Global,
     source: &[bool],
     index: &[i32],
@@ -123,7 +123,7 @@ pub extern "C" fn cvl_seg_default_permute_bool(
 
 /// At each place the integer at the place's index in the same segment of the source: `bck_pez`.
 #[unsafe(no_mangle)]
-pub extern "C" fn cvl_seg_back_permute_int(
+pub extern "C" fn cvl_proved_seg_back_permute_int(
     source: &[i32],
     index: &[i32],
     lengths: &[i32],
@@ -141,7 +141,7 @@ pub extern "C" fn cvl_seg_back_permute_int(
 
 /// At each place the boolean at the place's index in the same segment of the source: `bck_peb`.
 #[unsafe(no_mangle)]
-pub extern "C" fn cvl_seg_back_permute_bool(
+pub extern "C" fn cvl_proved_seg_back_permute_bool(
     source: &[bool],
     index: &[i32],
     lengths: &[i32],

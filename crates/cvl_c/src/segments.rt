@@ -16,7 +16,7 @@ use std::alloc::Global;
 
 /// For each segment the integer at the place that its index names: `ext_vez`.
 #[unsafe(no_mangle)]
-pub extern "C" fn cvl_seg_extract_int(
+pub extern "C" fn cvl_proved_seg_extract_int(
     alloc: Global,
     vector: &[i32],
     index: &[i32],
@@ -32,7 +32,7 @@ pub extern "C" fn cvl_seg_extract_int(
 
 /// For each segment the flag at the place that its index names: `ext_veb`.
 #[unsafe(no_mangle)]
-pub extern "C" fn cvl_seg_extract_bool(
+pub extern "C" fn cvl_proved_seg_extract_bool(
     alloc: Global,
     vector: &[u8],
     index: &[i32],
@@ -47,7 +47,7 @@ pub extern "C" fn cvl_seg_extract_bool(
 
 /// The integers with, in each segment, the segment's value at the place that its index names: `rep_vez`.
 #[unsafe(no_mangle)]
-pub extern "C" fn cvl_seg_replace_int(
+pub extern "C" fn cvl_proved_seg_replace_int(
     alloc: Global,
     vector: &[i32],
     index: &[i32],
@@ -64,7 +64,7 @@ pub extern "C" fn cvl_seg_replace_int(
 
 /// The booleans with, in each segment, the segment's value at the place that its index names: `rep_veb`.
 #[unsafe(no_mangle)]
-pub extern "C" fn cvl_seg_replace_bool(
+pub extern "C" fn cvl_proved_seg_replace_bool(
     alloc: Global,
     vector: &[bool],
     index: &[i32],
@@ -81,7 +81,7 @@ pub extern "C" fn cvl_seg_replace_bool(
 
 /// For each segment as many copies of its integer as the segment is long: `dis_vez`.
 #[unsafe(no_mangle)]
-pub extern "C" fn cvl_seg_distribute_int(
+pub extern "C" fn cvl_proved_seg_distribute_int(
     alloc: Global,
     values: &[i32],
     lengths: &[i32],
@@ -96,7 +96,7 @@ pub extern "C" fn cvl_seg_distribute_int(
 
 /// For each segment as many copies of its boolean as the segment is long: `dis_veb`.
 #[unsafe(no_mangle)]
-pub extern "C" fn cvl_seg_distribute_bool(
+pub extern "C" fn cvl_proved_seg_distribute_bool(
     alloc: Global,
     values: &[bool],
     lengths: &[i32],
@@ -111,7 +111,7 @@ pub extern "C" fn cvl_seg_distribute_bool(
 
 /// For each segment the numbers from its init on in steps of its stride: `ind_lez`.
 #[unsafe(no_mangle)]
-pub extern "C" fn cvl_seg_index(
+pub extern "C" fn cvl_proved_seg_index(
     alloc: Global,
     inits: &[i32],
     strides: &[i32],

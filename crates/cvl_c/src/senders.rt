@@ -21,7 +21,7 @@ use part_calls::sender_ranges::{select_senders_range, senders_range};
 
 /// For each place of the room the least place whose index names it, or -1.
 #[unsafe(no_mangle)]
-pub extern "C" fn cvl_first_senders(index: &[i32], out: &mut [i32]) -> CvlStatus
+pub extern "C" fn cvl_proved_first_senders(index: &[i32], out: &mut [i32]) -> CvlStatus
     ensures { Told (in_limit index.now (first_senders_of index.now (length out.old))) result out.old out.new }
 {
     or_tell!(check_limit(index));
@@ -30,7 +30,7 @@ pub extern "C" fn cvl_first_senders(index: &[i32], out: &mut [i32]) -> CvlStatus
 
 /// The same among the places whose flag is true.
 #[unsafe(no_mangle)]
-pub extern "C" fn cvl_select_first_senders(
+pub extern "C" fn cvl_proved_select_first_senders(
     index: &[i32],
     flags: &[bool],
     out: &mut [i32],
@@ -43,7 +43,7 @@ pub extern "C" fn cvl_select_first_senders(
 
 /// For each place of each segment of the result the least place of the same segment of the index that names it, or -1.
 #[unsafe(no_mangle)]
-pub extern "C" fn cvl_seg_first_senders(
+pub extern "C" fn cvl_proved_seg_first_senders(
     index: &[i32],
     lengths: &[i32],
     result_lengths: &[i32],
@@ -60,7 +60,7 @@ pub extern "C" fn cvl_seg_first_senders(
 
 /// The same among the places whose flag is true.
 #[unsafe(no_mangle)]
-pub extern "C" fn cvl_seg_select_first_senders(
+pub extern "C" fn cvl_proved_seg_select_first_senders(
     index: &[i32],
     flags: &[bool],
     lengths: &[i32],
@@ -92,7 +92,7 @@ fn told_range(answer: Result<usize, Fault>, named: &mut usize) -> CvlStatus
 
 /// The first senders of one range of the result, from place `lowest` on, and how many indices name a place of it.
 #[unsafe(no_mangle)]
-pub extern "C" fn cvl_first_senders_range(
+pub extern "C" fn cvl_proved_first_senders_range(
     index: &[i32],
     lowest: usize,
     out: &mut [i32],
@@ -105,7 +105,7 @@ pub extern "C" fn cvl_first_senders_range(
 
 /// The same among the places whose flag is true.
 #[unsafe(no_mangle)]
-pub extern "C" fn cvl_select_first_senders_range(
+pub extern "C" fn cvl_proved_select_first_senders_range(
     index: &[i32],
     flags: &[bool],
     lowest: usize,

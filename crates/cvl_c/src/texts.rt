@@ -14,7 +14,7 @@ use std::alloc::Global;
 
 /// The integers that a text writes between white space.
 #[unsafe(no_mangle)]
-pub extern "C" fn cvl_read_ints(
+pub extern "C" fn cvl_proved_read_ints(
     alloc: Global,
     text: &[u8],
     out: &mut [i32],
@@ -27,7 +27,7 @@ pub extern "C" fn cvl_read_ints(
 
 /// The text of the integers, in decimal between brackets.
 #[unsafe(no_mangle)]
-pub extern "C" fn cvl_write_ints(
+pub extern "C" fn cvl_proved_write_ints(
     alloc: Global,
     a: &[i32],
     out: &mut [u8],
@@ -41,7 +41,7 @@ pub extern "C" fn cvl_write_ints(
 
 /// The text of the booleans, each `T` or `F`, between brackets.
 #[unsafe(no_mangle)]
-pub extern "C" fn cvl_write_bools(
+pub extern "C" fn cvl_proved_write_bools(
     alloc: Global,
     a: &[bool],
     out: &mut [u8],

@@ -12,7 +12,12 @@ use c_calls::tiles::{bool_scan_from, int_scan_from};
 /// For each integer `before`, joined by the operator with those in front of it. So threads scan one vector: each reduces
 /// its tiles, one of them scans the reduces, and each scans its tiles after what stands before them.
 #[unsafe(no_mangle)]
-pub extern "C" fn cvl_int_scan_after(op: u32, before: i32, a: &[i32], out: &mut [i32]) -> CvlStatus
+pub extern "C" fn cvl_proved_int_scan_after(
+    op: u32,
+    before: i32,
+    a: &[i32],
+    out: &mut [i32],
+) -> CvlStatus
     ensures { Told (in_room (length out.old)
         (by_operator (int_monoid op) (λ o. in_limit a.now (Ok (int_scan_after o before a.now))))) result out.old out.new }
 {
@@ -21,7 +26,7 @@ pub extern "C" fn cvl_int_scan_after(op: u32, before: i32, a: &[i32], out: &mut 
 
 /// For each boolean `before`, joined by the operator with those in front of it.
 #[unsafe(no_mangle)]
-pub extern "C" fn cvl_bool_scan_after(
+pub extern "C" fn cvl_proved_bool_scan_after(
     op: u32,
     before: bool,
     a: &[bool],

@@ -1,6 +1,6 @@
 use Rattle.std.proofs.Common.{w64}
 use Rattle.std.proofs.lemmas.Int.{to_z-of_z}
-use Rattle.cvl_c.proofs.parts.cvl_checked_scan_after.Goals as goal
+use Rattle.cvl_c.proofs.parts.cvl_proved_checked_scan_after.Goals as goal
 
 -- the word of a number is the number's
 pub returns : goal.returns
