@@ -11,7 +11,7 @@
 #include <stdint.h>
 #include <stdio.h>
 
-/* The elements of the vector in all, which are more than one vector of the library may have, and the rows and columns of the matrix. */
+/* The elements of the vector in all, and the rows and columns of the matrix. */
 enum { ELEMENTS = 16777216, ROWS = 1048576, COLUMNS = 1000000 };
 
 static inline uint32_t noise(uint32_t kind, uint64_t place) {

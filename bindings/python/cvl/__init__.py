@@ -23,8 +23,8 @@ What has no value raises `Fault`, whose numbers are in `cvl.faults`:
     >>> try:
     ...     cvl.ext_vuz(a, 5)
     ... except cvl.Fault as fault:
-    ...     print(fault, fault.number == cvl.faults.INDEX_OUT_OF_RANGE)
-    fault 10 IndexOutOfRange at 0 True
+    ...     print(fault, fault.number == cvl.faults.INDEX_OUT_OF_RANGE, sep="; ")
+    fault 10 IndexOutOfRange at 0: index is 5, and len(vector) is 5; True
 
 A long call runs on several threads where the program asks for them, by `set_threads(4)` or `with cvl.threads(4):`.
 
@@ -39,10 +39,11 @@ from cvl import calls, faults, operators
 from cvl._calls import MOST_ELEMENTS, MOST_OF_TEXT, get_threads, set_threads, version
 from cvl._threads import threads
 from cvl.calls import *
+from cvl.conversions import as_ints
 from cvl.fault import Fault
 from cvl.segments import Segments
 
 __all__: List[str] = ["MOST_ELEMENTS", "MOST_OF_TEXT", "Fault", "Segments", "faults", "operators"]
-__all__ += ["get_threads", "set_threads", "threads"]
+__all__ += ["as_ints", "get_threads", "set_threads", "threads"]
 __all__ += calls.__all__
 __version__: str = version

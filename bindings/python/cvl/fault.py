@@ -5,7 +5,7 @@ from typing import Optional
 
 class Fault(ValueError):
     """A call that has no value: the number of its fault, as in `cvl.faults`, its name, and its place, counted from 0, or None.
-    `said` tells which lengths differ at a LengthMismatch, and is None at other faults.
+    `said` has more words, if there are some: which lengths differ, which value is at fault, or which array `out` shares memory with.
 
     >>> import cvl, numpy
     >>> a = numpy.array([7, 7], dtype=numpy.int32)
@@ -15,6 +15,11 @@ class Fault(ValueError):
     ... except cvl.Fault as fault:
     ...     print(fault.number, fault.name, fault.place, fault.number == cvl.faults.DIVIDE_BY_ZERO)
     8 DivideByZero 1 True
+    >>> try:
+    ...     cvl.bck_puz(a, b)
+    ... except cvl.Fault as fault:
+    ...     print(fault)
+    fault 10 IndexOutOfRange at 0: index[0] is 2, and len(source) is 2
     >>> try:
     ...     cvl.add_wuz(a, b[:1])
     ... except cvl.Fault as fault:
@@ -30,7 +35,6 @@ class Fault(ValueError):
         self.said = said
 
     def __str__(self) -> str:
-        told = f"fault {self.number} {self.name}"
-        if self.place is not None:
-            return f"{told} at {self.place}"
-        return told if self.said is None else f"{told}: {self.said}"
+        place = "" if self.place is None else f" at {self.place}"
+        said = "" if self.said is None else f": {self.said}"
+        return f"fault {self.number} {self.name}{place}{said}"

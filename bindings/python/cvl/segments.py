@@ -5,11 +5,11 @@ from __future__ import annotations
 from typing import TYPE_CHECKING, Any
 
 import numpy
-import numpy.ma
 
 from cvl import faults
 from cvl._calls import MOST_ELEMENTS, Lengths
 from cvl.calls import add_suz, dis_vez, ind_luz
+from cvl.conversions import INT, as_ints, refuse_mask
 from cvl.fault import Fault
 
 if TYPE_CHECKING:
@@ -17,29 +17,19 @@ if TYPE_CHECKING:
 
     from cvl._kinds import IntArray
 
-INT = numpy.dtype(numpy.int32)
 # so many segments are shown whole
 SHOWN = 12
 
 
 def _whole_numbers(numbers: Any, name: str) -> Any:
     """The numbers as an array of integers in one dimension."""
-    if isinstance(numbers, numpy.ma.MaskedArray):
-        raise TypeError(f"{name} has a mask, which no call looks at; write {name}.filled(0) or {name}.compressed()")
+    refuse_mask(numbers, name)
     given = numpy.asarray(numbers)
     if given.size == 0 and given.ndim == 1:
         return given.astype(INT)
     if given.dtype.kind not in "iu" or given.ndim != 1:
         raise TypeError(f"{name} are no whole numbers in one dimension")
     return given
-
-
-def _as_ints(numbers: Any, name: str) -> Any:
-    """The numbers as int32, side by side, if each fits."""
-    given = _whole_numbers(numbers, name)
-    if given.dtype != INT and given.size and not (-(2**31) <= given.min() and given.max() < 2**31):
-        raise OverflowError(f"one of {name} does not fit 32 bits")
-    return numpy.ascontiguousarray(given, INT)
 
 
 def _frozen(found: IntArray) -> IntArray:
@@ -68,7 +58,7 @@ class Segments(Lengths):
     __slots__ = ()
 
     def __new__(cls, lengths: ArrayLike) -> Segments:
-        return super().__new__(cls, _as_ints(lengths, "lengths"))
+        return super().__new__(cls, as_ints(_whole_numbers(lengths, "lengths"), "lengths"))
 
     def __copy__(self) -> Segments:
         return self

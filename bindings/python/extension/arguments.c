@@ -32,7 +32,9 @@ static int take_text(PyObject *object, const Operand *operand, Given *given) {
 /* The whole number that an object is. One beyond 64 bits is the least or the greatest of these, and `beyond` says so. */
 static int whole_number(PyObject *object, const char *name, int64_t *number, int *beyond) {
     if (!PyIndex_Check(object)) {
-        PyErr_Format(PyExc_TypeError, "%s is no whole number but a %s; write int(%s)", name, Py_TYPE(object)->tp_name, name);
+        PyErr_Format(PyExc_TypeError, PyFloat_Check(object) ? "%s is no whole number but a %s; int(%s) would cut its fraction"
+                : "%s is no whole number but a %s; write int(%s)",
+            name, Py_TYPE(object)->tp_name, name);
         return -1;
     }
     PyObject *found = PyNumber_Index(object);

@@ -38,9 +38,10 @@ static int is_room(const Operand *operand) { return cvl_needs[operand->kind].fla
 
 /* What to write instead of an object that is no array. A copy of a room would be another room, so none is advised. */
 static PyObject *advice_for(const Operand *operand) {
-    const char *written = cvl_needs[operand->kind].element->written;
-    if (is_room(operand)) return PyUnicode_FromFormat("a room is made by numpy.empty(n, dtype=%s)", written);
-    return PyUnicode_FromFormat("write numpy.array(%s, dtype=%s)", operand->name, written);
+    const Element *element = cvl_needs[operand->kind].element;
+    if (is_room(operand)) return PyUnicode_FromFormat("a room is made by numpy.empty(n, dtype=%s)", element->written);
+    if (element == &cvl_ints) return PyUnicode_FromFormat("write cvl.as_ints(%s)", operand->name);
+    return PyUnicode_FromFormat("write numpy.array(%s, dtype=%s)", operand->name, element->written);
 }
 
 /* A mask says that elements are missing, which no call knows. */
@@ -117,8 +118,8 @@ static int has_flags(PyArrayObject *array, int flags) { return (PyArray_FLAGS(ar
 static void refuse_read(PyArrayObject *array, const char *name, const Element *element) {
     if (!has_elements(array, element)) {
         PyErr_Format(PyExc_TypeError, element == &cvl_flags ? "%s has elements of %S, and has to have %s; write %s != 0"
-                : "%s has elements of %S, and has to have %s; write %s.astype(%s)",
-            name, PyArray_DESCR(array), element->name, name, element->written);
+                : "%s has elements of %S, and has to have %s; write cvl.as_ints(%s)",
+            name, PyArray_DESCR(array), element->name, name);
     } else if (PyArray_NDIM(array) != 1) {
         PyErr_Format(PyExc_TypeError, "%s has %d dimensions, and has to have one; write numpy.ravel(%s)", name,
             PyArray_NDIM(array), name);

@@ -111,12 +111,133 @@ static PyObject *room_differs(const Frame *frame) {
         (Py_ssize_t)frame->room.count, (Py_ssize_t)needed);
 }
 
+/* ---- which value is at fault ---- */
+
+/* Whether a fault may be about an operand: a divisor or a shift, an index, or lengths and a count. */
+static int is_about(uint32_t number, const Operand *operand) {
+    const char *const name = operand->name;
+    switch (number) {
+    case CVL_DIVIDE_BY_ZERO:
+    case CVL_SHIFT_OUT_OF_RANGE: return strcmp(name, "b") == 0;
+    case CVL_INDEX_OUT_OF_RANGE:
+    case CVL_INDEX_REPEATED: return strcmp(name, "index") == 0 || strcmp(name, "columns") == 0;
+    case CVL_NEGATIVE_LENGTH: return operand->kind == KIND_LENGTHS || strcmp(name, "lengths") == 0 || strcmp(name, "count") == 0;
+    default: return 0;
+    }
+}
+
+/* Whether an index counts from the start of a segment, or of the whole result of which a range is written; then its bound takes a walk. */
+static int counts_elsewhere(const Family *family, const Operand *index) {
+    for (int k = 0; k < family->count; k++) {
+        const Kind kind = family->operands[k].kind;
+        if (kind == KIND_SIZE || (kind == KIND_LENGTHS && strcmp(index->name, "columns") != 0)) return 1;
+    }
+    return 0;
+}
+
+/* How many places an index may name: those of an array that is not as long as the indices are, or else of the result. */
+static PyObject *bound_said(const Frame *frame, const Operand *index) {
+    const Family *family = frame->row->family;
+    int into = -1;
+    for (int k = 0; k < family->count; k++) {
+        const Extent extent = family->operands[k].extent;
+        if (is_array(&family->operands[k]) && extent != index->extent && extent != EXTENT_OFFSETS) into = k;
+    }
+    if (into < 0) return PyUnicode_FromFormat("the result has %zd elements", (Py_ssize_t)frame->room.count);
+    return PyUnicode_FromFormat("len(%s) is %zd", family->operands[into].name, (Py_ssize_t)frame->given[into].count);
+}
+
+/* Whether an argument is one number, or stands for an array of it. */
+static int is_one(const Given *given, const Operand *operand) {
+    return given->spread || !(is_array(operand) || operand->kind == KIND_LENGTHS);
+}
+
+/* An element, or a number that stands for one. Whether it is known: of a number beyond 64 bits the least or the greatest is kept. */
+static int value_at(const Given *given, const Operand *operand, int64_t place, int64_t *value) {
+    if (is_one(given, operand)) {
+        *value = given->number;
+        return *value != INT64_MIN && *value != INT64_MAX;
+    }
+    if (place < 0 || (uint64_t)place >= given->count) return 0;
+    *value = ((const int32_t *)given->at)[place];
+    return 1;
+}
+
+/* "index[3] is 12", or "index is 12" of one number. */
+static PyObject *value_said(const Given *given, const Operand *operand, int64_t place, int64_t value) {
+    if (is_one(given, operand)) return PyUnicode_FromFormat("%s is %lld", operand->name, (long long)value);
+    return PyUnicode_FromFormat("%s[%lld] is %lld", operand->name, (long long)place, (long long)value);
+}
+
+/* The same of an index, with what it leads into. */
+static PyObject *index_said(const Frame *frame, int k, int64_t place, int64_t value) {
+    const Operand *index = &frame->row->family->operands[k];
+    PyObject *said = value_said(&frame->given[k], index, place, value);
+    if (said == NULL || counts_elsewhere(frame->row->family, index)) return said;
+    PyObject *bound = bound_said(frame, index), *both = bound == NULL ? NULL : PyUnicode_FromFormat("%U, and %U", said, bound);
+    Py_XDECREF(bound);
+    Py_DECREF(said);
+    return both;
+}
+
+/* The value that is at fault, or nothing; then an exception may be set. A negative length is looked for among all lengths. */
+static PyObject *value_at_fault(const Frame *frame, CvlStatus status) {
+    const Family *family = frame->row->family;
+    int64_t value;
+    for (int k = 0; k < family->count; k++) {
+        const Operand *operand = &family->operands[k];
+        if (!is_about(status.number, operand) || !value_at(&frame->given[k], operand, status.place, &value)) continue;
+        if (status.number == CVL_INDEX_OUT_OF_RANGE) return index_said(frame, k, status.place, value);
+        if (status.number != CVL_NEGATIVE_LENGTH || value < 0) return value_said(&frame->given[k], operand, status.place, value);
+    }
+    return NULL;
+}
+
+static size_t bytes_of(const Given *given, Kind kind) {
+    return given->count * (kind == KIND_FLAGS || kind == KIND_ROOM_FLAGS || kind == KIND_TEXT ? sizeof(bool) : sizeof(int32_t));
+}
+
+/* Whether an argument shares memory with the room: all of it, which some calls allow, or a part. */
+static int shares(const Frame *frame, int k, int all) {
+    const Operand *operand = &frame->row->family->operands[k];
+    const Given *given = &frame->given[k];
+    const uintptr_t room = (uintptr_t)frame->room.at, at = (uintptr_t)given->at;
+    if (given->spread || !(is_array(operand) || operand->kind == KIND_LENGTHS || operand->kind == KIND_TEXT)) return 0;
+    const size_t room_bytes = bytes_of(&frame->room, frame->out->kind), bytes = bytes_of(given, operand->kind);
+    return at < room + room_bytes && room < at + bytes && (at == room && bytes == room_bytes) == all;
+}
+
+/* The argument that shares memory with the room, first one that shares a part, or nothing. */
+static PyObject *shared_said(const Frame *frame) {
+    const Family *family = frame->row->family;
+    for (int all = 0; all < 2; all++) {
+        for (int k = 0; k < family->count; k++) {
+            if (shares(frame, k, all)) return PyUnicode_FromFormat("out and %s share memory", family->operands[k].name);
+        }
+    }
+    return NULL;
+}
+
+/* ---- what more is said of a fault ---- */
+
+static PyObject *lengths_said(const Frame *frame, int has_room) {
+    PyObject *said = arguments_differ(frame);
+    return said == NULL && !PyErr_Occurred() && has_room ? room_differs(frame) : said;
+}
+
 /* What more is said of a fault, or None. */
 static PyObject *said_of(Frame *frame, CvlStatus status, int has_room) {
-    if (status.number != CVL_LENGTH_MISMATCH) return Py_NewRef(Py_None);
-    if (cvl_look(frame) < 0) return NULL;
-    PyObject *said = arguments_differ(frame);
-    if (said == NULL && !PyErr_Occurred() && has_room) said = room_differs(frame);
+    PyObject *said;
+    if (cvl_look(frame) < 0) {
+        if (status.number == CVL_LENGTH_MISMATCH) return NULL;
+        PyErr_Clear();
+        return Py_NewRef(Py_None);
+    }
+    switch (status.number) {
+    case CVL_LENGTH_MISMATCH: said = lengths_said(frame, has_room); break;
+    case CVL_OVERLAP: said = has_room ? shared_said(frame) : NULL; break;
+    default: said = value_at_fault(frame, status); break;
+    }
     return said == NULL && !PyErr_Occurred() ? Py_NewRef(Py_None) : said;
 }
 

@@ -285,7 +285,7 @@ def arrays_that_become_others():
         array.flags.writeable = False
 
     for change, places, said in (
-        (set_kind, 2, "vector has elements of int8, and has to have int32; write vector.astype(numpy.int32)"),
+        (set_kind, 2, "vector has elements of int8, and has to have int32; write cvl.as_ints(vector)"),
         (set_shape, 1, "vector has 0 dimensions, and has to have one; write numpy.ravel(vector)"),
         (set_strides, 2, "the elements of vector do not lie side by side; write numpy.ascontiguousarray(vector)"),
     ):

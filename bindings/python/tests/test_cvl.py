@@ -62,7 +62,7 @@ class Arguments(Limited):
             call(*arguments, **more)
 
     def test_other_elements_are_refused_with_what_to_write(self):
-        self.refused(r"a has elements of int64.*write a\.astype\(numpy\.int32\)", cvl.add_suz, numpy.arange(3))
+        self.refused(r"a has elements of int64.*write cvl\.as_ints\(a\)", cvl.add_suz, numpy.arange(3))
         self.refused(r"b has elements of float64", cvl.add_wuz, ints(1), numpy.ones(1))
         self.refused(r"a has elements of >i4", cvl.add_suz, numpy.array([1], dtype=">i4"))
         self.refused(r"a has elements of uint32", cvl.add_suz, numpy.array([1], dtype=numpy.uint32))
@@ -70,7 +70,7 @@ class Arguments(Limited):
         self.refused(r"segments has elements of int64", cvl.add_sez, ints(1), numpy.array([1]))
 
     def test_lists_are_refused_with_what_to_write(self):
-        self.refused(r"a is no array but a list; write numpy\.array\(a, dtype=numpy\.int32\)", cvl.add_suz, [1, 2])
+        self.refused(r"a is no array but a list; write cvl\.as_ints\(a\)", cvl.add_suz, [1, 2])
 
     def test_what_is_not_in_one_row_is_refused(self):
         self.refused(r"a has 2 dimensions.*write numpy\.ravel\(a\)", cvl.add_suz, numpy.zeros((2, 2), numpy.int32))
@@ -107,7 +107,7 @@ class Arguments(Limited):
             self.assertEqual(cvl.dis_vuz(value, 1).tolist(), [value])
         with self.assertRaises(TypeError):
             cvl.ext_vuz(ints(1), 0.5)
-        self.refused(r"index is no whole number but a float; write int\(index\)", cvl.ext_vuz, ints(1), 0.0)
+        self.refused(r"index is no whole number but a float; int\(index\) would cut its fraction", cvl.ext_vuz, ints(1), 0.0)
         self.refused("value is no boolean but a int", cvl.dis_vub, 1, 2)
         self.assertEqual(cvl.ext_vuz(ints(4, 5), numpy.int64(1)), 5)
         self.assertIs(cvl.ext_vub(flags(True), 0), True)
@@ -194,8 +194,8 @@ class Arguments(Limited):
         for number in (2**31, -(2**31) - 1):
             with self.assertRaisesRegex(OverflowError, f"b is {number}, which does not fit 32 bits"):
                 cvl.add_wuz(a, number)
-        self.refused(r"b is no whole number but a float; write int\(b\)", cvl.add_wuz, a, 0.5)
-        self.refused(r"b is no whole number but a numpy.float64; write int\(b\)", cvl.add_wuz, a, numpy.float64(2))
+        self.refused(r"b is no whole number but a float; int\(b\) would cut its fraction", cvl.add_wuz, a, 0.5)
+        self.refused(r"b is no whole number but a numpy.float64; int\(b\) would cut its fraction", cvl.add_wuz, a, numpy.float64(2))
         self.refused(r"b is no boolean but a int; write bool\(b\)", cvl.and_wub, b, 1)
         self.refused(r"beside an array, and there is none; write numpy.array\(\[a\], dtype=numpy.int32\)", cvl.add_wuz, 1, 2)
         self.refused(r"beside an array, and there is none; write numpy.array\(\[flags\], dtype=bool\)", cvl.sel_wuz, True, 1, 2)
@@ -325,7 +325,7 @@ class Rooms(Limited):
         with self.assertRaises(cvl.Fault) as caught:
             cvl.div_wuz(ints(1, 2), ints(1, 0), out=out)
         self.assertEqual((caught.exception.name, caught.exception.place), ("DivideByZero", 1))
-        self.assertEqual(str(caught.exception), "fault 8 DivideByZero at 1")
+        self.assertEqual(str(caught.exception), "fault 8 DivideByZero at 1: b[1] is 0")
         self.assertEqual(out.tolist(), [7, 7])
 
     def test_a_room_that_overlaps_an_argument(self):
@@ -339,7 +339,54 @@ class Rooms(Limited):
         whole = ints(3, 1, 4, 1)
         with self.assertRaises(cvl.Fault) as caught:
             cvl.add_suz(whole[:3], out=whole[1:])
-        self.assertEqual((caught.exception.name, whole.tolist()), ("Overlap", [3, 1, 4, 1]))
+        self.assertEqual((str(caught.exception), whole.tolist()), ("fault 102 Overlap: out and a share memory", [3, 1, 4, 1]))
+
+    def test_a_fault_says_which_value_it_is_about(self):
+        a, whole = ints(3, 1, 4), ints(3, 1, 4, 1)
+        lengths, columns, x = ints(1, 2), ints(0, 1, 2), ints(5, 6)
+        for call, said in (
+            (lambda: cvl.mod_wuz(a, 0), "8 DivideByZero at 0: b is 0"),
+            (lambda: cvl.lsh_wuz(a, ints(0, 32, -1)), "9 ShiftOutOfRange at 1: b[1] is 32"),
+            (lambda: cvl.bck_puz(ints(7, 8), a), "10 IndexOutOfRange at 0: index[0] is 3, and len(source) is 2"),
+            (lambda: cvl.smp_puz(a, ints(0, -1, 9)), "10 IndexOutOfRange at 1: index[1] is -1, and the result has 3 elements"),
+            (lambda: cvl.smp_puz(a, ints(0, 2, 2)), "11 IndexRepeated at 2: index[2] is 2"),
+            (lambda: cvl.sel_puz(a, ints(0, 9, 2), flags(True, False, True)), "10 IndexOutOfRange at 2: index[2] is 2, and the result has 2 elements"),
+            (lambda: cvl.def_puz(a, ints(0, 1, 5), ints(0, 0)), "10 IndexOutOfRange at 2: index[2] is 5, and len(defaults) is 2"),
+            (lambda: cvl.ext_vuz(a, 3), "10 IndexOutOfRange at 0: index is 3, and len(vector) is 3"),
+            (lambda: cvl.ext_vuz(a, 2**70), "10 IndexOutOfRange at 0"),
+            (lambda: cvl.smp_pez(a, ints(0, 1, 2), lengths), "10 IndexOutOfRange at 2: index[2] is 2"),
+            (lambda: cvl.ext_vez(a, ints(0, 2), lengths), "10 IndexOutOfRange at 1: index[1] is 2"),
+            (lambda: cvl.sparse_product(lengths, columns, columns, x), "10 IndexOutOfRange at 2: columns[2] is 2, and len(x) is 2"),
+            (lambda: cvl.add_sez(a, ints(4, -1)), "12 NegativeLength at 1: segments[1] is -1"),
+            (lambda: cvl.dis_vuz(1, -3), "12 NegativeLength: count is -3"),
+            (lambda: cvl.tot_suz(ints(2**31 - 1, 1, 1)), "18 Overflow at 2"),
+            (lambda: cvl.bck_puz(whole[1:], whole[:2], out=whole[1:3]), "102 Overlap: out and source share memory"),
+            (lambda: cvl.les_wuz(a, a, out=a.view(bool)[:3]), "102 Overlap: out and a share memory"),
+        ):
+            with self.assertRaises(cvl.Fault) as caught:
+                call()
+            self.assertEqual(str(caught.exception), f"fault {said}")
+
+    def test_numbers_as_integers(self):
+        a = ints(3, 1)
+        self.assertIs(cvl.as_ints(a), a)
+        for given, wanted in (([3, 1.0], [3, 1]), (numpy.array([True, False]), [1, 0]), ((), []), (numpy.array([2**31 - 1, -(2**31)]), [2**31 - 1, -(2**31)])):
+            found = cvl.as_ints(given)
+            self.assertEqual((found.dtype, found.tolist()), (numpy.int32, wanted))
+        for given, kind, said in (
+            ([1, 2.5], ValueError, r"k\[1\] is 2\.5, and has to be a whole number"),
+            ([1.0, numpy.nan], ValueError, r"k\[1\] is nan, and has to be a whole number"),
+            ([numpy.inf, 2.5], ValueError, r"k\[0\] is inf, and has to be a whole number"),
+            ([1e10, 1.0], OverflowError, r"k\[0\] is 10000000000\.0, which does not fit 32 bits"),
+            (numpy.array([1, 2**31], numpy.uint32), OverflowError, r"k\[1\] is 2147483648, which does not fit 32 bits"),
+            ([-(2**31) - 1], OverflowError, r"k\[0\] is -2147483649, which does not fit 32 bits"),
+            ([2**70], TypeError, "k has elements of object, which are no numbers"),
+            (["x"], TypeError, "k has elements of <U1, which are no numbers"),
+            ([[1]], TypeError, "k has 2 dimensions, and has to have one"),
+            (numpy.ma.array([1], mask=[True]), TypeError, "k has a mask"),
+        ):
+            with self.assertRaisesRegex(kind, said):
+                cvl.as_ints(given, "k")
 
     def test_in_place(self):
         a = ints(3, 1, 4)
@@ -364,8 +411,8 @@ class Rooms(Limited):
 
     def test_place_0_of_a_fault_is_told_and_shown(self):
         for call, said in (
-            (lambda: cvl.div_wuz(ints(1, 2), ints(0, 0)), "fault 8 DivideByZero at 0"),
-            (lambda: cvl.Segments([-1]), "fault 12 NegativeLength at 0"),
+            (lambda: cvl.div_wuz(ints(1, 2), ints(0, 0)), "fault 8 DivideByZero at 0: b[0] is 0"),
+            (lambda: cvl.Segments([-1]), "fault 12 NegativeLength at 0: lengths[0] is -1"),
         ):
             with self.assertRaises(cvl.Fault) as caught:
                 call()
@@ -827,15 +874,15 @@ class FirstSenders(Limited):
     def test_faults(self):
         index, most = self.index, 2**31 - 1
         for call, number, place, said in (
-            (lambda: cvl.first_senders(index, -1), 12, None, None),
+            (lambda: cvl.first_senders(index, -1), 12, None, "count is -1"),
             (lambda: cvl.first_senders(index, most + 1), 13, None, None),
             (lambda: cvl.first_senders(index, 2**40, out=ints(7)), 13, None, None),
-            (lambda: cvl.first_senders(ints(0, 3, 4), 3), 10, 1, None),
+            (lambda: cvl.first_senders(ints(0, 3, 4), 3), 10, 1, "index[1] is 3, and the result has 3 elements"),
             (lambda: cvl.first_senders(index, 3, out=ints(7)), 7, None, "len(out) is 1, and has to be 3"),
             (lambda: cvl.select_first_senders(index, flags(True), 3), 7, None, "len(flags) is 1, and len(index) is 100"),
             (lambda: cvl.seg_first_senders(ints(0), ints(1), ints(2), out=ints(7)), 7, None, "len(out) is 1, and has to be 2"),
             (lambda: cvl.seg_first_senders(ints(0), ints(1), ints(2, 1)), 7, None, "len(result_segments) is 2, and len(segments) is 1"),
-            (lambda: cvl.seg_first_senders(ints(0, 2), ints(1, 1), ints(2, 1)), 10, 1, None),
+            (lambda: cvl.seg_first_senders(ints(0, 2), ints(1, 1), ints(2, 1)), 10, 1, "index[1] is 2"),
         ):
             with self.assertRaises(cvl.Fault) as caught:
                 call()

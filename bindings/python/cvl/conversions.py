@@ -1,0 +1,61 @@
+"""Numbers of other kinds as integers of 32 bits, if each is one."""
+
+from __future__ import annotations
+
+from typing import TYPE_CHECKING, Any
+
+import numpy
+import numpy.ma
+
+if TYPE_CHECKING:
+    from numpy.typing import ArrayLike
+
+    from cvl._kinds import IntArray
+
+INT = numpy.dtype(numpy.int32)
+
+
+def refuse_mask(numbers: Any, name: str) -> None:
+    """A mask says that elements are missing, which no call knows."""
+    if isinstance(numbers, numpy.ma.MaskedArray):
+        raise TypeError(f"{name} has a mask, which no call looks at; write {name}.filled(0) or {name}.compressed()")
+
+
+def _first(wrong: Any) -> int:
+    """The place of the first true element, or -1."""
+    return int(wrong.argmax()) if wrong.any() else -1
+
+
+def _check(given: Any, name: str) -> None:
+    """Raises that an element is not whole, or does not fit 32 bits, with the first that is so."""
+    if given.dtype.kind == "f":
+        place = _first(~numpy.isfinite(given) | (given != numpy.trunc(given)))
+        if place >= 0:
+            raise ValueError(f"{name}[{place}] is {given[place]}, and has to be a whole number")
+    place = _first((given < -(2**31)) | (given > 2**31 - 1))
+    if place >= 0:
+        raise OverflowError(f"{name}[{place}] is {given[place]}, which does not fit 32 bits")
+
+
+def as_ints(numbers: ArrayLike, name: str = "numbers") -> IntArray:
+    """The numbers as an array of int32 in one dimension. One that is one already, side by side, is given back as it is.
+
+    The first number that is not whole is a `ValueError`, and the first that does not fit 32 bits an `OverflowError`; `name` is what
+    they call the array. `numpy.ndarray.astype` tells neither: it cuts the one and wraps the other.
+
+    >>> import cvl, numpy
+    >>> cvl.as_ints([3, 1.0]).tolist(), cvl.as_ints(numpy.arange(3)).dtype.name
+    ([3, 1], 'int32')
+    >>> cvl.as_ints([7, 2**31], "keys")
+    Traceback (most recent call last):
+    OverflowError: keys[1] is 2147483648, which does not fit 32 bits
+    """
+    refuse_mask(numbers, name)
+    given = numpy.asarray(numbers)
+    if given.ndim != 1:
+        raise TypeError(f"{name} has {given.ndim} dimensions, and has to have one; write numpy.ravel({name})")
+    if given.dtype.kind not in "biuf" and given.size:
+        raise TypeError(f"{name} has elements of {given.dtype}, which are no numbers")
+    if given.size and given.dtype.kind in "iuf" and given.dtype != INT:
+        _check(given, name)
+    return numpy.ascontiguousarray(given, INT)
