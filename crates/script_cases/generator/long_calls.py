@@ -144,7 +144,7 @@ def divisions(rng):
             text += f"== case {call} of {count} elements\n{settings}== script\n{start}{ends}== text\nt = T\n"
             flawed = start + f"b = rep_vuz b {count - 1} {wrong}\nb = rep_vuz b {count - 10} {wrong}\n"
             text += f"== case {call} of {count} elements with two faults\n{settings}== script\n{flawed}{ends}== stop\nline 5: fault {fault} at {count - 10}\n"
-            if count == 600000 and good:
+            if count == 262144 and good:
                 # the two vectors, the race for the least fault, and the result
                 refusals = tiles(("4096", "4")) + refused(14)
                 text += f"== case {call} of {count} elements where memory is refused\n{refusals}== script\n{start}{ends}== text\nt = T\n"
