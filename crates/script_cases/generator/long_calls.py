@@ -4,49 +4,57 @@ from calls import GREATEST, LEAST
 from cases import differing, number_lines, refused, tiles, whole
 
 # how many elements permutes have, of which four threads take 131,072 each: a power of two, so that a stride of an odd number names
-# each place once; and how many where memory is refused, of which two threads take as many
-PLACES, REFUSED_PLACES = 2**19, 2**18
+# each place once; and how many where a place is bad or memory is refused, of which two threads take as many
+PLACES, FEWER_PLACES = 2**19, 2**18
 
 
 def permuted(places):
     return f"n = dis_vuz {places - 1} {places}\nv = ind_luz 0 1 {places}\ni = ind_luz 0 249989 {places}\ni = and_wuz i n\n"
 
 
-PERMUTED = permuted(PLACES)
+def halves(places):
+    """Segments of half the places, and indices in them."""
+    return f"h = dis_vuz {places // 2} 2\nd = mke_fov h\nm = dis_vuz {places // 2 - 1} {places}\ni = and_wuz i m\n"
 
-# in segments of half the places
-HALVES = f"h = dis_vuz {PLACES // 2} 2\nd = mke_fov h\nm = dis_vuz {PLACES // 2 - 1} {PLACES}\ni = and_wuz i m\n"
+
+def nothing(places):
+    return ""
+
+
+def flags(places):
+    return "f = geq_wuz v v\n"
+
 
 # the call, what stands before it, and what shows that its result is right: the result of a simple permute, taken back, is the source
 PERMUTES = [
-    ("smp_puz", "", "p = smp_puz v i\nq = bck_puz p i\n"),
-    ("sel_puz", "f = geq_wuz v v\n", "p = sel_puz v i f\nq = bck_puz p i\n"),
-    ("def_puz", "", "p = def_puz v i n\nq = bck_puz p i\n"),
-    ("bck_puz", "", "p = bck_puz v i\nq = smp_puz p i\n"),
-    ("smp_pez", HALVES, "p = smp_pez v i d\nq = bck_pez p i d d\n"),
-    ("bck_pez", HALVES, "p = bck_pez v i d d\nq = smp_pez p i d\n"),
+    ("smp_puz", nothing, "p = smp_puz v i\nq = bck_puz p i\n"),
+    ("sel_puz", flags, "p = sel_puz v i f\nq = bck_puz p i\n"),
+    ("def_puz", nothing, "p = def_puz v i n\nq = bck_puz p i\n"),
+    ("bck_puz", nothing, "p = bck_puz v i\nq = smp_puz p i\n"),
+    ("smp_pez", halves, "p = smp_pez v i d\nq = bck_pez p i d d\n"),
+    ("bck_pez", halves, "p = bck_pez v i d d\nq = smp_pez p i d\n"),
 ]
 
 # places whose index is another one: one that is no place, or none for that of the place before
-FLAWS = [[(299_990, -1)], [(299_990, PLACES)], [(299_990, None)], [(85_000, None), (299_990, -1)], [(PLACES - 1, None)]]
+FLAWS = [[(199_990, -1)], [(199_990, FEWER_PLACES)], [(199_990, None)], [(85_000, None), (199_990, -1)], [(FEWER_PLACES - 1, None)]]
 
 
 def permutes(rng):
     text = ""
     settings = tiles(("4096", "4"))
     for name, before, call in PERMUTES:
-        script = PERMUTED + before + call + "e = eql_wuz q v\nt = and_rub e\nwrite t\n"
+        script = permuted(PLACES) + before(PLACES) + call + "e = eql_wuz q v\nt = and_rub e\nwrite t\n"
         text += f"== case long {name}\n{settings}== script\n{script}== text\nt = T\n"
         for number, flaws in enumerate(FLAWS):
             if name[0] == "b" and None in (other for _, other in flaws):
                 continue
-            changed, first = PERMUTED + before, min(place for place, _ in flaws)
+            changed, first = permuted(FEWER_PLACES) + before(FEWER_PLACES), min(place for place, _ in flaws)
             for place, other in flaws:
                 changed += f"x = ext_vuz i {place - 1}\ni = rep_vuz i {place} {'x' if other is None else other}\n"
             line = changed.count("\n") + 1
             stop = f"line {line}: fault " + ("11 IndexRepeated" if dict(flaws)[first] is None else "10 IndexOutOfRange") + f" at {first}\n"
             text += f"== case long {name} with a fault, {number}\n{settings}== script\n{changed}{call}== stop\n{stop}"
-    start = permuted(REFUSED_PLACES)
+    start = permuted(FEWER_PLACES)
     changed = start + "i = rep_vuz i 199990 0\n"
     short = tiles(("4096", "4")) + refused(14)
     text += f"== case a long permute where memory is refused\n{short}== script\n{start}p = smp_puz v i\nx = ext_vuz p 0\nwrite x\n== text\nx = 0\n"
