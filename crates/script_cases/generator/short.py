@@ -51,7 +51,9 @@ def permutes(rng):
         rows = [[] for _ in range(4)]
         for number, index in enumerate(lists(range(-1, 5), 4)):
             made = {"i": index, "f": [rng.random() < 0.7 for _ in index], "l": cuts(rng, len(index), 3)}
-            rows[number % 4].append([number_lines(made[kind]) for kind in last])
+            # workers race for few of them, of each length
+            part = 0 if number % 13 == 0 else 1 + number % 3
+            rows[part].append([number_lines(made[kind]) for kind in last])
         for number, (settings, some) in enumerate(zip(LISTED, rows), 1):
             text += each(f"{name} of every short list, part {number}", settings, script + "\n", inputs, some)
     return text
