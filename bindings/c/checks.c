@@ -1,11 +1,19 @@
-/* What is asked of a call before memory is, where that takes a walk: lengths, flags, and the lengths of texts. */
-#include "families.h"
+/* What a call is told that is not in order: the first fault that stands before those of the export, also by a walk over lengths, flags or a text. */
+#include "driver.h"
 #include "segments.h"
 
-/* The fault of lengths that are none of segments, and what they add up to. */
-static CvlStatus lengths_told(const CvlLengths *lengths, size_t most, size_t *total) {
-    if (lengths->segments > most) return cvl_status(CVL_TOO_LONG, -1);
-    const CvlStatus told = cvl_proved_make_descriptor(lengths->lengths, lengths->segments, total);
+CvlStatus cvl_count_told(int64_t count) { return count < 0 ? cvl_status(CVL_NEGATIVE_LENGTH, -1) : cvl_status(CVL_TOO_LONG, -1); }
+
+/* The fault of lengths that are none of segments, or of offsets that are none of rows; and what they add up to. */
+static CvlStatus lengths_told(const CvlOperand *o, CvlSlot lengths, size_t most, size_t *total) {
+    CvlStatus told;
+    if (o->as == CVL_AS_OFFSETS) {
+        told = cvl_offsets_told(lengths.at, lengths.number);
+        if (told.number == CVL_DONE) *total = (size_t)((const int32_t *)lengths.at)[lengths.number - 1];
+        return told;
+    }
+    if (lengths.number > most) return cvl_status(CVL_TOO_LONG, -1);
+    told = cvl_proved_make_descriptor(lengths.at, lengths.number, total);
     return told.number == CVL_DONE && *total > most ? cvl_status(CVL_TOO_LONG, -1) : told;
 }
 
@@ -38,69 +46,93 @@ static size_t all_digits(const int32_t *a, size_t count) {
     return length;
 }
 
-/*@ requires \valid_read(lengths) && \valid_read(lengths->lengths + (0 .. lengths->segments - 1));
-    requires lengths->segments <= CVL_MOST_OF_TEXT && \forall integer s; 0 <= s < lengths->segments ==> 0 <= lengths->lengths[s];
+/*@ requires \valid_read(lengths + (0 .. segments - 1));
+    requires segments <= CVL_MOST_OF_TEXT && \forall integer s; 0 <= s < segments ==> 0 <= lengths[s];
     assigns \nothing;
-    ensures \result == around_in(lengths->lengths, lengths->segments) <= (CVL_MOST_ELEMENTS + 1) * lengths->segments; */
-static size_t around_all(const CvlLengths *lengths) {
+    ensures \result == around_in(lengths, segments) <= (CVL_MOST_ELEMENTS + 1) * segments; */
+static size_t around_all(const int32_t *lengths, size_t segments) {
     size_t length = 0;
-    /*@ loop invariant 0 <= k <= lengths->segments;
-        loop invariant length == around_in(lengths->lengths, k) <= (CVL_MOST_ELEMENTS + 1) * k;
+    /*@ loop invariant 0 <= k <= segments;
+        loop invariant length == around_in(lengths, k) <= (CVL_MOST_ELEMENTS + 1) * k;
         loop assigns k, length;
-        loop variant lengths->segments - k; */
-    for (size_t k = 0; k < lengths->segments; k++) length += around((size_t)lengths->lengths[k]);
+        loop variant segments - k; */
+    for (size_t k = 0; k < segments; k++) length += around((size_t)lengths[k]);
     return length;
 }
 
-/* How long the text is that is asked for: of integers or of booleans, which have a byte each. */
-/*@ requires \valid_read(asked) && asked->written <= CVL_MOST_OF_TEXT;
-    requires asked->ints == \null || \valid_read(asked->ints + (0 .. asked->written - 1));
-    requires \let lengths = asked->lengths[0]; lengths == \null ||
-      (\valid_read(lengths) && \valid_read(lengths->lengths + (0 .. lengths->segments - 1)) && lengths->segments <= CVL_MOST_OF_TEXT &&
-       \forall integer s; 0 <= s < lengths->segments ==> 0 <= lengths->lengths[s]);
+/* How long the text of so many elements is: of integers, or of booleans, which have a byte each; in segments, or in none. */
+/*@ requires count <= CVL_MOST_OF_TEXT && (ints == \null || \valid_read(ints + (0 .. count - 1)));
+    requires lengths == \null || (\valid_read(lengths + (0 .. segments - 1)) && segments <= CVL_MOST_OF_TEXT &&
+      \forall integer s; 0 <= s < segments ==> 0 <= lengths[s]);
     assigns \nothing;
-    ensures \let elements = asked->ints == \null ? asked->written : written_in(asked->ints, asked->written);
-      \result == elements + (asked->lengths[0] == \null ? around_of(asked->written) :
-        around_in(asked->lengths[0]->lengths, asked->lengths[0]->segments) + around_of(asked->lengths[0]->segments)); */
-static size_t text_length(const CvlAsked *asked) {
-    const CvlLengths *lengths = asked->lengths[0];
-    const size_t length = asked->ints == NULL ? asked->written : all_digits(asked->ints, asked->written);
-    return length + (lengths == NULL ? around(asked->written) : around_all(lengths) + around(lengths->segments));
+    ensures \let elements = ints == \null ? count : written_in(ints, count);
+      \result == elements + (lengths == \null ? around_of(count) : around_in(lengths, segments) + around_of(segments)); */
+static size_t text_length(const int32_t *ints, size_t count, const int32_t *lengths, size_t segments) {
+    const size_t length = ints == NULL ? count : all_digits(ints, count);
+    return length + (lengths == NULL ? around(count) : around_all(lengths, segments) + around(segments));
+}
+
+/* The slot of an operand, or nothing. */
+static const CvlSlot *slot_of(const CvlRow *row, const CvlSlot *s, CvlAs as) {
+    for (size_t k = 0; k < row->operands; k++) {
+        if (row->operand[k].as == as) return &s[k];
+    }
+    return NULL;
+}
+
+/* How long the room has to be whose length hangs on elements; or a fault. */
+static CvlStatus needed_told(const CvlRow *row, const CvlSlot *s, size_t *needed) {
+    const CvlSlot *const a = slot_of(row, s, CVL_AS_A), *const flags = slot_of(row, s, CVL_AS_FLAGS), *const lengths = slot_of(row, s, CVL_AS_LENGTHS);
+    int32_t trues = 0;
+    if (row->is & CVL_WRITES_TEXT) {
+        /* no segments have the text of no elements, so that their array may be null */
+        *needed = text_length(row->is & CVL_OF_BOOLS ? NULL : a->at, a->number, lengths == NULL ? NULL : lengths->at, lengths == NULL ? 0 : lengths->number);
+        return cvl_done();
+    }
+    const CvlStatus counted = cvl_proved_count(flags->at, flags->number, &trues);
+    *needed = (size_t)trues;
+    return counted;
 }
 
 /* The fault of a room whose length hangs on elements. */
-static CvlStatus room_told(const CvlAsked *asked) {
-    int32_t trues = 0;
-    size_t needed = asked->room;
-    if (asked->by_flags) {
-        const CvlStatus counted = cvl_proved_count(asked->flags, asked->flags_len, &trues);
-        if (counted.number != CVL_DONE) return counted;
-        needed = (size_t)trues;
-    } else if (asked->count != NULL) {
-        needed = text_length(asked);
-    }
-    if (asked->count == NULL) return needed == asked->room ? cvl_done() : cvl_status(CVL_LENGTH_MISMATCH, -1);
-    if (needed <= asked->room) return cvl_done();
-    *asked->count = needed;
+static CvlStatus room_told(const CvlRow *row, const CvlSlot *s) {
+    const size_t room = slot_of(row, s, CVL_AS_OUT)->number;
+    size_t needed;
+    if (!(row->is & (CVL_BY_TRUES | CVL_WRITES_TEXT))) return cvl_done();
+    const CvlStatus told = needed_told(row, s, &needed);
+    if (told.number != CVL_DONE) return told;
+    if (needed == room || (needed < room && (row->is & CVL_FRONT))) return cvl_done();
+    if (row->is & CVL_FRONT) *(size_t *)slot_of(row, s, CVL_AS_TOLD)->at = needed;
     return cvl_status(CVL_LENGTH_MISMATCH, -1);
 }
 
-CvlStatus cvl_asked(const CvlAsked *asked) {
-    bool agree = asked->agree;
-    if (!asked->known) return cvl_status(CVL_UNKNOWN_CALL, -1);
-    for (size_t k = 0; k < 2 && asked->lengths[k] != NULL; k++) {
+/* Whether a vector is too long, or a range ends behind the last place that one may have. */
+static bool is_too_long(const CvlRow *row, const CvlSlot *s, size_t k) {
+    if (!(row->operand[k].is & CVL_TOO_MANY)) return 0;
+    return row->operand[k].relation == CVL_FROM_LOWEST ? !cvl_is_long_enough(row, s, k) : s[k].number > row->most;
+}
+
+CvlStatus cvl_told(const CvlRow *row, uint32_t op, const CvlSlot *s) {
+    bool agree = cvl_do_agree(row, op, s);
+    if (!cvl_is_known(row, op)) return cvl_status(CVL_UNKNOWN_CALL, -1);
+    for (size_t k = 0; k < row->operands; k++) {
+        const CvlOperand *const o = &row->operand[k];
         size_t total = 0;
-        const CvlStatus told = lengths_told(asked->lengths[k], asked->most, &total);
+        if (o->total == k) continue;
+        const CvlStatus told = lengths_told(o, s[k], row->most, &total);
         if (told.number != CVL_DONE) return told;
-        if (total != asked->totals[k]) agree = 0;
+        if (total != s[o->total].number) agree = 0;
     }
-    if (asked->by_offsets) {
-        const CvlStatus told = cvl_offsets_told(asked->offsets, asked->offsets_len);
-        if (told.number != CVL_DONE) return told;
-        if ((size_t)asked->offsets[asked->offsets_len - 1] != asked->totals[0]) agree = 0;
+    for (size_t k = 0; k < row->operands; k++) {
+        if (is_too_long(row, s, k)) return cvl_status(CVL_TOO_LONG, -1);
     }
-    if (asked->limited > asked->most) return cvl_status(CVL_TOO_LONG, -1);
-    return agree ? room_told(asked) : cvl_status(CVL_LENGTH_MISMATCH, -1);
+    return agree ? room_told(row, s) : cvl_status(CVL_LENGTH_MISMATCH, -1);
+}
+
+/* Whether a status may stand behind one that an export did not ask yet: no memory, and faults of elements. */
+static bool is_late(CvlStatus status) {
+    return status.number == CVL_NO_RESOURCES || status.number == CVL_OVERFLOW ||
+        (status.number >= CVL_DIVIDE_BY_ZERO && status.number <= CVL_INDEX_REPEATED);
 }
 
 /*@ requires \valid_read(text + (0 .. text_len - 1));
@@ -124,14 +156,18 @@ bool cvl_many_words(const char *text, size_t text_len, bool nested) {
     return words > CVL_MOST_OF_TEXT || lists > (size_t)CVL_MOST_OF_TEXT + 1;
 }
 
-bool cvl_copy_flags(const bool **flags, size_t count, bool **copy) {
-    if (cvl_proved_are_flags(*flags, count)) return 1;
-    *copy = malloc(count);
-    if (*copy == NULL) return 0;
-    memcpy(*copy, *flags, count);
-    cvl_proved_make_flags(*copy, count);
-    *flags = *copy;
-    return 1;
+/* Whether a text that there is no memory for is too long, or the words before it are too many. */
+static bool is_too_long_to_read(const CvlRow *row, const CvlSlot *s) {
+    const CvlSlot *const text = slot_of(row, s, CVL_AS_A), *const before = slot_of(row, s, CVL_AS_VALUE);
+    return (before != NULL && before->number > CVL_MOST_ELEMENTS) || cvl_many_words(text->at, text->number, slot_of(row, s, CVL_AS_OTHER_OUT) != NULL);
+}
+
+CvlStatus cvl_told_late(const CvlRow *row, uint32_t op, const CvlSlot *s, CvlStatus status) {
+    if (row->is & CVL_READS_TEXT) {
+        return status.number == CVL_NO_RESOURCES && is_too_long_to_read(row, s) ? cvl_status(CVL_TOO_LONG, -1) : status;
+    }
+    const CvlStatus before = is_late(status) ? cvl_told(row, op, s) : cvl_done();
+    return before.number == CVL_DONE ? status : before;
 }
 
 bool cvl_are_flags(const bool *flags, size_t flags_len) { return cvl_proved_are_flags(flags, flags_len); }

@@ -92,12 +92,6 @@ static bool cut_evenly(const CvlPool *pool, CvlWork *w, size_t n, size_t least, 
     return 1;
 }
 
-bool cvl_cut_by(const CvlPool *pool, CvlWork *w, size_t n, size_t least, size_t each) {
-    return cut_evenly(pool, w, n, least, each) && runs_all(pool, w);
-}
-
-bool cvl_cut(const CvlPool *pool, CvlWork *w, size_t n) { return cvl_cut_by(pool, w, n, CVL_LEAST_SHARED, CVL_LEAST_EACH); }
-
 /*@ assigns \nothing;
     ensures \result <==> is_white_byte(byte); */
 static bool is_white(char byte) { return byte == ' ' || byte == '\t' || byte == '\n' || byte == '\r'; }
@@ -133,10 +127,6 @@ static bool cut_at_white(const CvlPool *pool, CvlWork *w, const char *text, size
         w->from[k] = white_from(text, n, to < w->from[k - 1] ? w->from[k - 1] : to);
     }
     return 1;
-}
-
-bool cvl_cut_text(const CvlPool *pool, CvlWork *w, const char *text, size_t n) {
-    return cut_at_white(pool, w, text, n) && runs_all(pool, w);
 }
 
 /* ---- segments: the elements are cut, and each part finds the segments that start in it ---- */
@@ -190,18 +180,23 @@ static CvlStatus start_part(CvlWork *w, size_t k) {
 }
 
 /* An empty segment that stands at a cut starts in the part behind it, and one behind the last element in the last part. */
-bool cvl_cut_segments_by(const CvlPool *pool, CvlWork *w, size_t n, CvlLengths lengths, size_t least, size_t each) {
-    if (lengths.segments > CVL_MOST_ELEMENTS || !cut_evenly(pool, w, n, least, each)) return 0;
-    w->lengths = lengths.lengths, w->segments = lengths.segments;
+static bool cut_segments(const CvlPool *pool, CvlWork *w, size_t n, CvlSlot lengths, size_t least, size_t each) {
+    if (lengths.number > CVL_MOST_ELEMENTS || !cut_evenly(pool, w, n, least, each)) return 0;
+    w->lengths = lengths.at, w->segments = lengths.number;
     if (!cvl_reads(pool, w, lengths_part)) return 0;
     for (size_t k = 0; k < w->parts; k++) w->other[k + 1] = w->other[k] + w->counts[k];
     if (w->other[w->parts] != n) return 0;
-    w->first[w->parts] = lengths.segments, w->start[w->parts] = n;
+    w->first[w->parts] = lengths.number, w->start[w->parts] = n;
     return cvl_reads(pool, w, start_part);
 }
 
-bool cvl_cut_segments(const CvlPool *pool, CvlWork *w, size_t n, CvlLengths lengths) {
-    return cvl_cut_segments_by(pool, w, n, lengths, CVL_LEAST_SHARED, CVL_LEAST_EACH);
+bool cvl_cut(const CvlPool *pool, CvlWork *w, const CvlRow *row, const CvlSlot *s) {
+    const size_t n = s[row->cut].number;
+    for (size_t k = 0; k < row->operands; k++) {
+        if (row->operand[k].as == CVL_AS_LENGTHS && k != row->cut) return cut_segments(pool, w, n, s[k], row->least, row->each);
+    }
+    if (row->is & CVL_READS_TEXT) return cut_at_white(pool, w, s[row->cut].at, n) && runs_all(pool, w);
+    return cut_evenly(pool, w, n, row->least, row->each) && runs_all(pool, w);
 }
 
 /*@ requires \valid_read(w) && has_segments(w) && knows_starts(w) && k < w->parts;
@@ -227,10 +222,11 @@ CvlPiece cvl_piece(const CvlWork *w, size_t k) {
 
 bool cvl_lengths_in_parts(const CvlPool *pool, CvlWork *w) {
     size_t sum = 0;
+    w->lengths = w->in[CVL_AS_LENGTHS].at, w->segments = w->in[CVL_AS_LENGTHS].number;
     if (!cvl_reads(pool, w, lengths_part)) return 0;
     for (size_t k = 0; k < w->parts; k++) sum += w->counts[k];
     if (sum > CVL_MOST_ELEMENTS) return 0;
-    *w->count = sum;
+    *cvl_told_at(w) = sum;
     w->told = cvl_done();
     return 1;
 }
@@ -245,42 +241,47 @@ static size_t share(const CvlWork *w, size_t len, size_t k) {
     return len / w->parts * k + (k < len % w->parts ? k : len % w->parts);
 }
 
-static bool share_is_flags(const CvlWork *w, const void *flags, size_t len, size_t k) {
-    const size_t from = share(w, len, k);
-    return cvl_proved_are_flags(CVL_BOOLS(flags, from), share(w, len, k + 1) - from);
+/* The flags among the arguments that have to be 0 and 1, from the operand k on: the next of them, or the number of operands. */
+static size_t next_copied(const CvlRow *row, size_t k) {
+    while (k < row->operands && !(row->operand[k].is & CVL_COPIED_IN_PARTS)) k++;
+    return k;
 }
 
 static CvlStatus flags_part(CvlWork *w, size_t k) {
-    const bool all = (!w->a_is_flags || share_is_flags(w, w->a, w->a_len, k)) && (!w->b_is_flags || share_is_flags(w, w->b, w->b_len, k)) &&
-        (!w->flags_are_flags || share_is_flags(w, w->flags, w->flags_len, k));
-    return all ? cvl_done() : cvl_status(CVL_NO_RESOURCES, -1);
+    for (size_t j = next_copied(w->row, 0); j < w->row->operands; j = next_copied(w->row, j + 1)) {
+        const CvlSlot flags = w->in[w->row->operand[j].as];
+        const size_t from = share(w, flags.number, k), to = share(w, flags.number, k + 1);
+        if (!cvl_proved_are_flags((const bool *)flags.at + from, to - from)) return cvl_status(CVL_NO_RESOURCES, -1);
+    }
+    return cvl_done();
 }
 
-static bool *copy_share(const CvlWork *w, const void *flags, size_t len, bool *copy, size_t k) {
-    const size_t from = share(w, len, k), n = share(w, len, k + 1) - from;
-    if (n > 0) memcpy(copy + from, CVL_BOOLS(flags, from), n);
-    cvl_proved_make_flags(copy + from, n);
-    return copy + len;
-}
-
+/* Each part copies its share of all of them, one array behind the other. */
 static CvlStatus copies_part(CvlWork *w, size_t k) {
     bool *copy = w->copies;
-    if (w->a_is_flags) copy = copy_share(w, w->a, w->a_len, copy, k);
-    if (w->b_is_flags) copy = copy_share(w, w->b, w->b_len, copy, k);
-    if (w->flags_are_flags) copy_share(w, w->flags, w->flags_len, copy, k);
+    for (size_t j = next_copied(w->row, 0); j < w->row->operands; j = next_copied(w->row, j + 1)) {
+        const CvlSlot flags = w->in[w->row->operand[j].as];
+        const size_t from = share(w, flags.number, k), n = share(w, flags.number, k + 1) - from;
+        if (n > 0) memcpy(copy + from, (const bool *)flags.at + from, n);
+        cvl_proved_make_flags(copy + from, n);
+        copy += flags.number;
+    }
     return cvl_done();
 }
 
 bool cvl_make_all(const CvlPool *pool, CvlWork *w) {
-    const size_t a_len = w->a_is_flags ? w->a_len : 0, b_len = w->b_is_flags ? w->b_len : 0;
-    if (!w->a_is_flags && !w->b_is_flags && !w->flags_are_flags) return 1;
-    if (cvl_reads(pool, w, flags_part)) return 1;
+    const CvlRow *const row = w->row;
+    size_t bytes = 0;
+    if (next_copied(row, 0) == row->operands || cvl_reads(pool, w, flags_part)) return 1;
     if (w->left_out) return 0;
-    w->copies = malloc(a_len + b_len + (w->flags_are_flags ? w->flags_len : 0));
+    for (size_t j = next_copied(row, 0); j < row->operands; j = next_copied(row, j + 1)) bytes += w->in[row->operand[j].as].number;
+    w->copies = malloc(bytes);
     if (w->copies == NULL || !cvl_writes(pool, w, copies_part)) return 0;
-    if (w->a_is_flags) w->a = w->copies;
-    if (w->b_is_flags) w->b = w->copies + a_len;
-    if (w->flags_are_flags) w->flags = w->copies + a_len + b_len;
+    const bool *copy = w->copies;
+    for (size_t j = next_copied(row, 0); j < row->operands; j = next_copied(row, j + 1)) {
+        w->in[row->operand[j].as].at = copy;
+        copy += w->in[row->operand[j].as].number;
+    }
     return 1;
 }
 
@@ -292,15 +293,20 @@ bool cvl_keep(CvlWork *w, size_t bytes) {
 }
 
 static CvlStatus kept_part(CvlWork *w, size_t k) {
-    const size_t from = w->rooms[k] * w->size, bytes = w->rooms[k + 1] * w->size - from;
-    if (bytes > 0) memcpy(w->kept + from, (const char *)w->out + from, bytes);
+    const size_t from = w->rooms[k] * cvl_size(w), bytes = w->rooms[k + 1] * cvl_size(w) - from;
+    if (bytes > 0) memcpy(w->kept + from, (const char *)w->in[CVL_AS_OUT].at + from, bytes);
     return w->part(w, k);
+}
+
+void cvl_put_back(CvlWork *w) {
+    const CvlSlot out = w->in[CVL_AS_OUT];
+    if (out.number > 0) memcpy((void *)out.at, w->kept, out.number * cvl_size(w));
 }
 
 bool cvl_writes_kept(const CvlPool *pool, CvlWork *w, CvlStepPart part) {
     w->part = part;
     if (cvl_writes(pool, w, kept_part)) return 1;
-    if (w->out_len > 0) memcpy(w->out, w->kept, w->out_len * w->size);
+    cvl_put_back(w);
     return 0;
 }
 

@@ -1,36 +1,81 @@
 /* Calls in parts on whole vectors: each part is a range of places, and what the parts tell is joined. */
 #include "parts.h"
 
+/* ---- at places ---- */
+
+/* A number from its beginning on, or one of a progression from the part's first place on. */
+static CvlSlot number_of_part(const CvlWork *w, const CvlOperand *o, size_t k) {
+    CvlSlot slot = w->in[o->as];
+    if (o->as == CVL_AS_COUNT) slot.number = w->from[k + 1] - w->from[k];
+    else slot.number += w->from[k] * w->in[CVL_AS_STRIDE].number;
+    return slot;
+}
+
+const size_t *cvl_boundaries(const CvlWork *w, CvlBy by) {
+    switch (by) {
+    case CVL_BY_FROM: return w->from;
+    case CVL_BY_FIRST: return w->first;
+    case CVL_BY_START: return w->start;
+    default: return w->other;
+    }
+}
+
+/* What a part has of an operand. */
+static CvlSlot slot_of_part(const CvlWork *w, const CvlOperand *o, size_t k) {
+    CvlSlot slot = w->in[o->as];
+    if (o->by == CVL_BY_NONE) return slot;
+    if (o->size == 0) return number_of_part(w, o, k);
+    const size_t *const from = cvl_boundaries(w, o->by);
+    slot.at = (const char *)slot.at + from[k] * o->size;
+    slot.number = from[k + 1] - from[k];
+    return slot;
+}
+
+CvlStatus cvl_make_part(CvlWork *w, size_t k) {
+    CvlSlot s[CVL_MOST_OPERANDS];
+    for (size_t j = 0; j < w->row->operands; j++) s[j] = slot_of_part(w, &w->row->operand[j], k);
+    return w->row->make(w->op, s);
+}
+
+/* The same without a room, which looks for faults. */
+static CvlStatus look_part(CvlWork *w, size_t k) {
+    static const CvlSlot none = {NULL, 0};
+    CvlSlot s[CVL_MOST_OPERANDS];
+    for (size_t j = 0; j < w->row->operands; j++) s[j] = j == w->row->out ? none : slot_of_part(w, &w->row->operand[j], k);
+    return cvl_looked(w->row->make(w->op, s));
+}
+
 bool cvl_places_in_parts(const CvlPool *pool, CvlWork *w) {
-    if (!cvl_make_all(pool, w) || (w->look != NULL && !cvl_reads(pool, w, w->look))) return 0;
+    if (!cvl_make_all(pool, w) || ((w->row->faulty >> w->op & 1) && !cvl_reads(pool, w, look_part))) return 0;
     w->told = cvl_done();
-    return cvl_writes(pool, w, w->part);
+    return cvl_writes(pool, w, cvl_make_part);
 }
 
 static CvlStatus copy_part(CvlWork *w, size_t k) {
     const size_t from = w->from[k], n = w->from[k + 1] - from;
-    if (w->of_bools) return cvl_proved_bool1(CVL_CPY, CVL_BOOLS(w->a, from), n, CVL_BOOL_ROOM(w->out, from), n);
-    return cvl_proved_int1(CVL_CPY, CVL_INTS(w->a, from), n, CVL_INT_ROOM(w->out, from), n);
+    if (cvl_of_bools(w)) return cvl_proved_bool1(CVL_CPY, CVL_BOOLS(w, CVL_AS_A, from), n, CVL_BOOL_ROOM(w, from), n);
+    return cvl_proved_int1(CVL_CPY, CVL_INTS(w, CVL_AS_A, from), n, CVL_INT_ROOM(w, from), n);
 }
 
 /* The parts are copied, and then the one element is written. */
 bool cvl_replace_in_parts(const CvlPool *pool, CvlWork *w) {
+    const size_t place = w->in[CVL_AS_PLACE].number, value = w->in[CVL_AS_VALUE].number;
     w->told = cvl_done();
     if (!cvl_writes(pool, w, copy_part)) return 0;
-    if (w->of_bools) *CVL_BOOL_ROOM(w->out, w->place) = w->value != 0;
-    else *CVL_INT_ROOM(w->out, w->place) = w->value;
+    if (cvl_of_bools(w)) *CVL_BOOL_ROOM(w, place) = value != 0;
+    else *CVL_INT_ROOM(w, place) = (int32_t)value;
     return 1;
 }
 
 /* ---- reduces and scans: each part's reduce is told, and what stands before it is theirs, joined ---- */
 
 CvlStatus cvl_reduce_of(const CvlWork *w, size_t from, size_t to, CvlItem *sum) {
-    if (w->of_bools) return cvl_proved_bool_reduce(w->op, CVL_BOOLS(w->a, from), to - from, &sum->flag);
-    return cvl_proved_int_reduce(w->op, CVL_INTS(w->a, from), to - from, &sum->number);
+    if (cvl_of_bools(w)) return cvl_proved_bool_reduce(w->op, CVL_BOOLS(w, CVL_AS_A, from), to - from, &sum->flag);
+    return cvl_proved_int_reduce(w->op, CVL_INTS(w, CVL_AS_A, from), to - from, &sum->number);
 }
 
 CvlStatus cvl_join_of(const CvlWork *w, CvlItem first, CvlItem second, CvlItem *joined) {
-    if (w->of_bools) {
+    if (cvl_of_bools(w)) {
         const bool flags[2] = {first.flag, second.flag};
         return cvl_proved_bool_reduce(w->op, flags, 2, &joined->flag);
     }
@@ -40,8 +85,12 @@ CvlStatus cvl_join_of(const CvlWork *w, CvlItem first, CvlItem second, CvlItem *
 
 CvlStatus cvl_scan_range(const CvlWork *w, CvlItem before, size_t from, size_t to) {
     const size_t n = to - from;
-    if (w->of_bools) return cvl_bool_scan_after_placed(w->op, before.flag, CVL_BOOLS(w->a, from), n, CVL_BOOL_ROOM(w->out, from), n);
-    return cvl_int_scan_after_placed(w->op, before.number, CVL_INTS(w->a, from), n, CVL_INT_ROOM(w->out, from), n);
+    if (cvl_of_bools(w)) {
+        const CvlSlot s[] = {{NULL, before.flag}, {CVL_BOOLS(w, CVL_AS_A, from), n}, {CVL_BOOL_ROOM(w, from), n}};
+        return cvl_bool_scan_after_row.make(w->op, s);
+    }
+    const CvlSlot s[] = {{NULL, (size_t)before.number}, {CVL_INTS(w, CVL_AS_A, from), n}, {CVL_INT_ROOM(w, from), n}};
+    return cvl_int_scan_after_row.make(w->op, s);
 }
 
 static CvlStatus reduce_part(CvlWork *w, size_t k) { return cvl_reduce_of(w, w->from[k], w->from[k + 1], &w->sums[k]); }
@@ -61,8 +110,8 @@ static bool join_parts(const CvlPool *pool, CvlWork *w, CvlItem *sum) {
 bool cvl_reduce_in_parts(const CvlPool *pool, CvlWork *w) {
     CvlItem sum;
     if (!join_parts(pool, w, &sum)) return 0;
-    if (w->of_bools) *CVL_BOOL_ROOM(w->out, 0) = sum.flag;
-    else *CVL_INT_ROOM(w->out, 0) = sum.number;
+    if (cvl_of_bools(w)) *CVL_BOOL_ROOM(w, 0) = sum.flag;
+    else *CVL_INT_ROOM(w, 0) = sum.number;
     w->told = cvl_done();
     return 1;
 }
@@ -78,7 +127,7 @@ bool cvl_scan_in_parts(const CvlPool *pool, CvlWork *w) {
 
 static CvlStatus total_part(CvlWork *w, size_t k) {
     const size_t from = w->from[k];
-    return cvl_proved_exact_sum(CVL_INTS(w->a, from), w->from[k + 1] - from, &w->totals[k]);
+    return cvl_proved_exact_sum(CVL_INTS(w, CVL_AS_A, from), w->from[k + 1] - from, &w->totals[k]);
 }
 
 bool cvl_checked_reduce_in_parts(const CvlPool *pool, CvlWork *w) {
@@ -86,14 +135,14 @@ bool cvl_checked_reduce_in_parts(const CvlPool *pool, CvlWork *w) {
     if (!cvl_reads(pool, w, total_part)) return 0;
     for (size_t k = 0; k < w->parts; k++) sum += w->totals[k];
     if (!cvl_fits(sum)) return 0;
-    *CVL_INT_ROOM(w->out, 0) = (int32_t)sum;
+    *CVL_INT_ROOM(w, 0) = (int32_t)sum;
     w->told = cvl_done();
     return 1;
 }
 
 static CvlStatus checked_look(CvlWork *w, size_t k) {
     const size_t from = w->from[k];
-    return cvl_looked(cvl_proved_checked_scan_after(w->reached[k], CVL_INTS(w->a, from), w->from[k + 1] - from, NULL, 0));
+    return cvl_looked(cvl_proved_checked_scan_after(w->reached[k], CVL_INTS(w, CVL_AS_A, from), w->from[k + 1] - from, NULL, 0));
 }
 
 bool cvl_checked_scan_in_parts(const CvlPool *pool, CvlWork *w) {
@@ -108,7 +157,7 @@ bool cvl_checked_scan_in_parts(const CvlPool *pool, CvlWork *w) {
 /* ---- counts and packs: the parts' counts tell where each part's elements go ---- */
 
 static CvlStatus count_part(CvlWork *w, size_t k) {
-    return cvl_proved_count(w->flags + w->from[k], w->from[k + 1] - w->from[k], &w->sums[k].number);
+    return cvl_proved_count(CVL_BOOLS(w, CVL_AS_FLAGS, w->from[k]), w->from[k + 1] - w->from[k], &w->sums[k].number);
 }
 
 /* How many flags are true before each part, and in all. */
@@ -120,17 +169,17 @@ static bool count_parts(const CvlPool *pool, CvlWork *w) {
 
 bool cvl_count_in_parts(const CvlPool *pool, CvlWork *w) {
     if (!count_parts(pool, w)) return 0;
-    *CVL_INT_ROOM(w->out, 0) = (int32_t)w->other[w->parts];
+    *CVL_INT_ROOM(w, 0) = (int32_t)w->other[w->parts];
     w->told = cvl_done();
     return 1;
 }
 
 static CvlStatus pack_part(CvlWork *w, size_t k) {
     const size_t from = w->from[k], n = w->from[k + 1] - from, to = w->other[k], kept = w->other[k + 1] - to;
-    if (w->of_bools) {
-        return cvl_proved_pack_bool(CVL_BOOLS(w->a, from), n, w->flags + from, n, CVL_BOOL_ROOM(w->out, to), kept, &w->counts[k]);
+    if (cvl_of_bools(w)) {
+        return cvl_proved_pack_bool(CVL_BOOLS(w, CVL_AS_A, from), n, CVL_BOOLS(w, CVL_AS_FLAGS, from), n, CVL_BOOL_ROOM(w, to), kept, &w->counts[k]);
     }
-    return cvl_proved_pack_int(CVL_INTS(w->a, from), n, w->flags + from, n, CVL_INT_ROOM(w->out, to), kept, &w->counts[k]);
+    return cvl_proved_pack_int(CVL_INTS(w, CVL_AS_A, from), n, CVL_BOOLS(w, CVL_AS_FLAGS, from), n, CVL_INT_ROOM(w, to), kept, &w->counts[k]);
 }
 
 /* A pack of segments keeps what a pack of the whole keeps, once the lengths are those of the vector. */
@@ -138,8 +187,8 @@ bool cvl_pack_in_parts(const CvlPool *pool, CvlWork *w) {
     w->other[0] = 0;
     if (!count_parts(pool, w)) return 0;
     const size_t count = w->other[w->parts];
-    w->told = count > w->out_len ? cvl_status(CVL_LENGTH_MISMATCH, -1) : cvl_done();
-    if (count <= w->out_len && (!cvl_make_all(pool, w) || !cvl_writes(pool, w, pack_part))) return 0;
-    *w->count = count;
+    w->told = count > w->in[CVL_AS_OUT].number ? cvl_status(CVL_LENGTH_MISMATCH, -1) : cvl_done();
+    if (count <= w->in[CVL_AS_OUT].number && (!cvl_make_all(pool, w) || !cvl_writes(pool, w, pack_part))) return 0;
+    *cvl_told_at(w) = count;
     return 1;
 }

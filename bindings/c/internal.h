@@ -1,10 +1,8 @@
 /*
  * internal.h: what the compiled C of the library shares. A caller sees cvl.h and cvl_parallel.h alone.
  *
- * A call goes from its checked function, which looks at what the proved exports cannot see, to an export of crates/cvl_c under its
- * name here, as cvl_proved_int2. What a checked function answers beside its export is told by the first of these that is so:
- * arrays overlap; the operator is none of the family; lengths are none of segments; a vector is too long; arrays are not as long as
- * they have to be; there is no memory.
+ * A call goes from its function through the driver (driver.h), which looks at what the proved exports cannot see, to an export of
+ * crates/cvl_c under its name here, as cvl_proved_int2.
  */
 #ifndef CVL_INTERNAL_H
 #define CVL_INTERNAL_H
@@ -55,9 +53,6 @@ static inline bool cvl_meet(const void *a, size_t a_len, size_t a_size, const vo
 }
 #define CVL_MEET(a, a_len, b, b_len) cvl_meet(a, a_len, sizeof *(a), b, b_len, sizeof *(b))
 
-/* The same, but that they may be one array, from its first to its last element. */
-#define CVL_ASKEW(a, a_len, b, b_len) (!((const void *)(a) == (const void *)(b) && (a_len) == (b_len)) && CVL_MEET(a, a_len, b, b_len))
-
 /* A place or a count of 32 bits, where it is one: else a place that no vector has, and a count that is none. */
 /*@ assigns \nothing;
     ensures 0 <= place <= INT32_MAX ? \result == place : \result == -1; */
@@ -66,41 +61,7 @@ static inline int32_t cvl_place_of(int64_t place) { return place < 0 || place > 
     ensures \result == (0 <= count ? count : 0); */
 static inline size_t cvl_room_of(int64_t count) { return count < 0 ? 0 : (size_t)count; }
 
-/* What is asked of a call before memory is. */
-typedef struct CvlAsked {
-    bool known;     /* whether the operator is one of the family */
-    bool agree;     /* whether arrays are as long as they have to be, as far as that can be compared */
-    size_t most;    /* the most elements of a vector, and the most that lengths add up to */
-    size_t limited; /* how many elements the vector has that may be too long */
-    const CvlLengths *lengths[2];
-    size_t totals[2]; /* what the lengths have to add up to, or the last offset has to be */
-    bool by_offsets;  /* whether rows come by their offsets */
-    const int32_t *offsets;
-    size_t offsets_len;
-    /* what the room has to be as long as, where no number says it: as many as flags are true */
-    bool by_flags;
-    const bool *flags;
-    size_t flags_len, room;
-    size_t *count; /* where that is told, and the room may be longer */
-    /* what is written as a text */
-    const int32_t *ints;
-    const bool *bools;
-    size_t written;
-} CvlAsked;
-
-/* The first fault of what is asked, or that it is done. */
-CVL_HIDDEN CvlStatus cvl_asked(const CvlAsked *asked);
-
 /* Whether a text has more words than a vector may have elements; brackets are none where the text is nested. */
 CVL_HIDDEN bool cvl_many_words(const char *text, size_t text_len, bool nested);
-
-/* Whether a status may stand behind one that an export did not ask yet: no memory, and faults of elements. */
-static inline bool cvl_is_late(CvlStatus status) {
-    return status.number == CVL_NO_RESOURCES || status.number == CVL_OVERFLOW ||
-        (status.number >= CVL_DIVIDE_BY_ZERO && status.number <= CVL_INDEX_REPEATED);
-}
-
-/* Lets `flags` lead to booleans that are each 0 or 1, by a copy, which is to be freed. Whether there was memory for that. */
-CVL_HIDDEN bool cvl_copy_flags(const bool **flags, size_t count, bool **copy);
 
 #endif

@@ -1,12 +1,13 @@
 /*
- * parts.h: a call in parts, as its steps see it. A function in parts looks at what its plain function looks at, cuts the vector, asks
- * for all memory that it needs itself, and runs steps by the pool. Where any of this doesn't do, the rooms are as they were,
- * and the plain function answers.
+ * parts.h: a call in parts, as its steps see it. The driver looks at what it looks at in every call, cuts the vector, and runs the way of
+ * the row to make the parts, which asks for all memory that it needs itself, and runs steps by the pool. Where any of this doesn't do, the
+ * rooms are as they were, and the call is made by the thread that calls.
  */
 #ifndef CVL_PARTS_H
 #define CVL_PARTS_H
 
-#include "families.h"
+#include "proved.h"
+#include "rows.h"
 #include "threads.h"
 
 typedef union CvlItem {
@@ -14,11 +15,7 @@ typedef union CvlItem {
     bool flag;
 } CvlItem;
 
-typedef struct CvlWork CvlWork;
 typedef CvlStatus (*CvlStepPart)(CvlWork *work, size_t part);
-
-/* What says how long a part is in a second vector. */
-typedef enum CvlOther { CVL_BY_NOTHING, CVL_BY_FLAGS, CVL_BY_LENGTHS } CvlOther;
 
 /* A call in parts. Each step writes the fields of its own part, and reads what earlier steps wrote. */
 struct CvlWork {
@@ -38,32 +35,29 @@ struct CvlWork {
     bool left_out;                 /* whether the pool left a part out */
     char *kept;                    /* what stood in the room before, where it may have to be put back, or the parts' texts */
     bool *copies;                  /* copies of flags that are neither 0 nor 1 */
-    /* the arguments, of which each call has some */
+    /* the call */
+    const CvlRow *row;
     uint32_t op;
-    bool of_bools;
-    size_t size; /* of an element of the room, in bytes */
-    const void *a, *b;
-    const bool *flags;
-    size_t a_len, b_len, flags_len;
-    bool a_is_flags, b_is_flags, flags_are_flags; /* which are to be 0 and 1 */
-    const int32_t *index, *lengths, *other_lengths;
-    size_t segments, other_len;
-    CvlOther other_by;
-    int32_t value, stride;
-    size_t place;
-    void *out;
-    size_t out_len;
-    size_t *count;
-    const size_t *rooms; /* the first place of each part in the room */
-    CvlStepPart look, part;
+    CvlSlot in[CVL_ROLES];    /* its arguments, by what they are to it */
+    const int32_t *lengths;   /* those that it is cut by */
+    size_t segments;
+    const size_t *rooms;     /* the first place of each part in the room */
+    CvlStepPart part;         /* what each part does after it kept its range of the room */
 };
 
-#define CVL_TEXT(array, place) ((const char *)(array) + (place))
-#define CVL_BYTES(array, place) ((const bool *)(array) + (place))
-#define CVL_INTS(array, place) ((const int32_t *)(array) + (place))
-#define CVL_BOOLS(array, place) ((const bool *)(array) + (place))
-#define CVL_INT_ROOM(array, place) ((int32_t *)(array) + (place))
-#define CVL_BOOL_ROOM(array, place) ((bool *)(array) + (place))
+/* Elements of an argument from a place on. */
+#define CVL_INTS(w, as, place) ((const int32_t *)(w)->in[as].at + (place))
+#define CVL_BOOLS(w, as, place) ((const bool *)(w)->in[as].at + (place))
+#define CVL_INT_ROOM(w, place) ((int32_t *)(w)->in[CVL_AS_OUT].at + (place))
+#define CVL_BOOL_ROOM(w, place) ((bool *)(w)->in[CVL_AS_OUT].at + (place))
+
+static inline bool cvl_of_bools(const CvlWork *w) { return (w->row->is & CVL_OF_BOOLS) != 0; }
+
+/* The bytes of an element of the room. */
+static inline size_t cvl_size(const CvlWork *w) { return w->row->operand[w->row->out].size; }
+
+/* Where the call tells a number beside its room. */
+static inline size_t *cvl_told_at(const CvlWork *w) { return (size_t *)w->in[CVL_AS_TOLD].at; }
 
 /* The number at a place, wrapped: where a part starts. */
 static inline int32_t cvl_number_at(int32_t init, int32_t stride, size_t place) {
@@ -72,13 +66,11 @@ static inline int32_t cvl_number_at(int32_t init, int32_t stride, size_t place) 
 
 /* ---- cutting, and the steps: cut.c ---- */
 
-/* Cuts n elements into as many parts as the pool has, and answers whether they are more than one. */
-CVL_HIDDEN bool cvl_cut(const CvlPool *pool, CvlWork *w, size_t n);
-CVL_HIDDEN bool cvl_cut_by(const CvlPool *pool, CvlWork *w, size_t n, size_t least, size_t each);
-
-/* The same of elements in segments, where the lengths are those of n elements. */
-CVL_HIDDEN bool cvl_cut_segments(const CvlPool *pool, CvlWork *w, size_t n, CvlLengths lengths);
-CVL_HIDDEN bool cvl_cut_segments_by(const CvlPool *pool, CvlWork *w, size_t n, CvlLengths lengths, size_t least, size_t each);
+/*
+ * Cuts a call: at places; a text at white space; and where there are segments, at places, so that each part knows the segments that start
+ * in it. Whether there is more than one part, and a pool that runs each.
+ */
+CVL_HIDDEN bool cvl_cut(const CvlPool *pool, CvlWork *w, const CvlRow *row, const CvlSlot *s);
 
 /*
  * Runs a step in all parts, and answers whether all are done. A part that the pool leaves out of a step that only reads ends the call;
@@ -104,6 +96,9 @@ CVL_HIDDEN bool cvl_make_all(const CvlPool *pool, CvlWork *w);
 
 /* Takes memory for so many bytes, and answers whether there is some. */
 CVL_HIDDEN bool cvl_keep(CvlWork *w, size_t bytes);
+
+/* Puts back what stood in the room, which the parts kept. */
+CVL_HIDDEN void cvl_put_back(CvlWork *w);
 
 /* Runs a step that may be refused, whose parts keep what stood in their ranges of the room; it is put back where one isn't done. */
 CVL_HIDDEN bool cvl_writes_kept(const CvlPool *pool, CvlWork *w, CvlStepPart part);
@@ -145,8 +140,12 @@ CVL_HIDDEN bool cvl_seg_numbers_in_parts(const CvlPool *pool, CvlWork *w);
 CVL_HIDDEN bool cvl_write_in_parts(const CvlPool *pool, CvlWork *w);
 CVL_HIDDEN bool cvl_read_in_parts(const CvlPool *pool, CvlWork *w);
 
-/* Cuts a text at white space. */
-CVL_HIDDEN bool cvl_cut_text(const CvlPool *pool, CvlWork *w, const char *text, size_t n);
+/* The rows of what parts call beside their own. */
+extern CVL_HIDDEN const CvlRow cvl_int_scan_after_row, cvl_bool_scan_after_row, cvl_seg_int_scan_row, cvl_seg_bool_scan_row;
+
+/* Makes the call on what a part has of each operand; and the boundaries by which parts have it. */
+CVL_HIDDEN CvlStatus cvl_make_part(CvlWork *w, size_t k);
+CVL_HIDDEN const size_t *cvl_boundaries(const CvlWork *w, CvlBy by);
 
 /* What one element, or a part's elements, join to: for reduces and scans of segments too. */
 CVL_HIDDEN CvlStatus cvl_reduce_of(const CvlWork *w, size_t from, size_t to, CvlItem *sum);

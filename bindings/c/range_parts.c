@@ -2,47 +2,50 @@
 #include "parts.h"
 
 /* How many bytes are kept of a room, up to whole words. The marks stand behind them, a bit a place, and each part has words of its own. */
-static size_t kept_bytes(const CvlWork *w) { return (w->out_len * w->size + 3) / 4 * 4; }
+static size_t kept_bytes(const CvlWork *w) { return (w->in[CVL_AS_OUT].number * cvl_size(w) + 3) / 4 * 4; }
 
 /* The part's range of the result, over its defaults where there are any, by its own marks. */
 static CvlStatus range_part(CvlWork *w, size_t k) {
-    const size_t from = w->from[k], n = w->from[k + 1] - from, len = w->a_len, words = (n + 31) / 32;
-    uint32_t *marks = (uint32_t *)(void *)(w->kept + kept_bytes(w)) + from / 32 + k;
-    if (w->of_bools && w->flags != NULL) {
+    const size_t from = w->from[k], n = w->from[k + 1] - from, len = w->in[CVL_AS_INDEX].number, words = (n + 31) / 32;
+    const int32_t *const ints = w->in[CVL_AS_A].at, *const index = w->in[CVL_AS_INDEX].at;
+    const bool *const bools = w->in[CVL_AS_A].at, *const flags = w->in[CVL_AS_FLAGS].at;
+    uint32_t *const marks = (uint32_t *)(void *)(w->kept + kept_bytes(w)) + from / 32 + k;
+    size_t *const count = &w->counts[k];
+    if (cvl_of_bools(w) && flags != NULL) {
         return cvl_proved_select_permute_bool_range(
-            CVL_BOOLS(w->a, 0), len, w->index, len, w->flags, len, from, CVL_BOOL_ROOM(w->out, from), n, marks, words, &w->counts[k]);
+            bools, len, index, len, flags, len, from, CVL_BOOL_ROOM(w, from), n, marks, words, count);
     }
-    if (w->of_bools) {
-        return cvl_proved_permute_bool_range(
-            CVL_BOOLS(w->a, 0), len, w->index, len, from, CVL_BOOL_ROOM(w->out, from), n, marks, words, &w->counts[k]);
+    if (cvl_of_bools(w)) {
+        return cvl_proved_permute_bool_range(bools, len, index, len, from, CVL_BOOL_ROOM(w, from), n, marks, words, count);
     }
-    if (w->flags != NULL) {
+    if (flags != NULL) {
         return cvl_proved_select_permute_int_range(
-            CVL_INTS(w->a, 0), len, w->index, len, w->flags, len, from, CVL_INT_ROOM(w->out, from), n, marks, words, &w->counts[k]);
+            ints, len, index, len, flags, len, from, CVL_INT_ROOM(w, from), n, marks, words, count);
     }
-    return cvl_proved_permute_int_range(
-        CVL_INTS(w->a, 0), len, w->index, len, from, CVL_INT_ROOM(w->out, from), n, marks, words, &w->counts[k]);
+    return cvl_proved_permute_int_range(ints, len, index, len, from, CVL_INT_ROOM(w, from), n, marks, words, count);
 }
 
 /* A range moves bytes as they are, so that those of booleans are made 0 and 1 in the room. */
 static CvlStatus permute_part(CvlWork *w, size_t k) {
-    const size_t from = w->from[k], n = w->from[k + 1] - from;
-    if (w->b != NULL && n > 0) memcpy((char *)w->out + from * w->size, CVL_TEXT(w->b, from * w->size), n * w->size);
+    const size_t from = w->from[k], n = w->from[k + 1] - from, size = cvl_size(w);
+    const char *const defaults = w->in[CVL_AS_B].at;
+    if (defaults != NULL && n > 0) memcpy((char *)w->in[CVL_AS_OUT].at + from * size, defaults + from * size, n * size);
     const CvlStatus status = range_part(w, k);
-    if (w->of_bools && status.number == CVL_DONE) cvl_proved_make_flags(CVL_BOOL_ROOM(w->out, from), n);
+    if (cvl_of_bools(w) && status.number == CVL_DONE) cvl_proved_make_flags(CVL_BOOL_ROOM(w, from), n);
     return status;
 }
 
 /* Of the flags of a select permute each part counts another share. */
 static CvlStatus trues_part(CvlWork *w, size_t k) {
-    const size_t from = w->flags_len * k / w->parts, to = w->flags_len * (k + 1) / w->parts;
-    return cvl_proved_count(w->flags + from, to - from, &w->sums[k].number);
+    const size_t from = w->in[CVL_AS_FLAGS].number * k / w->parts, to = w->in[CVL_AS_FLAGS].number * (k + 1) / w->parts;
+    return cvl_proved_count(CVL_BOOLS(w, CVL_AS_FLAGS, from), to - from, &w->sums[k].number);
 }
 
 /* How many flags are true, or how many indices there are where no flags are given. Whether the parts have counted. */
 static bool count_sent(const CvlPool *pool, CvlWork *w, size_t *sent) {
-    *sent = w->flags == NULL ? w->a_len : 0;
-    if (w->flags == NULL) return 1;
+    const bool all = w->in[CVL_AS_FLAGS].at == NULL;
+    *sent = all ? w->in[CVL_AS_INDEX].number : 0;
+    if (all) return 1;
     if (!cvl_reads(pool, w, trues_part)) return 0;
     for (size_t k = 0; k < w->parts; k++) *sent += (size_t)w->sums[k].number;
     return 1;
@@ -52,7 +55,7 @@ static bool count_sent(const CvlPool *pool, CvlWork *w, size_t *sent) {
 static bool are_all(CvlWork *w, size_t wanted) {
     size_t counted = 0;
     for (size_t k = 0; k < w->parts; k++) counted += w->counts[k];
-    if (counted != wanted && w->out_len > 0) memcpy(w->out, w->kept, w->out_len * w->size);
+    if (counted != wanted) cvl_put_back(w);
     return counted == wanted;
 }
 
@@ -61,25 +64,27 @@ static bool are_all(CvlWork *w, size_t wanted) {
  * stood there is put back.
  */
 bool cvl_ranges_in_parts(const CvlPool *pool, CvlWork *w) {
-    const size_t bytes = kept_bytes(w) + (w->out_len / 32 + w->parts) * sizeof(uint32_t);
+    const size_t bytes = kept_bytes(w) + (w->in[CVL_AS_OUT].number / 32 + w->parts) * sizeof(uint32_t);
     size_t wanted;
     w->rooms = w->from, w->told = cvl_done();
-    if (!count_sent(pool, w, &wanted) || (w->flags != NULL && wanted != w->out_len)) return 0;
+    if (!count_sent(pool, w, &wanted) || (w->in[CVL_AS_FLAGS].at != NULL && wanted != w->in[CVL_AS_OUT].number)) return 0;
     return cvl_make_all(pool, w) && cvl_keep(w, bytes) && cvl_writes_kept(pool, w, permute_part) && are_all(w, wanted);
 }
 
 /* The first senders of the part's range of the result, and how many indices name a place of it. */
 static CvlStatus senders_part(CvlWork *w, size_t k) {
-    const size_t from = w->from[k], n = w->from[k + 1] - from, len = w->a_len;
-    int32_t *out = CVL_INT_ROOM(w->out, from);
-    if (w->flags != NULL) return cvl_proved_select_first_senders_range(w->index, len, w->flags, len, from, out, n, &w->counts[k]);
-    return cvl_proved_first_senders_range(w->index, len, from, out, n, &w->counts[k]);
+    const size_t from = w->from[k], n = w->from[k + 1] - from, len = w->in[CVL_AS_INDEX].number;
+    const int32_t *const index = w->in[CVL_AS_INDEX].at;
+    const bool *const flags = w->in[CVL_AS_FLAGS].at;
+    int32_t *const out = CVL_INT_ROOM(w, from);
+    if (flags != NULL) return cvl_proved_select_first_senders_range(index, len, flags, len, from, out, n, &w->counts[k]);
+    return cvl_proved_first_senders_range(index, len, from, out, n, &w->counts[k]);
 }
 
 /* Where as many indices name a place of a range as take part, none is out of range. */
 bool cvl_senders_in_parts(const CvlPool *pool, CvlWork *w) {
     size_t wanted;
     w->rooms = w->from, w->told = cvl_done();
-    return count_sent(pool, w, &wanted) && cvl_make_all(pool, w) && cvl_keep(w, w->out_len * w->size) &&
+    return count_sent(pool, w, &wanted) && cvl_make_all(pool, w) && cvl_keep(w, w->in[CVL_AS_OUT].number * cvl_size(w)) &&
         cvl_writes_kept(pool, w, senders_part) && are_all(w, wanted);
 }

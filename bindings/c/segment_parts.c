@@ -10,10 +10,14 @@ static CvlStatus since_part(CvlWork *w, size_t k) {
 }
 
 static CvlStatus scan_of(const CvlWork *w, CvlPiece p) {
-    const CvlLengths lengths = {w->lengths + p.first, p.count};
     const size_t n = p.tail - p.head;
-    if (w->of_bools) return cvl_seg_bool_scan_placed(w->op, CVL_BOOLS(w->a, p.head), n, lengths, CVL_BOOL_ROOM(w->out, p.head), n);
-    return cvl_seg_int_scan_placed(w->op, CVL_INTS(w->a, p.head), n, lengths, CVL_INT_ROOM(w->out, p.head), n);
+    const CvlSlot lengths = {w->lengths + p.first, p.count};
+    if (cvl_of_bools(w)) {
+        const CvlSlot s[] = {{CVL_BOOLS(w, CVL_AS_A, p.head), n}, lengths, {CVL_BOOL_ROOM(w, p.head), n}};
+        return cvl_seg_bool_scan_row.make(w->op, s);
+    }
+    const CvlSlot s[] = {{CVL_INTS(w, CVL_AS_A, p.head), n}, lengths, {CVL_INT_ROOM(w, p.head), n}};
+    return cvl_seg_int_scan_row.make(w->op, s);
 }
 
 static CvlStatus scan_part(CvlWork *w, size_t k) {
@@ -39,10 +43,10 @@ bool cvl_seg_scan_in_parts(const CvlPool *pool, CvlWork *w) {
 static CvlStatus reduce_whole(const CvlWork *w, CvlPiece p) {
     const int32_t *lengths = w->lengths + p.first;
     const size_t n = p.tail - p.head;
-    if (w->of_bools) {
-        return cvl_proved_seg_bool_reduce(w->op, CVL_BOOLS(w->a, p.head), n, lengths, p.count, CVL_BOOL_ROOM(w->out, p.first), p.count);
+    if (cvl_of_bools(w)) {
+        return cvl_proved_seg_bool_reduce(w->op, CVL_BOOLS(w, CVL_AS_A, p.head), n, lengths, p.count, CVL_BOOL_ROOM(w, p.first), p.count);
     }
-    return cvl_proved_seg_int_reduce(w->op, CVL_INTS(w->a, p.head), n, lengths, p.count, CVL_INT_ROOM(w->out, p.first), p.count);
+    return cvl_proved_seg_int_reduce(w->op, CVL_INTS(w, CVL_AS_A, p.head), n, lengths, p.count, CVL_INT_ROOM(w, p.first), p.count);
 }
 
 static CvlStatus reduce_part(CvlWork *w, size_t k) {
@@ -59,8 +63,8 @@ bool cvl_seg_reduce_in_parts(const CvlPool *pool, CvlWork *w) {
         if (p.head > p.from) {
             const CvlItem before = so_far;
             done = cvl_join_of(w, before, w->heads[k], &so_far).number == CVL_DONE;
-            if (w->of_bools) *CVL_BOOL_ROOM(w->out, p.first - 1) = so_far.flag;
-            else *CVL_INT_ROOM(w->out, p.first - 1) = so_far.number;
+            if (cvl_of_bools(w)) *CVL_BOOL_ROOM(w, p.first - 1) = so_far.flag;
+            else *CVL_INT_ROOM(w, p.first - 1) = so_far.number;
         }
         if (p.cut) so_far = w->sums[k];
     }
@@ -71,10 +75,10 @@ bool cvl_seg_reduce_in_parts(const CvlPool *pool, CvlWork *w) {
 static CvlStatus count_part(CvlWork *w, size_t k) {
     const CvlPiece p = cvl_piece(w, k);
     return cvl_first_of(
-        cvl_proved_count(w->flags + p.from, p.head - p.from, &w->heads[k].number),
+        cvl_proved_count(CVL_BOOLS(w, CVL_AS_FLAGS, p.from), p.head - p.from, &w->heads[k].number),
         cvl_proved_seg_count(
-            w->flags + p.head, p.tail - p.head, w->lengths + p.first, p.count, CVL_INT_ROOM(w->out, p.first), p.count),
-        cvl_proved_count(w->flags + p.tail, p.to - p.tail, &w->sums[k].number));
+            CVL_BOOLS(w, CVL_AS_FLAGS, p.head), p.tail - p.head, w->lengths + p.first, p.count, CVL_INT_ROOM(w, p.first), p.count),
+        cvl_proved_count(CVL_BOOLS(w, CVL_AS_FLAGS, p.tail), p.to - p.tail, &w->sums[k].number));
 }
 
 /* The counts of a segment that is cut are added. */
@@ -83,7 +87,7 @@ bool cvl_seg_count_in_parts(const CvlPool *pool, CvlWork *w) {
     const bool done = cvl_writes(pool, w, count_part);
     for (size_t k = 0; k < w->parts && done; k++) {
         const CvlPiece p = cvl_piece(w, k);
-        if (p.head > p.from) *CVL_INT_ROOM(w->out, p.first - 1) = so_far += w->heads[k].number;
+        if (p.head > p.from) *CVL_INT_ROOM(w, p.first - 1) = so_far += w->heads[k].number;
         if (p.cut) so_far = w->sums[k].number;
     }
     w->told = cvl_done();
@@ -96,12 +100,12 @@ bool cvl_seg_count_in_parts(const CvlPool *pool, CvlWork *w) {
 static CvlStatus total_part(CvlWork *w, size_t k) {
     const CvlPiece p = cvl_piece(w, k);
     const size_t from = p.starts ? p.tail : p.from;
-    return cvl_proved_exact_sum(CVL_INTS(w->a, from), p.to - from, &w->totals[k]);
+    return cvl_proved_exact_sum(CVL_INTS(w, CVL_AS_A, from), p.to - from, &w->totals[k]);
 }
 
 static CvlStatus checked_look(CvlWork *w, size_t k) {
     const CvlPiece p = cvl_piece(w, k);
-    const int32_t *a = w->a, *lengths = w->lengths + p.first;
+    const int32_t *a = w->in[CVL_AS_A].at, *lengths = w->lengths + p.first;
     return cvl_first_of(
         cvl_looked(cvl_proved_checked_scan_after(w->reached[k], a + p.from, p.head - p.from, NULL, 0)),
         cvl_looked(cvl_proved_seg_checked_scan(a + p.head, p.tail - p.head, lengths, p.count, NULL, 0)),
@@ -118,7 +122,7 @@ bool cvl_seg_checked_scan_in_parts(const CvlPool *pool, CvlWork *w) {
 /* The sums of the part's whole segments are looked at, and those of its pieces of others are told. */
 static CvlStatus checked_sums_look(CvlWork *w, size_t k) {
     const CvlPiece p = cvl_piece(w, k);
-    const int32_t *a = w->a, *lengths = w->lengths + p.first;
+    const int32_t *a = w->in[CVL_AS_A].at, *lengths = w->lengths + p.first;
     return cvl_first_of(
         cvl_proved_exact_sum(a + p.from, p.head - p.from, &w->head_totals[k]),
         cvl_proved_exact_sum(a + p.tail, p.to - p.tail, &w->totals[k]),
@@ -144,8 +148,8 @@ bool cvl_seg_checked_reduce_in_parts(const CvlPool *pool, CvlWork *w) {
 static CvlStatus copies(const CvlWork *w, size_t segment, size_t from, size_t to) {
     const size_t n = to - from;
     if (n == 0) return cvl_done();
-    if (w->of_bools) return cvl_proved_distribute_bool(*CVL_BOOLS(w->a, segment) != 0, (int32_t)n, CVL_BOOL_ROOM(w->out, from), n);
-    return cvl_proved_distribute_int(*CVL_INTS(w->a, segment), (int32_t)n, CVL_INT_ROOM(w->out, from), n);
+    if (cvl_of_bools(w)) return cvl_proved_distribute_bool(*CVL_BOOLS(w, CVL_AS_A, segment) != 0, (int32_t)n, CVL_BOOL_ROOM(w, from), n);
+    return cvl_proved_distribute_int(*CVL_INTS(w, CVL_AS_A, segment), (int32_t)n, CVL_INT_ROOM(w, from), n);
 }
 
 /* Segment by segment, since a call on several takes memory, which may be refused, so that the room would have to be kept. */
@@ -170,8 +174,8 @@ bool cvl_seg_copies_in_parts(const CvlPool *pool, CvlWork *w) {
 static CvlStatus numbers(const CvlWork *w, size_t segment, size_t done, size_t from, size_t to) {
     const size_t n = to - from;
     if (n == 0) return cvl_done();
-    const int32_t stride = *CVL_INTS(w->b, segment), init = cvl_number_at(*CVL_INTS(w->a, segment), stride, done);
-    return cvl_proved_index(init, stride, (int32_t)n, CVL_INT_ROOM(w->out, from), n);
+    const int32_t stride = *CVL_INTS(w, CVL_AS_B, segment), init = cvl_number_at(*CVL_INTS(w, CVL_AS_A, segment), stride, done);
+    return cvl_proved_index(init, stride, (int32_t)n, CVL_INT_ROOM(w, from), n);
 }
 
 /* The same as copies_part. */
@@ -197,25 +201,36 @@ bool cvl_seg_numbers_in_parts(const CvlPool *pool, CvlWork *w) {
 
 static CvlStatus flags_of_part(CvlWork *w, size_t k) {
     int32_t trues = 0;
-    const CvlStatus status = cvl_proved_count(w->flags + w->start[k], w->start[k + 1] - w->start[k], &trues);
+    const CvlStatus status = cvl_proved_count(CVL_BOOLS(w, CVL_AS_FLAGS, w->start[k]), w->start[k + 1] - w->start[k], &trues);
     w->counts[k] = (size_t)trues;
     return status;
 }
 
 static CvlStatus lengths_of_part(CvlWork *w, size_t k) {
-    return cvl_proved_make_descriptor(w->other_lengths + w->first[k], w->first[k + 1] - w->first[k], &w->counts[k]);
+    return cvl_proved_make_descriptor(CVL_INTS(w, CVL_AS_OTHER_LENGTHS, w->first[k]), w->first[k + 1] - w->first[k], &w->counts[k]);
+}
+
+/* The operand that is cut as a second vector is, or the number of operands. */
+static size_t other_operand(const CvlRow *row) {
+    size_t k = 0;
+    while (k < row->operands && row->operand[k].by != CVL_BY_OTHER) k++;
+    return k;
 }
 
 /* Where each part's segments stand in a second vector, whose length is known. */
 static bool cut_other(const CvlPool *pool, CvlWork *w) {
-    if (w->other_by == CVL_BY_NOTHING) return 1;
-    if (!cvl_reads(pool, w, w->other_by == CVL_BY_FLAGS ? flags_of_part : lengths_of_part)) return 0;
+    const size_t other = other_operand(w->row);
+    if (other == w->row->operands) return 1;
+    if (!cvl_reads(pool, w, w->row->is & CVL_BY_TRUES ? flags_of_part : lengths_of_part)) return 0;
     w->other[0] = 0;
     for (size_t k = 0; k < w->parts; k++) w->other[k + 1] = w->other[k] + w->counts[k];
-    return w->other[w->parts] == w->other_len && w->other_len <= CVL_MOST_ELEMENTS;
+    const size_t len = w->in[w->row->operand[other].as].number;
+    return w->other[w->parts] == len && len <= CVL_MOST_ELEMENTS;
 }
 
 bool cvl_segments_in_parts(const CvlPool *pool, CvlWork *w) {
     w->told = cvl_done();
-    return cut_other(pool, w) && cvl_make_all(pool, w) && cvl_keep(w, w->out_len * w->size) && cvl_writes_kept(pool, w, w->part);
+    w->rooms = cvl_boundaries(w, w->row->operand[w->row->out].by);
+    return cut_other(pool, w) && cvl_make_all(pool, w) && cvl_keep(w, w->in[CVL_AS_OUT].number * cvl_size(w)) &&
+        cvl_writes_kept(pool, w, cvl_make_part);
 }

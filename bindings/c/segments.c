@@ -1,5 +1,5 @@
 /* Descriptors are made, told of and let go, and the version is told. */
-#include "families.h"
+#include "proved.h"
 #include "segments.h"
 
 const char *cvl_version(void) { return CVL_VERSION; }

@@ -8,10 +8,10 @@
 /*@ requires \valid_read(w) && k <= w->parts <= CVL_MOST_PARTS && w->from[k] <= CVL_MOST_ELEMENTS;
     requires w->start[k] <= CVL_MOST_ELEMENTS && w->first[k] <= CVL_MOST_ELEMENTS;
     assigns \nothing;
-    ensures w->lengths == \null ==> \result == text_begins(w->of_bools, w->from[k], 0, k);
-    ensures w->lengths != \null ==> \result == text_begins(w->of_bools, w->start[k], w->first[k], k); */
+    ensures w->lengths == \null ==> \result == text_begins(cvl_of_bools(w), w->from[k], 0, k);
+    ensures w->lengths != \null ==> \result == text_begins(cvl_of_bools(w), w->start[k], w->first[k], k); */
 static size_t text_place(const CvlWork *w, size_t k) {
-    const size_t each = w->of_bools ? 2 : 12;
+    const size_t each = cvl_of_bools(w) ? 2 : 12;
     return w->lengths == NULL ? w->from[k] * each + 2 * k : w->start[k] * each + w->first[k] * 3 + 2 * k;
 }
 
@@ -19,8 +19,8 @@ static bool *text_room(const CvlWork *w, size_t place) { return (bool *)w->kept 
 
 static CvlStatus write_part(CvlWork *w, size_t k) {
     const size_t from = w->from[k], n = w->from[k + 1] - from, place = text_place(w, k), room = text_place(w, k + 1) - place;
-    if (w->of_bools) return cvl_proved_write_bools(CVL_BOOLS(w->a, from), n, text_room(w, place), room, &w->counts[k]);
-    return cvl_proved_write_ints(CVL_INTS(w->a, from), n, text_room(w, place), room, &w->counts[k]);
+    if (cvl_of_bools(w)) return cvl_proved_write_bools(CVL_BOOLS(w, CVL_AS_A, from), n, text_room(w, place), room, &w->counts[k]);
+    return cvl_proved_write_ints(CVL_INTS(w, CVL_AS_A, from), n, text_room(w, place), room, &w->counts[k]);
 }
 
 /* A part in which no segment starts has no text. */
@@ -29,13 +29,13 @@ static CvlStatus seg_write_part(CvlWork *w, size_t k) {
     const size_t place = text_place(w, k), room = text_place(w, k + 1) - place;
     const int32_t *lengths = w->lengths + first;
     if (count == 0) return cvl_done();
-    if (w->of_bools) return cvl_proved_seg_write_bools(CVL_BOOLS(w->a, start), n, lengths, count, text_room(w, place), room, &w->counts[k]);
-    return cvl_proved_seg_write_ints(CVL_INTS(w->a, start), n, lengths, count, text_room(w, place), room, &w->counts[k]);
+    if (cvl_of_bools(w)) return cvl_proved_seg_write_bools(CVL_BOOLS(w, CVL_AS_A, start), n, lengths, count, text_room(w, place), room, &w->counts[k]);
+    return cvl_proved_seg_write_ints(CVL_INTS(w, CVL_AS_A, start), n, lengths, count, text_room(w, place), room, &w->counts[k]);
 }
 
 /* Puts the text of a part where it stands: without its last bracket, and with a space for its first but where it is the first of all. */
 static CvlStatus put_text_part(CvlWork *w, size_t k) {
-    char *out = (char *)w->out + w->other[k];
+    char *out = (char *)w->in[CVL_AS_OUT].at + w->other[k];
     if (w->counts[k] == 0) return cvl_done();
     memcpy(out, w->kept + text_place(w, k), w->counts[k] - 1);
     if (w->other[k] > 0) *out = ' ';
@@ -49,12 +49,12 @@ bool cvl_write_in_parts(const CvlPool *pool, CvlWork *w) {
     w->other[0] = 0;
     for (size_t k = 0; k < w->parts; k++) w->other[k + 1] = w->other[k] + (w->counts[k] == 0 ? 0 : w->counts[k] - 1);
     const size_t length = w->other[w->parts] + 1;
-    w->told = length > w->out_len ? cvl_status(CVL_LENGTH_MISMATCH, -1) : cvl_done();
-    if (length <= w->out_len) {
+    w->told = length > w->in[CVL_AS_OUT].number ? cvl_status(CVL_LENGTH_MISMATCH, -1) : cvl_done();
+    if (length <= w->in[CVL_AS_OUT].number) {
         if (!cvl_writes(pool, w, put_text_part)) return 0;
-        ((char *)w->out)[length - 1] = ']';
+        ((char *)w->in[CVL_AS_OUT].at)[length - 1] = ']';
     }
-    *w->count = length;
+    *cvl_told_at(w) = length;
     return 1;
 }
 
@@ -66,12 +66,12 @@ static size_t read_place(const CvlWork *w, size_t k) { return (w->from[k] + k) /
 
 static CvlStatus read_part(CvlWork *w, size_t k) {
     const size_t from = w->from[k], n = w->from[k + 1] - from;
-    return cvl_proved_read_ints(CVL_BYTES(w->a, from), n, (int32_t *)(void *)w->kept + read_place(w, k), (n + 1) / 2, &w->counts[k]);
+    return cvl_proved_read_ints(CVL_BOOLS(w, CVL_AS_A, from), n, (int32_t *)(void *)w->kept + read_place(w, k), (n + 1) / 2, &w->counts[k]);
 }
 
 static CvlStatus put_read_part(CvlWork *w, size_t k) {
     const int32_t *read = (const int32_t *)(const void *)w->kept + read_place(w, k);
-    if (w->counts[k] > 0) memcpy(CVL_INT_ROOM(w->out, w->other[k]), read, w->counts[k] * sizeof *read);
+    if (w->counts[k] > 0) memcpy(CVL_INT_ROOM(w, w->other[k]), read, w->counts[k] * sizeof *read);
     return cvl_done();
 }
 
@@ -81,8 +81,8 @@ bool cvl_read_in_parts(const CvlPool *pool, CvlWork *w) {
     for (size_t k = 0; k < w->parts; k++) w->other[k + 1] = w->other[k] + w->counts[k];
     const size_t count = w->other[w->parts];
     if (count > CVL_MOST_OF_TEXT) return 0;
-    w->told = count > w->out_len ? cvl_status(CVL_LENGTH_MISMATCH, -1) : cvl_done();
-    if (count <= w->out_len && !cvl_writes(pool, w, put_read_part)) return 0;
-    *w->count = count;
+    w->told = count > w->in[CVL_AS_OUT].number ? cvl_status(CVL_LENGTH_MISMATCH, -1) : cvl_done();
+    if (count <= w->in[CVL_AS_OUT].number && !cvl_writes(pool, w, put_read_part)) return 0;
+    *cvl_told_at(w) = count;
     return 1;
 }

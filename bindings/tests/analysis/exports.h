@@ -5,7 +5,7 @@
 #ifndef CVL_ANALYSIS_EXPORTS_H
 #define CVL_ANALYSIS_EXPORTS_H
 
-#include "families.h"
+#include "proved.h"
 
 /*@ requires \valid(total_out) && \valid_read(lengths + (0 .. lengths_len - 1));
     requires \separated(total_out, lengths + (0 .. lengths_len - 1));

@@ -6,7 +6,7 @@
 #ifndef CVL_ANALYSIS_GIVEN_H
 #define CVL_ANALYSIS_GIVEN_H
 
-#include "families.h"
+#include "proved.h"
 #include "parts.h"
 #include "segments.h"
 

@@ -1,0 +1,70 @@
+/* The driver, where a call is long, has flags that are neither 0 nor 1, or comes with a pool. */
+#include "driver.h"
+#include "parts.h"
+#include "segments.h"
+
+CvlStatus cvl_alone(const CvlRow *row, uint32_t op, const CvlSlot *s) { return cvl_make_alone(row, op, s); }
+
+/* Copies flags that are neither 0 nor 1 into memory that is to be freed. Whether there was some. */
+static bool copy(CvlSlot *slot, bool **copied) {
+    if (cvl_proved_are_flags(slot->at, slot->number)) return 1;
+    *copied = malloc(slot->number);
+    if (*copied == NULL) return 0;
+    memcpy(*copied, slot->at, slot->number);
+    cvl_proved_make_flags(*copied, slot->number);
+    slot->at = *copied;
+    return 1;
+}
+
+CvlStatus cvl_make_on_copies(const CvlRow *row, uint32_t op, const CvlSlot *s) {
+    CvlSlot mine[CVL_MOST_OPERANDS];
+    bool *copies[CVL_MOST_OPERANDS] = {NULL}, done = 1;
+    CvlStatus status = cvl_told(row, op, s);
+    if (status.number != CVL_DONE) return status;
+    for (size_t k = 0; k < row->operands && done; k++) {
+        mine[k] = s[k];
+        if (row->operand[k].is & CVL_COPIED) done = copy(&mine[k], &copies[k]);
+    }
+    status = done ? cvl_make(row, op, mine) : cvl_status(CVL_NO_RESOURCES, -1);
+    for (size_t k = 0; k < row->operands; k++) free(copies[k]);
+    return status;
+}
+
+/* ---- by a pool ---- */
+
+/* Whether a call has no fault that the driver can see, so that it may be cut; a place is one of the vector. */
+static bool may_be_cut(const CvlRow *row, uint32_t op, const CvlSlot *s) {
+    if (row->in_parts == NULL || !cvl_are_apart(row, s) || !cvl_do_agree(row, op, s)) return 0;
+    return !(row->is & CVL_ONE_VALUE) || s[1].number < s[0].number;
+}
+
+/* Rows that come by offsets: the same call by their lengths. */
+static CvlStatus on_rows(const CvlPool *pool, const CvlRow *row, uint32_t op, const CvlSlot *s) {
+    CvlSlot by_lengths[CVL_MOST_OPERANDS];
+    int32_t *const lengths = cvl_are_apart(row, s) && cvl_do_agree(row, op, s) ? cvl_lengths_between(s[0].at, s[0].number) : NULL;
+    if (lengths == NULL) return cvl_alone(row, op, s);
+    for (size_t k = 0; k < row->operands; k++) by_lengths[k] = s[k];
+    by_lengths[0].at = lengths, by_lengths[0].number = s[0].number - 1;
+    const CvlStatus status = cvl_on(pool, row->by_lengths, op, by_lengths);
+    free(lengths);
+    return status;
+}
+
+/* Makes a call in parts where that can be done, and says whether it was. */
+static bool is_done_in_parts(const CvlPool *pool, CvlWork *w, const CvlRow *row, uint32_t op, const CvlSlot *s) {
+    w->left_out = 0;
+    if (!may_be_cut(row, op, s) || !cvl_cut(pool, w, row, s)) return 0;
+    w->row = row, w->op = op;
+    for (size_t k = 0; k < row->operands; k++) w->in[row->operand[k].as] = s[k];
+    const bool done = row->in_parts(pool, w);
+    cvl_let_go(w);
+    return done;
+}
+
+/* Where a pool left out a part of a step that reads, the call is refused: it may leave out more. */
+CvlStatus cvl_on(const CvlPool *pool, const CvlRow *row, uint32_t op, const CvlSlot *s) {
+    CvlWork w;
+    if (row->by_lengths != NULL) return on_rows(pool, row, op, s);
+    if (is_done_in_parts(pool, &w, row, op, s)) return w.told;
+    return w.left_out ? cvl_status(CVL_NO_RESOURCES, -1) : cvl_alone(row, op, s);
+}

@@ -1,0 +1,250 @@
+/*
+ * driver.h: how a call goes. A public function puts its arguments into slots and hands them to the driver with the row of its family.
+ *
+ * The first of these that is so is what a call answers: arrays overlap; a count is none; the operator is none of the family; lengths or
+ * offsets are none of segments; a vector is too long; arrays are not as long as they have to be; there is no memory; what the export
+ * tells.
+ */
+#ifndef CVL_DRIVER_H
+#define CVL_DRIVER_H
+
+#include "proved.h"
+#include "rows.h"
+#include "segments.h"
+#include "threads.h"
+
+/*
+ * A row that the compiler knows is walked while it compiles: what is left is what a function written for the call would ask. The rest of
+ * the driver, where a call is long or not in order, is in driver.c.
+ */
+#if defined(__GNUC__) && !defined(__FRAMAC__)
+#define CVL_WALKS static inline __attribute__((always_inline))
+#define CVL_UNROLLED _Pragma("GCC unroll 8")
+#else
+#define CVL_WALKS static inline
+#define CVL_UNROLLED
+#endif
+
+/*
+ * A row is one of a family if its operands name one another; a call is one if arrays end before the memory does. Its operands are apart if
+ * what is written shares memory with nothing else, but that the room may be an operand that may, or two that may together.
+ */
+/*@ predicate is_row{L}(CvlRow *row) =
+      row->operands <= CVL_MOST_OPERANDS && row->out < row->operands && row->cut < row->operands &&
+      \forall integer k; 0 <= k < row->operands ==> row->operand[k].like < row->operands && row->operand[k].total < row->operands;
+
+    predicate marked{L}(CvlRow *row, integer k, integer mark) = (row->operand[k].is & mark) != 0;
+
+    predicate is_call{L}(CvlRow *row, CvlSlot *s) =
+      \valid_read(row) && is_row(row) && \valid_read(s + (0 .. row->operands - 1)) &&
+      \forall integer k; 0 <= k < row->operands && (marked(row, k, CVL_READ) || marked(row, k, CVL_WRITTEN)) ==>
+        row->operand[k].size > 0 && (uintptr_t)s[k].at + s[k].number * row->operand[k].size <= UINTPTR_MAX + 1;
+
+    predicate is_compared{L}(CvlRow *row, integer j, integer k) =
+      marked(row, j, CVL_WRITTEN) && (marked(row, k, CVL_READ) || (k > j && marked(row, k, CVL_WRITTEN)));
+
+    predicate do_meet{L}(CvlRow *row, CvlSlot *s, integer j, integer k) =
+      in_common((uintptr_t)s[j].at, s[j].number * row->operand[j].size, (uintptr_t)s[k].at, s[k].number * row->operand[k].size);
+
+    predicate is_shared{L}(CvlRow *row, CvlSlot *s, integer j, integer k) = is_compared(row, j, k) && do_meet(row, s, j, k);
+
+    predicate may_be_one{L}(CvlRow *row, CvlSlot *s, integer j, integer k) =
+      marked(row, k, CVL_IN_PLACE) && s[j].at == s[k].at && s[j].number == s[k].number;
+
+    predicate are_apart{L}(CvlRow *row, CvlSlot *s) =
+      (\forall integer j, k; 0 <= j < row->operands && 0 <= k < row->operands && is_shared(row, s, j, k) ==> may_be_one(row, s, j, k)) &&
+      ((row->is & CVL_TOGETHER) != 0 || \forall integer i, j, k, m; 0 <= i < row->operands && 0 <= j < row->operands &&
+        0 <= k < row->operands && 0 <= m < row->operands && is_shared(row, s, i, k) && is_shared(row, s, j, m) ==> i == j && k == m); */
+
+/* Whether two operands may have no memory in common: one is written, and the other is read, or written too. */
+/*@ requires \valid_read(row) && j < CVL_MOST_OPERANDS && k < CVL_MOST_OPERANDS;
+    assigns \nothing;
+    ensures \result <==> is_compared(row, j, k); */
+CVL_WALKS bool cvl_is_compared(const CvlRow *row, size_t j, size_t k) {
+    return (row->operand[j].is & CVL_WRITTEN) && ((row->operand[k].is & CVL_READ) || (k > j && (row->operand[k].is & CVL_WRITTEN)));
+}
+
+/* Whether two operands have memory in common. */
+/*@ requires is_call(row, s) && j < row->operands && k < row->operands && is_compared(row, j, k);
+    assigns \nothing;
+    ensures \result <==> do_meet(row, s, j, k); */
+CVL_WALKS bool cvl_do_meet(const CvlRow *row, const CvlSlot *s, size_t j, size_t k) {
+    return cvl_meet(s[j].at, s[j].number, row->operand[j].size, s[k].at, s[k].number, row->operand[k].size);
+}
+
+/*@ requires is_call(row, s);
+    assigns \nothing;
+    ensures \result <==> are_apart(row, s); */
+CVL_WALKS bool cvl_are_apart(const CvlRow *row, const CvlSlot *s) {
+    bool in_place = 0;
+    CVL_UNROLLED
+    /*@ loop invariant 0 <= j <= row->operands;
+        loop invariant \forall integer i, m; 0 <= i < j && 0 <= m < row->operands && is_shared(row, s, i, m) ==> may_be_one(row, s, i, m);
+        loop invariant in_place == 0 ==> \forall integer i, m; 0 <= i < j && 0 <= m < row->operands ==> !is_shared(row, s, i, m);
+        loop invariant in_place != 0 ==> \exists integer i, m; 0 <= i < j && 0 <= m < row->operands && is_shared(row, s, i, m);
+        loop invariant (row->is & CVL_TOGETHER) != 0 || \forall integer i, m, i2, m2; 0 <= i < j && 0 <= m < row->operands &&
+          0 <= i2 < j && 0 <= m2 < row->operands && is_shared(row, s, i, m) && is_shared(row, s, i2, m2) ==> i == i2 && m == m2;
+        loop assigns j, in_place;
+        loop variant row->operands - j; */
+    for (size_t j = 0; j < row->operands; j++) {
+        CVL_UNROLLED
+        /*@ loop invariant 0 <= k <= row->operands;
+            loop invariant \forall integer m; 0 <= m < k && is_shared(row, s, j, m) ==> may_be_one(row, s, j, m);
+            loop invariant in_place == 0 ==> \forall integer i, m; 0 <= i < j && 0 <= m < row->operands ==> !is_shared(row, s, i, m);
+            loop invariant in_place == 0 ==> \forall integer m; 0 <= m < k ==> !is_shared(row, s, j, m);
+            loop invariant in_place != 0 ==> \exists integer i, m; 0 <= i <= j && 0 <= m < (i < j ? row->operands : k) && is_shared(row, s, i, m);
+            loop invariant (row->is & CVL_TOGETHER) != 0 || \forall integer i, m, i2, m2; 0 <= i <= j && 0 <= m < (i < j ? row->operands : k) &&
+              0 <= i2 <= j && 0 <= m2 < (i2 < j ? row->operands : k) && is_shared(row, s, i, m) && is_shared(row, s, i2, m2) ==> i == i2 && m == m2;
+            loop assigns k, in_place;
+            loop variant row->operands - k; */
+        for (size_t k = 0; k < row->operands; k++) {
+            if (!cvl_is_compared(row, j, k) || !cvl_do_meet(row, s, j, k)) continue;
+            if (!(row->operand[k].is & CVL_IN_PLACE) || !cvl_is_one(s[j], s[k])) return 0;
+            if (in_place && !(row->is & CVL_TOGETHER)) return 0;
+            in_place = 1;
+        }
+    }
+    return 1;
+}
+
+/* Operands agree if the operator is one of the family, and each is as long as another one says, and no longer than it may be. */
+/*@ predicate is_known{L}(CvlRow *row, integer op) = row->operators == 0 || (op < 32 && (row->operators >> op & 1) != 0);
+
+    predicate is_long_enough{L}(CvlRow *row, CvlSlot *s, integer k) =
+      \let number = s[k].number; \let other = s[row->operand[k].like].number; \let relation = row->operand[k].relation;
+      relation == CVL_ONE_MORE ? number == other + 1 && other <= row->most :
+      relation == CVL_A_BIT_EACH ? number == (size_t)(other + 31) / 32 :
+      relation == CVL_FROM_LOWEST ? other + number <= row->most :
+      number == other && (marked(row, k, CVL_BOUNDED) ==> number <= row->most);
+
+    predicate do_agree{L}(CvlRow *row, integer op, CvlSlot *s) =
+      is_known(row, op) && \forall integer k; 0 <= k < row->operands ==> is_long_enough(row, s, k); */
+
+/*@ requires \valid_read(row);
+    assigns \nothing;
+    ensures \result <==> is_known(row, op); */
+CVL_WALKS bool cvl_is_known(const CvlRow *row, uint32_t op) {
+    return row->operators == 0 || (op < 32 && (row->operators >> op & 1));
+}
+
+/*@ requires is_call(row, s) && k < row->operands;
+    assigns \nothing;
+    ensures \result <==> is_long_enough(row, s, k); */
+CVL_WALKS bool cvl_is_long_enough(const CvlRow *row, const CvlSlot *s, size_t k) {
+    const CvlOperand *o = &row->operand[k];
+    const size_t number = s[k].number, other = s[o->like].number;
+    switch (o->relation) {
+    case CVL_ONE_MORE: return number >= 1 && number - 1 <= row->most && number - 1 == other;
+    case CVL_A_BIT_EACH: return number == (other + 31) / 32;
+    case CVL_FROM_LOWEST: return other <= row->most && number <= row->most - other;
+    default: return number == other && (!(o->is & CVL_BOUNDED) || number <= row->most);
+    }
+}
+
+/*@ requires is_call(row, s);
+    assigns \nothing;
+    ensures \result <==> do_agree(row, op, s); */
+CVL_WALKS bool cvl_do_agree(const CvlRow *row, uint32_t op, const CvlSlot *s) {
+    if (!cvl_is_known(row, op)) return 0;
+    CVL_UNROLLED
+    /*@ loop invariant 0 <= k <= row->operands && \forall integer j; 0 <= j < k ==> is_long_enough(row, s, j);
+        loop assigns k;
+        loop variant row->operands - k; */
+    for (size_t k = 0; k < row->operands; k++) {
+        if (!cvl_is_long_enough(row, s, k)) return 0;
+    }
+    return 1;
+}
+
+/* Whether flags that the export takes as 0 and 1 alone are that. */
+CVL_WALKS bool cvl_are_clean(const CvlRow *row, const CvlSlot *s) {
+    CVL_UNROLLED
+    for (size_t k = 0; k < row->operands; k++) {
+        if ((row->operand[k].is & CVL_COPIED) && !cvl_proved_are_flags(s[k].at, s[k].number)) return 0;
+    }
+    return 1;
+}
+
+/* Calls the export, or the one in place. */
+CVL_WALKS CvlStatus cvl_make(const CvlRow *row, uint32_t op, const CvlSlot *s) { return row->make(op, s); }
+
+/* The count of a row that has one, which says how long the room is that is cut. One below 0 is above all others here. */
+CVL_WALKS size_t cvl_count_given(const CvlRow *row, const CvlSlot *s) { return s[row->operand[row->cut].like].number; }
+
+/* ---- a call that is not in order: checks.c ---- */
+
+/* The fault of a count that is none. */
+CVL_HIDDEN CvlStatus cvl_count_told(int64_t count);
+
+/* The first fault of what is asked of a call before memory is, or that it is done. */
+CVL_HIDDEN CvlStatus cvl_told(const CvlRow *row, uint32_t op, const CvlSlot *s);
+
+/* The same, where the export told something else than that it is done: what comes before that. */
+CVL_HIDDEN CvlStatus cvl_told_late(const CvlRow *row, uint32_t op, const CvlSlot *s, CvlStatus status);
+
+/* ---- the driver ---- */
+
+/* Makes a call with flags of which some are copied: driver.c. */
+CVL_HIDDEN CvlStatus cvl_make_on_copies(const CvlRow *row, uint32_t op, const CvlSlot *s);
+
+/* Makes a call by the thread that calls. */
+CVL_WALKS CvlStatus cvl_make_alone(const CvlRow *row, uint32_t op, const CvlSlot *s) {
+    if (!cvl_are_apart(row, s)) return cvl_overlap();
+    if ((row->is & CVL_COUNTED) && cvl_count_given(row, s) > CVL_MOST_ELEMENTS) return cvl_count_told((int64_t)cvl_count_given(row, s));
+    if (row->is & CVL_ASKED) {
+        if (!cvl_do_agree(row, op, s)) return cvl_told(row, op, s);
+        if (!cvl_are_clean(row, s)) return cvl_make_on_copies(row, op, s);
+    }
+    const CvlStatus status = cvl_make(row, op, s);
+    if (status.number == CVL_DONE || !(row->is & (CVL_LATE | CVL_READS_TEXT))) return status;
+    return cvl_told_late(row, op, s, status);
+}
+
+/* The same of any row, and a call by a pool: driver.c. */
+CVL_HIDDEN CvlStatus cvl_alone(const CvlRow *row, uint32_t op, const CvlSlot *s);
+CVL_HIDDEN CvlStatus cvl_on(const CvlPool *pool, const CvlRow *row, uint32_t op, const CvlSlot *s);
+
+/* Makes a call: a long one by the threads of the process, if nobody has them. */
+CVL_WALKS CvlStatus cvl_call(const CvlRow *row, uint32_t op, const CvlSlot *s) {
+    if (row->least != 0 && s[row->cut].number >= row->least) {
+        const CvlPool *pool = cvl_take_threads();
+        if (pool != NULL) return cvl_give_threads(cvl_on(pool, row, op, s));
+    }
+    return cvl_make_alone(row, op, s);
+}
+
+/* ---- lengths that come by a descriptor ---- */
+
+CVL_WALKS bool cvl_is_cut_by(const CvlRow *row, size_t k) {
+    return row->operand[k].as == CVL_AS_LENGTHS || row->operand[k].as == CVL_AS_OTHER_LENGTHS;
+}
+
+/* Whether what is written shares memory with no descriptor. */
+CVL_WALKS bool cvl_are_apart_from_descriptors(const CvlRow *row, const CvlSlot *s) {
+    CVL_UNROLLED
+    for (size_t j = 0; j < row->operands; j++) {
+        CVL_UNROLLED
+        for (size_t k = 0; k < row->operands; k++) {
+            if (!(row->operand[j].is & CVL_WRITTEN) || !cvl_is_cut_by(row, k)) continue;
+            if (cvl_meet(s[j].at, s[j].number, row->operand[j].size, s[k].at, 1, sizeof(CvlSegments))) return 0;
+        }
+    }
+    return 1;
+}
+
+/* Makes a call whose slots of lengths have descriptors. */
+CVL_WALKS CvlStatus cvl_call_on_segments(const CvlRow *row, uint32_t op, const CvlSlot *s) {
+    CvlSlot by_lengths[CVL_MOST_OPERANDS];
+    if (!cvl_are_apart_from_descriptors(row, s)) return cvl_overlap();
+    CVL_UNROLLED
+    for (size_t k = 0; k < row->operands; k++) {
+        const CvlSegments *const segments = s[k].at;
+        by_lengths[k] = s[k];
+        if (!cvl_is_cut_by(row, k)) continue;
+        if (!cvl_is_made(segments)) return cvl_status(CVL_NO_DESCRIPTOR, -1);
+        by_lengths[k].at = segments->lengths, by_lengths[k].number = segments->segments;
+    }
+    return cvl_call(row, op, by_lengths);
+}
+
+#endif

@@ -1,0 +1,96 @@
+/*
+ * rows.h: a family as a row that the driver walks: what its operands are, which of them have to be as long as others, which may be
+ * the room, how it is cut into parts, and the function that calls its export.
+ */
+#ifndef CVL_ROWS_H
+#define CVL_ROWS_H
+
+#include "internal.h"
+
+/* An operand of a call: where an array is, and how many elements it has; or nothing, and a number. */
+typedef struct CvlSlot {
+    const void *at;
+    size_t number;
+} CvlSlot;
+
+/* What an operand is to a call. */
+typedef enum CvlAs {
+    CVL_AS_A, CVL_AS_B, CVL_AS_FLAGS, CVL_AS_INDEX,              /* arrays that are read */
+    CVL_AS_LENGTHS, CVL_AS_OTHER_LENGTHS, CVL_AS_OFFSETS,        /* lengths that the call is cut by, others, and offsets of rows */
+    CVL_AS_VALUE, CVL_AS_STRIDE, CVL_AS_PLACE, CVL_AS_COUNT, CVL_AS_LOWEST, /* numbers */
+    CVL_AS_OUT, CVL_AS_MARKS, CVL_AS_TOLD, CVL_AS_OTHER_OUT, CVL_AS_OTHER_TOLD, /* what is written */
+    CVL_ROLES
+} CvlAs;
+
+/* How the number of an operand hangs together with that of another one. */
+typedef enum CvlRelation {
+    CVL_SAME,       /* they are the same, or the other one is the operand itself */
+    CVL_ONE_MORE,   /* offsets are one more than rows */
+    CVL_A_BIT_EACH, /* words that have a bit for each */
+    CVL_FROM_LOWEST /* places from the other one on */
+} CvlRelation;
+
+/* Where the parts of an operand begin: the boundaries in CvlWork of this name; or each part has the whole. */
+typedef enum CvlBy { CVL_BY_NONE, CVL_BY_FROM, CVL_BY_FIRST, CVL_BY_START, CVL_BY_OTHER } CvlBy;
+
+/* What is so of an operand. */
+enum {
+    CVL_READ = 1,      /* an array that is read */
+    CVL_WRITTEN = 2,   /* a room, or one value that is written */
+    CVL_IN_PLACE = 4,  /* an array that may be the room */
+    CVL_BOUNDED = 8,   /* has no more elements than a vector may have, */
+    CVL_TOO_MANY = 16, /* and more are told as such */
+    CVL_COPIED = 32,   /* flags that are copied if a byte is neither 0 nor 1, */
+    CVL_COPIED_IN_PARTS = 64 /* in parts too */
+};
+
+typedef struct CvlOperand {
+    unsigned char as;       /* CvlAs */
+    unsigned char size;     /* the bytes of an element, or 0 for a number */
+    unsigned char like;     /* the operand whose number says what this one's has to be */
+    unsigned char relation; /* CvlRelation */
+    unsigned char total;    /* of lengths and offsets: the operand that has as many elements as these add up to */
+    unsigned char by;       /* CvlBy */
+    unsigned char is;       /* CVL_READ .. */
+} CvlOperand;
+
+/* What is so of a family. */
+enum {
+    CVL_ASKED = 1,        /* the driver looks for what the export would tell behind other faults, or behind memory */
+    CVL_LATE = 2,         /* and once more where the export tells a fault of elements or of memory */
+    CVL_READS_TEXT = 4,   /* a text that is too long is told before that there is no memory */
+    CVL_COUNTED = 8,      /* a count says how long the room is */
+    CVL_BY_TRUES = 16,    /* true flags do, */
+    CVL_WRITES_TEXT = 32, /* or the text of the elements; */
+    CVL_FRONT = 64,       /* and the room may be longer */
+    CVL_OF_BOOLS = 128,   /* elements are booleans */
+    CVL_ONE_VALUE = 256,  /* one element of the room is another one */
+    CVL_TOGETHER = 512    /* two operands may be the room at once */
+};
+
+typedef struct CvlRow CvlRow;
+typedef struct CvlWork CvlWork;
+
+enum { CVL_MOST_OPERANDS = 7 };
+
+struct CvlRow {
+    CvlOperand operand[CVL_MOST_OPERANDS];
+    unsigned char operands;
+    unsigned char out;      /* the operand that is the room, or the value that is written */
+    unsigned char cut;      /* the operand whose elements are cut */
+    uint16_t is;            /* CVL_ASKED .. */
+    uint32_t operators;     /* a bit for each operator of the family, or 0 if it takes none */
+    uint32_t faulty;        /* a bit for each operator, or the first, that has no value on some elements */
+    size_t most;            /* the most elements of a vector, and the most that lengths add up to */
+    size_t least, each;     /* from how many elements on the call is cut, or 0; and how many each part has at least */
+    CvlStatus (*make)(uint32_t op, const CvlSlot *s);
+    bool (*in_parts)(const CvlPool *pool, CvlWork *w); /* runs the parts, or null */
+    const CvlRow *by_lengths; /* of rows that come by offsets: the family of rows that come by lengths */
+};
+
+/* Whether an operand is another one, from its first to its last element. */
+/*@ assigns \nothing;
+    ensures \result <==> a.at == b.at && a.number == b.number; */
+static inline bool cvl_is_one(CvlSlot a, CvlSlot b) { return a.at == b.at && a.number == b.number; }
+
+#endif

@@ -1,0 +1,333 @@
+"""What is written in C under the headers: a row for each family, the function that calls its exports, and the public functions, which hand
+their arguments to the driver."""
+
+import in_c
+import rows
+import table
+from in_c import kept, parameters, statement, wrapped
+
+# What an array that is read is to a call, by its name; the first other one is A, and the second B.
+NAMED = {"index": "INDEX", "columns": "INDEX", "flags": "FLAGS", "offsets": "OFFSETS"}
+
+# What a number is to a call, by its name or else by its role.
+NUMBERS = {"stride": "STRIDE", "lowest": "LOWEST"}
+
+SIZES = {
+    "ints": "sizeof(int32_t)", "flags": "sizeof(bool)", "text": "sizeof(char)", "marks": "sizeof(uint32_t)", "int": "sizeof(int32_t)",
+    "flag": "sizeof(bool)", "sum": "sizeof(int64_t)", "size": "sizeof(size_t)",
+}
+
+# The rows that steps of calls in parts name.
+NAMED_BY_HAND = {"int_scan_after", "bool_scan_after", "seg_int_scan", "seg_bool_scan"}
+
+# The function that runs the parts, where it has not the name of the cut.
+RUNS = {"seg_pack": "pack", "seg_write": "write"}
+
+# Ways to cut that copy no flags but those of a select, since what they call takes any bytes.
+ANY_BYTES = {"ranges"}
+
+# The faults that an export tells of elements, behind those that it tells of lengths.
+OF_ELEMENTS = {8, 9, 10, 11, 18}
+
+
+class Family:
+    """What the row of a family says."""
+
+    def __init__(self, row):
+        self.row, self.family, self.name = row, row.family, row.name
+        self.operands = row.family.operands
+        self.cut, self.extent = row.family.cut or (None, None)
+        self.lengths = [k for k, operand in enumerate(self.operands) if operand.role == "lengths"]
+
+    def place(self, test):
+        """The place of the first operand of which a test is so, or nothing."""
+        return next((k for k, operand in enumerate(self.operands) if test(operand)), None)
+
+    @property
+    def is_cut(self):
+        """Whether the family is made in parts where it is long."""
+        return self.cut not in (None, "whole")
+
+    # ---- operands ----
+
+    def role(self, k):
+        """What an operand is to the call, without CVL_AS_."""
+        operand = self.operands[k]
+        if operand.role == "reads":
+            others = [o for o in self.operands if o.role == "reads" and o.name not in NAMED]
+            return NAMED.get(operand.name) or ("A" if operand is others[0] else "B")
+        if operand.role == "lengths":
+            first = operand.extent == self.extent or self.cut == "lengths" or len(self.lengths) == 1
+            return "LENGTHS" if first else "OTHER_LENGTHS"
+        if operand.role in ("room", "single"):
+            return "MARKS" if operand.kind == "marks" else "OUT" if k == self.out else "OTHER_OUT"
+        if operand.role == "told":
+            return "TOLD" if k == self.place(lambda o: o.role == "told") else "OTHER_TOLD"
+        return {"place": "PLACE", "count": "COUNT"}.get(operand.role) or NUMBERS.get(operand.name, "VALUE")
+
+    @property
+    def out(self):
+        """The place of the room, of the value that is written, or of what is told where there is neither."""
+        found = self.place(lambda o: o.role in ("room", "single"))
+        return self.place(lambda o: o.role == "told") if found is None else found
+
+    def like(self, k):
+        """How the number of an operand hangs together with that of another one: the other one, and the relation."""
+        operand = self.operands[k]
+        if operand.role == "lengths":
+            return self.lengths[0], "SAME"
+        if not rows.is_array(operand):
+            return k, "SAME"
+        if operand.extent in ("n", "m", "segments", "total"):
+            return self.first_of(operand.extent), "SAME"
+        if operand.extent == "offsets":
+            return self.first_of("segments"), "ONE_MORE"
+        if operand.extent == "count":
+            return self.place(lambda o: o.role == "count"), "SAME"
+        if operand.extent == "range":
+            return self.place(lambda o: o.name == "lowest"), "FROM_LOWEST"
+        return (self.out, "A_BIT_EACH") if operand.extent == "marks" else (k, "SAME")
+
+    def first_of(self, extent):
+        """The place of the first operand that is so long."""
+        if extent == "segments" and self.lengths:
+            return self.lengths[0]
+        return self.place(lambda o: rows.is_array(o) and o.extent == extent)
+
+    def total(self, k):
+        """The place of the array that has as many elements as lengths or offsets add up to; of any other operand its own."""
+        operand = self.operands[k]
+        if operand.extent == "offsets":
+            return self.operands.index(rows.limited(self.family))
+        if operand.role != "lengths":
+            return k
+        found = self.place(lambda o: rows.is_array(o) and o.extent == operand.extent)
+        return k if found is None else found
+
+    def by(self, k):
+        """By which boundaries the parts of an operand are cut, where they make the call itself."""
+        operand = self.operands[k]
+        if self.cut == "places":
+            return "FROM" if operand.extent == self.extent or operand.role == "count" or operand.name == "init" else "NONE"
+        if self.cut != "segments" or operand.role not in ("reads", "lengths", "room"):
+            return "NONE"
+        if operand.role == "lengths" or operand.extent == "segments":
+            return "FIRST"
+        if operand.extent == self.extent:
+            return "START"
+        return "OTHER" if operand.extent == "trues" or any(self.operands[j].extent == operand.extent for j in self.lengths) else "NONE"
+
+    def marks(self, k):
+        """What is so of an operand."""
+        operand = self.operands[k]
+        if operand.role in ("reads", "lengths"):
+            yield "READ"
+        if operand.role in ("room", "single", "told"):
+            yield "WRITTEN"
+        if any(operand.name in names for names in self.family.in_place):
+            yield "IN_PLACE"
+        cut = rows.is_array(operand) and self.first_of(operand.extent) == k and any(self.operands[j].extent == operand.extent for j in self.lengths)
+        limited = operand is rows.limited(self.family)
+        if limited or k in self.lengths[:1] or cut:
+            yield "BOUNDED"
+        if limited or operand.extent == "range":
+            yield "TOO_MANY"
+        if operand.copied:
+            yield "COPIED"
+            if self.role(k) == "FLAGS" or self.cut not in ANY_BYTES:
+                yield "COPIED_IN_PARTS"
+
+    def size(self, k):
+        """The bytes of an element, or none of a number."""
+        operand = self.operands[k]
+        return "sizeof(int32_t)" if operand.role == "lengths" else "0" if operand.role in ("value", "place", "count") else SIZES[operand.kind]
+
+    # ---- the family ----
+
+    @property
+    def cut_place(self):
+        """The place of the operand whose elements are cut."""
+        if self.cut == "lengths":
+            return self.lengths[0]
+        return self.place(lambda o: rows.is_array(o) and (o.extent == self.extent or self.cut == "read"))
+
+    @property
+    def room(self):
+        return next((o for o in self.operands if o.role == "room"), None)
+
+    @property
+    def reads_text(self):
+        return any(o.kind == "text" and o.role == "reads" for o in self.operands)
+
+    @property
+    def faulty(self):
+        """The operators, by their numbers, whose elements may be at fault; 0 stands for a family without operators."""
+        if any(OF_ELEMENTS & set(fault.numbers) for fault in self.family.faults):
+            return [0]
+        return [found.number for found in table.OPERATORS if found.name in self.family.operators and found.fault]
+
+    @property
+    def is_asked(self):
+        """Whether what the export tells last has to be told before."""
+        return not self.reads_text and bool(self.family.asks or any(o.copied for o in self.operands) or (self.faulty and self.room))
+
+    @property
+    def is_late(self):
+        """Whether the export asks for memory, or for a room whose length only a walk tells, which it asks behind the faults of elements."""
+        by_lengths = self.row.result is not None and self.row.result.extent in rows.said_by_lengths(self.row)
+        return self.is_asked and (self.family.asks or by_lengths or any(o.extent == "trues" for o in self.operands))
+
+    @property
+    def of_bools(self):
+        """Whether the elements are booleans."""
+        arrays = [o for o in self.operands if o.role == "reads"]
+        items = arrays[0] if arrays and arrays[0].name != "flags" else self.row.result
+        items = next((o for o in self.operands if o.role == "value"), items) if self.cut == "places" else items
+        return items is not None and items.kind in ("flags", "flag")
+
+    @property
+    def words(self):
+        """What is so of the family."""
+        by_elements = self.room is not None and self.room.extent in ("trues", "room") and not self.reads_text
+        said = {
+            "ASKED": self.is_asked, "LATE": self.is_late, "READS_TEXT": self.reads_text,
+            "COUNTED": any(o.role == "count" for o in self.operands), "BY_TRUES": by_elements and self.room.kind != "text",
+            "WRITES_TEXT": by_elements and self.room.kind == "text", "FRONT": by_elements and self.room.extent == "room",
+            "OF_BOOLS": self.of_bools, "ONE_VALUE": self.cut == "replace",
+            "TOGETHER": any(len(names) > 1 for names in self.family.in_place),
+        }
+        return [word for word, is_so in said.items() if is_so]
+
+
+def flags_of(words):
+    return " | ".join(f"CVL_{word}" for word in words) or "0"
+
+
+def bits_of(numbers):
+    return " | ".join(f"1u << CVL_{in_c.name_of(number)}" for number in numbers) or "0"
+
+
+def operand_row(found, k):
+    like, relation = found.like(k)
+    words = [f"CVL_AS_{found.role(k)}", found.size(k), str(like), f"CVL_{relation}", str(found.total(k)), f"CVL_BY_{found.by(k)}"]
+    return "        " + "{" + ", ".join([*words, flags_of(found.marks(k))]) + "},"
+
+
+def row_of(found):
+    """The row of a family."""
+    family = found.family
+    numbers = [o.number for o in table.OPERATORS if o.name in family.operators]
+    most = "CVL_MOST_OF_TEXT" if any(o.kind == "text" for o in family.operands) else "CVL_MOST_ELEMENTS"
+    lines = [f".operands = {len(found.operands)}, .out = {found.out}, .is = {flags_of(found.words)}, .most = {most},"]
+    if numbers:
+        lines.append(f".operators = {bits_of(numbers)},")
+    if found.faulty:
+        lines.append(f".faulty = {'1' if found.faulty == [0] else bits_of(found.faulty)},")
+    if found.is_cut:
+        least = {"read": "CVL_LEAST_READ", "write": "CVL_LEAST_WRITTEN", "seg_write": "CVL_LEAST_WRITTEN"}.get(found.cut, "CVL_LEAST_SHARED")
+        each = "CVL_LEAST_EACH" if least == "CVL_LEAST_SHARED" else f"{least}_EACH"
+        lines.append(f".cut = {found.cut_place}, .least = {least}, .each = {each},")
+    made = f".make = make_{found.name}"
+    if found.cut == "rows":
+        made += f", .by_lengths = &cvl_{found.name.removesuffix('_by_offsets')}_row"
+    elif found.is_cut:
+        made += f", .in_parts = cvl_{RUNS.get(found.cut, found.cut)}_in_parts"
+    static = "" if found.name in NAMED_BY_HAND else "static "
+    head = f"{static}const CvlRow cvl_{found.name}_row = {{\n    .operand = {{"
+    return "\n".join([head, *(operand_row(found, k) for k in range(len(found.operands))), "    },", *(statement(f"{line}") for line in [*lines, made + ","]), "};"])
+
+
+# ---- the function that calls the exports of a family ----
+
+
+def export_argument(found, k, is_room=False):
+    operand = found.operands[k]
+    if operand.role == "place":
+        return f"cvl_place_of((int64_t)s[{k}].number)"
+    if operand.role in ("value", "count"):
+        return {"int": f"(int32_t)s[{k}].number", "flag": f"s[{k}].number != 0", "sum": f"(int64_t)s[{k}].number", "size": f"s[{k}].number"}[operand.kind]
+    if operand.role in ("single", "told"):
+        return f"({rows.NUMBERS[operand.kind]}*)s[{k}].at"
+    kind = {"ints": "int32_t *", "flags": "bool *", "text": "bool *", "marks": "uint32_t *"}[operand.kind]
+    cast = f"({kind})" if operand.role == "room" or is_room else ""
+    return f"{cast}s[{k}].at, s[{k}].number"
+
+
+def export_call(found, exported, rooms=()):
+    """The call of an export: in place, without the operand that is the room but for the first, and without the room."""
+    words = ["op"] if found.family.operators else []
+    for k, operand in enumerate(found.operands):
+        if not rooms or operand.role != "room" and (operand.name not in rooms or operand.name == rooms[0]):
+            words.append(export_argument(found, k, operand.name in rooms))
+    return f"cvl_proved_{exported}({', '.join(map(kept, words))})"
+
+
+def make_function(found):
+    lines = [] if found.family.operators else ["    (void)op;"]
+    for exported, names in sorted(rows.in_place_exports(found.family), key=lambda option: -len(option[1])):
+        places = [found.place(lambda o: o.name == name) for name in names]
+        test = " && ".join(f"cvl_is_one(s[{k}], s[{found.out}])" for k in places)
+        lines.append(in_c.guarded(test, export_call(found, exported, names)))
+    head = f"static CvlStatus make_{found.name}(uint32_t op, const CvlSlot *s) {{"
+    return "\n".join([head, *lines, statement(f"return {export_call(found, found.family.exported)};"), "}"])
+
+
+# ---- public functions ----
+
+
+def slot(row, operand):
+    """The slot of an operand, of what a function is given."""
+    if rows.is_array(operand):
+        size = f"{operand.name}_len" if row.call is None else in_c.size_of(row, operand)
+        return f"{{{operand.name}, {size}}}"
+    if operand.role == "lengths":
+        return f"{{{operand.name}.lengths, {operand.name}.segments}}"
+    if operand.role in ("single", "told"):
+        return f"{{{operand.name}, 1}}"
+    return f"{{NULL, {operand.name} != 0}}" if operand.kind == "flag" else f"{{NULL, (size_t){operand.name}}}"
+
+
+def handing(head, slots, called):
+    return "\n".join([wrapped(f"{head}{kept(' {')}"), statement(f"const CvlSlot s[] = {{{', '.join(map(kept, slots))}}};"), statement(f"return {called};"), "}"])
+
+
+def operator_of(row):
+    return f"CVL_{row.operator}" if row.operator else "op" if row.family.operators else "0"
+
+
+def function(row):
+    """A function of cvl.h: a family, or a call."""
+    head = f"CvlStatus cvl_{row.name}({parameters(row.arguments)})"
+    return handing(head, [slot(row, o) for o in row.operands], f"cvl_call(&cvl_{row.family.name}_row, {operator_of(row)}, s)")
+
+
+def function_on(row):
+    """The same with a pool."""
+    head = f"CvlStatus cvl_{row.name}_on({in_c.POOL}, {parameters(row.arguments)})"
+    return handing(head, [slot(row, o) for o in row.operands], f"cvl_on(pool, &cvl_{row.family.name}_row, {operator_of(row)}, s)")
+
+
+def segments_function(row):
+    """A family on segments with a descriptor in the place of its lengths."""
+    slots = [f"{{{o.name.replace('lengths', 'segments')}, 1}}" if o.role == "lengths" else slot(row, o) for o in row.operands]
+    head = f"CvlStatus cvl_{in_c.segments_name(row)}({parameters(in_c.held(row.arguments))})"
+    return handing(head, slots, f"cvl_call_on_segments(&cvl_{row.name}_row, {operator_of(row)}, s)")
+
+
+def fault_names():
+    names = [f'    case CVL_{in_c.constant(name)}: return "{name}";' for _, name in table.STATUSES]
+    return "\n".join(["const char *cvl_fault_name(uint32_t number) {", "    switch (number) {", *names, '    default: return "Unknown";', "    }", "}"])
+
+
+def calls_file():
+    """`bindings/c/calls.c`."""
+    families = [Family(row) for row in rows.FAMILIES.values()]
+    in_parts = [row for row in [*rows.FAMILIES.values(), *rows.CALLS] if row.family.cut is not None]
+    head = in_c.comment(
+        "The functions of cvl.h and cvl_parallel.h: a row for each family, with the function that calls its export, or the one in place; and each "
+        "public function, which hands its arguments to the driver by the row of its family.",
+        rows.NOTE,
+    )
+    blocks = [block for found in families for block in (make_function(found), row_of(found))]
+    blocks += [fault_names(), *map(function, [*rows.FAMILIES.values(), *rows.CALLS]), *map(function_on, in_parts), *map(segments_function, in_c.on_segments())]
+    return "\n\n".join([f'{head}\n#include "driver.h"\n#include "parts.h"', *blocks]) + "\n"
