@@ -22,7 +22,7 @@ static void run_part(void *step, size_t part) {
     s->told[part] = s->part(s->work, part);
 }
 
-static bool is_done(const CvlPool *pool, CvlWork *w, CvlStepPart part, bool writes) {
+bool cvl_step(const CvlPool *pool, CvlWork *w, CvlKind kind, CvlStepPart part) {
     Step step;
     bool done = 1;
     step.work = w, step.part = part;
@@ -32,16 +32,12 @@ static bool is_done(const CvlPool *pool, CvlWork *w, CvlStepPart part, bool writ
     }
     pool->run(pool->state, run_part, &step, w->parts);
     for (size_t k = 0; k < w->parts; k++) {
-        if (step.told[k].number == NOT_RUN && writes) run_part(&step, k);
+        if (step.told[k].number == NOT_RUN && kind == CVL_WRITES) run_part(&step, k);
         if (step.told[k].number == NOT_RUN) w->left_out = 1;
         if (step.told[k].number != CVL_DONE) done = 0;
     }
     return done;
 }
-
-bool cvl_reads(const CvlPool *pool, CvlWork *w, CvlStepPart part) { return is_done(pool, w, part, 0); }
-
-bool cvl_writes(const CvlPool *pool, CvlWork *w, CvlStepPart part) { return is_done(pool, w, part, 1); }
 
 static CvlStatus nothing_part(CvlWork *w, size_t k) {
     (void)w, (void)k;
@@ -50,7 +46,7 @@ static CvlStatus nothing_part(CvlWork *w, size_t k) {
 
 /* Whether a pool runs each part, as far as one step without work tells; those of the library do. */
 static bool runs_all(const CvlPool *pool, CvlWork *w) {
-    return pool->run == cvl_run_alone || pool->run == cvl_run_posix || cvl_reads(pool, w, nothing_part);
+    return pool->run == cvl_run_alone || pool->run == cvl_run_posix || cvl_step(pool, w, CVL_READS, nothing_part);
 }
 
 /*@ requires \valid_read(pool) && each > 0;
@@ -183,11 +179,11 @@ static CvlStatus start_part(CvlWork *w, size_t k) {
 static bool cut_segments(const CvlPool *pool, CvlWork *w, size_t n, CvlSlot lengths, size_t least, size_t each) {
     if (lengths.number > CVL_MOST_ELEMENTS || !cut_evenly(pool, w, n, least, each)) return 0;
     w->lengths = lengths.at, w->segments = lengths.number;
-    if (!cvl_reads(pool, w, lengths_part)) return 0;
+    if (!cvl_step(pool, w, CVL_READS, lengths_part)) return 0;
     for (size_t k = 0; k < w->parts; k++) w->other[k + 1] = w->other[k] + w->counts[k];
     if (w->other[w->parts] != n) return 0;
     w->first[w->parts] = lengths.number, w->start[w->parts] = n;
-    return cvl_reads(pool, w, start_part);
+    return cvl_step(pool, w, CVL_READS, start_part);
 }
 
 bool cvl_cut(const CvlPool *pool, CvlWork *w, const CvlRow *row, const CvlSlot *s) {
@@ -223,7 +219,7 @@ CvlPiece cvl_piece(const CvlWork *w, size_t k) {
 bool cvl_lengths_in_parts(const CvlPool *pool, CvlWork *w) {
     size_t sum = 0;
     w->lengths = w->in[CVL_AS_LENGTHS].at, w->segments = w->in[CVL_AS_LENGTHS].number;
-    if (!cvl_reads(pool, w, lengths_part)) return 0;
+    if (!cvl_step(pool, w, CVL_READS, lengths_part)) return 0;
     for (size_t k = 0; k < w->parts; k++) sum += w->counts[k];
     if (sum > CVL_MOST_ELEMENTS) return 0;
     *cvl_told_at(w) = sum;
@@ -272,11 +268,11 @@ static CvlStatus copies_part(CvlWork *w, size_t k) {
 bool cvl_make_all(const CvlPool *pool, CvlWork *w) {
     const CvlRow *const row = w->row;
     size_t bytes = 0;
-    if (next_copied(row, 0) == row->operands || cvl_reads(pool, w, flags_part)) return 1;
+    if (next_copied(row, 0) == row->operands || cvl_step(pool, w, CVL_READS, flags_part)) return 1;
     if (w->left_out) return 0;
     for (size_t j = next_copied(row, 0); j < row->operands; j = next_copied(row, j + 1)) bytes += w->in[row->operand[j].as].number;
     w->copies = malloc(bytes);
-    if (w->copies == NULL || !cvl_writes(pool, w, copies_part)) return 0;
+    if (w->copies == NULL || !cvl_step(pool, w, CVL_WRITES, copies_part)) return 0;
     const bool *copy = w->copies;
     for (size_t j = next_copied(row, 0); j < row->operands; j = next_copied(row, j + 1)) {
         w->in[row->operand[j].as].at = copy;
@@ -305,7 +301,7 @@ void cvl_put_back(CvlWork *w) {
 
 bool cvl_writes_kept(const CvlPool *pool, CvlWork *w, CvlStepPart part) {
     w->part = part;
-    if (cvl_writes(pool, w, kept_part)) return 1;
+    if (cvl_step(pool, w, CVL_WRITES, kept_part)) return 1;
     cvl_put_back(w);
     return 0;
 }

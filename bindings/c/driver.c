@@ -50,21 +50,18 @@ static CvlStatus on_rows(const CvlPool *pool, const CvlRow *row, uint32_t op, co
     return status;
 }
 
-/* Makes a call in parts where that can be done, and says whether it was. */
-static bool is_done_in_parts(const CvlPool *pool, CvlWork *w, const CvlRow *row, uint32_t op, const CvlSlot *s) {
-    w->left_out = 0;
-    if (!may_be_cut(row, op, s) || !cvl_cut(pool, w, row, s)) return 0;
-    w->row = row, w->op = op;
-    for (size_t k = 0; k < row->operands; k++) w->in[row->operand[k].as] = s[k];
-    const bool done = row->in_parts(pool, w);
-    cvl_let_go(w);
-    return done;
-}
-
 /* Where a pool left out a part of a step that reads, the call is refused: it may leave out more. */
 CvlStatus cvl_on(const CvlPool *pool, const CvlRow *row, uint32_t op, const CvlSlot *s) {
     CvlWork w;
+    bool done = 0;
     if (row->by_lengths != NULL) return on_rows(pool, row, op, s);
-    if (is_done_in_parts(pool, &w, row, op, s)) return w.told;
+    w.left_out = 0;
+    if (may_be_cut(row, op, s) && cvl_cut(pool, &w, row, s)) {
+        w.row = row, w.op = op;
+        for (size_t k = 0; k < row->operands; k++) w.in[row->operand[k].as] = s[k];
+        done = row->in_parts(pool, &w);
+        cvl_let_go(&w);
+    }
+    if (done) return w.told;
     return w.left_out ? cvl_status(CVL_NO_RESOURCES, -1) : cvl_alone(row, op, s);
 }

@@ -31,30 +31,41 @@
  */
 /*@ predicate is_row{L}(CvlRow *row) =
       row->operands <= CVL_MOST_OPERANDS && row->out < row->operands && row->cut < row->operands &&
-      \forall integer k; 0 <= k < row->operands ==> row->operand[k].like < row->operands && row->operand[k].total < row->operands;
+      (row->operand[row->out].is & CVL_WRITTEN) != 0 &&
+      (\forall integer k; 0 <= k < row->operands ==> row->operand[k].like < row->operands && row->operand[k].total < row->operands) &&
+      (\forall integer k; 0 <= k < row->operands && (row->operand[k].is & CVL_IN_PLACE) != 0 ==> (row->operand[k].is & CVL_READ) != 0);
 
-    predicate marked{L}(CvlRow *row, integer k, integer mark) = (row->operand[k].is & mark) != 0;
+    predicate is_read{L}(CvlRow *row, integer k) = (row->operand[k].is & CVL_READ) != 0;
+    predicate is_written{L}(CvlRow *row, integer k) = (row->operand[k].is & CVL_WRITTEN) != 0;
 
     predicate is_call{L}(CvlRow *row, CvlSlot *s) =
       \valid_read(row) && is_row(row) && \valid_read(s + (0 .. row->operands - 1)) &&
-      \forall integer k; 0 <= k < row->operands && (marked(row, k, CVL_READ) || marked(row, k, CVL_WRITTEN)) ==>
+      \forall integer k; 0 <= k < row->operands && (is_read(row, k) || is_written(row, k)) ==>
         row->operand[k].size > 0 && (uintptr_t)s[k].at + s[k].number * row->operand[k].size <= UINTPTR_MAX + 1;
 
     predicate is_compared{L}(CvlRow *row, integer j, integer k) =
-      marked(row, j, CVL_WRITTEN) && (marked(row, k, CVL_READ) || (k > j && marked(row, k, CVL_WRITTEN)));
+      is_written(row, j) && (is_read(row, k) || (k > j && is_written(row, k)));
 
     predicate do_meet{L}(CvlRow *row, CvlSlot *s, integer j, integer k) =
       in_common((uintptr_t)s[j].at, s[j].number * row->operand[j].size, (uintptr_t)s[k].at, s[k].number * row->operand[k].size);
 
     predicate is_shared{L}(CvlRow *row, CvlSlot *s, integer j, integer k) = is_compared(row, j, k) && do_meet(row, s, j, k);
 
+    predicate is_in_place{L}(CvlRow *row, integer k) = (row->operand[k].is & CVL_IN_PLACE) != 0;
+
     predicate may_be_one{L}(CvlRow *row, CvlSlot *s, integer j, integer k) =
-      marked(row, k, CVL_IN_PLACE) && s[j].at == s[k].at && s[j].number == s[k].number;
+      is_in_place(row, k) && s[j].at == s[k].at && s[j].number == s[k].number;
+
+    predicate is_apart{L}(CvlRow *row, CvlSlot *s, integer j) =
+      \forall integer k; 0 <= k < row->operands && is_shared(row, s, j, k) ==> may_be_one(row, s, j, k);
+
+    predicate are_two_in_place{L}(CvlRow *row, CvlSlot *s) =
+      \exists integer k, m; 0 <= k < m < row->operands && is_in_place(row, k) && is_in_place(row, m) &&
+        do_meet(row, s, row->out, k) && do_meet(row, s, row->out, m);
 
     predicate are_apart{L}(CvlRow *row, CvlSlot *s) =
-      (\forall integer j, k; 0 <= j < row->operands && 0 <= k < row->operands && is_shared(row, s, j, k) ==> may_be_one(row, s, j, k)) &&
-      ((row->is & CVL_TOGETHER) != 0 || \forall integer i, j, k, m; 0 <= i < row->operands && 0 <= j < row->operands &&
-        0 <= k < row->operands && 0 <= m < row->operands && is_shared(row, s, i, k) && is_shared(row, s, j, m) ==> i == j && k == m); */
+      (\forall integer j; 0 <= j < row->operands ==> is_apart(row, s, j)) &&
+      ((row->is & CVL_TOGETHER) != 0 || !are_two_in_place(row, s)); */
 
 /* Whether two operands may have no memory in common: one is written, and the other is read, or written too. */
 /*@ requires \valid_read(row) && j < CVL_MOST_OPERANDS && k < CVL_MOST_OPERANDS;
@@ -72,39 +83,56 @@ CVL_WALKS bool cvl_do_meet(const CvlRow *row, const CvlSlot *s, size_t j, size_t
     return cvl_meet(s[j].at, s[j].number, row->operand[j].size, s[k].at, s[k].number, row->operand[k].size);
 }
 
+/*@ requires is_call(row, s) && j < row->operands;
+    assigns \nothing;
+    ensures \result <==> is_apart(row, s, j); */
+CVL_WALKS bool cvl_is_apart(const CvlRow *row, const CvlSlot *s, size_t j) {
+    CVL_UNROLLED
+    /*@ loop invariant 0 <= k <= row->operands;
+        loop invariant \forall integer m; 0 <= m < k && is_shared(row, s, j, m) ==> may_be_one(row, s, j, m);
+        loop assigns k;
+        loop variant row->operands - k; */
+    for (size_t k = 0; k < row->operands; k++) {
+        if (!cvl_is_compared(row, j, k) || !cvl_do_meet(row, s, j, k)) continue;
+        if (!(row->operand[k].is & CVL_IN_PLACE) || !cvl_is_one(s[j], s[k])) return 0;
+    }
+    return 1;
+}
+
+/* Whether the room is two operands. */
+/*@ requires is_call(row, s);
+    assigns \nothing;
+    ensures \result <==> are_two_in_place(row, s); */
+CVL_WALKS bool cvl_are_two_in_place(const CvlRow *row, const CvlSlot *s) {
+    bool is_one = 0;
+    CVL_UNROLLED
+    /*@ loop invariant 0 <= k <= row->operands;
+        loop invariant is_one == 0 ==> \forall integer m; 0 <= m < k ==> !(is_in_place(row, m) && do_meet(row, s, row->out, m));
+        loop invariant is_one != 0 ==> \exists integer m; 0 <= m < k && is_in_place(row, m) && do_meet(row, s, row->out, m);
+        loop invariant \forall integer i, m; 0 <= i < m < k && is_in_place(row, i) && is_in_place(row, m) ==>
+          !(do_meet(row, s, row->out, i) && do_meet(row, s, row->out, m));
+        loop assigns k, is_one;
+        loop variant row->operands - k; */
+    for (size_t k = 0; k < row->operands; k++) {
+        if (!(row->operand[k].is & CVL_IN_PLACE) || !cvl_do_meet(row, s, row->out, k)) continue;
+        if (is_one) return 1;
+        is_one = 1;
+    }
+    return 0;
+}
+
 /*@ requires is_call(row, s);
     assigns \nothing;
     ensures \result <==> are_apart(row, s); */
 CVL_WALKS bool cvl_are_apart(const CvlRow *row, const CvlSlot *s) {
-    bool in_place = 0;
     CVL_UNROLLED
-    /*@ loop invariant 0 <= j <= row->operands;
-        loop invariant \forall integer i, m; 0 <= i < j && 0 <= m < row->operands && is_shared(row, s, i, m) ==> may_be_one(row, s, i, m);
-        loop invariant in_place == 0 ==> \forall integer i, m; 0 <= i < j && 0 <= m < row->operands ==> !is_shared(row, s, i, m);
-        loop invariant in_place != 0 ==> \exists integer i, m; 0 <= i < j && 0 <= m < row->operands && is_shared(row, s, i, m);
-        loop invariant (row->is & CVL_TOGETHER) != 0 || \forall integer i, m, i2, m2; 0 <= i < j && 0 <= m < row->operands &&
-          0 <= i2 < j && 0 <= m2 < row->operands && is_shared(row, s, i, m) && is_shared(row, s, i2, m2) ==> i == i2 && m == m2;
-        loop assigns j, in_place;
+    /*@ loop invariant 0 <= j <= row->operands && \forall integer i; 0 <= i < j ==> is_apart(row, s, i);
+        loop assigns j;
         loop variant row->operands - j; */
     for (size_t j = 0; j < row->operands; j++) {
-        CVL_UNROLLED
-        /*@ loop invariant 0 <= k <= row->operands;
-            loop invariant \forall integer m; 0 <= m < k && is_shared(row, s, j, m) ==> may_be_one(row, s, j, m);
-            loop invariant in_place == 0 ==> \forall integer i, m; 0 <= i < j && 0 <= m < row->operands ==> !is_shared(row, s, i, m);
-            loop invariant in_place == 0 ==> \forall integer m; 0 <= m < k ==> !is_shared(row, s, j, m);
-            loop invariant in_place != 0 ==> \exists integer i, m; 0 <= i <= j && 0 <= m < (i < j ? row->operands : k) && is_shared(row, s, i, m);
-            loop invariant (row->is & CVL_TOGETHER) != 0 || \forall integer i, m, i2, m2; 0 <= i <= j && 0 <= m < (i < j ? row->operands : k) &&
-              0 <= i2 <= j && 0 <= m2 < (i2 < j ? row->operands : k) && is_shared(row, s, i, m) && is_shared(row, s, i2, m2) ==> i == i2 && m == m2;
-            loop assigns k, in_place;
-            loop variant row->operands - k; */
-        for (size_t k = 0; k < row->operands; k++) {
-            if (!cvl_is_compared(row, j, k) || !cvl_do_meet(row, s, j, k)) continue;
-            if (!(row->operand[k].is & CVL_IN_PLACE) || !cvl_is_one(s[j], s[k])) return 0;
-            if (in_place && !(row->is & CVL_TOGETHER)) return 0;
-            in_place = 1;
-        }
+        if (!cvl_is_apart(row, s, j)) return 0;
     }
-    return 1;
+    return (row->is & CVL_TOGETHER) || !cvl_are_two_in_place(row, s);
 }
 
 /* Operands agree if the operator is one of the family, and each is as long as another one says, and no longer than it may be. */
@@ -115,7 +143,7 @@ CVL_WALKS bool cvl_are_apart(const CvlRow *row, const CvlSlot *s) {
       relation == CVL_ONE_MORE ? number == other + 1 && other <= row->most :
       relation == CVL_A_BIT_EACH ? number == (size_t)(other + 31) / 32 :
       relation == CVL_FROM_LOWEST ? other + number <= row->most :
-      number == other && (marked(row, k, CVL_BOUNDED) ==> number <= row->most);
+      number == other && ((row->operand[k].is & CVL_BOUNDED) != 0 ==> number <= row->most);
 
     predicate do_agree{L}(CvlRow *row, integer op, CvlSlot *s) =
       is_known(row, op) && \forall integer k; 0 <= k < row->operands ==> is_long_enough(row, s, k); */
@@ -133,12 +161,10 @@ CVL_WALKS bool cvl_is_known(const CvlRow *row, uint32_t op) {
 CVL_WALKS bool cvl_is_long_enough(const CvlRow *row, const CvlSlot *s, size_t k) {
     const CvlOperand *o = &row->operand[k];
     const size_t number = s[k].number, other = s[o->like].number;
-    switch (o->relation) {
-    case CVL_ONE_MORE: return number >= 1 && number - 1 <= row->most && number - 1 == other;
-    case CVL_A_BIT_EACH: return number == (other + 31) / 32;
-    case CVL_FROM_LOWEST: return other <= row->most && number <= row->most - other;
-    default: return number == other && (!(o->is & CVL_BOUNDED) || number <= row->most);
-    }
+    if (o->relation == CVL_ONE_MORE) return number >= 1 && number - 1 <= row->most && number - 1 == other;
+    if (o->relation == CVL_A_BIT_EACH) return number == (other + 31) / 32;
+    if (o->relation == CVL_FROM_LOWEST) return other <= row->most && number <= row->most - other;
+    return number == other && (!(o->is & CVL_BOUNDED) || number <= row->most);
 }
 
 /*@ requires is_call(row, s);
@@ -156,38 +182,82 @@ CVL_WALKS bool cvl_do_agree(const CvlRow *row, uint32_t op, const CvlSlot *s) {
     return 1;
 }
 
-/* Whether flags that the export takes as 0 and 1 alone are that. */
+/* Flags are clean if each that the export takes as 0 and 1 alone is that. */
+/*@ predicate is_clean{L}(CvlRow *row, CvlSlot *s, integer k) =
+      (row->operand[k].is & CVL_COPIED) != 0 ==> are_flags((bool *)s[k].at, s[k].number);
+
+    predicate are_clean{L}(CvlRow *row, CvlSlot *s) = \forall integer k; 0 <= k < row->operands ==> is_clean(row, s, k); */
+
+/*@ requires is_call(row, s);
+    assigns \nothing;
+    ensures \result <==> are_clean(row, s); */
 CVL_WALKS bool cvl_are_clean(const CvlRow *row, const CvlSlot *s) {
     CVL_UNROLLED
+    /*@ loop invariant 0 <= k <= row->operands && \forall integer j; 0 <= j < k ==> is_clean(row, s, j);
+        loop assigns k;
+        loop variant row->operands - k; */
     for (size_t k = 0; k < row->operands; k++) {
         if ((row->operand[k].is & CVL_COPIED) && !cvl_proved_are_flags(s[k].at, s[k].number)) return 0;
     }
     return 1;
 }
 
-/* Calls the export, or the one in place. */
-CVL_WALKS CvlStatus cvl_make(const CvlRow *row, uint32_t op, const CvlSlot *s) { return row->make(op, s); }
-
 /* The count of a row that has one, which says how long the room is that is cut. One below 0 is above all others here. */
+/*@ predicate is_counted{L}(CvlRow *row, CvlSlot *s) =
+      (row->is & CVL_COUNTED) != 0 ==> s[row->operand[row->cut].like].number <= CVL_MOST_ELEMENTS; */
+
+/*@ requires is_call(row, s);
+    assigns \nothing;
+    ensures \result == s[row->operand[row->cut].like].number; */
 CVL_WALKS size_t cvl_count_given(const CvlRow *row, const CvlSlot *s) { return s[row->operand[row->cut].like].number; }
+
+/*
+ * Calls the export, or the one in place. Nothing but what the export takes may come here: this is what the driver is for. What an export
+ * leaves in its rooms where it is not done is proved with it.
+ */
+/*@ requires is_call(row, s) && are_apart(row, s) && is_counted(row, s);
+    requires (row->is & CVL_ASKED) != 0 ==> do_agree(row, op, s) && are_clean(row, s);
+    assigns rooms;
+    ensures \result.number != CVL_DONE ==> rooms == \old(rooms); */
+CVL_WALKS CvlStatus cvl_make(const CvlRow *row, uint32_t op, const CvlSlot *s) { return row->make(op, s); }
 
 /* ---- a call that is not in order: checks.c ---- */
 
 /* The fault of a count that is none. */
+/*@ assigns \nothing;
+    ensures \result.number == (count < 0 ? CVL_NEGATIVE_LENGTH : CVL_TOO_LONG); */
 CVL_HIDDEN CvlStatus cvl_count_told(int64_t count);
 
 /* The first fault of what is asked of a call before memory is, or that it is done. */
+/*@ requires is_call(row, s) && are_apart(row, s);
+    assigns told;
+    ensures !is_known(row, op) ==> \result.number == CVL_UNKNOWN_CALL;
+    ensures !do_agree(row, op, s) ==> \result.number != CVL_DONE; */
 CVL_HIDDEN CvlStatus cvl_told(const CvlRow *row, uint32_t op, const CvlSlot *s);
 
 /* The same, where the export told something else than that it is done: what comes before that. */
+/*@ requires is_call(row, s) && are_apart(row, s) && status.number != CVL_DONE;
+    assigns told;
+    ensures \result.number != CVL_DONE; */
 CVL_HIDDEN CvlStatus cvl_told_late(const CvlRow *row, uint32_t op, const CvlSlot *s, CvlStatus status);
 
 /* ---- the driver ---- */
 
 /* Makes a call with flags of which some are copied: driver.c. */
+/*@ requires is_call(row, s) && are_apart(row, s) && is_counted(row, s) && do_agree(row, op, s);
+    assigns rooms, told;
+    ensures \result.number != CVL_DONE ==> rooms == \old(rooms); */
 CVL_HIDDEN CvlStatus cvl_make_on_copies(const CvlRow *row, uint32_t op, const CvlSlot *s);
 
 /* Makes a call by the thread that calls. */
+/*@ requires is_call(row, s);
+    assigns rooms, told;
+    ensures \result.number != CVL_DONE ==> rooms == \old(rooms);
+    ensures !are_apart(row, s) ==> \result.number == CVL_OVERLAP;
+    ensures are_apart(row, s) && !is_counted(row, s) ==>
+      \result.number == (s[row->operand[row->cut].like].number > INT64_MAX ? CVL_NEGATIVE_LENGTH : CVL_TOO_LONG);
+    ensures are_apart(row, s) && is_counted(row, s) && (row->is & CVL_ASKED) != 0 && !is_known(row, op) ==> \result.number == CVL_UNKNOWN_CALL;
+    ensures (row->is & CVL_ASKED) != 0 && !do_agree(row, op, s) ==> \result.number != CVL_DONE; */
 CVL_WALKS CvlStatus cvl_make_alone(const CvlRow *row, uint32_t op, const CvlSlot *s) {
     if (!cvl_are_apart(row, s)) return cvl_overlap();
     if ((row->is & CVL_COUNTED) && cvl_count_given(row, s) > CVL_MOST_ELEMENTS) return cvl_count_told((int64_t)cvl_count_given(row, s));
@@ -200,8 +270,18 @@ CVL_WALKS CvlStatus cvl_make_alone(const CvlRow *row, uint32_t op, const CvlSlot
     return cvl_told_late(row, op, s, status);
 }
 
-/* The same of any row, and a call by a pool: driver.c. */
+/* The same of any row: driver.c. */
+/*@ requires is_call(row, s);
+    assigns rooms, told;
+    ensures \result.number != CVL_DONE ==> rooms == \old(rooms);
+    ensures !are_apart(row, s) ==> \result.number == CVL_OVERLAP; */
 CVL_HIDDEN CvlStatus cvl_alone(const CvlRow *row, uint32_t op, const CvlSlot *s);
+
+/* Makes a call by a pool: driver.c. */
+/*@ requires is_call(row, s);
+    assigns rooms, told;
+    ensures \result.number != CVL_DONE ==> rooms == \old(rooms);
+    ensures !are_apart(row, s) && \result.number != CVL_NO_RESOURCES ==> \result.number == CVL_OVERLAP; */
 CVL_HIDDEN CvlStatus cvl_on(const CvlPool *pool, const CvlRow *row, uint32_t op, const CvlSlot *s);
 
 /* Makes a call: a long one by the threads of the process, if nobody has them. */

@@ -46,9 +46,9 @@ static CvlStatus look_part(CvlWork *w, size_t k) {
 }
 
 bool cvl_places_in_parts(const CvlPool *pool, CvlWork *w) {
-    if (!cvl_make_all(pool, w) || ((w->row->faulty >> w->op & 1) && !cvl_reads(pool, w, look_part))) return 0;
+    if (!cvl_make_all(pool, w) || ((w->row->faulty >> w->op & 1) && !cvl_step(pool, w, CVL_READS, look_part))) return 0;
     w->told = cvl_done();
-    return cvl_writes(pool, w, cvl_make_part);
+    return cvl_step(pool, w, CVL_WRITES, cvl_make_part);
 }
 
 static CvlStatus copy_part(CvlWork *w, size_t k) {
@@ -61,7 +61,7 @@ static CvlStatus copy_part(CvlWork *w, size_t k) {
 bool cvl_replace_in_parts(const CvlPool *pool, CvlWork *w) {
     const size_t place = w->in[CVL_AS_PLACE].number, value = w->in[CVL_AS_VALUE].number;
     w->told = cvl_done();
-    if (!cvl_writes(pool, w, copy_part)) return 0;
+    if (!cvl_step(pool, w, CVL_WRITES, copy_part)) return 0;
     if (cvl_of_bools(w)) *CVL_BOOL_ROOM(w, place) = value != 0;
     else *CVL_INT_ROOM(w, place) = (int32_t)value;
     return 1;
@@ -84,13 +84,10 @@ CvlStatus cvl_join_of(const CvlWork *w, CvlItem first, CvlItem second, CvlItem *
 }
 
 CvlStatus cvl_scan_range(const CvlWork *w, CvlItem before, size_t from, size_t to) {
-    const size_t n = to - from;
-    if (cvl_of_bools(w)) {
-        const CvlSlot s[] = {{NULL, before.flag}, {CVL_BOOLS(w, CVL_AS_A, from), n}, {CVL_BOOL_ROOM(w, from), n}};
-        return cvl_bool_scan_after_row.make(w->op, s);
-    }
-    const CvlSlot s[] = {{NULL, (size_t)before.number}, {CVL_INTS(w, CVL_AS_A, from), n}, {CVL_INT_ROOM(w, from), n}};
-    return cvl_int_scan_after_row.make(w->op, s);
+    const CvlRow *const row = cvl_of_bools(w) ? &cvl_bool_scan_after_row : &cvl_int_scan_after_row;
+    const CvlSlot number = {NULL, cvl_of_bools(w) ? before.flag : (size_t)before.number};
+    const CvlSlot s[] = {number, cvl_range(w, CVL_AS_A, from, to), cvl_range(w, CVL_AS_OUT, from, to)};
+    return row->make(w->op, s);
 }
 
 static CvlStatus reduce_part(CvlWork *w, size_t k) { return cvl_reduce_of(w, w->from[k], w->from[k + 1], &w->sums[k]); }
@@ -99,7 +96,7 @@ static CvlStatus scan_part(CvlWork *w, size_t k) { return cvl_scan_range(w, w->b
 
 /* What stands before each part, from the parts' reduces; and the reduce of all of them. */
 static bool join_parts(const CvlPool *pool, CvlWork *w, CvlItem *sum) {
-    bool done = cvl_reads(pool, w, reduce_part) && cvl_reduce_of(w, 0, 0, sum).number == CVL_DONE;
+    bool done = cvl_step(pool, w, CVL_READS, reduce_part) && cvl_reduce_of(w, 0, 0, sum).number == CVL_DONE;
     for (size_t k = 0; k < w->parts && done; k++) {
         w->before[k] = *sum;
         done = cvl_join_of(w, w->before[k], w->sums[k], sum).number == CVL_DONE;
@@ -120,7 +117,7 @@ bool cvl_scan_in_parts(const CvlPool *pool, CvlWork *w) {
     CvlItem sum;
     if (!cvl_make_all(pool, w) || !join_parts(pool, w, &sum)) return 0;
     w->told = cvl_done();
-    return cvl_writes(pool, w, scan_part);
+    return cvl_step(pool, w, CVL_WRITES, scan_part);
 }
 
 /* ---- sums that never wrap: each part's exact sum is told, all parts are looked at, and then the scan that wraps is the same ---- */
@@ -132,7 +129,7 @@ static CvlStatus total_part(CvlWork *w, size_t k) {
 
 bool cvl_checked_reduce_in_parts(const CvlPool *pool, CvlWork *w) {
     int64_t sum = 0;
-    if (!cvl_reads(pool, w, total_part)) return 0;
+    if (!cvl_step(pool, w, CVL_READS, total_part)) return 0;
     for (size_t k = 0; k < w->parts; k++) sum += w->totals[k];
     if (!cvl_fits(sum)) return 0;
     *CVL_INT_ROOM(w, 0) = (int32_t)sum;
@@ -147,11 +144,11 @@ static CvlStatus checked_look(CvlWork *w, size_t k) {
 
 bool cvl_checked_scan_in_parts(const CvlPool *pool, CvlWork *w) {
     w->op = CVL_ADD, w->told = cvl_done();
-    if (!cvl_reads(pool, w, total_part)) return 0;
+    if (!cvl_step(pool, w, CVL_READS, total_part)) return 0;
     for (size_t k = 0; k + 1 < w->parts; k++) w->reached[k + 1] = w->reached[k] + w->totals[k];
-    if (!cvl_reads(pool, w, checked_look)) return 0;
+    if (!cvl_step(pool, w, CVL_READS, checked_look)) return 0;
     for (size_t k = 0; k < w->parts; k++) w->before[k].number = cvl_fits(w->reached[k]) ? (int32_t)w->reached[k] : 0;
-    return cvl_writes(pool, w, scan_part);
+    return cvl_step(pool, w, CVL_WRITES, scan_part);
 }
 
 /* ---- counts and packs: the parts' counts tell where each part's elements go ---- */
@@ -162,7 +159,7 @@ static CvlStatus count_part(CvlWork *w, size_t k) {
 
 /* How many flags are true before each part, and in all. */
 static bool count_parts(const CvlPool *pool, CvlWork *w) {
-    if (!cvl_reads(pool, w, count_part)) return 0;
+    if (!cvl_step(pool, w, CVL_READS, count_part)) return 0;
     for (size_t k = 0; k < w->parts; k++) w->other[k + 1] = w->other[k] + (size_t)w->sums[k].number;
     return 1;
 }
@@ -188,7 +185,7 @@ bool cvl_pack_in_parts(const CvlPool *pool, CvlWork *w) {
     if (!count_parts(pool, w)) return 0;
     const size_t count = w->other[w->parts];
     w->told = count > w->in[CVL_AS_OUT].number ? cvl_status(CVL_LENGTH_MISMATCH, -1) : cvl_done();
-    if (count <= w->in[CVL_AS_OUT].number && (!cvl_make_all(pool, w) || !cvl_writes(pool, w, pack_part))) return 0;
+    if (count <= w->in[CVL_AS_OUT].number && (!cvl_make_all(pool, w) || !cvl_step(pool, w, CVL_WRITES, pack_part))) return 0;
     *cvl_told_at(w) = count;
     return 1;
 }

@@ -56,6 +56,12 @@ static inline bool cvl_of_bools(const CvlWork *w) { return (w->row->is & CVL_OF_
 /* The bytes of an element of the room. */
 static inline size_t cvl_size(const CvlWork *w) { return w->row->operand[w->row->out].size; }
 
+/* What an argument has from one place to another. */
+static inline CvlSlot cvl_range(const CvlWork *w, CvlAs as, size_t from, size_t to) {
+    const CvlSlot range = {(const char *)w->in[as].at + from * (cvl_of_bools(w) ? sizeof(bool) : sizeof(int32_t)), to - from};
+    return range;
+}
+
 /* Where the call tells a number beside its room. */
 static inline size_t *cvl_told_at(const CvlWork *w) { return (size_t *)w->in[CVL_AS_TOLD].at; }
 
@@ -72,12 +78,14 @@ static inline int32_t cvl_number_at(int32_t init, int32_t stride, size_t place) 
  */
 CVL_HIDDEN bool cvl_cut(const CvlPool *pool, CvlWork *w, const CvlRow *row, const CvlSlot *s);
 
+/* What a step does to the rooms of the call. */
+typedef enum CvlKind { CVL_READS, CVL_WRITES } CvlKind;
+
 /*
  * Runs a step in all parts, and answers whether all are done. A part that the pool leaves out of a step that only reads ends the call;
  * one of a step that writes is run by the thread that calls, so that no room is half written.
  */
-CVL_HIDDEN bool cvl_reads(const CvlPool *pool, CvlWork *w, CvlStepPart part);
-CVL_HIDDEN bool cvl_writes(const CvlPool *pool, CvlWork *w, CvlStepPart part);
+CVL_HIDDEN bool cvl_step(const CvlPool *pool, CvlWork *w, CvlKind kind, CvlStepPart part);
 
 /*
  * A call with no room looks for the faults of its elements and writes nothing: an export asks a room last, so that 7 LengthMismatch says

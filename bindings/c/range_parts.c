@@ -46,7 +46,7 @@ static bool count_sent(const CvlPool *pool, CvlWork *w, size_t *sent) {
     const bool all = w->in[CVL_AS_FLAGS].at == NULL;
     *sent = all ? w->in[CVL_AS_INDEX].number : 0;
     if (all) return 1;
-    if (!cvl_reads(pool, w, trues_part)) return 0;
+    if (!cvl_step(pool, w, CVL_READS, trues_part)) return 0;
     for (size_t k = 0; k < w->parts; k++) *sent += (size_t)w->sums[k].number;
     return 1;
 }

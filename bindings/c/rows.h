@@ -88,6 +88,9 @@ struct CvlRow {
     const CvlRow *by_lengths; /* of rows that come by offsets: the family of rows that come by lengths */
 };
 
+/* The operands of a call. */
+#define CVL_SLOTS(...) (const CvlSlot[]){__VA_ARGS__}
+
 /* Whether an operand is another one, from its first to its last element. */
 /*@ assigns \nothing;
     ensures \result <==> a.at == b.at && a.number == b.number; */

@@ -9,33 +9,25 @@ static CvlStatus since_part(CvlWork *w, size_t k) {
     return cvl_reduce_of(w, p.starts ? p.tail : p.from, p.to, &w->sums[k]);
 }
 
-static CvlStatus scan_of(const CvlWork *w, CvlPiece p) {
-    const size_t n = p.tail - p.head;
-    const CvlSlot lengths = {w->lengths + p.first, p.count};
-    if (cvl_of_bools(w)) {
-        const CvlSlot s[] = {{CVL_BOOLS(w, CVL_AS_A, p.head), n}, lengths, {CVL_BOOL_ROOM(w, p.head), n}};
-        return cvl_seg_bool_scan_row.make(w->op, s);
-    }
-    const CvlSlot s[] = {{CVL_INTS(w, CVL_AS_A, p.head), n}, lengths, {CVL_INT_ROOM(w, p.head), n}};
-    return cvl_seg_int_scan_row.make(w->op, s);
-}
-
 static CvlStatus scan_part(CvlWork *w, size_t k) {
+    const CvlRow *const row = cvl_of_bools(w) ? &cvl_seg_bool_scan_row : &cvl_seg_int_scan_row;
     const CvlPiece p = cvl_piece(w, k);
+    const CvlSlot lengths = {w->lengths + p.first, p.count};
+    const CvlSlot whole[] = {cvl_range(w, CVL_AS_A, p.head, p.tail), lengths, cvl_range(w, CVL_AS_OUT, p.head, p.tail)};
     CvlItem unit;
     const CvlStatus status = cvl_reduce_of(w, 0, 0, &unit);
     if (status.number != CVL_DONE) return status;
-    return cvl_first_of(cvl_scan_range(w, w->before[k], p.from, p.head), scan_of(w, p), cvl_scan_range(w, unit, p.tail, p.to));
+    return cvl_first_of(cvl_scan_range(w, w->before[k], p.from, p.head), row->make(w->op, whole), cvl_scan_range(w, unit, p.tail, p.to));
 }
 
 bool cvl_seg_scan_in_parts(const CvlPool *pool, CvlWork *w) {
-    bool done = cvl_make_all(pool, w) && cvl_reads(pool, w, since_part);
+    bool done = cvl_make_all(pool, w) && cvl_step(pool, w, CVL_READS, since_part);
     for (size_t k = 0; k + 1 < w->parts && done; k++) {
         if (cvl_piece(w, k).starts) w->before[k + 1] = w->sums[k];
         else done = cvl_join_of(w, w->before[k], w->sums[k], &w->before[k + 1]).number == CVL_DONE;
     }
     w->told = cvl_done();
-    return done && cvl_writes(pool, w, scan_part);
+    return done && cvl_step(pool, w, CVL_WRITES, scan_part);
 }
 
 /* ---- reduces: each part writes those of its whole segments, and then those that are cut are joined ---- */
@@ -57,7 +49,7 @@ static CvlStatus reduce_part(CvlWork *w, size_t k) {
 
 bool cvl_seg_reduce_in_parts(const CvlPool *pool, CvlWork *w) {
     CvlItem so_far = {0};
-    bool done = cvl_writes(pool, w, reduce_part);
+    bool done = cvl_step(pool, w, CVL_WRITES, reduce_part);
     for (size_t k = 0; k < w->parts && done; k++) {
         const CvlPiece p = cvl_piece(w, k);
         if (p.head > p.from) {
@@ -84,7 +76,7 @@ static CvlStatus count_part(CvlWork *w, size_t k) {
 /* The counts of a segment that is cut are added. */
 bool cvl_seg_count_in_parts(const CvlPool *pool, CvlWork *w) {
     int32_t so_far = 0;
-    const bool done = cvl_writes(pool, w, count_part);
+    const bool done = cvl_step(pool, w, CVL_WRITES, count_part);
     for (size_t k = 0; k < w->parts && done; k++) {
         const CvlPiece p = cvl_piece(w, k);
         if (p.head > p.from) *CVL_INT_ROOM(w, p.first - 1) = so_far += w->heads[k].number;
@@ -114,9 +106,9 @@ static CvlStatus checked_look(CvlWork *w, size_t k) {
 
 bool cvl_seg_checked_scan_in_parts(const CvlPool *pool, CvlWork *w) {
     w->op = CVL_ADD;
-    if (!cvl_reads(pool, w, total_part)) return 0;
+    if (!cvl_step(pool, w, CVL_READS, total_part)) return 0;
     for (size_t k = 0; k + 1 < w->parts; k++) w->reached[k + 1] = w->totals[k] + (cvl_piece(w, k).starts ? 0 : w->reached[k]);
-    return cvl_reads(pool, w, checked_look) && cvl_seg_scan_in_parts(pool, w);
+    return cvl_step(pool, w, CVL_READS, checked_look) && cvl_seg_scan_in_parts(pool, w);
 }
 
 /* The sums of the part's whole segments are looked at, and those of its pieces of others are told. */
@@ -132,7 +124,7 @@ static CvlStatus checked_sums_look(CvlWork *w, size_t k) {
 bool cvl_seg_checked_reduce_in_parts(const CvlPool *pool, CvlWork *w) {
     int64_t so_far = 0;
     w->op = CVL_ADD;
-    if (!cvl_reads(pool, w, checked_sums_look)) return 0;
+    if (!cvl_step(pool, w, CVL_READS, checked_sums_look)) return 0;
     for (size_t k = 0; k < w->parts; k++) {
         const CvlPiece p = cvl_piece(w, k);
         if (p.head > p.from) so_far += w->head_totals[k];
@@ -167,7 +159,7 @@ static CvlStatus copies_part(CvlWork *w, size_t k) {
 
 bool cvl_seg_copies_in_parts(const CvlPool *pool, CvlWork *w) {
     w->told = cvl_done();
-    return cvl_make_all(pool, w) && cvl_writes(pool, w, copies_part);
+    return cvl_make_all(pool, w) && cvl_step(pool, w, CVL_WRITES, copies_part);
 }
 
 /* The numbers of one segment, from its place `done` on. */
@@ -194,7 +186,7 @@ static CvlStatus numbers_part(CvlWork *w, size_t k) {
 
 bool cvl_seg_numbers_in_parts(const CvlPool *pool, CvlWork *w) {
     w->told = cvl_done();
-    return cvl_writes(pool, w, numbers_part);
+    return cvl_step(pool, w, CVL_WRITES, numbers_part);
 }
 
 /* ---- cut between segments ---- */
@@ -221,7 +213,7 @@ static size_t other_operand(const CvlRow *row) {
 static bool cut_other(const CvlPool *pool, CvlWork *w) {
     const size_t other = other_operand(w->row);
     if (other == w->row->operands) return 1;
-    if (!cvl_reads(pool, w, w->row->is & CVL_BY_TRUES ? flags_of_part : lengths_of_part)) return 0;
+    if (!cvl_step(pool, w, CVL_READS, w->row->is & CVL_BY_TRUES ? flags_of_part : lengths_of_part)) return 0;
     w->other[0] = 0;
     for (size_t k = 0; k < w->parts; k++) w->other[k + 1] = w->other[k] + w->counts[k];
     const size_t len = w->in[w->row->operand[other].as].number;

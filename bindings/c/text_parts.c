@@ -45,13 +45,13 @@ static CvlStatus put_text_part(CvlWork *w, size_t k) {
 bool cvl_write_in_parts(const CvlPool *pool, CvlWork *w) {
     if (!cvl_make_all(pool, w) || !cvl_keep(w, text_place(w, w->parts))) return 0;
     memset(w->counts, 0, sizeof w->counts);
-    if (!cvl_writes(pool, w, w->lengths == NULL ? write_part : seg_write_part)) return 0;
+    if (!cvl_step(pool, w, CVL_WRITES, w->lengths == NULL ? write_part : seg_write_part)) return 0;
     w->other[0] = 0;
     for (size_t k = 0; k < w->parts; k++) w->other[k + 1] = w->other[k] + (w->counts[k] == 0 ? 0 : w->counts[k] - 1);
     const size_t length = w->other[w->parts] + 1;
     w->told = length > w->in[CVL_AS_OUT].number ? cvl_status(CVL_LENGTH_MISMATCH, -1) : cvl_done();
     if (length <= w->in[CVL_AS_OUT].number) {
-        if (!cvl_writes(pool, w, put_text_part)) return 0;
+        if (!cvl_step(pool, w, CVL_WRITES, put_text_part)) return 0;
         ((char *)w->in[CVL_AS_OUT].at)[length - 1] = ']';
     }
     *cvl_told_at(w) = length;
@@ -77,12 +77,12 @@ static CvlStatus put_read_part(CvlWork *w, size_t k) {
 
 /* Where a part has a fault, or there are too many integers, the whole text is read again, and tells it. */
 bool cvl_read_in_parts(const CvlPool *pool, CvlWork *w) {
-    if (!cvl_keep(w, read_place(w, w->parts) * sizeof(int32_t)) || !cvl_writes(pool, w, read_part)) return 0;
+    if (!cvl_keep(w, read_place(w, w->parts) * sizeof(int32_t)) || !cvl_step(pool, w, CVL_WRITES, read_part)) return 0;
     for (size_t k = 0; k < w->parts; k++) w->other[k + 1] = w->other[k] + w->counts[k];
     const size_t count = w->other[w->parts];
     if (count > CVL_MOST_OF_TEXT) return 0;
     w->told = count > w->in[CVL_AS_OUT].number ? cvl_status(CVL_LENGTH_MISMATCH, -1) : cvl_done();
-    if (count <= w->in[CVL_AS_OUT].number && !cvl_writes(pool, w, put_read_part)) return 0;
+    if (count <= w->in[CVL_AS_OUT].number && !cvl_step(pool, w, CVL_WRITES, put_read_part)) return 0;
     *cvl_told_at(w) = count;
     return 1;
 }

@@ -287,8 +287,8 @@ def slot(row, operand):
     return f"{{NULL, {operand.name} != 0}}" if operand.kind == "flag" else f"{{NULL, (size_t){operand.name}}}"
 
 
-def handing(head, slots, called):
-    return "\n".join([wrapped(f"{head}{kept(' {')}"), statement(f"const CvlSlot s[] = {{{', '.join(map(kept, slots))}}};"), statement(f"return {called};"), "}"])
+def handing(head, called, slots):
+    return "\n".join([wrapped(f"{head}{kept(' {')}"), statement(f"return {called}, CVL_SLOTS({', '.join(map(kept, slots))}));"), "}"])
 
 
 def operator_of(row):
@@ -298,20 +298,20 @@ def operator_of(row):
 def function(row):
     """A function of cvl.h: a family, or a call."""
     head = f"CvlStatus cvl_{row.name}({parameters(row.arguments)})"
-    return handing(head, [slot(row, o) for o in row.operands], f"cvl_call(&cvl_{row.family.name}_row, {operator_of(row)}, s)")
+    return handing(head, f"cvl_call(&cvl_{row.family.name}_row, {operator_of(row)}", [slot(row, o) for o in row.operands])
 
 
 def function_on(row):
     """The same with a pool."""
     head = f"CvlStatus cvl_{row.name}_on({in_c.POOL}, {parameters(row.arguments)})"
-    return handing(head, [slot(row, o) for o in row.operands], f"cvl_on(pool, &cvl_{row.family.name}_row, {operator_of(row)}, s)")
+    return handing(head, f"cvl_on(pool, &cvl_{row.family.name}_row, {operator_of(row)}", [slot(row, o) for o in row.operands])
 
 
 def segments_function(row):
     """A family on segments with a descriptor in the place of its lengths."""
     slots = [f"{{{o.name.replace('lengths', 'segments')}, 1}}" if o.role == "lengths" else slot(row, o) for o in row.operands]
     head = f"CvlStatus cvl_{in_c.segments_name(row)}({parameters(in_c.held(row.arguments))})"
-    return handing(head, slots, f"cvl_call_on_segments(&cvl_{row.name}_row, {operator_of(row)}, s)")
+    return handing(head, f"cvl_call_on_segments(&cvl_{row.name}_row, {operator_of(row)}", slots)
 
 
 def fault_names():
@@ -322,12 +322,13 @@ def fault_names():
 def calls_file():
     """`bindings/c/calls.c`."""
     families = [Family(row) for row in rows.FAMILIES.values()]
-    in_parts = [row for row in [*rows.FAMILIES.values(), *rows.CALLS] if row.family.cut is not None]
+    whole = [*rows.FAMILIES.values(), *rows.CALLS]
+    in_parts = [row for row in whole if row.family.cut is not None]
     head = in_c.comment(
         "The functions of cvl.h and cvl_parallel.h: a row for each family, with the function that calls its export, or the one in place; and each "
         "public function, which hands its arguments to the driver by the row of its family.",
         rows.NOTE,
     )
     blocks = [block for found in families for block in (make_function(found), row_of(found))]
-    blocks += [fault_names(), *map(function, [*rows.FAMILIES.values(), *rows.CALLS]), *map(function_on, in_parts), *map(segments_function, in_c.on_segments())]
+    blocks += [fault_names(), *("\n".join(found) for found in (map(function, whole), map(function_on, in_parts), map(segments_function, in_c.on_segments())))]
     return "\n\n".join([f'{head}\n#include "driver.h"\n#include "parts.h"', *blocks]) + "\n"

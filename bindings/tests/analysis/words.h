@@ -38,6 +38,16 @@ static inline unsigned char atomic_exchange(unsigned char *at, unsigned char val
     lemma quotient_below: \forall integer x, s, n; x >= 0 && s > 0 && n >= 0 ==> (x / s < n <==> x < n * s);
     lemma product_of_some: \forall integer n, s; n >= 0 && s > 0 ==> (n * s > 0 <==> n > 0); */
 
+/*
+ * What all rooms of a call hold, and what a call tells beside its room: each stands for bytes that a proof doesn't see, and changes where
+ * they may.
+ */
+extern int rooms, told;
+
+/* ---- flags ---- */
+
+/*@ predicate are_flags{L}(unsigned char *bytes, integer n) = \forall integer k; 0 <= k < n ==> bytes[k] <= 1; */
+
 /* ---- parts ---- */
 
 /* Parts of n elements: they begin at 0 and end at n, and each begins where the one before it ends. */
