@@ -2,7 +2,7 @@
 #include "driver.h"
 #include "segments.h"
 
-CvlStatus cvl_count_told(int64_t count) { return count < 0 ? cvl_status(CVL_NEGATIVE_LENGTH, -1) : cvl_status(CVL_TOO_LONG, -1); }
+CvlStatus cvl_count_told(size_t count) { return cvl_status(count > INT64_MAX ? CVL_NEGATIVE_LENGTH : CVL_TOO_LONG, -1); }
 
 /* The fault of lengths that are none of segments, or of offsets that are none of rows; and what they add up to. */
 static CvlStatus lengths_told(const CvlOperand *o, CvlSlot lengths, size_t most, size_t *total) {
@@ -107,25 +107,56 @@ static CvlStatus room_told(const CvlRow *row, const CvlSlot *s) {
 }
 
 /* Whether a vector is too long, or a range ends behind the last place that one may have. */
+/*@ predicate is_too_long{L}(CvlRow *row, CvlSlot *s, integer k) = (row->operand[k].is & CVL_TOO_MANY) != 0 &&
+      (row->operand[k].relation == CVL_FROM_LOWEST ? !is_long_enough(row, s, k) : s[k].number > row->most); */
+/*@ requires is_call(row, s) && k < row->operands;
+    assigns \nothing;
+    ensures \result <==> is_too_long(row, s, k); */
 static bool is_too_long(const CvlRow *row, const CvlSlot *s, size_t k) {
     if (!(row->operand[k].is & CVL_TOO_MANY)) return 0;
     return row->operand[k].relation == CVL_FROM_LOWEST ? !cvl_is_long_enough(row, s, k) : s[k].number > row->most;
 }
 
-CvlStatus cvl_told(const CvlRow *row, uint32_t op, const CvlSlot *s) {
-    bool agree = cvl_do_agree(row, op, s);
-    if (!cvl_is_known(row, op)) return cvl_status(CVL_UNKNOWN_CALL, -1);
+/* Whether any is. */
+/*@ requires is_call(row, s);
+    assigns \nothing;
+    ensures \result <==> \exists integer k; 0 <= k < row->operands && is_too_long(row, s, k); */
+static bool are_too_long(const CvlRow *row, const CvlSlot *s) {
+    /*@ loop invariant 0 <= k <= row->operands && \forall integer j; 0 <= j < k ==> !is_too_long(row, s, j);
+        loop assigns k;
+        loop variant row->operands - k; */
+    for (size_t k = 0; k < row->operands; k++) {
+        if (is_too_long(row, s, k)) return 1;
+    }
+    return 0;
+}
+
+/* The first fault of lengths and offsets, in their order; and whether they add up to what they should. */
+/*@ requires is_call(row, s) && \valid(agree);
+    assigns *agree;
+    ensures *agree ==> \old(*agree);
+    ensures (\forall integer k; 0 <= k < row->operands ==> row->operand[k].total == k) ==> \result.number == CVL_DONE; */
+static CvlStatus all_lengths_told(const CvlRow *row, const CvlSlot *s, bool *agree) {
+    /*@ loop invariant 0 <= k <= row->operands && (*agree ==> \at(*agree, Pre));
+        loop assigns k, *agree;
+        loop variant row->operands - k; */
     for (size_t k = 0; k < row->operands; k++) {
         const CvlOperand *const o = &row->operand[k];
         size_t total = 0;
         if (o->total == k) continue;
         const CvlStatus told = lengths_told(o, s[k], row->most, &total);
         if (told.number != CVL_DONE) return told;
-        if (total != s[o->total].number) agree = 0;
+        if (total != s[o->total].number) *agree = 0;
     }
-    for (size_t k = 0; k < row->operands; k++) {
-        if (is_too_long(row, s, k)) return cvl_status(CVL_TOO_LONG, -1);
-    }
+    return cvl_done();
+}
+
+CvlStatus cvl_told(const CvlRow *row, uint32_t op, const CvlSlot *s) {
+    bool agree = cvl_do_agree(row, op, s);
+    if (!cvl_is_known(row, op)) return cvl_status(CVL_UNKNOWN_CALL, -1);
+    const CvlStatus told = all_lengths_told(row, s, &agree);
+    if (told.number != CVL_DONE) return told;
+    if (are_too_long(row, s)) return cvl_status(CVL_TOO_LONG, -1);
     return agree ? room_told(row, s) : cvl_status(CVL_LENGTH_MISMATCH, -1);
 }
 

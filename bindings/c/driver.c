@@ -33,12 +33,20 @@ CvlStatus cvl_make_on_copies(const CvlRow *row, uint32_t op, const CvlSlot *s) {
 /* ---- by a pool ---- */
 
 /* Whether a call has no fault that the driver can see, so that it may be cut; a place is one of the vector. */
+/*@ requires is_call(row, s) && ((row->is & CVL_ONE_VALUE) != 0 ==> row->operands > 1);
+    assigns \nothing;
+    ensures \result ==> are_apart(row, s) && do_agree(row, op, s);
+    ensures \result && (row->is & CVL_ONE_VALUE) != 0 ==> s[1].number < s[0].number; */
 static bool may_be_cut(const CvlRow *row, uint32_t op, const CvlSlot *s) {
     if (row->in_parts == NULL || !cvl_are_apart(row, s) || !cvl_do_agree(row, op, s)) return 0;
     return !(row->is & CVL_ONE_VALUE) || s[1].number < s[0].number;
 }
 
 /* Rows that come by offsets: the same call by their lengths. */
+/*@ requires is_call(row, s) && row->by_lengths != \null;
+    assigns rooms, told;
+    ensures \result.number != CVL_DONE ==> rooms == \old(rooms);
+    ensures !are_apart(row, s) ==> \result.number == CVL_OVERLAP; */
 static CvlStatus on_rows(const CvlPool *pool, const CvlRow *row, uint32_t op, const CvlSlot *s) {
     CvlSlot by_lengths[CVL_MOST_OPERANDS];
     int32_t *const lengths = cvl_are_apart(row, s) && cvl_do_agree(row, op, s) ? cvl_lengths_between(s[0].at, s[0].number) : NULL;
@@ -50,18 +58,28 @@ static CvlStatus on_rows(const CvlPool *pool, const CvlRow *row, uint32_t op, co
     return status;
 }
 
+/*
+ * Cuts a call that is in order and runs its parts. Whether they are done; else the rooms are as they were, as the ways to run parts leave
+ * them, and w->left_out says whether the pool left a part out of a step that reads.
+ */
+/*@ requires is_call(row, s) && are_apart(row, s) && do_agree(row, op, s);
+    assigns *w, rooms, told;
+    ensures !\result ==> rooms == \old(rooms);
+    ensures \result && w->told.number != CVL_DONE ==> rooms == \old(rooms); */
+static bool are_parts_done(const CvlPool *pool, CvlWork *w, const CvlRow *row, uint32_t op, const CvlSlot *s) {
+    if (!cvl_cut(pool, w, row, s)) return 0;
+    w->row = row, w->op = op;
+    for (size_t k = 0; k < row->operands; k++) w->in[row->operand[k].as] = s[k];
+    const bool done = row->in_parts(pool, w);
+    cvl_let_go(w);
+    return done;
+}
+
 /* Where a pool left out a part of a step that reads, the call is refused: it may leave out more. */
 CvlStatus cvl_on(const CvlPool *pool, const CvlRow *row, uint32_t op, const CvlSlot *s) {
     CvlWork w;
-    bool done = 0;
     if (row->by_lengths != NULL) return on_rows(pool, row, op, s);
     w.left_out = 0;
-    if (may_be_cut(row, op, s) && cvl_cut(pool, &w, row, s)) {
-        w.row = row, w.op = op;
-        for (size_t k = 0; k < row->operands; k++) w.in[row->operand[k].as] = s[k];
-        done = row->in_parts(pool, &w);
-        cvl_let_go(&w);
-    }
-    if (done) return w.told;
+    if (may_be_cut(row, op, s) && are_parts_done(pool, &w, row, op, s)) return w.told;
     return w.left_out ? cvl_status(CVL_NO_RESOURCES, -1) : cvl_alone(row, op, s);
 }

@@ -184,9 +184,14 @@ CVL_WALKS bool cvl_do_agree(const CvlRow *row, uint32_t op, const CvlSlot *s) {
 
 /* Flags are clean if each that the export takes as 0 and 1 alone is that. */
 /*@ predicate is_clean{L}(CvlRow *row, CvlSlot *s, integer k) =
-      (row->operand[k].is & CVL_COPIED) != 0 ==> are_flags((bool *)s[k].at, s[k].number);
+      (row->operand[k].is & CVL_COPIED) != 0 ==> are_flags((uintptr_t)s[k].at, s[k].number);
 
     predicate are_clean{L}(CvlRow *row, CvlSlot *s) = \forall integer k; 0 <= k < row->operands ==> is_clean(row, s, k); */
+
+/* Whether flags are 0 and 1, as an export tells. */
+/*@ assigns \nothing;
+    ensures \result <==> are_flags((uintptr_t)flags.at, flags.number); */
+CVL_WALKS bool cvl_is_clean(CvlSlot flags) { return cvl_proved_are_flags(flags.at, flags.number); }
 
 /*@ requires is_call(row, s);
     assigns \nothing;
@@ -197,7 +202,9 @@ CVL_WALKS bool cvl_are_clean(const CvlRow *row, const CvlSlot *s) {
         loop assigns k;
         loop variant row->operands - k; */
     for (size_t k = 0; k < row->operands; k++) {
-        if ((row->operand[k].is & CVL_COPIED) && !cvl_proved_are_flags(s[k].at, s[k].number)) return 0;
+        if (!(row->operand[k].is & CVL_COPIED) || cvl_is_clean(s[k])) continue;
+        /*@ assert !is_clean(row, s, k); */
+        return 0;
     }
     return 1;
 }
@@ -225,8 +232,8 @@ CVL_WALKS CvlStatus cvl_make(const CvlRow *row, uint32_t op, const CvlSlot *s) {
 
 /* The fault of a count that is none. */
 /*@ assigns \nothing;
-    ensures \result.number == (count < 0 ? CVL_NEGATIVE_LENGTH : CVL_TOO_LONG); */
-CVL_HIDDEN CvlStatus cvl_count_told(int64_t count);
+    ensures \result.number == (count > INT64_MAX ? CVL_NEGATIVE_LENGTH : CVL_TOO_LONG); */
+CVL_HIDDEN CvlStatus cvl_count_told(size_t count);
 
 /* The first fault of what is asked of a call before memory is, or that it is done. */
 /*@ requires is_call(row, s) && are_apart(row, s);
@@ -260,7 +267,7 @@ CVL_HIDDEN CvlStatus cvl_make_on_copies(const CvlRow *row, uint32_t op, const Cv
     ensures (row->is & CVL_ASKED) != 0 && !do_agree(row, op, s) ==> \result.number != CVL_DONE; */
 CVL_WALKS CvlStatus cvl_make_alone(const CvlRow *row, uint32_t op, const CvlSlot *s) {
     if (!cvl_are_apart(row, s)) return cvl_overlap();
-    if ((row->is & CVL_COUNTED) && cvl_count_given(row, s) > CVL_MOST_ELEMENTS) return cvl_count_told((int64_t)cvl_count_given(row, s));
+    if ((row->is & CVL_COUNTED) && cvl_count_given(row, s) > CVL_MOST_ELEMENTS) return cvl_count_told(cvl_count_given(row, s));
     if (row->is & CVL_ASKED) {
         if (!cvl_do_agree(row, op, s)) return cvl_told(row, op, s);
         if (!cvl_are_clean(row, s)) return cvl_make_on_copies(row, op, s);
@@ -278,10 +285,10 @@ CVL_WALKS CvlStatus cvl_make_alone(const CvlRow *row, uint32_t op, const CvlSlot
 CVL_HIDDEN CvlStatus cvl_alone(const CvlRow *row, uint32_t op, const CvlSlot *s);
 
 /* Makes a call by a pool: driver.c. */
-/*@ requires is_call(row, s);
+/*@ requires is_call(row, s) && ((row->is & CVL_ONE_VALUE) != 0 ==> row->operands > 1);
     assigns rooms, told;
     ensures \result.number != CVL_DONE ==> rooms == \old(rooms);
-    ensures !are_apart(row, s) && \result.number != CVL_NO_RESOURCES ==> \result.number == CVL_OVERLAP; */
+    ensures !are_apart(row, s) ==> \result.number == CVL_OVERLAP; */
 CVL_HIDDEN CvlStatus cvl_on(const CvlPool *pool, const CvlRow *row, uint32_t op, const CvlSlot *s);
 
 /* Makes a call: a long one by the threads of the process, if nobody has them. */

@@ -16,8 +16,4 @@
     ensures \result.number == CVL_DONE || \result.number == CVL_NEGATIVE_LENGTH || \result.number == CVL_TOO_LONG; */
 CvlStatus cvl_proved_make_descriptor(const int32_t *lengths, size_t lengths_len, size_t *total_out);
 
-/*@ assigns \nothing;
-    ensures \result <==> are_flags(bytes, bytes_len); */
-bool cvl_proved_are_flags(const bool *bytes, size_t bytes_len);
-
 #endif

@@ -46,7 +46,8 @@ extern int rooms, told;
 
 /* ---- flags ---- */
 
-/*@ predicate are_flags{L}(unsigned char *bytes, integer n) = \forall integer k; 0 <= k < n ==> bytes[k] <= 1; */
+/* Whether so many bytes from an address on are 0 and 1, as an export tells. */
+/*@ axiomatic Flags { predicate are_flags(integer address, integer n); } */
 
 /* ---- parts ---- */
 
