@@ -5,6 +5,8 @@
 CvlStatus cvl_count_told(size_t count) { return cvl_status(count > INT64_MAX ? CVL_NEGATIVE_LENGTH : CVL_TOO_LONG, -1); }
 
 /* The fault of lengths that are none of segments, or of offsets that are none of rows; and what they add up to. */
+/*@ requires \valid_read(o) && \valid(total);
+    assigns *total; */
 static CvlStatus lengths_told(const CvlOperand *o, CvlSlot lengths, size_t most, size_t *total) {
     CvlStatus told;
     if (o->as == CVL_AS_OFFSETS) {
@@ -80,7 +82,7 @@ static const CvlSlot *slot_of(const CvlRow *row, const CvlSlot *s, CvlAs as) {
     return NULL;
 }
 
-/* How long the room has to be whose length hangs on elements; or a fault. */
+/* How long the room has to be whose length elements say; or a fault. */
 static CvlStatus needed_told(const CvlRow *row, const CvlSlot *s, size_t *needed) {
     const CvlSlot *const a = slot_of(row, s, CVL_AS_A), *const flags = slot_of(row, s, CVL_AS_FLAGS), *const lengths = slot_of(row, s, CVL_AS_LENGTHS);
     int32_t trues = 0;
@@ -94,7 +96,9 @@ static CvlStatus needed_told(const CvlRow *row, const CvlSlot *s, size_t *needed
     return counted;
 }
 
-/* The fault of a room whose length hangs on elements. */
+/* The fault of a room whose length elements say. */
+/*@ requires is_call(row, s);
+    assigns told; */
 static CvlStatus room_told(const CvlRow *row, const CvlSlot *s) {
     const size_t room = slot_of(row, s, CVL_AS_OUT)->number;
     size_t needed;
@@ -107,8 +111,6 @@ static CvlStatus room_told(const CvlRow *row, const CvlSlot *s) {
 }
 
 /* Whether a vector is too long, or a range ends behind the last place that one may have. */
-/*@ predicate is_too_long{L}(CvlRow *row, CvlSlot *s, integer k) = (row->operand[k].is & CVL_TOO_MANY) != 0 &&
-      (row->operand[k].relation == CVL_FROM_LOWEST ? !is_long_enough(row, s, k) : s[k].number > row->most); */
 /*@ requires is_call(row, s) && k < row->operands;
     assigns \nothing;
     ensures \result <==> is_too_long(row, s, k); */
@@ -120,7 +122,7 @@ static bool is_too_long(const CvlRow *row, const CvlSlot *s, size_t k) {
 /* Whether any is. */
 /*@ requires is_call(row, s);
     assigns \nothing;
-    ensures \result <==> \exists integer k; 0 <= k < row->operands && is_too_long(row, s, k); */
+    ensures \result <==> are_too_long(row, s); */
 static bool are_too_long(const CvlRow *row, const CvlSlot *s) {
     /*@ loop invariant 0 <= k <= row->operands && \forall integer j; 0 <= j < k ==> !is_too_long(row, s, j);
         loop assigns k;
@@ -132,12 +134,12 @@ static bool are_too_long(const CvlRow *row, const CvlSlot *s) {
 }
 
 /* The first fault of lengths and offsets, in their order; and whether they add up to what they should. */
-/*@ requires is_call(row, s) && \valid(agree);
+/*@ requires is_call(row, s) && \valid(agree) && \separated(agree, row, s + (0 .. row->operands - 1));
     assigns *agree;
     ensures *agree ==> \old(*agree);
-    ensures (\forall integer k; 0 <= k < row->operands ==> row->operand[k].total == k) ==> \result.number == CVL_DONE; */
+    ensures is_flat(row) ==> \result.number == CVL_DONE && *agree == \old(*agree); */
 static CvlStatus all_lengths_told(const CvlRow *row, const CvlSlot *s, bool *agree) {
-    /*@ loop invariant 0 <= k <= row->operands && (*agree ==> \at(*agree, Pre));
+    /*@ loop invariant 0 <= k <= row->operands && (*agree ==> \at(*agree, Pre)) && (is_flat(row) ==> *agree == \at(*agree, Pre));
         loop assigns k, *agree;
         loop variant row->operands - k; */
     for (size_t k = 0; k < row->operands; k++) {
@@ -161,6 +163,8 @@ CvlStatus cvl_told(const CvlRow *row, uint32_t op, const CvlSlot *s) {
 }
 
 /* Whether a status may stand behind one that an export did not ask yet: no memory, and faults of elements. */
+/*@ assigns \nothing;
+    ensures \result ==> status.number != CVL_DONE; */
 static bool is_late(CvlStatus status) {
     return status.number == CVL_NO_RESOURCES || status.number == CVL_OVERFLOW ||
         (status.number >= CVL_DIVIDE_BY_ZERO && status.number <= CVL_INDEX_REPEATED);
@@ -188,6 +192,8 @@ bool cvl_many_words(const char *text, size_t text_len, bool nested) {
 }
 
 /* Whether a text that there is no memory for is too long, or the words before it are too many. */
+/*@ requires is_call(row, s);
+    assigns \nothing; */
 static bool is_too_long_to_read(const CvlRow *row, const CvlSlot *s) {
     const CvlSlot *const text = slot_of(row, s, CVL_AS_A), *const before = slot_of(row, s, CVL_AS_VALUE);
     return (before != NULL && before->number > CVL_MOST_ELEMENTS) || cvl_many_words(text->at, text->number, slot_of(row, s, CVL_AS_OTHER_OUT) != NULL);

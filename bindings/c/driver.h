@@ -236,9 +236,17 @@ CVL_WALKS CvlStatus cvl_make(const CvlRow *row, uint32_t op, const CvlSlot *s) {
 CVL_HIDDEN CvlStatus cvl_count_told(size_t count);
 
 /* The first fault of what is asked of a call before memory is, or that it is done. */
+/*@ predicate is_too_long{L}(CvlRow *row, CvlSlot *s, integer k) = (row->operand[k].is & CVL_TOO_MANY) != 0 &&
+      (row->operand[k].relation == CVL_FROM_LOWEST ? !is_long_enough(row, s, k) : s[k].number > row->most);
+
+    predicate are_too_long{L}(CvlRow *row, CvlSlot *s) = \exists integer k; 0 <= k < row->operands && is_too_long(row, s, k);
+
+    predicate is_flat{L}(CvlRow *row) = \forall integer k; 0 <= k < row->operands ==> row->operand[k].total == k; */
 /*@ requires is_call(row, s) && are_apart(row, s);
     assigns told;
     ensures !is_known(row, op) ==> \result.number == CVL_UNKNOWN_CALL;
+    ensures is_known(row, op) && is_flat(row) && are_too_long(row, s) ==> \result.number == CVL_TOO_LONG;
+    ensures is_known(row, op) && is_flat(row) && !are_too_long(row, s) && !do_agree(row, op, s) ==> \result.number == CVL_LENGTH_MISMATCH;
     ensures !do_agree(row, op, s) ==> \result.number != CVL_DONE; */
 CVL_HIDDEN CvlStatus cvl_told(const CvlRow *row, uint32_t op, const CvlSlot *s);
 

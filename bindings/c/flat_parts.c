@@ -3,7 +3,10 @@
 
 /* ---- at places ---- */
 
-/* A number from its beginning on, or one of a progression from the part's first place on. */
+/* How many places a part has, or the number of a progression at the first of them. */
+/*@ requires \valid_read(w) && \valid_read(o) && o->as < CVL_ROLES && k < CVL_MOST_PARTS && w->from[k] <= w->from[k + 1];
+    assigns \nothing;
+    ensures o->as == CVL_AS_COUNT ==> \result.number == w->from[k + 1] - w->from[k]; */
 static CvlSlot number_of_part(const CvlWork *w, const CvlOperand *o, size_t k) {
     CvlSlot slot = w->in[o->as];
     if (o->as == CVL_AS_COUNT) slot.number = w->from[k + 1] - w->from[k];
@@ -11,6 +14,13 @@ static CvlSlot number_of_part(const CvlWork *w, const CvlOperand *o, size_t k) {
     return slot;
 }
 
+/* Where part k begins by some boundaries. */
+/*@ logic integer begins{L}(CvlWork *w, integer by, integer k) =
+      by == CVL_BY_FROM ? w->from[k] : by == CVL_BY_FIRST ? w->first[k] : by == CVL_BY_START ? w->start[k] : w->other[k]; */
+/*@ requires \valid_read(w);
+    assigns \nothing;
+    ensures \valid_read(\result + (0 .. CVL_MOST_PARTS));
+    ensures \forall integer k; 0 <= k <= CVL_MOST_PARTS ==> \result[k] == begins(w, by, k); */
 const size_t *cvl_boundaries(const CvlWork *w, CvlBy by) {
     switch (by) {
     case CVL_BY_FROM: return w->from;
@@ -20,7 +30,14 @@ const size_t *cvl_boundaries(const CvlWork *w, CvlBy by) {
     }
 }
 
-/* What a part has of an operand. */
+/* What a part has of an operand: all that lies between its boundaries. */
+/*@ requires \valid_read(w) && \valid_read(o) && o->as < CVL_ROLES && k < CVL_MOST_PARTS;
+    requires begins(w, o->by, k) <= begins(w, o->by, k + 1) <= CVL_MOST_ELEMENTS && w->from[k] <= w->from[k + 1] <= CVL_MOST_ELEMENTS;
+    assigns \nothing;
+    ensures o->by == CVL_BY_NONE ==> \result.at == w->in[o->as].at && \result.number == w->in[o->as].number;
+    ensures o->by != CVL_BY_NONE && o->size > 0 ==> \result.number == begins(w, o->by, k + 1) - begins(w, o->by, k);
+    ensures o->by != CVL_BY_NONE && o->size > 0 ==> \result.at == (char *)w->in[o->as].at + begins(w, o->by, k) * o->size;
+    ensures o->by != CVL_BY_NONE && o->size == 0 && o->as == CVL_AS_COUNT ==> \result.number == w->from[k + 1] - w->from[k]; */
 static CvlSlot slot_of_part(const CvlWork *w, const CvlOperand *o, size_t k) {
     CvlSlot slot = w->in[o->as];
     if (o->by == CVL_BY_NONE) return slot;
