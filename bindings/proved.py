@@ -20,6 +20,13 @@ def kit():
     return pathlib.Path(told.stdout.strip()).parent
 
 
+def _run(said, *words, cwd=None):
+    """Runs a program of the kit to its end."""
+    told = subprocess.run([str(word) for word in words], cwd=cwd, capture_output=True, text=True, stdin=subprocess.DEVNULL)
+    if told.returncode != 0:
+        stop(f"{said}:\n{(told.stdout + told.stderr)[-4000:]}")
+
+
 class Crates:
     """The crates of a checkout."""
 
@@ -72,15 +79,27 @@ class Crates:
         """Whether `rt ci` left the libraries that the archive stands on."""
         return self.gate_left(self.wanted(LIBRARY) - {LIBRARY})
 
-    def build_over_gate(self, made):
+    def build_over_gate(self, made, cpu=""):
         """Builds the archive over the libraries that `rt ci` left, where that was not done yet."""
-        libraries = [self.made(name, f"rlib/{name}.rlib") for name in sorted(self.wanted(LIBRARY) - {LIBRARY})]
-        newest = max([self.changed(LIBRARY), *(path.stat().st_mtime for path in libraries)])
+        words = ["src/lib.rt", "--crate-type", "staticlib", "--links", f"{LIBRARY}="]
+        self._build_over_gate(LIBRARY, words, made, cpu)
+
+    def build_program_over_gate(self, made, cpu=""):
+        """Builds the program over the libraries that `rt ci` left, where that was not done yet."""
+        found, compiled = kit(), made.with_name(f"{made.name}.o")
+        if self._build_over_gate(PROGRAM, ["src/main.rt"], compiled, cpu) or not made.exists():
+            words = [found / "bin/rattle-link", "--target", "x86_64-unknown-linux-gnu", "--toolchain", found / "toolchain"]
+            _run("the program was not linked", *words, "-o", made, compiled, found / "c/libos_c.a", found / "c/liblibc_c.a")
+
+    def _build_over_gate(self, name, more, made, cpu):
+        """Whether a crate had to be built over the libraries that `rt ci` left, which it is then."""
+        libraries = [self.made(found, f"rlib/{found}.rlib") for found in sorted(self.wanted(name) - {name})]
+        newest = max([self.changed(name), *(path.stat().st_mtime for path in libraries)])
         if made.exists() and made.stat().st_mtime >= newest:
-            return
-        found, below = kit(), self.below()[LIBRARY]
-        words = [found / "bin/rattle", "build", "--crate-name", LIBRARY, "src/lib.rt", "--crate-type", "staticlib"]
-        words += ["--links", f"{LIBRARY}=", "--jobs", "2", "--backend", "llvm"]
+            return False
+        found, below = kit(), self.below()[name]
+        words = [found / "bin/rattle", "build", "--crate-name", name, *more, "--jobs", "2", "--backend", "llvm"]
+        words += ["--cpu", cpu] if cpu else []
         words += ["--toolchain", found / "toolchain", "--logic-built", found / "logic_built"]
         words += ["--antt-project", found / "rattle/logic/antt-project.json", "--extern", f"std={found}/rlibs/std.rlib"]
         words += ["-L", f"dependency={found}/rlibs"]
@@ -88,10 +107,8 @@ class Crates:
             words += ["--extern", f"{path.stem}={path}"] if path.stem in below else []
             words += ["-L", f"dependency={path.parent}"]
         made.parent.mkdir(parents=True, exist_ok=True)
-        words = [str(word) for word in (*words, "-o", made)]
-        told = subprocess.run(words, cwd=self.folder(LIBRARY), capture_output=True, text=True, stdin=subprocess.DEVNULL)
-        if told.returncode != 0:
-            stop(f"the archive was not built:\n{(told.stdout + told.stderr)[-4000:]}")
+        _run(f"{name} was not built", *words, "-o", made, cwd=self.folder(name))
+        return True
 
     def build_archive(self):
         """Builds the archive, and answers where it is."""

@@ -56,9 +56,9 @@ class Build:
 
     @property
     def is_left(self):
-        """Whether `rt ci` has proved all here, and left the program."""
+        """Whether `rt ci` has proved all here, and left the program, or is to be built for other processors than that one."""
         names = self.crates.wanted(proved.PROGRAM, proved.LIBRARY) - {proved.PROGRAM, proved.LIBRARY}
-        return not self.cpu and self.crates.gate_left(names) and self.crates.is_left(proved.PROGRAM, proved.PROGRAM)
+        return self.crates.gate_left(names) and (bool(self.cpu) or self.crates.is_left(proved.PROGRAM, proved.PROGRAM))
 
     @property
     def writes(self):
@@ -81,13 +81,21 @@ class Build:
     def _built(self, work):
         """Where the program and the archive of the exports are, once they are built."""
         if self.is_left:
-            print("rt ci has proved all crates here: the archive is built over its libraries", flush=True)
-            made = self.own / "libcvl_c.a" if self.own else self.crates.archive
-            self.crates.build_over_gate(made)
-            return self.crates.program, made
+            print("rt ci has proved all crates here: what is missing is built over its libraries", flush=True)
+            return self._built_over_gate()
         crates = proved.Crates(copied(proved.TOP, self.own / "source")) if self.own else self.crates
         crates.build_all(self.cpu, self.jobs, work)
         return crates.program, crates.archive
+
+    def _built_over_gate(self):
+        """The program and the archive over what `rt ci` left. For other processors than the usual ones both are built beside those."""
+        folder = self.own or (self.crates.archive.parent / self.cpu if self.cpu else self.crates.archive.parent)
+        made, program = folder / "libcvl_c.a", folder / "cvl"
+        self.crates.build_over_gate(made, self.cpu)
+        if not self.cpu:
+            return self.crates.program, made
+        self.crates.build_program_over_gate(program, self.cpu)
+        return program, made
 
     def both(self, work):
         """Where the program and the archive of the exports are: those that were given, and else those that are built."""

@@ -19,10 +19,13 @@ import tempfile
 import zipfile
 
 HERE = pathlib.Path(__file__).resolve().parent
-TOP = HERE.parent.parent
-sys.path.append(str(TOP / "bindings"))
+# a source archive, which source.py makes, has the package, the headers and the licence in one folder, and no library
+IS_SOURCE = (HERE / "PKG-INFO").exists()
+TOP = HERE if IS_SOURCE else HERE.parent.parent
+if not IS_SOURCE:
+    sys.path.append(str(TOP / "bindings"))
 
-import generated
+    import generated
 
 NAME = "cvl"
 FLAGS = ["-std=c11", "-O2", "-fPIC", "-fvisibility=hidden", "-Wall", "-Wextra", "-Wshadow"]
@@ -88,8 +91,36 @@ def check():
 
 
 def library(work):
-    """The archive of the library."""
-    return run(sys.executable, TOP / "bindings/archive", work).strip().split("\n")[-1]
+    """The archive of the library: of this checkout, or for a source archive the installed one."""
+    return installed_library() if IS_SOURCE else run(sys.executable, TOP / "bindings/archive", work).strip().split("\n")[-1]
+
+
+def installed_library():
+    """The archive of an installed library: below the prefix that CVL_PREFIX names, or where pkg-config finds it."""
+    prefix = os.environ.get("CVL_PREFIX")
+    if prefix:
+        folders = [folder for pattern in ("lib*", "lib/*") for folder in sorted(pathlib.Path(prefix).glob(pattern))]
+    else:
+        asked = [*words_of("PKG_CONFIG", "pkg-config"), "--variable=libdir", "cvl"]
+        told = subprocess.run(asked, capture_output=True, text=True) if shutil.which(asked[0]) else None
+        folders = [pathlib.Path(told.stdout.strip().replace("\\ ", " "))] if told and told.returncode == 0 else []
+    found = [folder / "libcvl.a" for folder in folders if (folder / "libcvl.a").exists()]
+    if not found:
+        where = f"CVL_PREFIX is {prefix}, and no folder of libraries below it has libcvl.a" if prefix else "pkg-config finds no cvl.pc"
+        raise Missing(f"{where}; this package is built over an installed library of CVL: name its prefix by CVL_PREFIX")
+    return found[0]
+
+
+def written_below(folder):
+    """The folder below which stands what the repository has not; of a source archive that is its own."""
+    return HERE if IS_SOURCE else generated.below(folder)
+
+
+def files(written, folder, *patterns):
+    """The files of a folder of the package that have such names, in their order."""
+    if IS_SOURCE:
+        return sorted(path for pattern in patterns for path in (HERE / folder).glob(pattern))
+    return list(generated.both(written, f"bindings/python/{folder}", *patterns).values())
 
 
 def compiled(work, written, archive):
@@ -100,7 +131,7 @@ def compiled(work, written, archive):
     included = [word for folder in folders for word in ("-isystem", folder)]
     flags = [*FLAGS, *maps, "-iquote", HERE / "extension", *included, *words_of("CFLAGS")]
     objects = []
-    for path in generated.both(written, "bindings/python/extension", "*.c").values():
+    for path in files(written, "extension", "*.c"):
         objects.append(work / f"{path.stem}.o")
         run(*compiler(), *flags, "-c", path, "-o", objects[-1])
     made = work / f"_calls{sysconfig.get_config_var('EXT_SUFFIX')}"
@@ -126,11 +157,14 @@ def needed_numpy():
     return f"numpy>={found[0]}.{found[1]},<2" if found[0] == "1" else "numpy>=1.23"
 
 
-def metadata():
+def description():
+    """What a wheel and a source archive say of the package."""
     lines = ["Metadata-Version: 2.1", f"Name: {NAME}", f"Version: {version()}", f"Summary: {project('description')}"]
-    lines += ["License: MIT", "License-File: LICENSE", f"Requires-Python: {project('requires-python')}"]
-    lines += [f"Requires-Dist: {needed_numpy()}"]
-    return "".join(f"{line}\n" for line in lines)
+    return [*lines, "License: MIT", "License-File: LICENSE", f"Requires-Python: {project('requires-python')}"]
+
+
+def metadata():
+    return "".join(f"{line}\n" for line in [*description(), f"Requires-Dist: {needed_numpy()}"])
 
 
 def platform(module):
@@ -150,9 +184,9 @@ def tag(module):
 
 def contents(work, archive):
     """Each file of a wheel by its name there, and the tag of the wheel."""
-    written = generated.below(work / "written")
+    written = written_below(work / "written")
     module = compiled(work, written, archive or library(work))
-    package = generated.both(written, f"bindings/python/{NAME}", "*.py", "*.pyi", "*.typed").values()
+    package = files(written, NAME, "*.py", "*.pyi", "*.typed")
     found = {f"{NAME}/{path.name}": path.read_bytes() for path in [*package, module]}
     described, tagged = f"{NAME}-{version()}.dist-info", tag(module)
     found[f"{described}/METADATA"] = metadata().encode()
@@ -219,4 +253,6 @@ def get_requires_for_build_wheel(config_settings=None):
 
 
 def build_sdist(sdist_directory, config_settings=None):
-    raise NotImplementedError("the library is built in a checkout; make a wheel there, by `pip wheel ./bindings/python`")
+    import source
+
+    return source.archive(sdist_directory)

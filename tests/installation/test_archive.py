@@ -150,7 +150,7 @@ class Built(Tree):
         """The folders of the checkouts that are proved, and where the archive is built over what was left."""
         proved_in, over = [], []
         with mock.patch.object(proved.Crates, "build_all", lambda self, *given: proved_in.append(self.top)), \
-                mock.patch.object(proved.Crates, "build_over_gate", lambda self, made: over.append(made)), \
+                mock.patch.object(proved.Crates, "build_over_gate", lambda self, made, cpu: over.append((made, cpu))), \
                 mock.patch.object(building.Build, "is_left", left), mock.patch("builtins.print"), mock.patch.dict(os.environ), \
                 mock.patch.object(building, "copied", lambda top, copy: copy):  # fmt: skip
             os.environ.update(CVL_ARCHIVE="", CVL_PROGRAM="")
@@ -162,13 +162,13 @@ class Built(Tree):
         build, proved_in, _ = self.build(None, False)
         self.assertEqual((proved_in, build.writes), ([TOP], TOP / "crates"))
         _, _, over = self.build(None, True)
-        self.assertEqual(over, [TOP / "crates/cvl_c/out/libcvl_c.a"])
+        self.assertEqual(over, [(TOP / "crates/cvl_c/out/libcvl_c.a", "")])
 
     def test_in_a_folder_of_ones_own_the_checkout_is_not_written(self):
         build, proved_in, _ = self.build(self.top, False)
         self.assertEqual((proved_in, build.writes), ([self.top / "source"], self.top))
         _, _, over = self.build(self.top, True)
-        self.assertEqual(over, [self.top / "libcvl_c.a"])
+        self.assertEqual(over, [(self.top / "libcvl_c.a", "")])
 
     def test_what_is_given_is_taken(self):
         given = {"CVL_PROGRAM": "/some/cvl", "CVL_ARCHIVE": "/some/libcvl_c.a"}
@@ -193,11 +193,21 @@ class ForACpu(Tree):
         """The words of each program that was run, with the folder that it was run in."""
         return [line.split("|") for line in self.log.read_text().splitlines()]
 
-    def test_what_the_gate_left_is_not_taken(self):
+    def test_the_libraries_that_the_gate_left_are_taken_and_its_program_is_not(self):
+        built = []
         with mock.patch.object(proved.Crates, "gate_left", lambda *given: True), \
-                mock.patch.object(proved.Crates, "is_left", lambda *given: True):  # fmt: skip
-            for cpu, own in (("", ""), ("x86-64-v3", ""), ("x86-64-v3", str(self.top))):
-                self.assertEqual(building.Build(cpu, 1, own).is_left, not cpu)
+                mock.patch.object(proved.Crates, "is_left", lambda *given: True), mock.patch("builtins.print"), \
+                mock.patch.object(proved.Crates, "build_over_gate", lambda self, made, cpu: built.append((made, cpu))), \
+                mock.patch.object(proved.Crates, "build_program_over_gate", lambda self, made, cpu: built.append((made, cpu))):  # fmt: skip
+            for own in (TOP / "crates/cvl_c/out/x86-64-v3", self.top):
+                built.clear()
+                given = str(own) if own == self.top else ""
+                found = building.Build("x86-64-v3", 1, given).both(self.top)
+                self.assertEqual(found, (own / "cvl", own / "libcvl_c.a"))
+                self.assertEqual(sorted(built), [(own / "cvl", "x86-64-v3"), (own / "libcvl_c.a", "x86-64-v3")])
+            built.clear()
+            self.assertEqual(building.Build("", 1, "").both(self.top)[0], TOP / "crates/cvl/out/cvl")
+            self.assertEqual(built, [(TOP / "crates/cvl_c/out/libcvl_c.a", "")])
 
     def test_the_program_and_the_archive_are_built_for_it_and_nothing_else(self):
         self.program("programs/rt", f"""echo "$(basename "$PWD")|$*" >> '{self.log}'""")

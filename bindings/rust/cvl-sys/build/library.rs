@@ -31,6 +31,7 @@ impl Lookup<'_> {
     /// The variables that the answer hangs on.
     pub fn asked(&self) -> Vec<String> {
         let fixed = [
+            "CARGO_MANIFEST_DIR",
             "DOCS_RS",
             "CVL_LIB_DIR",
             "CVL_SHARED",
@@ -67,10 +68,22 @@ impl Lookup<'_> {
                 return Err(format!("the variable CVL_SHARED is {other}; it has to be 1, the shared object, or 0, the archive"))
             }
         };
-        match self.named()? {
-            Some((name, folder)) => in_folder(&name, folder, shared).map(Found::Library),
-            None => Ok(self.of_package(shared)),
+        match (self.named()?, self.inside(shared)) {
+            (Some((name, folder)), _) => in_folder(&name, folder, shared).map(Found::Library),
+            (None, Some(library)) => Ok(Found::Library(library)),
+            (None, None) => Ok(self.of_package(shared)),
         }
+    }
+
+    /// The archive inside the crate, which it has for some targets as it is released, and not in a checkout.
+    fn inside(&self, shared: bool) -> Option<Library> {
+        let folder = PathBuf::from((self.variable)("CARGO_MANIFEST_DIR")?)
+            .join("native")
+            .join(self.said("TARGET"));
+        if shared {
+            return None;
+        }
+        in_folder("this crate", folder, false).ok()
     }
 
     /// The folder that a variable names, with the variable. A library of the machine that builds is none for another one.
@@ -91,7 +104,7 @@ impl Lookup<'_> {
             Some((name, folder)) if !folder.is_absolute() => {
                 Err(format!("the variable {name} is {}; it has to be a path from the root", folder.display()))
             }
-            None if target != host => Err(format!(
+            None if target != host && self.inside(false).is_none() => Err(format!(
                 "this builds for {target} on {host}, and no library cvl for {target} is named: name its folder in {own}"
             )),
             found => Ok(found),

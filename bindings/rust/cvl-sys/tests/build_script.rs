@@ -53,6 +53,26 @@ fn missing(found: Result<Found, String>) -> String {
 }
 
 #[test]
+fn the_archive_inside_the_crate() {
+    let crate_root = Path::new(env!("CARGO_TARGET_TMPDIR")).join("a crate with an archive");
+    let native = crate_root.join("native").join(HERE);
+    fs::create_dir_all(&native).unwrap();
+    fs::write(native.join("libcvl.a"), "").unwrap();
+    let own = ("CARGO_MANIFEST_DIR", crate_root.to_str().unwrap());
+    let other = prefix("packaged beside").join("lib");
+    let package = [("libdir", other.to_str().unwrap())];
+    assert_eq!(library(found(&[own], &package)).folder, native);
+    let from = |name| found(&[own, ("HOST", name), ("TARGET", HERE)], &[]);
+    assert_eq!(library(from(THERE)).folder, native);
+    // a folder that is named, and the shared object, which no crate has inside
+    let named = ("CVL_LIB_DIR", other.to_str().unwrap());
+    assert_eq!(library(found(&[own, named], &[])).folder, other);
+    let shared = library(found(&[own, ("CVL_SHARED", "1")], &package));
+    assert_eq!((shared.folder, shared.shared), (other, true));
+    assert!(found(&[own, ("TARGET", THERE)], &[]).is_err());
+}
+
+#[test]
 fn the_folder_that_a_variable_names() {
     let root = prefix("named");
     let (folder, other) = (root.join("lib"), prefix("packaged").join("lib"));

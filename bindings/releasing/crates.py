@@ -1,0 +1,36 @@
+"""The crates for Rust: `cvl-sys` with the library inside, and `cvl` over it. Unpacked side by side both build without a network."""
+
+import re
+import tempfile
+
+import generated
+import table
+
+from . import packed
+
+RUST = "bindings/rust"
+SOURCES = ("src/**/*.rs", "build/*.rs", "tests/**/*", "examples/*.rs", "README.md", "LICENSE", "Cargo.toml")
+
+
+def _standing_alone(text):
+    """The description of a crate outside of its workspace, beside the other one."""
+    text = re.sub(r"\n\[workspace\]\n(?:.+\n)*", "", text)
+    return text.replace('path = "cvl-sys"', f'path = "../cvl-sys-{table.VERSION}"')
+
+
+def _write(folder, name, sources, work, time):
+    whole = f"{name}-{table.VERSION}"
+    described = work / f"{name}.toml"
+    described.write_text(_standing_alone(sources["Cargo.toml"].read_text()))
+    packed.tar_gz(folder / f"{whole}.crate", {f"{whole}/{path}": source for path, source in {**sources, "Cargo.toml": described}.items()}, time)
+    return f"{whole}.crate"
+
+
+def write(folder, builds, time):
+    """Writes both, and answers their names."""
+    with tempfile.TemporaryDirectory() as work:
+        written = generated.below(work)
+        own = generated.both(written, RUST, *SOURCES)
+        beneath = generated.both(written, f"{RUST}/cvl-sys", *SOURCES)
+        beneath["native/x86_64-unknown-linux-gnu/libcvl.a"] = builds.library()
+        return [_write(folder, "cvl", own, builds.work, time), _write(folder, "cvl-sys", beneath, builds.work, time)]

@@ -1,0 +1,160 @@
+"""Packages for Debian, put together by `dpkg-deb` from what `./install` puts below /usr."""
+
+import collections
+import fnmatch
+import gzip
+import hashlib
+import os
+import pathlib
+import re
+import shutil
+import subprocess
+
+import archive
+import proved
+import table
+
+from . import built, texts
+
+LIBDIR = "lib/x86_64-linux-gnu"
+REVISION = f"{table.VERSION}-1"
+# the Python that the package is for is Debian's own
+PYTHON = "/usr/bin/python3"
+
+# A package: which files below /usr it has, what it depends on, its section, and its description, a line and paragraphs.
+#
+# Of the first package that has a pattern for a file. A dependency in braces is filled in.
+Package = collections.namedtuple("Package", "name patterns depends section short long architecture", defaults=("amd64",))
+PACKAGES = (
+    Package(
+        "cvl", ("bin/*", "share/man/man1/*", "share/bash-completion/*", "share/zsh/*", "share/fish/*"), "{libc}", "math",
+        "vector calls for flat and nested data, run from scripts",
+        ("The program cvl runs scripts of CVL's calls, elementwise operations, scans, reductions, permutes and packs of flat and segmented "
+         "vectors, over files of integers. What it writes, and the first fault, is proved to be what one thread over plain lists gives.",),
+    ),
+    Package(
+        "libcvl1", (f"{LIBDIR}/libcvl.so.*",), "{libc}", "libs", "proved vector calls for flat and nested data - shared library",
+        ("CVL's calls on the caller's own arrays of 32-bit integers and booleans, on one thread or several. The walks over vectors are "
+         "proved to give what one thread over plain lists gives.", "This package has the shared object."),
+    ),
+    Package(
+        "libcvl-dev", (f"{LIBDIR}/*", "include/*", "share/man/man3/*", "share/cvl/rust/*"), "libcvl1 (= {version})", "libdevel",
+        "proved vector calls for flat and nested data - development files",
+        ("CVL's calls on the caller's own arrays of 32-bit integers and booleans, on one thread or several.",
+         "This package has the headers for C, the archive, the module for Fortran, the crates for Rust, and what pkg-config and CMake read."),
+    ),
+    Package(
+        "python3-cvl", ("lib/python3/dist-packages/*",), "{libc}, {python}", "python", "proved vector calls over numpy arrays",
+        ("CVL's calls, elementwise operations, scans, reductions, permutes and packs of flat and segmented vectors, over numpy arrays of "
+         "int32 and bool, on one thread or several.",),
+    ),
+    Package(
+        "cvl-doc", ("share/doc/cvl/*",), "", "doc", "proved vector calls for flat and nested data - documentation",
+        ("The tutorial, the reference and the examples of CVL's calls, from scripts and from C, Fortran, Python and Rust.",), "all",
+    ),
+)  # fmt: skip
+
+# where Debian has another folder than `./install`
+MOVED = {"share/zsh/site-functions/": "share/zsh/vendor-completions/"}
+STRIPPED = {
+    "bin/*": ("--strip-all", "--remove-section=.comment"),
+    f"{LIBDIR}/libcvl.so.*": ("--strip-unneeded", "--remove-section=.comment"),
+    f"{LIBDIR}/libcvl.a": ("--strip-debug", "--enable-deterministic-archives"),
+}
+
+
+def _package_of(name):
+    """The package that has a file, or nothing."""
+    return next((found.name for found in PACKAGES if any(fnmatch.fnmatch(name, pattern) for pattern in found.patterns)), None)
+
+
+def _moved(name):
+    return next((new + name[len(old) :] for old, new in MOVED.items() if name.startswith(old)), name)
+
+
+def _put(staged, root, name):
+    """A file or link of what was staged, below the root of its package: without what debuggers read, and manual pages packed."""
+    source, made = staged / name, root / "usr" / _moved(name)
+    made.parent.mkdir(parents=True, exist_ok=True)
+    if source.is_symlink():
+        made.symlink_to(os.readlink(source))
+    elif name.startswith("share/man/"):
+        made.with_name(f"{made.name}.gz").write_bytes(gzip.compress(source.read_bytes(), mtime=0))
+    else:
+        shutil.copyfile(source, made)
+        made.chmod(0o755 if name.startswith("bin/") else 0o644)
+        for pattern, options in STRIPPED.items():
+            if fnmatch.fnmatch(name, pattern) and not (pattern.endswith("*") and made.suffix == ".a"):
+                archive.run("strip", *options, made)
+
+
+def _dependencies(roots):
+    """What stands for the words in braces."""
+    objects = {name: [path for path in root.rglob("*") if _is_object(path)] for name, root in roots.items()}
+    numpy = subprocess.run(["dpkg-query", "-W", "-f", "${Provides}", "python3-numpy"], capture_output=True, text=True).stdout
+    abi = re.search(r"python3-numpy-abi\d+", numpy)
+    if not abi:
+        proved.stop("the package for Debian's Python is built with Debian's numpy (python3-numpy)")
+    major, minor = map(int, archive.run(PYTHON, "-c", "import sys; print(*sys.version_info[:2])").split())
+    python = f"python3 (>= {major}.{minor}~), python3 (<< {major}.{minor + 1}), python3-numpy, {abi[0]}"
+    libc = {name: f"libc6 (>= {built.needed_glibc(*found)})" if found else "" for name, found in objects.items()}
+    return {name: {"libc": libc[name], "python": python, "version": REVISION} for name in roots}
+
+
+def _is_object(path):
+    return path.is_file() and not path.is_symlink() and path.read_bytes()[:4] == b"\x7fELF"
+
+
+def _files(root):
+    return [path for path in sorted((root / "usr").rglob("*")) if path.is_file() and not path.is_symlink()]
+
+
+def _control(package, root, depends):
+    """What `dpkg` is told of a package, by the name of the file."""
+    size = sum(-(-path.stat().st_size // 1024) for path in _files(root)) + len(list((root / "usr").rglob("*")))
+    lines = [
+        f"Package: {package.name}", "Source: cimorelua", f"Version: {REVISION}", f"Architecture: {package.architecture}",
+        f"Maintainer: {texts.MAINTAINER}", f"Installed-Size: {size}", *([f"Depends: {depends}"] if depends else []),
+        *(["Multi-Arch: same"] if package.name == "libcvl1" else ["Multi-Arch: foreign"] if package.architecture == "all" else []),
+        *(["Suggests: cvl-doc"] if package.name != "cvl-doc" else []), f"Section: {package.section}", "Priority: optional",
+        f"Description: {package.short}", *texts.paragraphs(package.long),
+    ]  # fmt: skip
+    sums = "".join(f"{hashlib.md5(path.read_bytes()).hexdigest()}  {path.relative_to(root)}\n" for path in _files(root))
+    return {"control": "\n".join(lines) + "\n", "md5sums": sums, **texts.scripts(package.name)}
+
+
+def _described(package, root):
+    """The licence and the changes, which each package has."""
+    folder = root / "usr/share/doc" / package.name
+    folder.mkdir(parents=True, exist_ok=True)
+    (folder / "copyright").write_text(texts.copyright_of())
+    (folder / "changelog.Debian.gz").write_bytes(gzip.compress(texts.debian_changes(REVISION).encode(), mtime=0))
+    (folder / "changelog.gz").write_bytes(gzip.compress((proved.TOP / "CHANGELOG.md").read_bytes(), mtime=0))
+
+
+def _built(package, root, depends, folder):
+    (root / "DEBIAN").mkdir()
+    for name, text in _control(package, root, depends).items():
+        (root / "DEBIAN" / name).write_text(text)
+        (root / "DEBIAN" / name).chmod(0o755 if text.startswith("#!") else 0o644)
+    for path in root.rglob("*"):
+        if path.is_dir():
+            path.chmod(0o755)
+    made = f"{package.name}_{REVISION}_{package.architecture}.deb"
+    archive.run("dpkg-deb", "--root-owner-group", "-Zxz", "--build", root, folder / made)
+    return made
+
+
+def write(folder, builds):
+    """Writes the packages, and answers their names."""
+    staged = builds.installed("debian", "/usr", built.USUAL, "--libdir", LIBDIR, "--python", PYTHON)
+    roots = {package.name: builds.work / "packages" / package.name for package in PACKAGES}
+    for path in sorted(staged.rglob("*")):
+        name = str(path.relative_to(staged))
+        package = _package_of(name)
+        if package and not (path.is_dir() and not path.is_symlink()):
+            _put(staged, roots[package], name)
+    for package in PACKAGES:
+        _described(package, roots[package.name])
+    filled = _dependencies(roots)
+    return [_built(package, roots[package.name], package.depends.format(**filled[package.name]), folder) for package in PACKAGES]

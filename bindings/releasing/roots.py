@@ -1,0 +1,100 @@
+"""Bare roots of Debian, in which a release is tried: each try has a fresh one."""
+
+import contextlib
+import os
+import pathlib
+import pwd
+import shutil
+import subprocess
+import tarfile
+import tempfile
+
+import proved
+
+SUITE = "bookworm"
+PATH = "/usr/local/sbin:/usr/local/bin:/usr/sbin:/usr/bin:/sbin:/bin"
+# what a root has beside what each Debian has
+PACKAGES = {
+    "bare": (),
+    "compilers": ("gcc", "g++", "gfortran", "libc6-dev", "make", "pkg-config", "cmake"),
+    "python": ("python3-numpy", "python3-venv"),
+    "source": ("gcc", "libc6-dev", "python3-numpy", "python3-dev", "python3-venv"),
+    "rust": ("cargo", "gcc", "libc6-dev"),
+}
+
+
+class Failed(Exception):
+    """A command in a root that did not do what it should."""
+
+
+class Root:
+    """The root of a system of its own."""
+
+    def __init__(self, folder):
+        self.folder = pathlib.Path(folder)
+
+    def run(self, said, user="root", **variables):
+        """What a command of the shell prints, run by a user with these variables alone."""
+        known = {"PATH": PATH, "HOME": "/tmp", "LC_ALL": "C.UTF-8", **variables}
+        words = ["unshare", "--mount", "--pid", "--fork", "--kill-child", "sh", "-c", 'mount -t proc proc "$0/proc" && exec chroot --userspec="$1" "$0" sh -c "$2"']
+        told = subprocess.run([*words, self.folder, f"{user}:", said], capture_output=True, text=True, env=known, stdin=subprocess.DEVNULL)
+        if told.returncode != 0:
+            raise Failed(f"{said}\nended with {told.returncode}:\n{told.stdout[-2000:]}{told.stderr[-2000:]}")
+        return told.stdout
+
+    def refuses(self, said, why, **variables):
+        """Asks that a command fails, and says why."""
+        with contextlib.suppress(StopIteration):
+            try:
+                self.run(said, **variables)
+            except Failed as failed:
+                if why in str(failed):
+                    return
+                raise
+        raise Failed(f"{said}\nended well, and should have said: {why}")
+
+    def put(self, path, place="srv"):
+        shutil.copy(path, self.folder / place)
+
+    def unpack(self, path, place="opt"):
+        with tarfile.open(path) as archive:
+            archive.extractall(self.folder / place)
+
+    def write(self, name, text):
+        (self.folder / name).parent.mkdir(parents=True, exist_ok=True)
+        (self.folder / name).write_text(text)
+
+    def files(self):
+        """Each file, link and folder that a package may have left behind."""
+        told = self.run("find / -xdev \\( -path /proc -o -path /var/lib/dpkg -o -path /var/log -o -path /var/cache/ldconfig -o -path /tmp \\) -prune -o -print")
+        return set(told.splitlines()) - {"/etc/ld.so.cache"}
+
+
+class Roots:
+    """Roots by their kinds, made once and unpacked for each try."""
+
+    def __init__(self, work):
+        self.work = pathlib.Path(work)
+
+    def _made(self, kind, suite):
+        made = self.work / f"{suite}-{kind}.tar"
+        if not made.exists():
+            packages = ",".join(PACKAGES[kind])
+            words = ["mmdebstrap", "--quiet", "--variant=minbase", *([f"--include={packages}"] if packages else []), suite, made]
+            told = subprocess.run([str(word) for word in words], capture_output=True, text=True, stdin=subprocess.DEVNULL)
+            if told.returncode != 0:
+                proved.stop(f"no root of Debian could be made:\n{told.stderr[-2000:]}")
+        return made
+
+    @contextlib.contextmanager
+    def fresh(self, kind, suite=SUITE):
+        """A root that nothing was tried in."""
+        made = self._made(kind, suite)
+        with tempfile.TemporaryDirectory(dir=self.work) as folder:
+            os.chmod(folder, 0o755)
+            subprocess.run(["tar", "-xpf", str(made), "-C", folder], check=True)
+            yield Root(folder)
+
+
+def is_root():
+    return pwd.getpwuid(os.geteuid()).pw_name == "root"

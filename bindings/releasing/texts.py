@@ -1,0 +1,75 @@
+"""What the packages for Debian say beside their files: licences, changes, and what is run when they are installed and removed."""
+
+import email.utils
+import os
+import re
+import textwrap
+
+import proved
+
+from . import licences
+
+# the one place for an address, as soon as there is one
+MAINTAINER = "Cimorelua maintainers <maintainers@cimorelua.invalid>"
+
+
+def paragraphs(said):
+    """Paragraphs as a control file has them: each line behind a blank, and a dot between two."""
+    found = []
+    for k, paragraph in enumerate(said):
+        found += [" ."] if k else []
+        found += [f" {line}" for line in textwrap.wrap(paragraph, 78)]
+    return found
+
+
+def copyright_of():
+    """The licences of all that is inside, as Debian's copyright files have them."""
+    whole = (proved.TOP / "LICENSE").read_text()
+    holder = re.search(r"Copyright \(c\) (.*)", whole)[1]
+    text = "\n".join(f" {line}" if line else " ." for line in whole.partition("\n\n")[2].strip().split("\n"))
+    parts = "\n".join(f" {part.name}: {part.licence}" for part in licences.parts())
+    return (
+        "Format: https://www.debian.org/doc/packaging-manuals/copyright-format/1.0/\nUpstream-Name: Cimorelua\n"
+        f"Comment: Compiled into the objects are parts of the Rattle kit:\n{parts}\n\nFiles: *\nCopyright: {holder}\nLicense: MIT\n\n"
+        f"License: MIT\n{text}\n"
+    )
+
+
+def debian_changes(revision):
+    date = email.utils.formatdate(int(os.environ["SOURCE_DATE_EPOCH"]))
+    return f"cimorelua ({revision}) unstable; urgency=medium\n\n  * New release.\n\n -- {MAINTAINER}  {date}\n"
+
+
+def _symbols():
+    """Each name of the shared object under the version that it came with."""
+    version, lines = "", ["libcvl.so.1 libcvl1"]
+    for line in (proved.TOP / "bindings/c/cvl.map").read_text().splitlines():
+        opened, named = re.match(r"(CVL_([\d.]+)) \{", line), re.match(r" +(cvl_\w+);", line)
+        if opened:
+            version, number = opened[1], opened[2]
+            lines.append(f" {version}@{version} {number}.0")
+        elif named:
+            lines.append(f" {named[1]}@{version} {number}.0")
+    return "\n".join(lines) + "\n"
+
+
+COMPILES = """#!/bin/sh
+set -e
+if command -v py3compile >/dev/null 2>&1; then
+    py3compile -p python3-cvl
+fi
+"""
+CLEANS = """#!/bin/sh
+set -e
+if command -v py3clean >/dev/null 2>&1; then
+    py3clean -p python3-cvl
+fi
+"""
+
+
+def scripts(package):
+    """The files for `dpkg` that one package alone has, by their names."""
+    return {
+        "libcvl1": {"shlibs": "libcvl 1 libcvl1 (>= 1.0.0)\n", "symbols": _symbols(), "triggers": "activate-noawait ldconfig\n"},
+        "python3-cvl": {"postinst": COMPILES, "prerm": CLEANS},
+    }.get(package, {})

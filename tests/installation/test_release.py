@@ -1,0 +1,156 @@
+"""Which checkouts may be released, that archives are the same bytes each time, which package of Debian has which file, and what the
+check of a release finds: on files that are made for it, without the kit, in a second."""
+
+import json
+import os
+import pathlib
+import sys
+import tarfile
+import unittest
+from unittest import mock
+
+sys.dont_write_bytecode = True
+TOP = pathlib.Path(__file__).resolve().parents[2]
+sys.path.insert(0, str(TOP / "bindings"))
+
+import archive
+from installer import files
+from installer.words import Places
+from releasing import built, debian, found_right, packed, receipt, texts, writing
+from trees import Tree
+
+RECORD = {"tree": "a tree", "kit": "a kit", "last_line": "5 passed, 0 failed", "not_tried": ""}
+
+
+class FoundRight(Tree):
+    """The record of the check of the repository."""
+
+    def read(self, changes=(), **found):
+        record = self.top / "found-right"
+        if found:
+            record.write_text(json.dumps({**RECORD, **found}))
+        with mock.patch.object(found_right, "RECORD", record), mock.patch.object(found_right, "changes", lambda: list(changes)), \
+                mock.patch.object(found_right, "tree", lambda: "a tree"), mock.patch.object(found_right, "kit", lambda: "a kit"):  # fmt: skip
+            return found_right.read()
+
+    def refused(self, why, *changes, **found):
+        with self.assertRaisesRegex(SystemExit, why):
+            self.read(changes, **found)
+
+    def test_this_tree_by_this_kit_is_taken(self):
+        self.assertEqual(self.read(tree="a tree")._asdict(), RECORD)
+
+    def test_anything_else_is_refused(self):
+        self.refused("has not found this checkout right")
+        self.refused("an earlier revision", tree="another tree")
+        self.refused("by another kit, and the kit on the path is a kit", kit="another kit")
+        self.refused("differs from its revision:\n M README.md", " M README.md", tree="a tree")
+
+
+class Packed(Tree):
+    """Archives that are the same bytes whoever makes them."""
+
+    def made(self, name, time):
+        root = self.top / name
+        for path in ("b/program", "a"):
+            self.write(f"{name}/{path}", path, time)
+        (root / "b/program").chmod(0o700)
+        os.symlink("a", root / "link")
+        made = self.top / f"{name}.tar.gz"
+        packed.tar_gz(made, packed.below(root), 1000)
+        return made
+
+    def test_the_same_bytes_at_any_time(self):
+        one, other = self.made("one", 5000), self.made("other", 7000)
+        self.assertEqual(one.read_bytes(), other.read_bytes())
+        with tarfile.open(one) as whole:
+            found = [(entry.name, entry.mode, entry.mtime, entry.uid, entry.linkname) for entry in whole]
+        self.assertEqual(found, [("a", 0o644, 1000, 0, ""), ("b", 0o755, 1000, 0, ""), ("b/program", 0o755, 1000, 0, ""), ("link", 0o777, 1000, 0, "a")])
+
+
+class Packages(unittest.TestCase):
+    """Debian's packages."""
+
+    def test_each_file_has_a_package(self):
+        places = Places("/usr", debian.LIBDIR)
+        given, links = files.base(places, pathlib.Path("/work"), pathlib.Path("/written"), {"share/doc/cvl/README.md": None})
+        of = {name: debian._package_of(name) for name in (*given, *links)}
+        self.assertEqual([name for name, package in of.items() if package is None], [])
+        for name, package in (
+            ("bin/cvl", "cvl"), ("share/man/man1/cvl.1", "cvl"), (f"{debian.LIBDIR}/{archive.SONAME}", "libcvl1"), ("include/cvl.h", "libcvl-dev"),
+            (f"{debian.LIBDIR}/{archive.LINKED}", "libcvl-dev"), (f"{debian.LIBDIR}/libcvl.a", "libcvl-dev"), ("share/doc/cvl/README.md", "cvl-doc"),
+        ):  # fmt: skip
+            self.assertEqual(of[name], package, name)
+        self.assertIsNone(debian._package_of("share/cvl/installed"))
+
+    def test_symbols_have_the_version_that_they_came_with(self):
+        lines = texts.scripts("libcvl1")["symbols"].splitlines()
+        self.assertEqual(lines[0], "libcvl.so.1 libcvl1")
+        self.assertIn(" cvl_add_wuz@CVL_1.0 1.0.0", lines)
+        self.assertEqual(len(lines), len(set(lines)))
+
+    def test_the_newest_glibc_that_is_needed(self):
+        told = {"one": "GLIBC_2.4 (3)\nName: GLIBC_2.34  Flags", "other": "GLIBC_2.2.5 GLIBC_2.9"}
+        with mock.patch.object(archive, "run", lambda *words: told[words[-1]]):
+            self.assertEqual(built.needed_glibc("one", "other"), "2.34")
+            self.assertEqual(built.needed_glibc("other"), "2.9")
+
+
+class Check(Tree):
+    """What the check of a release finds."""
+
+    def setUp(self):
+        super().setUp()
+        self.sources = {"crates/sums": "0" * 64, "docs": "1" * 64}
+        self.made("release")
+
+    def made(self, folder):
+        """Writes a small release, as `writing.write` does."""
+        self.write(f"{folder}/cvl.tar.xz", "a tree")
+        rows = "".join(f"| `{name}` | `{its_sum}` |\n" for name, its_sum in self.sources.items())
+        self.write(f"{folder}/{writing.RECEIPT}", rows)
+        names = sorted(["cvl.tar.xz", writing.RECEIPT])
+        self.write(f"{folder}/{writing.SUMS}", "".join(f"{receipt.sum_of(self.top / folder / name)}  {name}\n" for name in names))
+        return [*names, writing.SUMS]
+
+    def differences(self, sources=None):
+        def again(folder, jobs):
+            return self.made(os.path.relpath(folder, self.top))
+
+        with mock.patch.object(receipt, "sources", lambda: sources or self.sources), mock.patch.object(writing, "write", again):
+            return writing.differences(self.top / "release", 1)
+
+    def test_what_this_checkout_makes_is_right(self):
+        self.assertEqual(self.differences(), [])
+
+    def test_a_changed_byte_is_found(self):
+        self.write("release/cvl.tar.xz", "a Tree")
+        self.assertEqual(self.differences(), ["cvl.tar.xz has another sum than SHA256SUMS says"])
+        sums = self.top / "release" / writing.SUMS
+        sums.write_text(sums.read_text().replace(receipt.sum_of(self.write("right", "a tree")), receipt.sum_of(self.top / "release/cvl.tar.xz")))
+        self.assertEqual(self.differences(), ["cvl.tar.xz is not what this checkout makes", f"{writing.SUMS} is not what this checkout makes"])
+
+    def test_a_changed_source_is_found(self):
+        self.assertEqual(self.differences({**self.sources, "docs": "2" * 64}), ["docs is not as the receipt says"])
+        self.assertEqual(self.differences({**self.sources, "include": "2" * 64}), ["include is not as the receipt says"])
+
+    def test_a_file_that_is_gone_and_one_too_many_are_found(self):
+        (self.top / "release/cvl.tar.xz").unlink()
+        self.write("release/more", "a file")
+        self.assertEqual(self.differences(), ["cvl.tar.xz is not there", "more has no sum"])
+
+    def test_a_sum_of_sources_knows_their_names_and_texts(self):
+        for name in ("src/lib.rt", "specs/Sum.antt"):
+            self.write(f"sums/{name}", name)
+        found = receipt.sum_below(self.top / "sums")
+        self.write("sums/out/built", "a file")
+        self.assertEqual(receipt.sum_below(self.top / "sums"), found)
+        (self.top / "sums/src/lib.rt").rename(self.top / "sums/src/other.rt")
+        self.assertNotEqual(receipt.sum_below(self.top / "sums"), found)
+        (self.top / "sums/src/other.rt").rename(self.top / "sums/src/lib.rt")
+        self.write("sums/src/lib.rt", "another text")
+        self.assertNotEqual(receipt.sum_below(self.top / "sums"), found)
+
+
+if __name__ == "__main__":
+    unittest.main()
