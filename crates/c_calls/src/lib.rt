@@ -16,6 +16,6 @@ pub mod products;
 pub mod scans;
 pub mod seg_scans;
 pub mod status;
-pub mod texts;
+pub mod text_calls;
 pub mod tiles;
 pub mod told_nest;

@@ -18,4 +18,4 @@ pub mod permutes_in_parts;
 pub mod scans;
 pub mod segmented;
 pub mod senders;
-pub mod texts;
+pub mod text_laws;

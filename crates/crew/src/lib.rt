@@ -2,12 +2,12 @@
 #![tactic(auto)]
 
 mod gate;
-mod laws;
+mod piece_laws;
 mod together;
 mod work;
 mod worker;
 
 pub use gate::{Gate, OpenGate, Point};
-pub use laws::pieces_law;
+pub use piece_laws::pieces_law;
 pub use together::{Crewed, run_crew, run_crew_for_facts};
 pub use work::Work;

@@ -22,5 +22,5 @@ mod seg_scans;
 mod segment_permutes;
 mod segments;
 mod senders;
-mod texts;
+mod text_exports;
 mod tiles;

@@ -7,8 +7,8 @@
 
 mod choice;
 mod copies;
+mod elements_over;
 mod in_place;
-mod over;
 mod pairs;
 mod races;
 mod shared;
@@ -17,12 +17,12 @@ mod valueless;
 mod values;
 
 pub use choice::select;
+pub use elements_over::{
+    bool_from_int_over, compare_over, int1_over, int2_over, on_each_over, on_pairs_over,
+};
 pub use in_place::{
     int1_in, int2_in_both, int2_in_first, int2_in_second, on_each_in, on_pairs_in_both,
     on_pairs_in_first, on_pairs_in_second,
-};
-pub use over::{
-    bool_from_int_over, compare_over, int1_over, int2_over, on_each_over, on_pairs_over,
 };
 pub use pairs::{bool2, compare, int2, int2_gated};
 pub use singles::{bool_from_int, bool1, int_from_bool, int1};

@@ -7,11 +7,11 @@ mod copies;
 mod fills;
 mod forks;
 mod found;
-mod over;
 mod parts;
 mod room;
 mod run;
 mod shares;
+mod slices_over;
 mod starts;
 
 // A crate can name a run in a contract only if the types of its fields are exported.
@@ -25,8 +25,8 @@ pub use forks::{
     write_in_runs_by_rayon,
 };
 pub use found::first_found;
-pub use over::{fill_slice, write_over};
 pub use parts::{CountedParts, Part, count_parts};
 pub use room::Room;
 pub use run::Run;
 pub use shares::{Share, extend_in_parts, write_in_parts};
+pub use slices_over::{fill_slice, write_over};

@@ -2,12 +2,12 @@
 #![tactic(auto)]
 
 mod element_calls;
+mod measured_texts;
 mod numbers;
 mod pack_calls;
 mod permute_calls;
 mod recipe_calls;
 mod scan_calls;
-mod texts;
 mod timing;
 mod vectors;
 
@@ -32,7 +32,7 @@ pub fn measure<R: Print + Clock + Threads + Sync>(
 ) -> io::Result<bool> {
     let bench = Bench { rt, alloc, config };
     match subject {
-        "text" => texts::measure(&bench)?,
+        "text" => measured_texts::measure(&bench)?,
         "elementwise" => element_calls::measure(&bench)?,
         "scans" => scan_calls::measure(&bench)?,
         "permutes" => permute_calls::measure(&bench)?,

@@ -5,10 +5,10 @@
 pub mod comparisons;
 pub mod folds;
 pub mod integer;
-pub mod laws;
 pub mod monoid;
 pub mod monoids;
 pub mod operator;
+pub mod operator_laws;
 pub mod seg;
 pub mod sides;
 pub mod singles;

@@ -3,8 +3,8 @@
 //! [`sparse_matvec`] multiplies a sparse matrix by a vector, and [`line_of_sight`] tells which places an observer sees.
 #![tactic(auto)]
 
-pub mod laws;
 mod products;
+pub mod recipe_laws;
 mod runs;
 mod scripts;
 mod sight;

@@ -16,7 +16,7 @@ ghost use Rattle.cvl_base.specs.SegmentedCalls.{seg_scan_of};
 
 use crate::fronts::fitting_of_scan;
 use crate::numbers::{fitting, know_numbers};
-use crate::over::{scan_over, seg_scan_over};
+use crate::scans_over::{scan_over, seg_scan_over};
 use crate::segment_fronts::fitting_of_scans;
 use crate::vectors::seg_scan_vec;
 use crate::whole_sums::total;

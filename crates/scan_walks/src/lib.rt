@@ -11,7 +11,7 @@ pub mod checked;
 pub mod fronts;
 pub mod in_place;
 pub mod numbers;
-pub mod over;
+pub mod scans_over;
 mod segment_fronts;
 pub mod vectors;
 pub mod whole_sums;
@@ -23,10 +23,10 @@ pub use checked::{
 pub use fronts::{fitting_of_range, fitting_of_scan};
 pub use in_place::{checked_scan_in, checked_seg_scan_in, scan_in, seg_scan_in};
 pub use numbers::{fitting, know_numbers};
-pub use over::{scan_over, seg_reduce_over, seg_reduce_readings_over, seg_scan_over};
 pub use range_walks::{
     Itself, Reading, plain, ranges, readings, scan_into, scan_range_into, scan_vec,
     seg_reduces_into, sum_from, sum_of_range,
 };
+pub use scans_over::{scan_over, seg_reduce_over, seg_reduce_readings_over, seg_scan_over};
 pub use vectors::{seg_reduce_vec, seg_scan_vec};
 pub use whole_sums::{total, total_of_range};

@@ -6,7 +6,6 @@
 #![tactic(auto)]
 
 mod answers;
-pub mod laws;
 pub mod offsets;
 pub mod products;
 mod row_counts;
@@ -14,6 +13,7 @@ mod row_groups;
 mod row_sums;
 mod row_walks;
 pub mod rows_alone;
+pub mod worked_products;
 
 pub use offsets::row_lengths;
 pub use products::{

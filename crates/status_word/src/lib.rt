@@ -4,21 +4,21 @@
 
 mod action;
 mod items;
-mod laws;
 mod local;
 mod moves;
 mod pass;
 mod rules;
 mod status;
 mod word;
+mod word_laws;
 mod world;
 
 pub use action::{Action, Answer};
 pub use items::{pack_status, read_status};
-pub use laws::{left_law, word_law, word_values, world_law, world_values};
 pub use local::{Local, next};
 pub use pass::{Hand, Mark, Pass};
 pub use rules::{code_law, hand_law, pass_values, rule_law};
 pub use status::Status;
 pub use word::{pack, unpack};
+pub use word_laws::{left_law, word_law, word_values, world_law, world_values};
 pub use world::{Stepped, World};

@@ -16,7 +16,7 @@ ghost use Rattle.status_word.specs.RuleSteps.{SplitKeeps, TellKeeps, WholeKnows}
 ghost use Rattle.status_word.specs.WorkedPasses.{other_pass, worked_pass};
 ghost use Rattle.status_word.specs.WorkedWorlds.{worked_sums};
 
-use crate::laws::know_coding;
+use crate::word_laws::know_coding;
 use cvl_base::Packed;
 
 /// The rule of the hands, which every board keeps whatever its words tell, for passes `P` that have a hand: each kind of

@@ -9,9 +9,9 @@ ghost use Rattle.status_word.specs.Reached.{stepped_of};
 ghost use Rattle.status_word.specs.Worlds.{left_of, local_at, new_scene, scene_after, step_of, steps_of};
 
 use crate::action::Action;
-use crate::laws::know_coding;
 use crate::local::{Local, next};
 use crate::moves::{answer_to, claims_after, write_word};
+use crate::word_laws::know_coding;
 use cvl_base::{Memory, NoResources, Packed};
 use std::alloc::Allocator;
 use std::marker::Model;

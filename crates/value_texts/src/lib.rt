@@ -8,7 +8,7 @@ mod nest_text;
 mod part_writes;
 mod pieces;
 mod segments;
-mod texts;
+mod value_writes;
 mod vector_text;
 mod written;
 
@@ -16,6 +16,6 @@ pub use alone::{nest_text_alone, vector_text_alone};
 pub use flat_vectors::{FlatVector, long_vector};
 pub use part_writes::{Cut, made_in_parts};
 pub use pieces::{Piece, pieces_for, threads_writing_pieces, write_first};
-pub use texts::put_value;
+pub use value_writes::put_value;
 pub use vector_text::put_opening;
 pub use written::Written;

@@ -8,7 +8,6 @@ mod calls;
 mod elementwise_calls;
 pub mod input;
 mod kept;
-pub mod laws;
 pub mod long_writes;
 mod numbered;
 mod pack_calls;
@@ -18,6 +17,7 @@ mod place_calls;
 mod read_bytes;
 mod scan_calls;
 pub mod session;
+pub mod session_laws;
 pub mod shown;
 mod writes;
 

@@ -1,6 +1,0 @@
-use Rattle.std.specs.Int.{int_wrap}
-use Rattle.recipes.proofs.laws.visibility_values.Goals as goal
-
-pub returns : goal.returns
-unfolding int_wrap
-returns c = assumption

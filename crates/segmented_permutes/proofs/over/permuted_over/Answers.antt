@@ -1,4 +1,0 @@
-use Rattle.segmented_permutes.proofs.over.permuted_over.Goals as goal
-
-pub returns : goal.returns
-returns g c = λ meaning call. c.elements_of_senders_over.ensures _ _ meaning c.segment_senders_alone-found.ensures.senders call
