@@ -259,7 +259,8 @@ def name_of(number):
     return next(found.name for found in table.OPERATORS if found.number == number)
 
 
-def statement(text, depth=1):
+def indented(text, depth=1):
+    """A line of C, indented as deep as it stands in its function."""
     return textwrap.indent(wrapped(text), "    " * depth)
 
 
@@ -267,8 +268,8 @@ def guarded(test, answer, depth=1):
     """An answer under a condition, on one line where there is room."""
     line = f"if ({test}) return {answer};"
     if len(line) + 4 * depth <= WIDTH:
-        return statement(line, depth)
-    return "\n".join([statement(f"if ({test}){KEPT}{{", depth), statement(f"return {answer};", depth + 1), statement("}", depth)])
+        return indented(line, depth)
+    return "\n".join([indented(f"if ({test}){KEPT}{{", depth), indented(f"return {answer};", depth + 1), indented("}", depth)])
 
 
 def size_of(row, operand):

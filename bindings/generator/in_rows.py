@@ -4,7 +4,7 @@ their arguments to the driver."""
 import in_c
 import rows
 import table
-from in_c import kept, parameters, statement, wrapped
+from in_c import indented, kept, parameters, wrapped
 
 # What an array that is read is to a call, by its name; the first other one is A, and the second B.
 NAMED = {"index": "INDEX", "columns": "INDEX", "flags": "FLAGS", "offsets": "OFFSETS"}
@@ -234,7 +234,7 @@ def row_of(found):
         made += f", .in_parts = cvl_{RUNS.get(found.cut, found.cut)}_in_parts"
     static = "" if found.name in NAMED_BY_HAND else "static "
     head = f"{static}const CvlRow cvl_{found.name}_row = {{\n    .operand = {{"
-    return "\n".join([head, *(operand_row(found, k) for k in range(len(found.operands))), "    },", *(statement(f"{line}") for line in [*lines, made + ","]), "};"])
+    return "\n".join([head, *(operand_row(found, k) for k in range(len(found.operands))), "    },", *(indented(f"{line}") for line in [*lines, made + ","]), "};"])
 
 
 # ---- the function that calls the exports of a family ----
@@ -269,7 +269,7 @@ def make_function(found):
         test = " && ".join(f"cvl_is_one(s[{k}], s[{found.out}])" for k in places)
         lines.append(in_c.guarded(test, export_call(found, exported, names)))
     head = f"static CvlStatus make_{found.name}(uint32_t op, const CvlSlot *s) {{"
-    return "\n".join([head, *lines, statement(f"return {export_call(found, found.family.exported)};"), "}"])
+    return "\n".join([head, *lines, indented(f"return {export_call(found, found.family.exported)};"), "}"])
 
 
 # ---- public functions ----
@@ -288,7 +288,7 @@ def slot(row, operand):
 
 
 def handing(head, called, slots):
-    return "\n".join([wrapped(f"{head}{kept(' {')}"), statement(f"return {called}, CVL_SLOTS({', '.join(map(kept, slots))}));"), "}"])
+    return "\n".join([wrapped(f"{head}{kept(' {')}"), indented(f"return {called}, CVL_SLOTS({', '.join(map(kept, slots))}));"), "}"])
 
 
 def operator_of(row):
