@@ -34,8 +34,8 @@ pub use lengths::Lengths;
 pub use memory::Memory;
 pub use name::Name;
 pub use operators::{
-    Binary, Monoid, Packed, Seg, Single, comparisons, folds, integer, laws, monoid, monoids,
-    operator, seg, sides, singles, tile_sums,
+    Binary, Monoid, Packed, Seg, Single, comparisons, folds, integer, monoid, monoids, operator,
+    operator_laws, seg, sides, singles, tile_sums,
 };
 pub use partials::PartialBinary;
 pub use places::place_among;
