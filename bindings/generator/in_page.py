@@ -9,7 +9,7 @@ import table
 
 HEAD = """# The header for C
 
-What `include/cvl.h` says. [Programs over the installed library](programs.md) shows how a program is built, [Calls from code of one's own](embedding.md) how one is without installing, and [Common mistakes](mistakes.md) what goes wrong first.
+What `include/cvl.h` says. [Programs over the installed library](programs.md) shows how a program is built, and [Common mistakes](mistakes.md) what goes wrong first.
 """
 
 

@@ -1,6 +1,6 @@
 """The pages as they are installed: those for a user of what is installed, in the folders of the repository. A paragraph, an
-item of a list or a row of a table that names a file of the repository which is not installed is left out, with the code that
-it leads to. Other pages of the repository are named by their titles."""
+item of a list or a row of a table that names a file or a page of the repository which is not installed is left out, with the
+code that it leads to. Of a link to such a page whose words are not its title the words stay."""
 
 import re
 
@@ -38,7 +38,7 @@ HEADER = "../include/cvl.h"
 
 # a name of a file or folder: one with a slash that begins as those of the repository, a page, or a command at its top
 FOLDERS = "crates|bindings|docs|examples|include|tests|\\.ci"
-NAMED = re.compile(rf"(?<![\w/.~-])(?:\.{{0,2}}/?(?:{FOLDERS})/[\w./*-]*\w|[\w-]+\.md|\./install|\./cvl)(?![\w/])")
+NAMED = re.compile(rf"(?<![\w/.~-])(?:\.{{0,2}}/?(?:{FOLDERS})/[\w./*-]*\w|[\w-]+\.md|\./install|\./cvl(?!-))(?![\w/])")
 LINK = re.compile(r"(!?)\[([^\]]*)\]\(([^)]*)\)")
 
 
@@ -83,22 +83,25 @@ class Installed:
         return [name for name in found if not self.has(name)]
 
 
-def _title(name):
+def title(name):
+    """The title of a page of the repository."""
     return (TOP / "docs" / name).read_text().split("\n")[0][2:]
 
 
 def _flattened(text, installed):
-    """Links to what is not there as their words alone, and pages that are not there by their titles."""
+    """Links to what is not there as their words alone, if these do not name the page."""
 
     def shown(found):
         target = found.group(3).split("#")[0]
-        return found.group(0) if not target or target.startswith("http") or installed.has(target) else found.group(2)
+        is_there = not target or target.startswith("http") or installed.has(target)
+        return found.group(0) if is_there or _names(found.group(2), target) else found.group(2)
 
-    def titled(found):
-        name = found.group(1)
-        return found.group(0) if installed.has(name) or not (TOP / "docs" / name).exists() else f"*{_title(name)}*"
+    return LINK.sub(shown, text)
 
-    return re.sub(r"`(?:docs/)?([\w-]+\.md)`", titled, LINK.sub(shown, text))
+
+def _names(words, target):
+    """Whether the words of a link are the title of its page."""
+    return (TOP / "docs" / target).suffix == ".md" and (TOP / "docs" / target).exists() and words == title(target)
 
 
 def _is_code(line):

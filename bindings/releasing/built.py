@@ -18,8 +18,9 @@ CPUS = {USUAL: "x86_64", NEWER: "x86_64-v3"}
 class Built:
     """The program and the exports, built once for each kind of processor, and what `./install` makes of them."""
 
-    def __init__(self, work, time, jobs):
-        self.work, self.jobs, self.given = pathlib.Path(work), jobs, {}
+    def __init__(self, work, time, jobs, anew):
+        # `anew`: what is compiled over the libraries that `rt ci` left is compiled again, and not taken from an earlier build
+        self.work, self.jobs, self.anew, self.given = pathlib.Path(work), jobs, anew, {}
         # what no caller says may change the bytes of a release
         unset = ("CPPFLAGS", "CFLAGS", "LDFLAGS", "CC", "LD", "OBJCOPY", "NM", "AR", "DESTDIR", "PYTHONPATH")
         self.environment = {name: said for name, said in os.environ.items() if name not in unset}
@@ -27,11 +28,17 @@ class Built:
         os.environ.clear()
         os.environ.update(self.environment)
 
+    @property
+    def is_given(self):
+        """Whether the caller named the program or the archive, as for a try of this code."""
+        return any(building.Build(USUAL, self.jobs, "").given.values())
+
     def both(self, cpu):
         """Where the program and the archive of the exports are."""
         if cpu not in self.given:
             (self.work / "logs").mkdir(parents=True, exist_ok=True)
-            self.given[cpu] = [str(path) for path in building.Build(cpu, self.jobs, "").both(self.work / "logs")]
+            own = self.work / f"compiled for {CPUS[cpu]}" if self.anew else ""
+            self.given[cpu] = [str(path) for path in building.Build(cpu, self.jobs, own).both(self.work / "logs")]
         return self.given[cpu]
 
     def installed(self, name, prefix, cpu, *words):

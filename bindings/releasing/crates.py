@@ -18,12 +18,16 @@ def _standing_alone(text):
     return text.replace('path = "cvl-sys"', f'path = "../cvl-sys-{table.VERSION}"')
 
 
+def file_of(name):
+    """The name of a crate's file."""
+    return f"{name}-{table.VERSION}.crate"
+
+
 def _write(folder, name, sources, work, time):
-    whole = f"{name}-{table.VERSION}"
-    described = work / f"{name}.toml"
+    whole, described = f"{name}-{table.VERSION}", work / f"{name}.toml"
     described.write_text(_standing_alone(sources["Cargo.toml"].read_text()))
-    packed.tar_gz(folder / f"{whole}.crate", {f"{whole}/{path}": source for path, source in {**sources, "Cargo.toml": described}.items()}, time)
-    return f"{whole}.crate"
+    packed.tar_gz(folder / file_of(name), {f"{whole}/{path}": source for path, source in {**sources, "Cargo.toml": described}.items()}, time)
+    return file_of(name)
 
 
 def write(folder, builds, time):

@@ -132,6 +132,11 @@ def _described(package, root):
     (folder / "changelog.gz").write_bytes(gzip.compress((proved.TOP / "CHANGELOG.md").read_bytes(), mtime=0))
 
 
+def file_of(package):
+    """The name of the file that is installed."""
+    return f"{package.name}_{REVISION}_{package.architecture}.deb"
+
+
 def _built(package, root, depends, folder):
     (root / "DEBIAN").mkdir()
     for name, text in _control(package, root, depends).items():
@@ -140,9 +145,8 @@ def _built(package, root, depends, folder):
     for path in root.rglob("*"):
         if path.is_dir():
             path.chmod(0o755)
-    made = f"{package.name}_{REVISION}_{package.architecture}.deb"
-    archive.run("dpkg-deb", "--root-owner-group", "-Zxz", "--build", root, folder / made)
-    return made
+    archive.run("dpkg-deb", "--root-owner-group", "-Zxz", "--build", root, folder / file_of(package))
+    return file_of(package)
 
 
 def write(folder, builds):

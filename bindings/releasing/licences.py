@@ -35,6 +35,11 @@ def parts():
     return [*found, Part("rattle-libc", "NOASSERTION"), Part("rattle-os", "NOASSERTION")]
 
 
+def _identity(name):
+    """What SPDX calls a part: letters, digits, dots and hyphens alone."""
+    return f"SPDXRef-{name.replace('_', '-')}"
+
+
 def document(kit, time):
     """The list of parts as SPDX has it, by tags and values."""
     head = [
@@ -44,11 +49,11 @@ def document(kit, time):
 
     def package(name, version, licence):
         return [
-            "", f"PackageName: {name}", f"SPDXID: SPDXRef-{name}", f"PackageVersion: {version}", "PackageDownloadLocation: NOASSERTION",
+            "", f"PackageName: {name}", f"SPDXID: {_identity(name)}", f"PackageVersion: {version}", "PackageDownloadLocation: NOASSERTION",
             "FilesAnalyzed: false", f"PackageLicenseConcluded: {licence}", f"PackageLicenseDeclared: {licence}", "PackageCopyrightText: NOASSERTION",
         ]  # fmt: skip
 
-    lines = [*head, *package("cvl", table.VERSION, "MIT")]
+    lines = [*head, *package("cvl", table.VERSION, "MIT"), f"Relationship: SPDXRef-DOCUMENT DESCRIBES {_identity('cvl')}"]
     for part in parts():
-        lines += [*package(part.name, kit, part.licence), f"Relationship: SPDXRef-cvl STATIC_LINK SPDXRef-{part.name}"]
+        lines += [*package(part.name, kit, part.licence), f"Relationship: {_identity('cvl')} STATIC_LINK {_identity(part.name)}"]
     return "\n".join([*lines, ""])

@@ -23,8 +23,9 @@ UNCOVERED = (
     "the kit's prover and compilers, the C library and the system. They are trusted",
     "how fast anything is. It is measured",
 )
-# What a release is made of beside crates.
-FOLDERS = ("bindings", "docs", "examples", "include")
+# What a release is made of beside the crates that are compiled: the scripts of the examples stand with the cases.
+FOLDERS = ("crates/script_cases/data/examples", "bindings", "docs", "examples", "include")
+FILES = ("CHANGELOG.md", "LICENSE", "crates.txt")
 
 
 def sum_of(path):
@@ -41,9 +42,10 @@ def sum_below(folder):
 
 
 def sources():
-    """The sum of each crate beneath the program and the library, and of each folder beside them, by the name of the folder."""
+    """The sum of each crate beneath the program and the library, and of each folder and file beside them, by its name."""
     crates = sorted(proved.Crates().wanted(proved.PROGRAM, proved.LIBRARY))
-    return {name: sum_below(proved.TOP / name) for name in (*(f"crates/{crate}" for crate in crates), *FOLDERS)}
+    found = {name: sum_below(proved.TOP / name) for name in (*(f"crates/{crate}" for crate in crates), *FOLDERS)}
+    return {**found, **{name: sum_of(proved.TOP / name) for name in FILES}}
 
 
 # What a file of a release was made of: of the first pattern that fits.
@@ -67,6 +69,13 @@ def _table(heads, rows):
     return "\n".join(["| " + " | ".join(heads) + " |", "|" + "---|" * len(heads), *("| " + " | ".join(row) + " |" for row in rows)])
 
 
+def _of_objects(builds):
+    """What the receipt says of the program and the exports, if they were not built here."""
+    if not builds.is_given:
+        return []
+    return ["**No theorem covers these files:** the program and the exports are those that CVL_PROGRAM and CVL_ARCHIVE named, and were not built here.", ""]
+
+
 def text(record, builds, folder, names):
     """The receipt of these files of a release."""
     compiled = [
@@ -79,11 +88,12 @@ def text(record, builds, folder, names):
         f"# What is proved of cvl {table.VERSION}", "",
         f"Made of revision `{found_right.revision()}` by the kit `{record.kit}`. `.ci/run` found that revision right; the last line of its proofs was "
         f"`{record.last_line}`" + (f", and it did not try {record.not_tried}." if record.not_tried else ", and everything was tried."), "",
-        f"In a checkout of that revision, with the kit on the path, `./release --check FOLDER` builds this release again and compares each byte.", "",
+        *_of_objects(builds),
+        "In a checkout of that revision, with the kit on the path, `./release --check FOLDER` builds this release again and compares each byte.", "",
         "## The theorems", "", _table(("What", "By the contract of", "It says"), THEOREMS), "", "No proof covers:", "",
         *(f"- {said}." for said in UNCOVERED), "",
-        "[What is proved](docs/proved.md) of the sources has a row for each crate.", "",
+        "In the sources `docs/proved.md` has a row for each crate.", "",
         "## What was compiled", "", _table(("What", "For", "SHA-256"), compiled), "",
         "## The files", "", _table(("File", "Made of", "SHA-256"), files), "",
-        "## The sources", "", _table(("Folder", "SHA-256 of its files, sorted by name, each with its own"), [(f"`{name}`", f"`{found}`") for name, found in sources().items()]), "",
+        "## The sources", "", _table(("Folder or file", "SHA-256, of a folder that of the lines `SUM  NAME` of its files, sorted by name"), [(f"`{name}`", f"`{found}`") for name, found in sources().items()]), "",
     ])  # fmt: skip

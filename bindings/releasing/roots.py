@@ -3,7 +3,6 @@
 import contextlib
 import os
 import pathlib
-import pwd
 import shutil
 import subprocess
 import tarfile
@@ -11,15 +10,17 @@ import tempfile
 
 import proved
 
-SUITE = "bookworm"
+# the Debian that the packages are made for, one with an older glibc than a release needs, and the next one
+SUITE, OLDER, NEWER = "bookworm", "bullseye", "trixie"
 PATH = "/usr/local/sbin:/usr/local/bin:/usr/sbin:/usr/bin:/sbin:/bin"
-# what a root has beside what each Debian has
+# what a root has beside the essential packages and apt; the usual Debian has xz
 PACKAGES = {
-    "bare": (),
+    "bare": ("xz-utils",),
     "compilers": ("gcc", "g++", "gfortran", "libc6-dev", "make", "pkg-config", "cmake"),
     "python": ("python3-numpy", "python3-venv"),
     "source": ("gcc", "libc6-dev", "python3-numpy", "python3-dev", "python3-venv"),
     "rust": ("cargo", "gcc", "libc6-dev"),
+    "next": ("xz-utils", "cargo", "gcc", "libc6-dev", "pkg-config", "python3-numpy", "python3-dev", "python3-venv"),
 }
 
 
@@ -35,7 +36,7 @@ class Root:
 
     def run(self, said, user="root", **variables):
         """What a command of the shell prints, run by a user with these variables alone."""
-        known = {"PATH": PATH, "HOME": "/tmp", "LC_ALL": "C.UTF-8", **variables}
+        known = {"PATH": PATH, "HOME": f"/tmp/{user}", "LC_ALL": "C.UTF-8", **variables}
         words = ["unshare", "--mount", "--pid", "--fork", "--kill-child", "sh", "-c", 'mount -t proc proc "$0/proc" && exec chroot --userspec="$1" "$0" sh -c "$2"']
         told = subprocess.run([*words, self.folder, f"{user}:", said], capture_output=True, text=True, env=known, stdin=subprocess.DEVNULL)
         if told.returncode != 0:
@@ -44,19 +45,21 @@ class Root:
 
     def refuses(self, said, why, **variables):
         """Asks that a command fails, and says why."""
-        with contextlib.suppress(StopIteration):
-            try:
-                self.run(said, **variables)
-            except Failed as failed:
-                if why in str(failed):
-                    return
-                raise
+        try:
+            self.run(said, **variables)
+        except Failed as failed:
+            if why in str(failed):
+                return
+            raise
         raise Failed(f"{said}\nended well, and should have said: {why}")
 
-    def put(self, path, place="srv"):
-        shutil.copy(path, self.folder / place)
+    def put(self, *paths):
+        """Puts files into the folder /srv."""
+        for path in paths:
+            shutil.copy(path, self.folder / "srv")
 
     def unpack(self, path, place="opt"):
+        """Unpacks an archive from outside, for a root that has no program for that."""
         with tarfile.open(path) as archive:
             archive.extractall(self.folder / place)
 
@@ -65,9 +68,10 @@ class Root:
         (self.folder / name).write_text(text)
 
     def files(self):
-        """Each file, link and folder that a package may have left behind."""
-        told = self.run("find / -xdev \\( -path /proc -o -path /var/lib/dpkg -o -path /var/log -o -path /var/cache/ldconfig -o -path /tmp \\) -prune -o -print")
-        return set(told.splitlines()) - {"/etc/ld.so.cache"}
+        """Each file, link and folder that a package may have left behind, without what dpkg, apt and the loader keep."""
+        kept = ("/proc", "/tmp", "/var/lib/dpkg", "/var/lib/apt", "/var/cache/apt", "/var/cache/ldconfig", "/var/log")
+        skipped = " -o ".join(f"-path {path}" for path in kept)
+        return set(self.run(f"find / -xdev \\( {skipped} \\) -prune -o -print").splitlines()) - {"/etc/ld.so.cache"}
 
 
 class Roots:
@@ -83,7 +87,7 @@ class Roots:
             words = ["mmdebstrap", "--quiet", "--variant=minbase", *([f"--include={packages}"] if packages else []), suite, made]
             told = subprocess.run([str(word) for word in words], capture_output=True, text=True, stdin=subprocess.DEVNULL)
             if told.returncode != 0:
-                proved.stop(f"no root of Debian could be made:\n{told.stderr[-2000:]}")
+                raise Failed(f"no root of {suite} could be made:\n{told.stderr[-2000:]}")
         return made
 
     @contextlib.contextmanager
@@ -96,5 +100,10 @@ class Roots:
             yield Root(folder)
 
 
-def is_root():
-    return pwd.getpwuid(os.geteuid()).pw_name == "root"
+def check():
+    """Stops if a release cannot be tried here."""
+    if os.geteuid() != 0:
+        proved.stop("roots of Debian are made by root")
+    for name in ("mmdebstrap", "lintian"):
+        if not shutil.which(name):
+            proved.stop(f"there is no {name}, by which a release is tried (Debian: {name})")

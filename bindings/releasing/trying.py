@@ -1,46 +1,44 @@
 """Tries a release where no kit is: in bare roots of Debian, as root and as a user, by the commands that the pages show."""
 
 import pathlib
+import subprocess
 import tempfile
+import time
 
 import proved
 import table
 
-from . import debian, roots, trees
+from . import debian, roots, shown, trees
+from .built import NEWER, USUAL
 
+PRINTED = "y = [5 0 18]\n"
+# how long it may take from a file of the release to what README's example prints
+LONGEST = 10
 SCRIPTS = "share/doc/cvl/examples/scripts"
 EXAMPLE = "sparse_product.cvl row_lengths.txt columns.txt entries.txt x.txt"
-PRINTED = "y = [5 0 18]\n"
-
-PROGRAM_IN_C = r"""#include <cvl.h>
-#include <stdio.h>
-
-int main(void) {
-    const int32_t a[] = {3, 1, 4}, b[] = {1, 5, 9};
-    int32_t out[3];
-    const CvlStatus status = cvl_add_wuz(a, b, out, 3);
-    printf("%u: %d %d %d\n", status.number, out[0], out[1], out[2]);
-    return 0;
-}
-"""
-SUMS = "0: 4 6 13\n"
+IN_C, IN_FORTRAN = "examples/c/sparse_product.c", "bindings/fortran/examples/sparse_product.f90"
+IN_PYTHON, IN_RUST = "bindings/python/examples/sparse_product.py", "bindings/rust/examples/sparse_product.rs"
+PRODUCT, OUTSIDE = "y = 5 0 18\n", "a column outside the vector: fault 10 IndexOutOfRange at "
 CMAKE = """cmake_minimum_required(VERSION 3.13)
-project(sums C)
+project(product C)
 find_package(cvl 1.0 REQUIRED)
-add_executable(sums sums.c)
-target_link_libraries(sums cvl::cvl)
+add_executable(product sparse_product.c)
+target_link_libraries(product cvl::cvl)
 """
-IN_PYTHON = "import cvl, numpy; print(cvl.add_suz(numpy.array([3, 1, 4], dtype=numpy.int32)).tolist())"
-SCAN = "[0, 3, 4]\n"
-IN_RUST = """fn main() {
-    println!("{:?}", cvl::add_suz(&[3, 1, 4]).unwrap());
-}
-"""
+# the environment for Python whose pip the pages call, without a network
+OWN = {"PATH": f"/srv/own/bin:{roots.PATH}", "PIP_NO_INDEX": "1"}
 
 
 def same(found, wanted):
     if found != wanted:
         raise roots.Failed(f"printed {found!r}, and should have printed {wanted!r}")
+
+
+def begins(found, *wanted):
+    """Compares the beginnings of lines."""
+    lines = found.splitlines()
+    if len(lines) != len(wanted) or not all(line.startswith(start) for line, start in zip(lines, wanted)):
+        raise roots.Failed(f"printed {found!r}, and should have printed lines that begin {wanted!r}")
 
 
 def by_both(root, said, wanted, **variables):
@@ -64,62 +62,103 @@ class Release:
     def deb(self, name):
         return self.one(f"{name}_*.deb")
 
+    def tree(self, cpu=USUAL):
+        return self.one(trees.file_of(cpu))
 
-def _runs_v3():
+
+def _is_v3():
     return " avx2 " in pathlib.Path("/proc/cpuinfo").read_text().replace("\n", " ")
+
+
+def example(root, name, place):
+    """Puts an example of the repository into a root."""
+    root.write(f"{place}/{pathlib.Path(name).name}", (proved.TOP / name).read_text())
 
 
 # ---- the tree ----
 
 
+def first_example(release, root):
+    """README's one command, from an empty folder of root's and of a user's, in a few seconds."""
+    root.put(release.tree())
+    said, began = shown.block(shown.FIRST, "tar -xJf"), time.monotonic()
+    by_both(root, f'cd "$(mktemp -d)" && cp /srv/*.tar.xz . && {said}', PRINTED)
+    seconds = (time.monotonic() - began) / 2
+    print(f"    from nothing to README's example in {seconds:.2f} s", flush=True)
+    if seconds > LONGEST:
+        raise roots.Failed(f"README's example took {seconds:.1f} s")
+
+
 def tree(release, made):
     """Each tree runs wherever it is unpacked, with nothing in its environment."""
     with made.fresh("bare") as root:
-        for said in ("x86_64", *(["x86_64-v3"] if _runs_v3() else [])):
-            root.unpack(release.one(f"{trees.NAME}-{said}.tar.xz"))
-            below = f"/opt/{trees.NAME}-{said}"
+        first_example(release, root)
+        for cpu in (USUAL, *([NEWER] if _is_v3() else [])):
+            root.put(release.tree(cpu))
+            root.run(f"cd /srv && {shown.command(f'tar -xJf {trees.file_of(cpu)}')}")
+            below = f"/srv/{trees.name(cpu)}"
             by_both(root, f"cd {below}/{SCRIPTS} && env -i {below}/bin/cvl {EXAMPLE}", PRINTED)
             same(root.run(f"env -i {below}/bin/cvl --version"), f"cvl {table.VERSION}\n")
 
 
 def tree_in_c(release, made):
-    """The tree has what pkg-config and CMake read, for the shared object and the archive."""
+    """The tree has what pkg-config and CMake read, for the shared object and the archive, and the module for Fortran."""
     with made.fresh("compilers") as root:
-        root.unpack(release.one(f"{trees.NAME}-x86_64.tar.xz"))
-        below = f"/opt/{trees.NAME}-x86_64"
-        in_c(root, PKG_CONFIG_PATH=f"{below}/lib/pkgconfig", CMAKE_PREFIX_PATH=below, LD_LIBRARY_PATH=f"{below}/lib")
+        root.unpack(release.tree())
+        below = f"/opt/{trees.name(USUAL)}"
+        variables = {"PKG_CONFIG_PATH": f"{below}/lib/pkgconfig", "CMAKE_PREFIX_PATH": below, "LD_LIBRARY_PATH": f"{below}/lib"}
+        by_pkg_config(root, **variables)
+        by_cmake(root, **variables)
+        in_fortran(root, **variables)
 
 
-def in_c(root, **variables):
-    """A program in C, by pkg-config over the shared object and the archive, and by CMake."""
-    root.write("srv/c/sums.c", PROGRAM_IN_C)
-    root.write("srv/c/CMakeLists.txt", CMAKE)
-    root.run("cd /srv/c && cc sums.c -o shared $(pkg-config --cflags --libs cvl)", **variables)
-    by_both(root, "/srv/c/shared", SUMS, **variables)
+def by_pkg_config(root, **variables):
+    """A program in C over the shared object, and one over the archive, which needs nothing else."""
+    example(root, IN_C, "srv/c")
+    root.run("cd /srv/c && cc sparse_product.c -o shared $(pkg-config --cflags --libs cvl)", **variables)
+    by_both(root, "/srv/c/shared", PRODUCT, **variables)
     static = "$(pkg-config --cflags cvl) $(pkg-config --variable=libdir cvl)/libcvl.a -pthread"
-    root.run(f"cd /srv/c && cc sums.c -o static {static}", **variables)
-    by_both(root, "env -i /srv/c/static", SUMS)
+    root.run(f"cd /srv/c && cc sparse_product.c -o static {static}", **variables)
+    by_both(root, "env -i /srv/c/static", PRODUCT)
+
+
+def by_cmake(root, **variables):
+    root.write("srv/c/CMakeLists.txt", CMAKE)
     root.run("cd /srv/c && cmake -S . -B by_cmake && cmake --build by_cmake", **variables)
-    by_both(root, "/srv/c/by_cmake/sums", SUMS, **variables)
+    by_both(root, "/srv/c/by_cmake/product", PRODUCT, **variables)
+
+
+def in_fortran(root, **variables):
+    """The module is compiled with a program."""
+    example(root, IN_FORTRAN, "srv/fortran")
+    module, libraries = "$(pkg-config --variable=includedir cvl)/cvl.f90", "$(pkg-config --libs cvl)"
+    root.run(f"cd /srv/fortran && gfortran -c {module} && gfortran sparse_product.f90 cvl.o -o product {libraries}", **variables)
+    by_both(root, "/srv/fortran/product", f"{PRODUCT}{OUTSIDE}3\n", **variables)
 
 
 # ---- Debian's packages ----
+
+
+def installs(release, root, *names):
+    """Has apt install packages, by the command that docs/install.md shows for the first one."""
+    root.put(*map(release.deb, names))
+    root.run(f"cd /srv && {shown.command(f'apt install ./{release.deb(names[0]).name}')}")
 
 
 def packages(release, made):
     """Debian's packages install, upgrade from themselves, and leave nothing behind when they are removed and purged."""
     with made.fresh("bare") as root:
         before = root.files()
-        wanted = [found for found in debian.PACKAGES if found.name != "python3-cvl"]
-        for package in wanted:
-            root.put(release.deb(package.name))
-        before |= {f"/srv/{release.deb(package.name).name}" for package in wanted}
-        for _ in ("at first", "as an upgrade"):
-            root.run("dpkg -i /srv/*.deb")
+        groups = (("cvl",), ("libcvl1", "libcvl-dev"), ("cvl-doc",))
+        names = [name for group in groups for name in group]
+        before |= {f"/srv/{release.deb(name).name}" for name in names}
+        for group in groups:
+            installs(release, root, *group)
+        for upgrade in ("true", "dpkg -i /srv/*.deb"):
+            root.run(upgrade)
             by_both(root, f"cd /usr/{SCRIPTS} && env -i /usr/bin/cvl {EXAMPLE}", PRINTED)
-        names = " ".join(package.name for package in wanted)
         for action in ("--remove", "--purge"):
-            root.run(f"dpkg {action} {names}")
+            root.run(f"dpkg {action} {' '.join(names)}")
         left = sorted(root.files() - before)
         if left:
             raise roots.Failed("the packages leave behind:\n" + "\n".join(left))
@@ -128,19 +167,36 @@ def packages(release, made):
 def packages_in_c(release, made):
     """Compilers find the library of Debian's packages by themselves."""
     with made.fresh("compilers") as root:
-        for name in ("libcvl1", "libcvl-dev"):
-            root.put(release.deb(name))
-        root.run("dpkg -i /srv/*.deb")
-        in_c(root)
+        installs(release, root, "libcvl1", "libcvl-dev")
+        by_pkg_config(root)
+        by_cmake(root)
+        in_fortran(root)
+
+
+# what lintian may report, and docs/DECISIONS.md says why
+REPORTED = "initial-upload-closes-no-bugs"
+
+
+def lintian(release, made):
+    """lintian has nothing to report of the packages but that."""
+    told = subprocess.run(["lintian", "--allow-root", *map(release.deb, (package.name for package in debian.PACKAGES))], capture_output=True, text=True)
+    reported = [line for line in f"{told.stdout}{told.stderr}".splitlines() if f": {REPORTED} " not in line]
+    if reported:
+        raise roots.Failed("lintian reports:\n" + "\n".join(reported))
+
+
+def in_python(root, python):
+    example(root, IN_PYTHON, "srv/python")
+    for user in ("root", "nobody"):
+        begins(root.run(f"cd / && {python} /srv/python/sparse_product.py", user), PRODUCT.strip(), f"{OUTSIDE}3")
 
 
 def packages_in_python(release, made):
     """Debian's own Python has the package, and no file of it is left once it is removed."""
     with made.fresh("python") as root:
         before = root.files()
-        root.put(release.deb("python3-cvl"))
-        root.run("dpkg -i /srv/*.deb")
-        by_both(root, f"cd / && python3 -c '{IN_PYTHON}'", SCAN)
+        installs(release, root, "python3-cvl")
+        in_python(root, "python3")
         root.run("dpkg --purge python3-cvl && rm /srv/*.deb")
         left = sorted(name for name in root.files() - before if "cvl" in name)
         if left:
@@ -153,53 +209,80 @@ def packages_in_python(release, made):
 def wheel(release, made):
     """The wheel for Debian's Python installs into an environment without a compiler and a network."""
     with made.fresh("python") as root:
-        tag = root.run("python3 -c 'import sys; print(\"cp%d%d\" % sys.version_info[:2])'").strip()
-        path = release.one(f"cvl-*-{tag}-*.whl")
-        root.put(path)
+        said = shown.command(".whl")
+        root.put(release.one(said.rpartition("/")[2]))
         root.run("python3 -m venv --system-site-packages /srv/own")
-        root.run(f"/srv/own/bin/pip install --no-index /srv/{path.name}")
-        by_both(root, f"cd / && /srv/own/bin/python -c '{IN_PYTHON}'", SCAN)
+        root.run(f"cd /srv && {said}", **OWN)
+        in_python(root, "/srv/own/bin/python")
+
+
+def by_source(release, root, prefix):
+    """pip builds the source archive over an installed library, in an environment of its own."""
+    said = shown.command("CVL_PREFIX=")
+    root.put(release.one(said.rpartition("/")[2]))
+    root.run("python3 -m venv --system-site-packages /srv/own")
+    if prefix != "/usr":
+        # pip does not find it by itself
+        root.refuses(f"cd /srv && {said.replace('CVL_PREFIX=PREFIX ', '')}", "name its prefix by CVL_PREFIX", **OWN)
+    root.run(f"cd /srv && {said.replace('=PREFIX', f'={prefix}')}", **OWN)
+    in_python(root, "/srv/own/bin/python")
 
 
 def source(release, made):
-    """pip builds the source archive over an installed library, and says what it lacks where there is none."""
+    """pip builds the source archive over the tree."""
     with made.fresh("source") as root:
-        path = release.one(f"cvl-{table.VERSION}.tar.gz")
-        root.put(path)
-        root.unpack(release.one(f"{trees.NAME}-x86_64.tar.xz"))
-        root.run("python3 -m venv --system-site-packages /srv/own")
-        install = f"/srv/own/bin/pip install --no-index --no-build-isolation /srv/{path.name}"
-        root.refuses(install, "name its prefix by CVL_PREFIX")
-        root.run(install, CVL_PREFIX=f"/opt/{trees.NAME}-x86_64")
-        by_both(root, f"cd / && /srv/own/bin/python -c '{IN_PYTHON}'", SCAN)
+        root.unpack(release.tree())
+        by_source(release, root, f"/opt/{trees.name(USUAL)}")
+
+
+def by_cargo(release, root):
+    """A program over the crates, by root and by a user, each with a folder of its own and without a network."""
+    root.put(release.one(f"cvl-{table.VERSION}.crate"), release.one(f"cvl-sys-{table.VERSION}.crate"))
+    example(root, IN_RUST, "srv/rust")
+    project = f'cd "$(mktemp -d)" && cp /srv/*.crate . && {shown.command("tar -xzf")} && cargo new --vcs none product && cd product'
+    program = f'{shown.command("cargo add")} && cp /srv/rust/sparse_product.rs src/main.rs && cargo build --offline'
+    by_both(root, f"{{ {project} && {program}; }} >&2 && env -i target/debug/product", f"y = [5, 0, 18]\n{OUTSIDE}3\n")
 
 
 def crates(release, made):
-    """A program in Rust builds over the crates without a network, by Debian's own cargo."""
+    """A program in Rust builds over the crates by Debian's own cargo."""
     with made.fresh("rust") as root:
-        for name in ("cvl", "cvl-sys"):
-            root.unpack(release.one(f"{name}-{table.VERSION}.crate"), "srv")
-        depends = f'[dependencies]\ncvl = {{ path = "../cvl-{table.VERSION}" }}\n'
-        root.write("srv/scan/Cargo.toml", f'[package]\nname = "scan"\nversion = "0.1.0"\nedition = "2021"\n\n{depends}')
-        root.write("srv/scan/src/main.rs", IN_RUST)
-        root.run("cd /srv/scan && cargo build --offline")
-        by_both(root, "/srv/scan/target/debug/scan", "[0, 3, 4]\n")
+        by_cargo(release, root)
+
+
+# ---- other systems ----
+
+
+def newer_system(release, made):
+    """On the next Debian run the tree, the packages for scripts and for C, the source archive, and the crates."""
+    with made.fresh("next", roots.NEWER) as root:
+        first_example(release, root)
+        installs(release, root, "cvl")
+        by_both(root, "env -i /usr/bin/cvl --version", f"cvl {table.VERSION}\n")
+        installs(release, root, "libcvl1", "libcvl-dev")
+        installs(release, root, "cvl-doc")
+        by_pkg_config(root)
+        by_source(release, root, "/usr")
+        by_cargo(release, root)
 
 
 def older_glibc(release, made):
-    """On a system with an older glibc than the program needs, the loader says which one that is."""
-    with made.fresh("bare", "buster") as root:
-        root.unpack(release.one(f"{trees.NAME}-x86_64.tar.xz"))
-        root.refuses(f"/opt/{trees.NAME}-x86_64/bin/cvl --version", "GLIBC_")
+    """On a system with an older glibc the loader says which one the program needs, and so does apt."""
+    needed = shown.glibc()
+    with made.fresh("bare", roots.OLDER) as root:
+        root.unpack(release.tree())
+        root.refuses(f"/opt/{trees.name(USUAL)}/bin/cvl --version", f"version `GLIBC_{needed}' not found")
+        for name in ("cvl", "libcvl1"):
+            root.put(release.deb(name))
+            root.refuses(f"apt install -y /srv/{release.deb(name).name}", f"libc6 (>= {needed})")
 
 
-TRIES = (tree, tree_in_c, packages, packages_in_c, packages_in_python, wheel, source, crates)
+TRIES = (tree, tree_in_c, lintian, packages, packages_in_c, packages_in_python, wheel, source, crates, newer_system, older_glibc)
 
 
 def all_of(folder):
     """What is wrong with a release."""
-    if not roots.is_root():
-        proved.stop("roots of Debian are made by root")
+    roots.check()
     wrong, release = [], Release(folder)
     with tempfile.TemporaryDirectory() as work:
         made = roots.Roots(work)

@@ -13,13 +13,16 @@ from . import crates, debian, found_right, licences, pythons, receipt, trees
 from .built import Built
 
 SUMS, RECEIPT, PARTS = "SHA256SUMS", "PROVED.md", f"cvl-{table.VERSION}.spdx"
+# a line of the sums, and a row of the receipt's sources
+SUM = re.compile(r"^([0-9a-f]{64})  (\S+)$", re.M)
+SOURCE = re.compile(r"^\| `([\w./]+)` \| `([0-9a-f]{64})` \|$", re.M)
 
 
-def write(folder, jobs):
-    """Writes the release into an empty folder."""
+def write(folder, jobs, anew=False):
+    """Writes the release into an empty folder, of objects that are compiled anew, or were compiled before."""
     record, time = found_right.read(), found_right.time_of_revision()
     with tempfile.TemporaryDirectory() as work:
-        builds = Built(work, time, jobs)
+        builds = Built(work, time, jobs, anew)
         names = [*trees.write(folder, builds, time), *debian.write(folder, builds), *pythons.write(folder, builds), *crates.write(folder, builds, time)]
         when = datetime.datetime.fromtimestamp(time, datetime.timezone.utc).strftime("%Y-%m-%dT%H:%M:%SZ")
         (folder / PARTS).write_text(licences.document(record.kit, when))
@@ -29,16 +32,32 @@ def write(folder, jobs):
     return [*names, SUMS]
 
 
-def differences(folder, jobs):
-    """In what a release differs from its own sums, and then from what this checkout makes."""
-    summed = dict(reversed(line.split("  ", 1)) for line in (folder / SUMS).read_text().splitlines())
-    found = [f"{name} is not there" for name in summed if not (folder / name).exists()]
-    found += [f"{path.name} has no sum" for path in sorted(folder.iterdir()) if path.name not in (*summed, SUMS)]
-    found += [f"{name} has another sum than {SUMS} says" for name in summed if (folder / name).exists() and receipt.sum_of(folder / name) != summed[name]]
-    said = dict(re.findall(r"^\| `([\w/]+)` \| `([0-9a-f]{64})` \|$", (folder / RECEIPT).read_text(), re.M))
-    found += [f"{name} is not as the receipt says" for name, its_sum in receipt.sources().items() if said.get(name) != its_sum]
-    if found:
-        return found
+def _from_its_sums(folder):
+    """In what a release differs from its own sums."""
+    summed = {name: its_sum for its_sum, name in SUM.findall((folder / SUMS).read_text())}
+    there = {path.name: receipt.sum_of(path) for path in sorted(folder.iterdir()) if path.name != SUMS}
+    found = [f"{name} is not there" for name in summed if name not in there]
+    found += [f"{name} has no sum" for name in there if name not in summed]
+    return [*found, *(f"{name} has another sum than {SUMS} says" for name in there if summed.get(name, there[name]) != there[name])]
+
+
+def _from_sources(folder):
+    """Which sources of this checkout are not those that the receipt names."""
+    said = dict(SOURCE.findall((folder / RECEIPT).read_text()))
+    return [f"{name} is not as the receipt says" for name, its_sum in receipt.sources().items() if said.get(name) != its_sum]
+
+
+def _from_build(folder, jobs):
+    """Which files of a release are not what this checkout makes, byte by byte."""
     with tempfile.TemporaryDirectory() as again:
-        made = write(pathlib.Path(again), jobs)
-        return [f"{name} is not what this checkout makes" for name in made if not filecmp.cmp(folder / name, pathlib.Path(again) / name, shallow=False)]
+        made, there = set(write(pathlib.Path(again), jobs, anew=True)), {path.name for path in folder.iterdir()}
+        found = [f"{name} is only what this checkout makes" for name in sorted(made - there)]
+        found += [f"{name} is not made by this checkout" for name in sorted(there - made)]
+        differ = (name for name in sorted(made & there) if not filecmp.cmp(folder / name, pathlib.Path(again) / name, shallow=False))
+        return [*found, *(f"{name} is not what this checkout makes" for name in differ)]
+
+
+def differences(folder, jobs):
+    """In what a release differs from its own sums and this checkout's sources, and if in nothing, then from what this checkout makes."""
+    lacking = [f"{name} is not there" for name in (SUMS, RECEIPT) if not (folder / name).exists()]
+    return lacking or [*_from_its_sums(folder), *_from_sources(folder)] or _from_build(folder, jobs)

@@ -136,7 +136,7 @@ static void product(void) {
     const size_t from = begin(rank, ROWS), rows = begin(rank + 1, ROWS) - from;
     int32_t *x = (int32_t *)room_for(COLUMNS, sizeof *x), *lengths = (int32_t *)room_for(rows, sizeof *lengths);
     int32_t *columns = (int32_t *)room_for(rows * 15, sizeof *columns), *values = (int32_t *)room_for(rows * 15, sizeof *values);
-    int32_t *gathered = (int32_t *)room_for(rows * 15, sizeof *gathered), *y = (int32_t *)room_for(rows, sizeof *y);
+    int32_t *y = (int32_t *)room_for(rows, sizeof *y);
     int *counts = (int *)room_for((size_t)ranks, sizeof *counts), *starts = (int *)room_for((size_t)ranks, sizeof *starts);
     size_t entries = 0;
     for (int r = 0; r < ranks; r++) {
@@ -151,14 +151,12 @@ static void product(void) {
             columns[entries] = entry_column(from + row, k), values[entries] = entry_value(from + row, k);
         }
     }
-    must(cvl_back_permute_int(x, COLUMNS, columns, entries, gathered, entries));
-    must(cvl_int2(CVL_MUL, values, entries, gathered, entries, gathered, entries));
-    must(cvl_seg_int_reduce(CVL_ADD, gathered, entries, (CvlLengths){lengths, rows}, y, rows));
+    must(cvl_sparse_product((CvlLengths){lengths, rows}, columns, entries, values, entries, x, COLUMNS, y, rows));
     uint64_t summed = 0;
     for (size_t row = 0; row < rows; row++) summed += seen(from + row, y[row]);
     summed = sum_of_all(summed);
     tell_once("product: rows", ROWS, summed);
-    free(x), free(lengths), free(columns), free(values), free(gathered), free(y), free(counts), free(starts);
+    free(x), free(lengths), free(columns), free(values), free(y), free(counts), free(starts);
 }
 
 int main(int count, char **words) {

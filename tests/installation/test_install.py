@@ -360,6 +360,23 @@ class Pages(Tree):
             self.assertEqual(after.split("\n")[0], before.split("\n")[0])
             self.assertEqual(after.count("!["), before.count("!["), f"the pictures of {name}")
 
+    def test_what_an_example_includes_is_there(self):
+        sources = {name: path.read_text() for name, path in self.files.items() if name.endswith((".c", ".cpp", ".h"))}
+        for name, text in sources.items():
+            for included in re.findall(r'^#include "(.*)"$', text, re.M):
+                self.assertTrue(f"{os.path.dirname(name)}/{included}" in sources or f"include/{included}" in self.headers, f"{name}: {included}")
+
+    def test_no_page_names_one_that_is_not_there(self):
+        titles = {pages.title(path.name) for path in (TOP / "docs").glob("*.md") if path.stem not in pages.PAGES}
+        self.assertIn("Installing", titles)
+        for name in pages.PAGES:
+            lines = [line for line in (self.top / f"{name}.md").read_text().split("\n") if not line.startswith("#")]
+            self.assertEqual([title for title in titles if title in "\n".join(lines)], [], name)
+
+    def test_a_link_to_a_page_that_is_not_there(self):
+        text = "# Page\n\nIt [starts workers](look-back.md#a-crew-of-ones-own).\n\n[How workers scan without waiting](look-back.md) says how.\n"
+        self.assertEqual(pages.page(text, self.installed), "# Page\n\nIt starts workers.\n")
+
     def test_what_help_names_is_there(self):
         told = (TOP / "crates/test_runs/src/programs.rt").read_text()
         named = re.findall(r"docs/\w+\.md", re.search(r'const HELP: &str = "(.*?)";', told, re.S).group(1))

@@ -1,11 +1,13 @@
-"""Which checkouts may be released, that archives are the same bytes each time, which package of Debian has which file, and what the
-check of a release finds: on files that are made for it, without the kit, in a second."""
+"""Which checkouts may be released, that archives are the same bytes each time, which package of Debian has which file, what the
+check of a release finds, and that the pages name the files of a release: on files that are made for it, without the kit, in a second."""
 
 import json
 import os
 import pathlib
+import re
 import sys
 import tarfile
+import types
 import unittest
 from unittest import mock
 
@@ -16,7 +18,8 @@ sys.path.insert(0, str(TOP / "bindings"))
 import archive
 from installer import files
 from installer.words import Places
-from releasing import built, debian, found_right, packed, receipt, texts, writing
+import table
+from releasing import built, crates, debian, found_right, licences, packed, receipt, shown, texts, trees, trying, writing
 from trees import Tree
 
 RECORD = {"tree": "a tree", "kit": "a kit", "last_line": "5 passed, 0 failed", "not_tried": ""}
@@ -96,6 +99,44 @@ class Packages(unittest.TestCase):
             self.assertEqual(built.needed_glibc("other"), "2.9")
 
 
+class Parts(unittest.TestCase):
+    """The list of parts."""
+
+    def test_each_part_is_named_as_spdx_has_it(self):
+        parts = [licences.Part("rattle-atomic_table", "MIT"), licences.Part("rattle-std", "NOASSERTION")]
+        with mock.patch.object(licences, "parts", lambda: parts):
+            text = licences.document("a kit", "2026-01-01T00:00:00Z")
+        found = re.findall(r"^SPDXID: (.*)$", text, re.M)
+        self.assertEqual(found, ["SPDXRef-DOCUMENT", "SPDXRef-cvl", "SPDXRef-rattle-atomic-table", "SPDXRef-rattle-std"])
+        related = re.findall(r"^Relationship: (.*)$", text, re.M)
+        self.assertEqual(related[:2], ["SPDXRef-DOCUMENT DESCRIBES SPDXRef-cvl", "SPDXRef-cvl STATIC_LINK SPDXRef-rattle-atomic-table"])
+
+
+class Receipt(Tree):
+    """What the receipt says of files of a release."""
+
+    def text(self, is_given=False, not_tried=""):
+        builds = types.SimpleNamespace(is_given=is_given, given={"": [self.write("cvl", "a program"), self.write("libcvl_c.a", "exports")]})
+        record = found_right.Record(**{**RECORD, "not_tried": not_tried})
+        with mock.patch.object(receipt, "sources", lambda: {"crates/sums": "0" * 64, "docs": "1" * 64}), \
+                mock.patch.object(found_right, "revision", lambda: "a revision"):  # fmt: skip
+            return receipt.text(record, builds, self.top, [self.write("cvl_1.deb").name, self.write("cvl.whl", "a wheel").name])
+
+    def test_each_file_has_its_sum_and_what_it_was_made_of(self):
+        text = self.text()
+        for name, made_of in (("cvl_1.deb", "program, bindings, docs"), ("cvl.whl", "exports, bindings, include")):
+            self.assertIn(f"| `{name}` | {made_of} | `{receipt.sum_of(self.top / name)}` |", text)
+        self.assertEqual(dict(writing.SOURCE.findall(text)), {"crates/sums": "0" * 64, "docs": "1" * 64})
+        self.assertIn(f"| program | the usual processors | `{receipt.sum_of(self.top / 'cvl')}` |", text)
+        for said in ("revision `a revision` by the kit `a kit`", "`5 passed, 0 failed`, and everything was tried.", "`shell::program`"):
+            self.assertIn(said, text)
+
+    def test_what_was_not_tried_or_not_built_is_named(self):
+        self.assertIn("and it did not try Rust (no cargo).", self.text(not_tried="Rust (no cargo)"))
+        self.assertNotIn("No theorem covers these files", self.text())
+        self.assertIn("**No theorem covers these files:**", self.text(is_given=True))
+
+
 class Check(Tree):
     """What the check of a release finds."""
 
@@ -113,9 +154,10 @@ class Check(Tree):
         self.write(f"{folder}/{writing.SUMS}", "".join(f"{receipt.sum_of(self.top / folder / name)}  {name}\n" for name in names))
         return [*names, writing.SUMS]
 
-    def differences(self, sources=None):
-        def again(folder, jobs):
-            return self.made(os.path.relpath(folder, self.top))
+    def differences(self, sources=None, more=()):
+        def again(folder, jobs, anew):
+            self.assertTrue(anew)
+            return [*self.made(os.path.relpath(folder, self.top)), *more]
 
         with mock.patch.object(receipt, "sources", lambda: sources or self.sources), mock.patch.object(writing, "write", again):
             return writing.differences(self.top / "release", 1)
@@ -128,7 +170,7 @@ class Check(Tree):
         self.assertEqual(self.differences(), ["cvl.tar.xz has another sum than SHA256SUMS says"])
         sums = self.top / "release" / writing.SUMS
         sums.write_text(sums.read_text().replace(receipt.sum_of(self.write("right", "a tree")), receipt.sum_of(self.top / "release/cvl.tar.xz")))
-        self.assertEqual(self.differences(), ["cvl.tar.xz is not what this checkout makes", f"{writing.SUMS} is not what this checkout makes"])
+        self.assertEqual(self.differences(), [f"{writing.SUMS} is not what this checkout makes", "cvl.tar.xz is not what this checkout makes"])
 
     def test_a_changed_source_is_found(self):
         self.assertEqual(self.differences({**self.sources, "docs": "2" * 64}), ["docs is not as the receipt says"])
@@ -138,6 +180,28 @@ class Check(Tree):
         (self.top / "release/cvl.tar.xz").unlink()
         self.write("release/more", "a file")
         self.assertEqual(self.differences(), ["cvl.tar.xz is not there", "more has no sum"])
+
+    def test_a_folder_that_is_no_release(self):
+        for name in (writing.RECEIPT, writing.SUMS):
+            (self.top / "release" / name).unlink()
+            self.assertIn(f"{name} is not there", self.differences())
+
+    def test_a_wheel_that_another_machine_makes(self):
+        self.assertEqual(self.differences(more=["cvl.whl"]), ["cvl.whl is only what this checkout makes"])
+
+    def test_a_line_of_the_sums_that_is_none(self):
+        sums = self.top / "release" / writing.SUMS
+        sums.write_text(sums.read_text().replace("  cvl.tar.xz", " cvl.tar.xz"))
+        self.assertEqual(self.differences(), ["cvl.tar.xz has no sum"])
+
+    def test_the_sources_are_all_that_a_release_has(self):
+        with mock.patch.object(receipt, "sum_below", lambda folder: "a sum"):
+            names = list(receipt.sources())
+        for name in ("crates/cvl", "crates/cvl_c", "crates/operators", "bindings", "docs", "include", "LICENSE"):
+            self.assertIn(name, names)
+        for name in names:
+            self.assertTrue((TOP / name).exists(), name)
+            self.assertRegex(f"| `{name}` | `{'0' * 64}` |", writing.SOURCE)
 
     def test_a_sum_of_sources_knows_their_names_and_texts(self):
         for name in ("src/lib.rt", "specs/Sum.antt"):
@@ -150,6 +214,30 @@ class Check(Tree):
         (self.top / "sums/src/other.rt").rename(self.top / "sums/src/lib.rt")
         self.write("sums/src/lib.rt", "another text")
         self.assertNotEqual(receipt.sum_below(self.top / "sums"), found)
+
+
+class Shown(unittest.TestCase):
+    """What the pages show of a release."""
+
+    FILE = re.compile(r"[\w.-]+\.(?:tar\.xz|deb|crate|tar\.gz|spdx)\b")
+
+    def test_the_pages_name_the_files_of_a_release(self):
+        made = {*map(trees.file_of, built.CPUS), *map(debian.file_of, debian.PACKAGES), *map(crates.file_of, ("cvl", "cvl-sys"))}
+        made |= {writing.PARTS, f"cvl-{table.VERSION}.tar.gz"}
+        self.assertEqual(set(self.FILE.findall((TOP / shown.INSTALLING).read_text())), made)
+        self.assertLess(set(self.FILE.findall((TOP / shown.FIRST).read_text())), made)
+
+    def test_each_way_to_install_has_one_command(self):
+        packages = {"cvl", "libcvl1", "cvl-doc", "python3-cvl"}
+        words = [f"apt install ./{debian.file_of(package)}" for package in debian.PACKAGES if package.name in packages]
+        for said in (*words, *(f"tar -xJf {trees.file_of(cpu)}" for cpu in built.CPUS), ".whl", "CVL_PREFIX=", "tar -xzf", "cargo add"):
+            self.assertIn(said, shown.command(said))
+        self.assertIn(trying.EXAMPLE, shown.block(shown.FIRST, "tar -xJf"))
+
+    def test_a_command_that_is_not_there_or_twice_is_refused(self):
+        for words in ("apt install ./nothing", "install"):
+            with self.assertRaisesRegex(SystemExit, "should have one"):
+                shown.command(words)
 
 
 if __name__ == "__main__":
