@@ -9,6 +9,7 @@
 #![tactic(auto, unfolding(core::specs::Int::int_wrap))]
 
 pub mod checked_sums;
+pub mod combines;
 pub mod descriptors;
 pub mod distributes;
 pub mod elementwise;

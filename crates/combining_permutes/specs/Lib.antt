@@ -1,0 +1,2 @@
+pub mod CombiningPermutes
+pub mod Walks

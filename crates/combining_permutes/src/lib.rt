@@ -1,0 +1,23 @@
+//! Combining permutes: each element is sent to the place that its index names, and joined by a monoid with what stands there, so
+//! that one call sums by a key, counts, or finds the least of a group.
+//!
+//! The calls work over a room of the caller's, which holds what stands before, by the thread that calls, without a runtime and
+//! without memory. They look at all indices first, so that a fault leaves the room as it was. Then they go through the elements
+//! in their order. `walks` has the second walk, `flat` and `segments` the calls, and `counts` how many indices name each place.
+//! `ranges` has the second walk for the owner of one range of the places, and `shared` the call by several threads that each own
+//! one; `cuts` says where their ranges end.
+#![tactic(auto)]
+
+pub mod counts;
+mod cuts;
+pub mod flat;
+pub mod ranges;
+pub mod segments;
+pub mod shared;
+mod walks;
+
+pub use counts::{counts_over, seg_counts_over};
+pub use flat::{bool_combine_over, combine_over, int_combine_over};
+pub use ranges::combine_range;
+pub use segments::{seg_bool_combine_over, seg_combine_over, seg_int_combine_over};
+pub use shared::{combine_shared, int_combine_shared};
