@@ -1,0 +1,205 @@
+"""What is written in C of calls over the ranks of MPI: the header, and the functions, which hand their arguments to the way of their
+family."""
+
+import in_c
+import in_rows
+import rows
+from in_c import kept, parameters, statement, wrapped
+
+# How a family goes over ranks, by its name or else by how it is cut into parts: the name of its way, and what a comment says of it.
+BY_NAME = {
+    "extract": ("extract", "the rank that has the element tells it to all"),
+    "replace": ("replace", "the rank that has the place writes it"),
+    "back_permute": ("back", "each rank asks for each element that it needs once"),
+    "seg_back_permute": ("back", "each rank asks for each element that it needs once"),
+    "seg_extract": ("seg_extract", "a segment's element is asked for where its index stands, at the segment's start"),
+    "seg_replace": ("seg_replace", "a segment's value goes to the rank of its place"),
+    "seg_permute": ("permute", "elements go to the ranks of their places"),
+    "seg_select_permute": ("permute", "elements go to the ranks of their places"),
+    "seg_default_permute": ("permute", "elements go to the ranks of their places"),
+    "seg_first_senders": ("permute", "senders go to the ranks of the places that they name"),
+    "seg_select_first_senders": ("permute", "senders go to the ranks of the places that they name"),
+    "sparse_product": ("product", "each rank asks once for each element of x that its columns name; a row may cross ranks"),
+    "checked_sparse_product": ("product", "each rank asks once for each element of x that its columns name; a row may cross ranks"),
+    "make_descriptor": ("lengths", "the ranks' totals are added"),
+}
+BY_CUT = {
+    "places": ("places", "each rank its own places"),
+    "reduce": ("reduce", "the ranks' reduces are joined"),
+    "scan": ("scan", "each rank goes on from the reduces before it"),
+    "checked_reduce": ("checked_reduce", "the ranks' exact sums are added"),
+    "checked_scan": ("checked_scan", "each rank goes on from the exact sums before it"),
+    "count": ("count", "the ranks' counts are added"),
+    "pack": ("pack", "what a rank keeps stays with it, and *count is how many they are on this rank"),
+    "seg_pack": ("pack", "what a rank keeps stays with it, and *count is how many they are on this rank"),
+    "ranges": ("permute", "elements go to the ranks of their places"),
+    "senders": ("permute", "senders go to the ranks of the places that they name"),
+    "seg_scan": ("seg_scan", "each rank goes on from what stands before it in its segment"),
+    "seg_checked_scan": ("seg_checked_scan", "each rank goes on from what stands before it in its segment"),
+    "seg_reduce": ("seg_reduce", "the pieces of a segment are joined where it starts"),
+    "seg_checked_reduce": ("seg_checked_reduce", "the pieces of a segment are joined where it starts"),
+    "seg_count": ("seg_count", "the pieces of a segment are added where it starts"),
+    "seg_copies": ("seg_copies", "a segment's value goes on to the ranks behind its start"),
+    "seg_numbers": ("seg_numbers", "a segment's numbers go on in the ranks behind its start"),
+    "rows": ("rows", "the offsets of a rank's rows begin with 0, and no row crosses ranks"),
+}
+
+# Families whose places an index or a count of 32 bits names, so that the whole is no longer than a vector may be.
+NAMED_WAYS = {"back", "seg_extract", "seg_replace", "permute", "count", "lengths"}
+
+# Families whose result may be spread otherwise than what they read, where it is as long.
+SPREAD_OTHERWISE = {"permute_int", "permute_bool", "seg_permute_int", "seg_permute_bool"}
+
+RANKS = kept("CvlRanks *ranks")
+
+
+def way(row):
+    """How a family goes over ranks, and what is said of it; or nothing."""
+    name = row.family.name
+    plain = name.removesuffix("_int").removesuffix("_bool")
+    return BY_NAME.get(name) or BY_NAME.get(plain) or BY_CUT.get((row.family.cut or (None,))[0])
+
+
+def families():
+    return [row for row in rows.FAMILIES.values() if way(row)]
+
+
+def calls():
+    return [row for row in rows.CALLS if way(row)]
+
+
+def is_held(row):
+    """Whether the lengths of a family come by a descriptor."""
+    return bool(row.cuts) and way(row)[0] != "lengths"
+
+
+def arguments(row):
+    """Arguments with a descriptor in the place of lengths."""
+    if not is_held(row):
+        return row.arguments
+    return [
+        argument._replace(type="const CvlRankSegments *") if argument.type == "const CvlSegments *" else argument for argument in in_c.held(row.arguments)
+    ]
+
+
+# ---- the header ----
+
+
+def declaration(row):
+    said = in_c.comment(f"cvl_{row.name} over ranks: {way(row)[1]}.")
+    return f"{said}\n{wrapped(f'CVL_CHECKED CvlStatus cvl_{row.name}_mpi({RANKS}, {parameters(arguments(row))});')}"
+
+
+def header(template):
+    """`include/cvl_mpi.h`."""
+    parts = {
+        "note": f" * {rows.NOTE}",
+        "families": "\n\n".join(declaration(row) for row in families()),
+        "calls": "\n\n".join(declaration(row) for row in calls()),
+    }
+    return in_c.filled(template, parts)
+
+
+# ---- the plain families ----
+
+
+def plain_argument(found, k):
+    """What the plain family is given of a slot."""
+    operand = found.operands[k]
+    if operand.role in ("value", "place", "count"):
+        kind = "int64_t" if operand.role != "value" else {"int": "int32_t", "flag": "", "sum": "int64_t", "size": "size_t"}[operand.kind]
+        return f"s[{k}].number != 0" if not kind else f"({kind})s[{k}].number"
+    if operand.role == "lengths":
+        return f"(CvlLengths){{s[{k}].at, s[{k}].number}}"
+    if operand.role in ("single", "told"):
+        return f"({rows.NUMBERS[operand.kind]}*)s[{k}].at"
+    cast = f"({rows.ARRAYS[operand.kind]})" if operand.role == "room" else ""
+    return f"{cast}s[{k}].at, s[{k}].number"
+
+
+def plain_function(found):
+    words = ["op"] if found.family.operators else []
+    words += [plain_argument(found, k) for k in range(len(found.operands))]
+    lines = [] if found.family.operators else ["    (void)op;"]
+    head = f"static CvlStatus make_{found.name}(uint32_t op, const CvlSlot *s) {{"
+    return "\n".join([head, *lines, statement(f"return cvl_{found.name}({', '.join(map(kept, words))});"), "}"])
+
+
+# ---- rows ----
+
+
+def operand_row(found, k):
+    own = found.name in SPREAD_OTHERWISE and found.operands[k].role == "room"
+    like, relation = (k, "SAME") if own else found.like(k)
+    words = [f"CVL_AS_{found.role(k)}", found.size(k), str(like), f"CVL_{relation}", str(found.total(k)), "CVL_BY_NONE", in_rows.flags_of(found.marks(k))]
+    return "        " + "    {" + ", ".join(words) + "},"
+
+
+def row_of(number, row):
+    """The row of a family over ranks."""
+    found = in_rows.Family(row)
+    name = way(row)[0]
+    said = [
+        f".operands = {len(found.operands)}, .out = {found.out}, .cut = {found.cut_place or 0}, .is = {in_rows.flags_of(found.words)},",
+        f".most = CVL_MOST_ELEMENTS, .make = make_{found.name},",
+    ]
+    numbers = [o.number for o in in_rows.table.OPERATORS if o.name in found.family.operators]
+    if numbers:
+        said.append(f".operators = {in_rows.bits_of(numbers)},")
+    if found.faulty:
+        said.append(f".faulty = {'1' if found.faulty == [0] else in_rows.bits_of(found.faulty)},")
+    marks = {
+        "asks": row.family.asks, "held": is_held(row), "checked": any(18 in fault.numbers for fault in row.family.faults),
+        "named": name in NAMED_WAYS or any(o.role == "count" for o in found.operands),
+    }
+    so = "".join(f", .{mark} = 1" for mark, is_so in marks.items() if is_so)
+    lines = [
+        f"static const CvlRankRow cvl_{found.name}_over = {{",
+        "    .row = {",
+        "        .operand = {",
+        *(operand_row(found, k) for k in range(len(found.operands))),
+        "        },",
+        *(statement(line, 2) for line in said),
+        "    },",
+        f"    .way = cvl_{name}_over_ranks, .call = {number}{so},",
+        "};",
+    ]
+    return "\n".join(lines)
+
+
+# ---- the functions ----
+
+
+def slot(row, operand):
+    """The slot of an operand, of what a function is given."""
+    if rows.is_array(operand):
+        if row.call is None:
+            size = f"{operand.name}_len"
+        elif operand.extent == "segments" and is_held(row):
+            size = f"cvl_rank_segments_starts({row.cuts[0].name.replace('lengths', 'segments')})"
+        else:
+            size = in_c.size_of(row, operand)
+        return f"{{{operand.name}, {size}}}"
+    if operand.role == "lengths" and is_held(row):
+        return f"{{{operand.name.replace('lengths', 'segments')}, 1}}"
+    return in_rows.slot(row, operand)
+
+
+def function(row):
+    slots = [slot(row, operand) for operand in row.operands]
+    head = f"CvlStatus cvl_{row.name}_mpi({RANKS}, {parameters(arguments(row))})"
+    return in_rows.handing(head, f"cvl_over_ranks(ranks, &cvl_{row.family.name}_over, {in_rows.operator_of(row)}", slots)
+
+
+def calls_file():
+    """`bindings/mpi/calls.c`."""
+    head = in_c.comment(
+        "The functions of cvl_mpi.h: a row for each family, with the plain family that a rank makes its own part by; and each public function, "
+        "which hands its arguments to the way of its family.",
+        rows.NOTE,
+    )
+    blocks = []
+    for number, row in enumerate(families(), 1):
+        blocks += [plain_function(in_rows.Family(row)), row_of(number, row)]
+    blocks += [function(row) for row in [*families(), *calls()]]
+    return "\n\n".join([f'{head}\n#include "ranks.h"', *blocks]) + "\n"

@@ -1,0 +1,214 @@
+/*
+ * Permutes and first senders over ranks: each element goes to the rank that has its place, in the order of the vector, and that rank
+ * makes the plain permute of what it is sent. A place that is named twice is named twice at one rank, so that the first repeated index
+ * is the least of those that ranks find; its sender knows where it stands.
+ */
+#include "permutes.h"
+
+/* ---- what is sent ---- */
+
+/* A permute in which a rank has its part. */
+typedef struct Sending {
+    int32_t *places;      /* of each index, the place in the whole; -1 where none is sent, also of one that is out of range */
+    int64_t out_of_range; /* the first index that is, or -1 */
+    int32_t *sent_places, *got_places; /* within the rank that has them */
+    void *sent, *got;                  /* the elements */
+    size_t count, received;
+    CvlTargets targets;
+} Sending;
+
+static bool has(const CvlCall *c, CvlAs as) {
+    for (size_t k = 0; k < c->family->row.operands; k++) {
+        if (c->family->row.operand[k].as == as) return 1;
+    }
+    return 0;
+}
+
+/* Whether all indices go somewhere, so that the result has as many places; or those whose flags are true. */
+static bool is_simple(const CvlCall *c) { return has(c, CVL_AS_A) && !has(c, CVL_AS_B) && !has(c, CVL_AS_FLAGS); }
+static bool is_select(const CvlCall *c) { return has(c, CVL_AS_A) && has(c, CVL_AS_FLAGS); }
+
+/* The elements that go somewhere, and those that stand where none goes. */
+static const void *source_of(const CvlCall *c) { return c->in[c->replaces ? CVL_AS_B : CVL_AS_A].at; }
+static const void *defaults_of(const CvlCall *c) {
+    if (c->replaces) return c->in[CVL_AS_A].at;
+    return has(c, CVL_AS_B) ? c->in[CVL_AS_B].at : c->in[CVL_AS_OUT].at;
+}
+
+static size_t element_size(const CvlCall *c) { return has(c, CVL_AS_A) && cvl_has_bools(c) ? sizeof(bool) : sizeof(int32_t); }
+
+/* Finds the place of each index, and counts for each rank how many it is sent. */
+static void find_places(CvlCall *c, Sending *s) {
+    const int32_t *index = c->in[CVL_AS_INDEX].at;
+    const bool *flags = has(c, CVL_AS_FLAGS) ? c->in[CVL_AS_FLAGS].at : NULL;
+    size_t k = 0;
+    memset(c->ranks->sends, 0, (size_t)c->ranks->size * sizeof *c->ranks->sends);
+    for (size_t p = 0; p < s->targets.pieces; p++) {
+        const int64_t start = s->targets.starts[p], places = s->targets.places[p];
+        for (const size_t to = k + cvl_indices_of(&s->targets, p); k < to; k++) {
+            s->places[k] = -1;
+            if (flags != NULL && !flags[k]) continue;
+            if (index[k] >= 0 && index[k] < places) {
+                s->places[k] = (int32_t)(start + index[k]);
+                c->ranks->sends[cvl_owner(c->ranks, (uint64_t)s->places[k])]++;
+                s->count++;
+            } else if (s->out_of_range < 0) {
+                s->out_of_range = (int64_t)k;
+            }
+        }
+    }
+}
+
+/* Puts places and elements in the order of the ranks that they are for. */
+static void fill(CvlCall *c, Sending *s) {
+    CvlRanks *const ranks = c->ranks;
+    const size_t n = c->in[CVL_AS_INDEX].number;
+    const int32_t *const ints = source_of(c);
+    const bool *const bools = source_of(c);
+    const bool is_bool = element_size(c) == sizeof(bool), senders = !has(c, CVL_AS_A);
+    size_t at = 0, until = n > 0 ? cvl_indices_of(&s->targets, 0) : 0, p = 0;
+    int64_t first = s->targets.first_place;
+    for (size_t k = 0; k < n; k++) {
+        while (senders && k == until) first = 0, at = until, until += cvl_indices_of(&s->targets, ++p);
+        if (s->places[k] < 0) continue;
+        const int owner = cvl_owner(ranks, (uint64_t)s->places[k]);
+        const int to = ranks->send_from[owner]++;
+        s->sent_places[to] = (int32_t)((uint64_t)s->places[k] - ranks->offsets[owner]);
+        if (is_bool) ((bool *)s->sent)[to] = bools[k];
+        else ((int32_t *)s->sent)[to] = senders ? (int32_t)(first + (int64_t)(k - at)) : ints[k];
+    }
+    for (int r = 0; r < ranks->size; r++) ranks->send_from[r] -= ranks->sends[r];
+}
+
+/* ---- what is received ---- */
+
+/* Writes what the rank is sent: at its place, the first of those that name it; or where nothing is sent what stands there else. */
+static CvlStatus place_received(CvlCall *c, Sending *s) {
+    const CvlSlot out = c->in[CVL_AS_OUT];
+    const void *const before = defaults_of(c);
+    const bool all = !has(c, CVL_AS_B) && s->received == out.number;
+    if (cvl_has_bools(c) && all) return cvl_permute_bool(s->got, s->received, s->got_places, s->received, c->aside, out.number);
+    if (cvl_has_bools(c)) {
+        return cvl_default_permute_bool(s->got, s->received, s->got_places, s->received, before, out.number, c->aside, out.number);
+    }
+    if (all) return cvl_permute_int(s->got, s->received, s->got_places, s->received, c->aside, out.number);
+    return cvl_default_permute_int(s->got, s->received, s->got_places, s->received, before, out.number, c->aside, out.number);
+}
+
+/* Of what the rank is sent, the first sender of each of its places; what is sent is where each sender stands. */
+static CvlStatus name_senders(CvlCall *c, Sending *s) {
+    const CvlSlot out = c->in[CVL_AS_OUT];
+    int32_t *const first = c->aside;
+    const CvlStatus status = cvl_first_senders(s->got_places, s->received, first, out.number);
+    for (size_t k = 0; k < out.number && status.number == CVL_DONE; k++) {
+        if (first[k] >= 0) first[k] = ((const int32_t *)s->got)[first[k]];
+    }
+    return status;
+}
+
+/* ---- the first fault ---- */
+
+/* Tells the sender of the first repeated place which of those that it sent here it is. */
+static void tell_sender(CvlRanks *ranks, int64_t repeated) {
+    int sender = -1;
+    for (int r = 0; r < ranks->size; r++) {
+        if (repeated >= ranks->receive_from[r] && repeated < ranks->receive_from[r] + ranks->receives[r]) sender = r;
+    }
+    for (int r = 0; r < ranks->size; r++) ranks->receives[r] = r == sender ? (int)(repeated - ranks->receive_from[r]) : -1;
+    MPI_Alltoall(ranks->receives, 1, MPI_INT, ranks->sends, 1, MPI_INT, ranks->comm);
+}
+
+/* The first index of this rank that another one found repeated, or -1. */
+static int64_t first_repeated(CvlCall *c, const Sending *s) {
+    CvlRanks *const ranks = c->ranks;
+    memset(ranks->receive_from, 0, (size_t)ranks->size * sizeof *ranks->receive_from);
+    for (size_t k = 0; k < c->in[CVL_AS_INDEX].number; k++) {
+        if (s->places[k] < 0) continue;
+        const int owner = cvl_owner(ranks, (uint64_t)s->places[k]);
+        if (ranks->receive_from[owner]++ == ranks->sends[owner]) return (int64_t)k;
+    }
+    return -1;
+}
+
+/* Has the ranks find the first bad index of the whole, where there is one. */
+static void find_first(CvlCall *c, const Sending *s, CvlStatus own) {
+    tell_sender(c->ranks, own.number == CVL_INDEX_REPEATED ? own.place : -1);
+    const int64_t repeated = first_repeated(c, s);
+    const bool out_of_range = s->out_of_range >= 0 && (repeated < 0 || s->out_of_range < repeated);
+    c->status = cvl_done();
+    if (out_of_range) c->status = cvl_status(CVL_INDEX_OUT_OF_RANGE, s->out_of_range);
+    else if (repeated >= 0) c->status = cvl_status(CVL_INDEX_REPEATED, repeated);
+    cvl_agree(c, c->in[CVL_AS_INDEX].number);
+}
+
+/* ---- the call ---- */
+
+/* Where nothing is written that is not sent, as many are sent as the result has places. Else 7, before there is no memory. */
+static void look_at_room(CvlCall *c, uint64_t room) {
+    const bool select = is_select(c);
+    int32_t trues = 0;
+    if (!select && !is_simple(c)) return;
+    if (select && c->status.number == CVL_DONE) cvl_say(c, cvl_count(c->in[CVL_AS_FLAGS].at, c->in[CVL_AS_FLAGS].number, &trues));
+    const uint64_t own = select ? (uint64_t)trues : c->in[CVL_AS_INDEX].number;
+    const CvlFold all = cvl_all(c->ranks, cvl_fold(CVL_JOIN_COUNTS, 0, 0, (int64_t)own, 0));
+    if ((uint64_t)all.low != room) cvl_say(c, cvl_status(CVL_LENGTH_MISMATCH, -1));
+}
+
+static void take_for_sending(CvlCall *c, Sending *s) {
+    const size_t n = c->in[CVL_AS_INDEX].number;
+    if (c->status.number != CVL_DONE) return;
+    s->places = cvl_take(c, n, sizeof(int32_t));
+    s->sent_places = cvl_take(c, n, sizeof(int32_t));
+    s->sent = cvl_take(c, n, element_size(c));
+    cvl_take_targets(c, &s->targets);
+    cvl_set_aside(c);
+}
+
+static void take_for_received(CvlCall *c, Sending *s) {
+    s->got_places = cvl_take(c, s->received, sizeof(int32_t));
+    s->got = cvl_take(c, s->received, element_size(c));
+}
+
+static void let_go(Sending *s) {
+    free(s->places), free(s->sent_places), free(s->sent), free(s->got_places), free(s->got);
+    free(s->targets.starts), free(s->targets.places);
+}
+
+/* Sends, and writes aside what is received. Where an index is bad the ranks agree on the first one. */
+static void exchange(CvlCall *c, Sending *s) {
+    cvl_offsets(c->ranks, c->in[CVL_AS_OUT].number);
+    find_places(c, s);
+    s->received = cvl_counts(c->ranks);
+    take_for_received(c, s);
+    if (!cvl_agree(c, c->in[CVL_AS_INDEX].number)) return;
+    fill(c, s);
+    cvl_send(c->ranks, s->sent_places, s->got_places, sizeof(int32_t));
+    cvl_send(c->ranks, s->sent, s->got, element_size(c));
+    const CvlStatus own = has(c, CVL_AS_A) ? place_received(c, s) : name_senders(c, s);
+    c->status = own.number == CVL_DONE && s->out_of_range >= 0 ? cvl_status(CVL_INDEX_OUT_OF_RANGE, s->out_of_range) : own;
+    if (cvl_agree(c, c->in[CVL_AS_INDEX].number)) return;
+    if (c->status.number == CVL_INDEX_OUT_OF_RANGE || c->status.number == CVL_INDEX_REPEATED) find_first(c, s, own);
+}
+
+CvlStatus cvl_permute_over_ranks(CvlCall *c) {
+    Sending s;
+    memset(&s, 0, sizeof s);
+    s.out_of_range = -1;
+    cvl_clean(c);
+    const uint64_t room = cvl_offsets(c->ranks, c->in[CVL_AS_OUT].number);
+    cvl_look_at_targets(c);
+    look_at_room(c, room);
+    take_for_sending(c, &s);
+    if (cvl_agree(c, c->in[CVL_AS_INDEX].number) && cvl_find_targets(c, &s.targets, room, is_select(c))) {
+        exchange(c, &s);
+        if (c->status.number == CVL_DONE) cvl_move_in(c);
+    }
+    let_go(&s);
+    return c->status;
+}
+
+/* A replace is a permute of the values over the vector. */
+CvlStatus cvl_seg_replace_over_ranks(CvlCall *c) {
+    c->by_segment = c->replaces = 1;
+    return cvl_permute_over_ranks(c);
+}

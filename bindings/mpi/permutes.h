@@ -1,0 +1,38 @@
+/* permutes.h: what calls by an index share: where the indices of a rank lead. */
+#ifndef CVL_MPI_PERMUTES_H
+#define CVL_MPI_PERMUTES_H
+
+#include "ranks.h"
+
+/* Segments of two descriptors are as many, and whole vectors of a call by an index no longer than a vector may be; else it is said. */
+CVL_HIDDEN void cvl_look_at_targets(CvlCall *c);
+
+/* Takes memory for where the indices of the rank lead. */
+CVL_HIDDEN void cvl_take_targets(CvlCall *c, CvlTargets *targets);
+
+/* Finds it: of an index without segments, all of the `places`; of a select, where what it keeps stands. All ranks agree whether it is found. */
+CVL_HIDDEN bool cvl_find_targets(CvlCall *c, CvlTargets *targets, uint64_t places, bool is_select);
+
+/* ---- who asks whom for what: routes.c ---- */
+
+struct CvlRoute {
+    CvlRanks *ranks;
+    size_t source_len, index_len; /* of this rank's parts */
+    size_t asks, answers;         /* how many elements it asks other ranks for, each once, and how many they ask it for */
+    int *counts;                  /* as ranks->sends and the three behind it */
+    int32_t *slots;               /* of each index, which of the elements asked for is its own */
+    int32_t *answered;            /* the places of its part that other ranks ask for */
+    void *sent, *got;             /* elements */
+    CvlStatus permute;            /* what a simple permute by the index answers */
+};
+
+/* Finds who asks whom for the elements at places of a vector of which this rank has `source_len`. All ranks agree whether there is memory,
+ * and on 10 where one has a bad index, at that of `bad` or none. */
+CVL_HIDDEN bool cvl_make_route(CvlCall *c, CvlRoute *route, const int32_t *places, size_t places_len, size_t source_len, int64_t bad);
+
+/* Fetches elements: what the rank asked for, each once, is then in route->got. */
+CVL_HIDDEN CvlStatus cvl_fetch(CvlRoute *route, const void *source, size_t size);
+
+CVL_HIDDEN void cvl_clear_route(CvlRoute *route);
+
+#endif
