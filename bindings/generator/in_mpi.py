@@ -203,3 +203,54 @@ def calls_file():
         blocks += [plain_function(in_rows.Family(row)), row_of(number, row)]
     blocks += [function(row) for row in [*families(), *calls()]]
     return "\n\n".join([f'{head}\n#include "ranks.h"', *blocks]) + "\n"
+
+
+# ---- the rows of the differential test ----
+
+KINDS = {"ints": "INTS", "flags": "FLAGS", "text": "TEXT", "int": "INTS", "flag": "FLAGS", "size": "SIZES", "sum": "SIZES"}
+
+
+def tried_argument(row, argument, over):
+    """What a function is given of the test's slots."""
+    if argument.operand is None:
+        return "op"
+    k = row.operands.index(argument.operand)
+    operand = argument.operand
+    if argument.size is not None:
+        return f"s[{k}].number"
+    if operand.role == "lengths":
+        return f"s[{k}].segments" if over and is_held(row) else f"(CvlLengths){{s[{k}].at, s[{k}].number}}"
+    if operand.role in ("value", "place", "count"):
+        return f"({argument.type.strip()})s[{k}].value"
+    return f"s[{k}].at"
+
+
+def tried_functions(row):
+    plain = ", ".join(tried_argument(row, argument, False) for argument in row.arguments)
+    over = ", ".join(tried_argument(row, argument, True) for argument in row.arguments)
+    unused = "" if row.family.operators and not row.call else "(void)op; "
+    return (
+        f"static CvlStatus plain_{row.name}(uint32_t op, const Slot *s) {{ {unused}return cvl_{row.name}({plain}); }}\n"
+        f"static CvlStatus over_{row.name}(CvlRanks *ranks, uint32_t op, const Slot *s) {{ {unused}return cvl_{row.name}_mpi(ranks, {over}); }}"
+    )
+
+
+def tried_operand(operand):
+    extent = {None: "ONE", "offsets": "OFFSETS"}.get(operand.extent, (operand.extent or "").upper())
+    kind = "INTS" if operand.role == "lengths" else KINDS[operand.kind]
+    role = {"room": "ROOM_OF", "count": "COUNT_OF"}.get(operand.role, operand.role.upper())
+    return f"{{\"{operand.name}\", {role}, {kind}, {extent}}}"
+
+
+def tried_row(row):
+    numbers = [o.number for o in in_rows.table.OPERATORS if o.name in row.family.operators]
+    operators = in_rows.bits_of(numbers) if row.call is None else "0"
+    operands = ", ".join(map(tried_operand, row.operands))
+    return f"    {{\"{row.name}\", plain_{row.name}, over_{row.name}, {operators}, {len(row.operands)}, {{{operands}}}}},"
+
+
+def tried_rows():
+    """`tests/mpi/tried_rows.h`."""
+    said = in_c.comment("The families and the calls over ranks, each beside the plain one.", rows.NOTE)
+    found = [*families(), *calls()]
+    return "\n".join([said, *map(tried_functions, found), "", "static const Tried tried[] = {", *map(tried_row, found), "};", ""])

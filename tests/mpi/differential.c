@@ -1,0 +1,567 @@
+/*
+ * Each family and each call over ranks beside the plain one on the whole vector: the same status on each rank, and the same room, cut. Vectors
+ * are cut at any places, also with no elements for a rank; segments cross ranks; indices, divisors and sums are at fault now and then, rooms
+ * too short, vectors not equally long, operators of no family; and each request for memory is refused on one rank in turn.
+ *
+ *     differential SECONDS [SEED [NAME]]
+ */
+#include <mpi.h>
+
+#include <stdio.h>
+#include <stdlib.h>
+#include <string.h>
+
+#include "cvl_mpi.h"
+
+enum { MOST_RANKS = 16, MOST_OPERANDS = 7 };
+
+typedef enum Role { READS, LENGTHS, VALUE, PLACE, COUNT_OF, ROOM_OF, SINGLE, TOLD } Role;
+typedef enum Kind { INTS, FLAGS, TEXT, SIZES } Kind;
+typedef enum Extent { ONE, N, M, SEGMENTS, TOTAL, COUNT, TRUES, ROOM, OFFSETS, EXTENTS } Extent;
+
+typedef struct Slot {
+    void *at;
+    size_t number;
+    int64_t value;
+    CvlRankSegments *segments;
+} Slot;
+
+typedef struct TriedOperand {
+    const char *name;
+    int role, kind, extent;
+} TriedOperand;
+
+typedef struct Tried {
+    const char *name;
+    CvlStatus (*plain)(uint32_t op, const Slot *s);
+    CvlStatus (*over)(CvlRanks *ranks, uint32_t op, const Slot *s);
+    uint32_t operators;
+    int operands;
+    TriedOperand operand[MOST_OPERANDS];
+} Tried;
+
+#include "tried_rows.h"
+
+/* ---- memory that is refused ---- */
+
+static long refuse_at = -1, asked;
+static int refused;
+
+void *__real_malloc(size_t size);
+void *__wrap_malloc(size_t size);
+void *__wrap_malloc(size_t size) {
+    if (refuse_at >= 0 && asked++ == refuse_at) {
+        refused = 1;
+        return NULL;
+    }
+    return __real_malloc(size);
+}
+
+/* ---- numbers at random, the same on each rank ---- */
+
+static uint64_t state;
+
+static uint32_t any(void) {
+    state = state * UINT64_C(6364136223846793005) + UINT64_C(1442695040888963407);
+    return (uint32_t)(state >> 33);
+}
+static size_t below(size_t n) { return n == 0 ? 0 : any() % n; }
+static int one_in(size_t n) { return below(n) == 0; }
+
+static int32_t number(int style) {
+    static const int32_t few[] = {0, 1, -1, 2, 31, 32, 5, INT32_MAX, INT32_MIN, -7};
+    if (style == 0) return few[below(sizeof few / sizeof *few)];
+    if (style == 1) return (int32_t)below(9) + 1;
+    return (int32_t)any() - (int32_t)any();
+}
+
+/* ---- a case ---- */
+
+typedef struct Pieces {
+    int32_t *lengths;
+    size_t count, starts;
+    int goes_on;
+} Pieces;
+
+typedef struct Case {
+    const Tried *tried;
+    uint32_t op;
+    int ranks;
+    size_t counts[EXTENTS], cut[EXTENTS][MOST_RANKS + 1];
+    Slot whole[MOST_OPERANDS];
+    Pieces pieces[MOST_OPERANDS][MOST_RANKS]; /* of lengths, for each rank */
+    int shorter, shorter_rank;                /* an operand whose last element is left out, or -1, and the rank that has it */
+} Case;
+
+static size_t size_of(int kind) { return kind == INTS ? sizeof(int32_t) : kind == SIZES ? sizeof(size_t) : 1; }
+static int is_array(int role) { return role == READS || role == ROOM_OF; }
+
+static int operand_named(const Tried *t, const char *name) {
+    for (int k = 0; k < t->operands; k++) {
+        if (strcmp(t->operand[k].name, name) == 0) return k;
+    }
+    return -1;
+}
+
+static int lengths_of(const Tried *t, int extent) {
+    for (int k = 0; k < t->operands; k++) {
+        if (t->operand[k].role == LENGTHS && t->operand[k].extent == extent) return k;
+    }
+    return -1;
+}
+
+static int is_descriptor_call(const Tried *t) { return strcmp(t->name, "make_descriptor") == 0 || strcmp(t->name, "mke_fov") == 0; }
+
+static void cut_anywhere(Case *c, int extent) {
+    size_t *cut = c->cut[extent];
+    cut[0] = 0, cut[c->ranks] = c->counts[extent];
+    for (int r = 1; r < c->ranks; r++) cut[r] = one_in(4) ? 0 : below(c->counts[extent] + 1);
+    for (int r = 1; r < c->ranks; r++) {
+        for (int q = r; q > 1 && cut[q] < cut[q - 1]; q--) {
+            const size_t kept = cut[q];
+            cut[q] = cut[q - 1], cut[q - 1] = kept;
+        }
+    }
+}
+
+/* ---- lengths, and the pieces that ranks have of them ---- */
+
+static void make_lengths(Case *c, int k, size_t segments) {
+    int32_t *lengths = malloc((segments + 1) * sizeof *lengths);
+    size_t total = 0;
+    const int style = (int)below(3), other = k != lengths_of(c->tried, N);
+    for (size_t s = 0; s < segments; s++) {
+        lengths[s] = style == 0 ? (int32_t)below(3) : style == 1 ? (one_in(3) ? (int32_t)below(12) : 0) : 1 + (int32_t)below(5);
+        if (other && one_in(2)) lengths[s] += (int32_t)below(4);
+        total += (size_t)lengths[s];
+    }
+    c->whole[k].at = lengths, c->whole[k].number = segments;
+    c->counts[c->tried->operand[k].extent] = total;
+}
+
+static void add_piece(Pieces *p, int32_t length, int goes_on) {
+    p->lengths = realloc(p->lengths, (p->count + 1) * sizeof *p->lengths);
+    p->lengths[p->count++] = length;
+    if (goes_on) p->goes_on = 1;
+    else p->starts++;
+}
+
+/* Each rank takes what is left of the segment that is open, and segments that start in its range; empty ones at a cut at random. */
+static void make_pieces(Case *c, int k) {
+    const int32_t *lengths = c->whole[k].at;
+    const size_t *cut = c->cut[c->tried->operand[k].extent], segments = c->whole[k].number;
+    size_t next = 0;
+    int32_t left = 0;
+    for (int r = 0; r < c->ranks; r++) {
+        Pieces *p = &c->pieces[k][r];
+        size_t room = cut[r + 1] - cut[r];
+        const int last = r + 1 == c->ranks;
+        memset(p, 0, sizeof *p);
+        if (next > 0 && ((left > 0 && room > 0) || one_in(3))) {
+            const int32_t taken = (size_t)left < room ? left : (int32_t)room;
+            add_piece(p, taken, 1);
+            left -= taken, room -= (size_t)taken;
+        }
+        while (next < segments && left == 0 && (room > 0 || last || one_in(2))) {
+            const int32_t taken = (size_t)lengths[next] < room ? lengths[next] : (int32_t)room;
+            if (lengths[next] > 0 && room == 0 && !one_in(3)) break;
+            add_piece(p, taken, 0);
+            left = lengths[next++] - taken, room -= (size_t)taken;
+        }
+    }
+}
+
+/* Segments start in the ranks of their first pieces. */
+static void cut_segments(Case *c, int k) {
+    c->cut[SEGMENTS][0] = 0;
+    for (int r = 0; r < c->ranks; r++) c->cut[SEGMENTS][r + 1] = c->cut[SEGMENTS][r] + c->pieces[k][r].starts;
+}
+
+/* ---- indices ---- */
+
+/* Indices of one segment: into so many places, each once if there may be no two. */
+static void make_indices(int32_t *index, size_t count, size_t places, int once) {
+    if (once && count <= places) {
+        int32_t *all = malloc((places + 1) * sizeof *all);
+        for (size_t k = 0; k < places; k++) all[k] = (int32_t)k;
+        for (size_t k = 0; k < count; k++) {
+            const size_t other = k + below(places - k);
+            index[k] = all[other], all[other] = all[k];
+        }
+        free(all);
+    } else {
+        for (size_t k = 0; k < count; k++) index[k] = (int32_t)below(places);
+    }
+}
+
+static void plant_faults(int32_t *index, size_t count, size_t places) {
+    static const int32_t bad[] = {-1, INT32_MIN, INT32_MAX};
+    const size_t faults = one_in(3) ? 1 + below(2) : 0;
+    for (size_t f = 0; f < faults && count > 0; f++) {
+        const size_t at = below(count), style = below(3);
+        if (style == 0) index[at] = (int32_t)places;
+        else if (style == 1) index[at] = bad[below(3)];
+        else index[at] = index[below(count)];
+    }
+}
+
+static size_t trues_of(const uint8_t *flags, size_t from, size_t to) {
+    size_t count = 0;
+    for (size_t k = from; k < to; k++) count += flags[k] != 0;
+    return count;
+}
+
+/* Spreads the indices of those places whose flags are true. */
+static void only_true(int32_t *index, const uint8_t *flags, size_t from, size_t to, int once) {
+    const size_t trues = trues_of(flags, from, to);
+    int32_t *own = malloc((trues + 1) * sizeof *own);
+    size_t at = 0;
+    make_indices(own, trues, trues, once);
+    for (size_t k = from; k < to; k++) index[k] = flags[k] ? own[at++] : (int32_t)any();
+    free(own);
+}
+
+static void fill_index(Case *c, int k) {
+    const Tried *t = c->tried;
+    const int extent = t->operand[k].extent, own = extent == SEGMENTS ? lengths_of(t, N) : lengths_of(t, extent);
+    const int f = operand_named(t, "flags"), senders = strstr(t->name, "senders") != NULL, back = strstr(t->name, "back") != NULL || strncmp(t->name, "bck", 3) == 0;
+    const int select = f >= 0 && !senders, defaults = operand_named(t, "defaults") >= 0;
+    const int other = back ? lengths_of(t, N) : defaults || senders ? lengths_of(t, M) : own;
+    int32_t *index = c->whole[k].at;
+    const uint8_t *flags = f >= 0 ? c->whole[f].at : NULL;
+    const int once = !senders && !back && extent != SEGMENTS;
+    size_t at = 0;
+    if (own < 0) {
+        const size_t places = strcmp(t->operand[k].name, "columns") == 0 || defaults || senders ? c->counts[M] : c->counts[N];
+        if (select) only_true(index, flags, 0, c->whole[k].number, once);
+        else make_indices(index, c->whole[k].number, places, once && strcmp(t->operand[k].name, "columns") != 0);
+        plant_faults(index, c->whole[k].number, select ? c->counts[TRUES] : places);
+        return;
+    }
+    if (strcmp(t->operand[k].name, "columns") == 0) {
+        make_indices(index, c->whole[k].number, c->counts[M], 0);
+        plant_faults(index, c->whole[k].number, c->counts[M]);
+        return;
+    }
+    for (size_t s = 0; s < c->whole[own].number; s++) {
+        const size_t count = extent == SEGMENTS ? 1 : (size_t)((int32_t *)c->whole[own].at)[s], places = (size_t)((int32_t *)c->whole[other].at)[s];
+        if (select) only_true(index, flags, at, at + count, once);
+        else make_indices(index + at, count, places, once);
+        if (one_in(6)) plant_faults(index + at, count, select ? trues_of(flags, at, at + count) : places);
+        at += count;
+    }
+}
+
+/* ---- the arrays of the whole ---- */
+
+static void fill(Case *c, int k) {
+    const TriedOperand *o = &c->tried->operand[k];
+    const int style = (int)below(3), unclean = one_in(4);
+    for (size_t j = 0; j < c->whole[k].number; j++) {
+        if (o->kind == INTS) ((int32_t *)c->whole[k].at)[j] = number(style);
+        else ((uint8_t *)c->whole[k].at)[j] = (uint8_t)(one_in(2) ? 0 : unclean ? 1 + below(255) : 1);
+    }
+}
+
+static void make_offsets(Case *c, int k) {
+    int32_t *offsets = malloc((c->counts[SEGMENTS] + 1) * sizeof *offsets);
+    offsets[0] = 0;
+    for (size_t r = 0; r < c->counts[SEGMENTS]; r++) offsets[r + 1] = offsets[r] + (int32_t)below(4);
+    c->counts[N] = (size_t)offsets[c->counts[SEGMENTS]];
+    c->whole[k].at = offsets, c->whole[k].number = c->counts[SEGMENTS] + 1;
+    cut_anywhere(c, SEGMENTS);
+    for (int r = 0; r <= c->ranks; r++) c->cut[N][r] = (size_t)offsets[c->cut[SEGMENTS][r]];
+}
+
+static void make_counts(Case *c) {
+    const Tried *t = c->tried;
+    const size_t most = one_in(6) ? 40 : 9;
+    for (int e = 0; e < EXTENTS; e++) c->counts[e] = below(most);
+    if (one_in(3)) c->counts[M] += c->counts[N];
+    for (int k = 0; k < t->operands; k++) {
+        if (t->operand[k].role == LENGTHS) make_lengths(c, k, c->counts[SEGMENTS]);
+    }
+    for (int e = 1; e < EXTENTS; e++) cut_anywhere(c, e);
+    for (int k = 0; k < t->operands; k++) {
+        if (t->operand[k].extent == OFFSETS) make_offsets(c, k);
+        if (t->operand[k].role == LENGTHS && !is_descriptor_call(t)) make_pieces(c, k), cut_segments(c, k);
+    }
+}
+
+/* How many elements the ranks keep before each of them, where flags say. */
+static void cut_trues(Case *c) {
+    const int f = operand_named(c->tried, "flags");
+    if (f < 0) return;
+    c->counts[TRUES] = c->counts[ROOM] = trues_of(c->whole[f].at, 0, c->whole[f].number);
+    cut_anywhere(c, TRUES);
+    for (int r = 0; r <= c->ranks; r++) c->cut[ROOM][r] = trues_of(c->whole[f].at, 0, c->cut[N][r]);
+}
+
+static void make_arrays(Case *c) {
+    const Tried *t = c->tried;
+    for (int k = 0; k < t->operands; k++) {
+        const TriedOperand *o = &t->operand[k];
+        if (o->role == VALUE || o->role == PLACE) c->whole[k].value = o->role == PLACE ? (int64_t)below(c->counts[N] + 1) - one_in(9) : o->kind == INTS ? number(0) : one_in(2);
+        if (o->role == COUNT_OF) c->whole[k].value = (int64_t)c->counts[COUNT];
+        if (o->role != READS || o->extent == OFFSETS) continue;
+        c->whole[k].number = c->counts[o->extent];
+        c->whole[k].at = malloc((c->whole[k].number + 1) * size_of(o->kind));
+        fill(c, k);
+    }
+    cut_trues(c);
+    for (int k = 0; k < t->operands; k++) {
+        if (t->operand[k].role == READS && (strcmp(t->operand[k].name, "index") == 0 || strcmp(t->operand[k].name, "columns") == 0)) fill_index(c, k);
+    }
+    for (int k = 0; k < t->operands; k++) {
+        if (is_array(t->operand[k].role) && t->operand[k].role == ROOM_OF) c->whole[k].number = c->counts[t->operand[k].extent];
+        if (t->operand[k].role == SINGLE || t->operand[k].role == TOLD) c->whole[k].number = 1;
+        if (c->whole[k].at != NULL || c->whole[k].number == 0) continue;
+        c->whole[k].at = malloc((c->whole[k].number + 1) * size_of(t->operand[k].kind));
+        memset(c->whole[k].at, 0x5a, c->whole[k].number * size_of(t->operand[k].kind));
+    }
+}
+
+/* Leaves out the last element of an operand now and then, in the rank that has it; or says an operator of another family. */
+static void spoil(Case *c) {
+    const Tried *t = c->tried;
+    c->shorter = -1;
+    if (t->operators && one_in(12)) c->op = (uint32_t)below(40);
+    if (!one_in(6)) return;
+    const int k = (int)below((size_t)t->operands), extent = t->operand[k].extent;
+    const int is_family = t->operators != 0 || strchr(t->name, '_') == NULL || strlen(t->name) != 7;
+    if (!is_array(t->operand[k].role) || extent == OFFSETS || c->whole[k].number == 0 || (!is_family && extent != ROOM)) return;
+    for (int r = 0; r < c->ranks; r++) {
+        if (c->cut[extent][r] < c->cut[extent][r + 1]) c->shorter_rank = r;
+    }
+    c->shorter = k;
+    c->whole[k].number--;
+}
+
+static Case make_case(const Tried *t, int ranks) {
+    Case c;
+    memset(&c, 0, sizeof c);
+    c.tried = t, c.ranks = ranks;
+    make_counts(&c);
+    make_arrays(&c);
+    do c.op = (uint32_t)below(32);
+    while (t->operators != 0 && !(t->operators >> c.op & 1));
+    spoil(&c);
+    /* a negative length */
+    for (int k = 0; k < t->operands; k++) {
+        if (t->operand[k].role == LENGTHS && is_descriptor_call(t) && c.whole[k].number > 0 && one_in(3)) ((int32_t *)c.whole[k].at)[below(c.whole[k].number)] = -1;
+    }
+    return c;
+}
+
+static void free_case(Case *c) {
+    for (int k = 0; k < c->tried->operands; k++) {
+        free(c->whole[k].at);
+        for (int r = 0; r < c->ranks; r++) free(c->pieces[k][r].lengths);
+    }
+}
+
+/* ---- a rank's part ---- */
+
+typedef struct Own {
+    Slot slots[MOST_OPERANDS];
+    size_t from[MOST_OPERANDS]; /* where each array begins in the whole */
+} Own;
+
+static void take_array(const Case *c, int k, int rank, Own *own) {
+    const TriedOperand *o = &c->tried->operand[k];
+    const int extent = o->extent == OFFSETS ? SEGMENTS : o->role == LENGTHS ? SEGMENTS : o->extent;
+    const size_t from = c->cut[extent][rank], n = c->cut[extent][rank + 1] - from + (o->extent == OFFSETS), size = size_of(o->kind);
+    Slot *s = &own->slots[k];
+    own->from[k] = from, s->number = n;
+    s->at = malloc((n + 1) * size);
+    if (o->role == ROOM_OF) memset(s->at, 0x5a, (n + 1) * size);
+    else if (n > 0) memcpy(s->at, (const char *)c->whole[k].at + from * size, n * size);
+    if (o->extent == OFFSETS) {
+        for (size_t r = n; r-- > 0;) ((int32_t *)s->at)[r] -= ((int32_t *)s->at)[0];
+    }
+    if (c->shorter == k && c->shorter_rank == rank) s->number--;
+}
+
+static Own take(const Case *c, int rank) {
+    Own own;
+    memset(&own, 0, sizeof own);
+    for (int k = 0; k < c->tried->operands; k++) {
+        const TriedOperand *o = &c->tried->operand[k];
+        own.slots[k].value = c->whole[k].value;
+        if (o->role == COUNT_OF) own.slots[k].value = (int64_t)(c->cut[COUNT][rank + 1] - c->cut[COUNT][rank]);
+        if (is_array(o->role) || (o->role == LENGTHS && is_descriptor_call(c->tried))) take_array(c, k, rank, &own);
+        if (o->role == SINGLE || o->role == TOLD) {
+            own.slots[k].at = malloc(8);
+            memset(own.slots[k].at, 0x5a, 8);
+        }
+    }
+    return own;
+}
+
+static void free_own(Own *own) {
+    for (int k = 0; k < MOST_OPERANDS; k++) {
+        free(own->slots[k].at);
+        cvl_rank_segments_free(own->slots[k].segments);
+    }
+}
+
+/* ---- what is compared ---- */
+
+static int my_rank;
+
+static int is_as_before(const Case *c, const Own *own, int k) {
+    const TriedOperand *o = &c->tried->operand[k];
+    const uint8_t *bytes = own->slots[k].at;
+    const size_t count = o->role == ROOM_OF ? own->slots[k].number * size_of(o->kind) : size_of(o->kind);
+    for (size_t j = 0; j < count; j++) {
+        if (bytes[j] != 0x5a) return 0;
+    }
+    return 1;
+}
+
+static int is_written(const Case *c, int k) {
+    const int role = c->tried->operand[k].role;
+    return role == ROOM_OF || role == SINGLE || role == TOLD;
+}
+
+/* Whether a rank's room is that of the whole, cut; and what is told that of the whole, or how many elements the rank keeps. */
+static int is_cut_of(const Case *c, const Own *own, int k, int rank) {
+    const TriedOperand *o = &c->tried->operand[k];
+    const size_t size = size_of(o->kind);
+    if (o->role == TOLD && operand_named(c->tried, "flags") >= 0) {
+        size_t sentinel;
+        memset(&sentinel, 0x5a, sizeof sentinel);
+        if (*(size_t *)c->whole[k].at == sentinel) return is_as_before(c, own, k);
+        return *(size_t *)own->slots[k].at == c->cut[ROOM][rank + 1] - c->cut[ROOM][rank];
+    }
+    if (o->role != ROOM_OF) return memcmp(own->slots[k].at, c->whole[k].at, size) == 0;
+    return own->slots[k].number == 0 || memcmp(own->slots[k].at, (const char *)c->whole[k].at + own->from[k] * size, own->slots[k].number * size) == 0;
+}
+
+static int is_right(const Case *c, const Own *own, CvlStatus expected, CvlStatus status, int rank) {
+    if (status.number != expected.number || status.place != expected.place) return 0;
+    for (int k = 0; k < c->tried->operands; k++) {
+        const int room_at_fault = expected.number != CVL_DONE && c->tried->operand[k].role == ROOM_OF;
+        if (!is_written(c, k)) continue;
+        if (room_at_fault ? !is_as_before(c, own, k) : !is_cut_of(c, own, k, rank)) return 0;
+    }
+    return 1;
+}
+
+/* ---- running ---- */
+
+static long cases, done, at_fault, refusals, by_number[128];
+
+static void print_case(const Case *c) {
+    for (int k = 0; k < c->tried->operands; k++) {
+        const TriedOperand *o = &c->tried->operand[k];
+        fprintf(stderr, "  %s (%zu):", o->name, c->whole[k].number);
+        for (size_t j = 0; j < c->whole[k].number; j++) fprintf(stderr, " %d", o->kind == INTS ? ((int32_t *)c->whole[k].at)[j] : ((uint8_t *)c->whole[k].at)[j]);
+        fprintf(stderr, " value %lld; cut", (long long)c->whole[k].value);
+        for (int r = 0; r <= c->ranks; r++) fprintf(stderr, " %zu", c->cut[o->extent][r]);
+        for (int r = 0; r < c->ranks && o->role == LENGTHS; r++) {
+            fprintf(stderr, " |%s", c->pieces[k][r].goes_on ? " .." : "");
+            for (size_t p = 0; p < c->pieces[k][r].count; p++) fprintf(stderr, " %d", c->pieces[k][r].lengths[p]);
+        }
+        fprintf(stderr, "\n");
+    }
+}
+
+static void fail(const Case *c, const Own *own, CvlStatus expected, CvlStatus status, uint64_t seed) {
+    fprintf(stderr, "rank %d of %d: %s with operator %u answers %u at %lld, not %u at %lld (seed %llu), or has another room:\n", my_rank, c->ranks, c->tried->name, c->op,
+        status.number, (long long)status.place, expected.number, (long long)expected.place, (unsigned long long)seed);
+    print_case(c);
+    for (int k = 0; k < c->tried->operands; k++) {
+        if (!is_written(c, k)) continue;
+        fprintf(stderr, "  own %s:", c->tried->operand[k].name);
+        for (size_t j = 0; j < own->slots[k].number || j < 1; j++) {
+            fprintf(stderr, " %d", c->tried->operand[k].kind == INTS ? ((int32_t *)own->slots[k].at)[j] : ((uint8_t *)own->slots[k].at)[j]);
+        }
+        fprintf(stderr, "\n");
+    }
+    fflush(stderr);
+    MPI_Abort(MPI_COMM_WORLD, 1);
+}
+
+/* Makes the descriptors of a rank's pieces; whether all are made. */
+static int make_descriptors(CvlRanks *ranks, const Case *c, int rank, Own *own, CvlStatus *status) {
+    for (int k = 0; k < c->tried->operands; k++) {
+        if (c->tried->operand[k].role != LENGTHS || is_descriptor_call(c->tried)) continue;
+        const Pieces *p = &c->pieces[k][rank];
+        const CvlLengths lengths = {p->lengths, p->count};
+        *status = cvl_rank_segments_new(ranks, lengths, p->goes_on, &own->slots[k].segments);
+        if (status->number != CVL_DONE) return 0;
+    }
+    return 1;
+}
+
+/* Refuses each request for memory of one rank in turn: all ranks tell 100, with the rooms as before, or the fault that comes first. */
+static void refuse_all(CvlRanks *ranks, const Case *c, CvlStatus expected, int rank, uint64_t seed) {
+    const int unlucky = (int)below((size_t)c->ranks);
+    for (long k = 0, more = 1; more && k < 60; k++) {
+        Own own = take(c, rank);
+        CvlStatus status;
+        if (!make_descriptors(ranks, c, rank, &own, &status)) fail(c, &own, expected, status, seed);
+        asked = 0, refused = 0, refuse_at = rank == unlucky ? k : -1;
+        status = c->tried->over(ranks, c->op, own.slots);
+        refuse_at = -1;
+        int hit = refused, any_hit = 0;
+        MPI_Allreduce(&hit, &any_hit, 1, MPI_INT, MPI_MAX, MPI_COMM_WORLD);
+        const CvlStatus none = {CVL_NO_RESOURCES, -1};
+        const int same = status.number == expected.number && expected.number != CVL_DONE;
+        if (any_hit && !same && status.number != CVL_NO_RESOURCES) fail(c, &own, none, status, seed);
+        for (int j = 0; j < c->tried->operands && any_hit; j++) {
+            if (c->tried->operand[j].role == ROOM_OF && !is_as_before(c, &own, j)) fail(c, &own, none, status, seed);
+        }
+        refusals += any_hit, more = any_hit;
+        free_own(&own);
+    }
+}
+
+static void try_one(CvlRanks *ranks, const Tried *t, int rank, int size, uint64_t seed) {
+    state = seed;
+    Case c = make_case(t, size);
+    const CvlStatus expected = t->plain(c.op, c.whole);
+    Own own = take(&c, rank);
+    CvlStatus status;
+    cases++;
+    if (!make_descriptors(ranks, &c, rank, &own, &status)) fail(&c, &own, expected, status, seed);
+    status = t->over(ranks, c.op, own.slots);
+    if (!is_right(&c, &own, expected, status, rank)) fail(&c, &own, expected, status, seed);
+    if (expected.number == CVL_DONE) done++;
+    else at_fault++;
+    if (expected.number < 128) by_number[expected.number]++;
+    free_own(&own);
+    if (one_in(8)) refuse_all(ranks, &c, expected, rank, seed);
+    free_case(&c);
+}
+
+int main(int words, char **word) {
+    CvlRanks *ranks;
+    int size, more = 1;
+    MPI_Init(&words, &word);
+    MPI_Comm_rank(MPI_COMM_WORLD, &my_rank);
+    MPI_Comm_size(MPI_COMM_WORLD, &size);
+    if (cvl_ranks_new(MPI_COMM_WORLD, &ranks).number != CVL_DONE) MPI_Abort(MPI_COMM_WORLD, 2);
+    const double seconds = words > 1 ? atof(word[1]) : 1, from = MPI_Wtime();
+    uint64_t seed = words > 2 ? strtoull(word[2], NULL, 10) : 1;
+    const char *only = words > 3 ? word[3] : NULL;
+    const size_t count = sizeof tried / sizeof *tried;
+    while (more) {
+        for (size_t k = 0; k < count; k++) {
+            if (only == NULL || strcmp(only, tried[k].name) == 0) try_one(ranks, &tried[k], my_rank, size, seed++);
+        }
+        more = MPI_Wtime() - from < seconds;
+        MPI_Bcast(&more, 1, MPI_INT, 0, MPI_COMM_WORLD);
+    }
+    if (my_rank == 0) {
+        printf("%d ranks: %ld cases of %zu calls, %ld done, %ld at fault, %ld refusals;", size, cases, count, done, at_fault, refusals);
+        for (int k = 1; k < 128; k++) {
+            if (by_number[k]) printf(" %d: %ld", k, by_number[k]);
+        }
+        printf("\n");
+    }
+    cvl_ranks_free(ranks);
+    MPI_Finalize();
+    return 0;
+}
