@@ -16,7 +16,7 @@ MAJOR = table.VERSION.split(".")[0]
 # the shared object under its version, under the name that programs ask for, and under the linker's
 FULL, SONAME, LINKED = f"libcvl.so.{table.VERSION}", f"libcvl.so.{MAJOR}", "libcvl.so"
 
-USUAL = {"CC": "cc", "OBJCOPY": "objcopy", "LD": "ld", "NM": "nm", "AR": "ar"}
+USUAL = {"CC": "cc", "MPICC": "mpicc", "OBJCOPY": "objcopy", "LD": "ld", "NM": "nm", "AR": "ar"}
 
 
 def run(*words, **more):
@@ -115,6 +115,30 @@ def shared(made):
         (folder / name).unlink(missing_ok=True)
         (folder / name).symlink_to(target)
     return folder / SONAME
+
+
+# the same of calls over ranks
+MPI_FULL, MPI_SONAME, MPI_LINKED = f"libcvl_mpi.so.{table.VERSION}", f"libcvl_mpi.so.{MAJOR}", "libcvl_mpi.so"
+
+
+def over_ranks(folder, written, flags=()):
+    """The library of calls over ranks of MPI, as an archive and as a shared object over the one of the calls, which the folder has."""
+    compiler = program("MPICC")
+    quoted = [f"-iquote{top / of}" for top in (TOP, written) for of in ("bindings/mpi", "bindings/c")]
+    with tempfile.TemporaryDirectory() as work:
+        work, objects = pathlib.Path(work), []
+        for path in generated.both(written, "bindings/mpi", "*.c").values():
+            objects.append(work / f"{path.stem}.o")
+            words = [*compiler, *compiling(flags)[len(program("CC")) :], f"-ffile-prefix-map={written}=.", *quoted]
+            run(*words, "-c", path, "-o", objects[-1])
+        whole, made, names = work / "cvl_mpi.o", folder / "libcvl_mpi.a", written / "bindings/mpi/public"
+        run(*program("LD"), "-r", "-z", "noexecstack", "-o", whole, *objects)
+        run(*program("OBJCOPY"), f"--keep-global-symbols={names}", whole)
+        made.unlink(missing_ok=True)
+        run(*program("AR"), "rcsD", made, whole)
+        hardened = ["-Wl,-z,relro", "-Wl,-z,now", "-Wl,-z,noexecstack", f"-Wl,-soname,{MPI_SONAME}"]
+        run(*compiler, "-fno-lto", *words_of("LDFLAGS"), "-shared", *hardened, "-o", folder / MPI_FULL, whole, folder / FULL)
+    return made
 
 
 def proved_alone(folder, archive):

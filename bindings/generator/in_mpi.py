@@ -1,6 +1,8 @@
 """What is written in C of calls over the ranks of MPI: the header, and the functions, which hand their arguments to the way of their
 family."""
 
+import re
+
 import in_c
 import in_rows
 import rows
@@ -91,13 +93,20 @@ def declaration(row):
 
 
 def header(template):
-    """`include/cvl_mpi.h`."""
+    """`bindings/mpi/cvl_mpi.h`."""
     parts = {
         "note": f" * {rows.NOTE}",
         "families": "\n\n".join(declaration(row) for row in families()),
         "calls": "\n\n".join(declaration(row) for row in calls()),
     }
     return in_c.filled(template, parts)
+
+
+def public(template):
+    """`bindings/mpi/public`: each name of the header, one a line."""
+    named = re.findall(r"\b(cvl_\w+)\([^)]", re.sub(r"/\*.*?\*/", "", template, flags=re.S))
+    named += [f"cvl_{row.name}_mpi" for row in [*families(), *calls()]]
+    return "".join(f"{name}\n" for name in sorted(set(named)))
 
 
 # ---- the plain families ----

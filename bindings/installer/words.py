@@ -10,7 +10,7 @@ import proved
 
 from . import prefixes
 
-USAGE = """install PREFIX [--libdir DIR] [--python PROGRAM | --no-python] [--rpath] [--build DIR] [--cpu NAME] [--jobs N]
+USAGE = """install PREFIX [--libdir DIR] [--python PROGRAM | --no-python] [--mpi] [--rpath] [--build DIR] [--cpu NAME] [--jobs N]
        install PREFIX --uninstall"""
 
 
@@ -49,6 +49,7 @@ def _parser():
     parser.add_argument("--libdir", default="lib")
     parser.add_argument("--python", default="python3")
     parser.add_argument("--no-python", dest="python", action="store_const", const="")
+    parser.add_argument("--mpi", action="store_true")
     parser.add_argument("--rpath", action="store_true")
     parser.add_argument("--build", default="")
     parser.add_argument("--cpu", default="")

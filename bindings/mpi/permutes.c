@@ -194,10 +194,10 @@ CvlStatus cvl_permute_over_ranks(CvlCall *c) {
     Sending s;
     memset(&s, 0, sizeof s);
     s.out_of_range = -1;
-    cvl_clean(c);
     const uint64_t room = cvl_offsets(c->ranks, c->in[CVL_AS_OUT].number);
     cvl_look_at_targets(c);
     look_at_room(c, room);
+    cvl_clean(c);
     take_for_sending(c, &s);
     if (cvl_agree(c, c->in[CVL_AS_INDEX].number) && cvl_find_targets(c, &s.targets, room, is_select(c))) {
         exchange(c, &s);
