@@ -91,6 +91,7 @@ typedef struct Case {
     Slot whole[MOST_OPERANDS];
     Pieces pieces[MOST_OPERANDS][MOST_RANKS]; /* of lengths, for each rank */
     int shorter, shorter_rank;                /* an operand whose last element is left out, or -1, and the rank that has it */
+    int64_t negative;                         /* the segment of which a piece is below 0, or -1 */
 } Case;
 
 static size_t size_of(int kind) { return kind == INTS ? sizeof(int32_t) : kind == SIZES ? sizeof(size_t) : 1; }
@@ -337,17 +338,30 @@ static void spoil(Case *c) {
     c->whole[k].number--;
 }
 
+/* Makes a piece of a segment less than 0 now and then. */
+static void spoil_lengths(Case *c, int k) {
+    const int rank = (int)below((size_t)c->ranks);
+    Pieces *p = &c->pieces[k][rank];
+    if (c->negative >= 0 || p->count == 0 || !one_in(10)) return;
+    const size_t at = below(p->count);
+    size_t first = 0;
+    for (int r = 0; r < rank; r++) first += c->pieces[k][r].starts;
+    c->negative = (int64_t)(first + at) - (p->goes_on != 0);
+    p->lengths[at] = -1 - (int32_t)below(3);
+    ((int32_t *)c->whole[k].at)[c->negative] = -1;
+}
+
 static Case make_case(const Tried *t, int ranks) {
     Case c;
     memset(&c, 0, sizeof c);
-    c.tried = t, c.ranks = ranks;
+    c.tried = t, c.ranks = ranks, c.negative = -1;
     make_counts(&c);
     make_arrays(&c);
     do c.op = (uint32_t)below(32);
     while (t->operators != 0 && !(t->operators >> c.op & 1));
     spoil(&c);
-    /* a negative length */
     for (int k = 0; k < t->operands; k++) {
+        if (t->operand[k].role == LENGTHS && !is_descriptor_call(t)) spoil_lengths(&c, k);
         if (t->operand[k].role == LENGTHS && is_descriptor_call(t) && c.whole[k].number > 0 && one_in(3)) ((int32_t *)c.whole[k].at)[below(c.whole[k].number)] = -1;
     }
     return c;
@@ -525,6 +539,14 @@ static void try_one(CvlRanks *ranks, const Tried *t, int rank, int size, uint64_
     Own own = take(&c, rank);
     CvlStatus status;
     cases++;
+    if (c.negative >= 0) {
+        const CvlStatus negative = {CVL_NEGATIVE_LENGTH, c.negative};
+        const int made = make_descriptors(ranks, &c, rank, &own, &status);
+        if (made || status.number != negative.number || status.place != negative.place) fail(&c, &own, negative, status, seed);
+        by_number[CVL_NEGATIVE_LENGTH]++, at_fault++;
+        free_own(&own), free_case(&c);
+        return;
+    }
     if (!make_descriptors(ranks, &c, rank, &own, &status)) fail(&c, &own, expected, status, seed);
     status = t->over(ranks, c.op, own.slots);
     if (!is_right(&c, &own, expected, status, rank)) fail(&c, &own, expected, status, seed);

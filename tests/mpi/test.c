@@ -1,0 +1,340 @@
+/*
+ * What the differential test does not try of calls over ranks: arrays that overlap, ranks that differ in what they ask for, descriptors and
+ * routes that are none, routes beside the calls without them, vectors that are spread otherwise, and communicators that are none. Every rank
+ * checks what it is told. Values are worked by hand, or those of the plain call on the whole.
+ */
+#include <mpi.h>
+
+#include <stdio.h>
+#include <stdlib.h>
+#include <string.h>
+
+#include "cvl_mpi.h"
+
+enum { MOST = 64 };
+
+static CvlRanks *ranks;
+static int rank, size, failed;
+
+static void check(const char *what, int is_so) {
+    if (is_so) return;
+    fprintf(stderr, "rank %d of %d: %s\n", rank, size, what);
+    failed = 1;
+}
+
+static int is(CvlStatus status, uint32_t number, int64_t place) { return status.number == number && status.place == place; }
+
+/* ---- memory that is refused ---- */
+
+static long refuse_at = -1, asked;
+static int refused;
+
+void *__real_malloc(size_t bytes);
+void *__wrap_malloc(size_t bytes);
+void *__wrap_malloc(size_t bytes) {
+    if (refuse_at >= 0 && asked++ == refuse_at) {
+        refused = 1;
+        return NULL;
+    }
+    return __real_malloc(bytes);
+}
+
+static int any_rank(int mine) {
+    int all = 0;
+    MPI_Allreduce(&mine, &all, 1, MPI_INT, MPI_MAX, MPI_COMM_WORLD);
+    return all;
+}
+
+/* ---- a vector over the ranks: place p has p * 7 % 23 - 5; rank r has r % 3 + 1 elements ---- */
+
+static int32_t of_place(int64_t p) { return (int32_t)(p * 7 % 23) - 5; }
+static size_t own_count(int r) { return (size_t)(r % 3) + 1; }
+
+static int64_t own_from(int r) {
+    int64_t from = 0;
+    for (int q = 0; q < r; q++) from += (int64_t)own_count(q);
+    return from;
+}
+
+static void fill(int32_t *a) {
+    for (size_t k = 0; k < own_count(rank); k++) a[k] = of_place(own_from(rank) + (int64_t)k);
+}
+
+static int is_filled(const int32_t *out, size_t n, int32_t with) {
+    for (size_t k = 0; k < n; k++) {
+        if (out[k] != with) return 0;
+    }
+    return 1;
+}
+
+/* ---- what is none ---- */
+
+static void try_none(void) {
+    const int32_t a[2] = {1, 2};
+    int32_t out[2] = {9, 9};
+    CvlRanks *made = NULL;
+    CvlRankSegments *segments = NULL;
+    CvlRoute *route = NULL;
+    const CvlLengths lengths = {a, 2};
+    check("no communicator has no ranks", is(cvl_ranks_new(MPI_COMM_NULL, &made), CVL_NO_DESCRIPTOR, -1) && made == NULL);
+    check("no ranks make no call", is(cvl_add_suz_mpi(NULL, a, out, 2), CVL_NO_DESCRIPTOR, -1));
+    check("no ranks make no descriptor", is(cvl_rank_segments_new(NULL, lengths, 0, &segments), CVL_NO_DESCRIPTOR, -1));
+    check("no ranks make no route", is(cvl_route_new(NULL, a, 2, 2, &route), CVL_NO_DESCRIPTOR, -1));
+    check("no route leads nowhere", is(cvl_route_back_int(NULL, a, 2, out, 2), CVL_NO_DESCRIPTOR, -1));
+    check("without ranks nothing is written", is_filled(out, 2, 9));
+    cvl_ranks_free(NULL), cvl_rank_segments_free(NULL), cvl_route_free(NULL);
+    check("no descriptor has no segments", cvl_rank_segments_starts(NULL) == 0 && cvl_rank_segments_all(NULL) == 0);
+}
+
+/* One rank has no descriptor, or one of other ranks: all are told. */
+static void try_other_descriptors(void) {
+    int32_t a[3] = {1, 2, 3}, out[3] = {9, 9, 9};
+    const int32_t length[] = {3};
+    const CvlLengths lengths = {length, 1};
+    CvlRanks *others = NULL;
+    CvlRankSegments *segments = NULL, *other = NULL;
+    check("other ranks", is(cvl_ranks_new(MPI_COMM_WORLD, &others), CVL_DONE, -1));
+    check("a descriptor", is(cvl_rank_segments_new(ranks, lengths, 0, &segments), CVL_DONE, -1));
+    check("another", is(cvl_rank_segments_new(others, lengths, 0, &other), CVL_DONE, -1));
+    check("one rank without a descriptor", is(cvl_add_sez_mpi(ranks, a, rank == size - 1 ? NULL : segments, out, 3), CVL_NO_DESCRIPTOR, -1));
+    check("one with that of others", is(cvl_add_sez_mpi(ranks, a, rank == 0 ? other : segments, out, 3), CVL_NO_DESCRIPTOR, -1));
+    check("nothing is written without", is_filled(out, 3, 9));
+    check("with its own", is(cvl_add_sez_mpi(ranks, a, segments, out, 3), CVL_DONE, -1) && out[0] == 0 && out[1] == 1 && out[2] == 3);
+    check("as many as ranks", cvl_rank_segments_all(segments) == (uint64_t)size && cvl_rank_segments_first(segments) == (uint64_t)rank);
+    cvl_rank_segments_free(segments), cvl_rank_segments_free(other), cvl_ranks_free(others);
+}
+
+static void try_bad_pieces(void) {
+    CvlRankSegments *segments = NULL;
+    const int32_t one[] = {1}, longest[] = {INT32_MAX};
+    const CvlLengths pieces = {one, 1}, long_pieces = {longest, 1};
+    check("a first piece goes on from none", is(cvl_rank_segments_new(ranks, pieces, 1, &segments), CVL_LENGTH_MISMATCH, -1));
+    if (size < 2) return;
+    check("a segment that is too long", is(cvl_rank_segments_new(ranks, long_pieces, rank > 0, &segments), CVL_TOO_LONG, -1));
+    check("a whole that is longer", is(cvl_rank_segments_new(ranks, long_pieces, 0, &segments), CVL_DONE, -1));
+    cvl_rank_segments_free(segments);
+}
+
+/* ---- arrays that overlap, and calls in place ---- */
+
+static void try_overlaps(void) {
+    int32_t a[MOST], b[MOST], out[MOST];
+    const size_t n = own_count(rank);
+    fill(a), fill(b);
+    memset(out, 0, sizeof out);
+    const CvlStatus wrong = cvl_smp_puz_mpi(ranks, a, b, rank == size - 1 ? a : out, n);
+    check("one rank's arrays overlap", is(wrong, CVL_OVERLAP, -1) && is_filled(out, n, 0));
+    check("in place", is(cvl_add_suz_mpi(ranks, a, a, n), CVL_DONE, -1));
+    int32_t before = 0;
+    for (int64_t p = 0; p < own_from(rank) + (int64_t)n; p++) {
+        if (p >= own_from(rank)) check("a scan in place", a[p - own_from(rank)] == before);
+        before += of_place(p);
+    }
+    fill(a);
+    check("both in place", is(cvl_add_wuz_mpi(ranks, a, a, a, n), CVL_DONE, -1) && a[0] == 2 * b[0]);
+    fill(a);
+    for (size_t k = 0; k < n; k++) b[k] = own_from(rank) + (int64_t)k == 1 ? 0 : 1;
+    const CvlStatus divided = cvl_div_wuz_mpi(ranks, a, b, a, n);
+    if (size > 1) check("a fault in place", is(divided, CVL_DIVIDE_BY_ZERO, 1) && a[0] == of_place(own_from(rank)));
+}
+
+/* ---- ranks that differ ---- */
+
+static void try_differences(void) {
+    int32_t a[MOST], out[MOST], one = 9;
+    const size_t n = own_count(rank);
+    fill(a);
+    memset(out, 0, sizeof out);
+    if (size < 2) return;
+    const int odd = rank == 1;
+    check("other operators", is(cvl_int_scan_mpi(ranks, odd ? CVL_MAX : CVL_ADD, a, n, out, n), CVL_UNKNOWN_CALL, -1));
+    check("other values", is(cvl_dis_vuz_mpi(ranks, odd ? 4 : 5, (int64_t)n, out), CVL_UNKNOWN_CALL, -1));
+    check("other strides", is(cvl_ind_luz_mpi(ranks, 0, odd ? 2 : 1, (int64_t)n, out), CVL_UNKNOWN_CALL, -1));
+    check("other places", is(cvl_ext_vuz_mpi(ranks, a, n, odd, &one), CVL_UNKNOWN_CALL, -1));
+    check("other lengths", is(cvl_int2_mpi(ranks, CVL_ADD, a, n, a, odd ? n - 1 : n, out, n), CVL_LENGTH_MISMATCH, -1));
+    check("a length below 0", is(cvl_dis_vuz_mpi(ranks, 5, odd ? -1 : (int64_t)n, out), CVL_NEGATIVE_LENGTH, -1));
+    check("a whole that is too long", is(cvl_dis_vuz_mpi(ranks, 5, INT32_MAX, out), CVL_TOO_LONG, -1));
+    check("where ranks differ nothing is written", is_filled(out, n, 0) && one == 9);
+}
+
+/* ---- routes ---- */
+
+/* A permute of the whole: place p goes to (p * step + 1) % total. */
+static int32_t goes_to(int64_t p, int64_t total, int64_t step) { return (int32_t)((p * step + 1) % total); }
+
+static int64_t step_for(int64_t total) {
+    for (int64_t step = 5; step > 1; step--) {
+        if (total % step != 0) return step;
+    }
+    return 1;
+}
+
+static void try_route_both_ways(const int32_t *index, size_t n) {
+    int32_t a[MOST], by_route[MOST], plain[MOST];
+    bool flags[MOST], by_route_flags[MOST], plain_flags[MOST];
+    CvlRoute *route = NULL;
+    fill(a);
+    for (size_t k = 0; k < n; k++) flags[k] = a[k] > 3;
+    check("a route", is(cvl_route_new(ranks, index, n, n, &route), CVL_DONE, -1));
+    for (int times = 0; times < 2; times++) {
+        check("back", is(cvl_route_back_int(route, a, n, by_route, n), CVL_DONE, -1) && is(cvl_bck_puz_mpi(ranks, a, n, index, plain, n), CVL_DONE, -1));
+        check("as without a route", memcmp(by_route, plain, n * sizeof *plain) == 0);
+        check("permute", is(cvl_route_permute_int(route, a, n, by_route, n), CVL_DONE, -1) && is(cvl_smp_puz_mpi(ranks, a, index, plain, n), CVL_DONE, -1));
+        check("as without one", memcmp(by_route, plain, n * sizeof *plain) == 0);
+        check("booleans back", is(cvl_route_back_bool(route, flags, n, by_route_flags, n), CVL_DONE, -1) &&
+            is(cvl_bck_pub_mpi(ranks, flags, n, index, plain_flags, n), CVL_DONE, -1) && memcmp(by_route_flags, plain_flags, n) == 0);
+        check("booleans", is(cvl_route_permute_bool(route, flags, n, by_route_flags, n), CVL_DONE, -1) &&
+            is(cvl_smp_pub_mpi(ranks, flags, index, plain_flags, n), CVL_DONE, -1) && memcmp(by_route_flags, plain_flags, n) == 0);
+    }
+    check("back again", is(cvl_route_back_int(route, a, n, by_route, n), CVL_DONE, -1));
+    for (size_t k = 0; k < n; k++) check("the element asked for", by_route[k] == of_place(index[k]));
+    memset(by_route, 0, sizeof by_route);
+    check("one rank's array is too short", is(cvl_route_back_int(route, a, rank == 0 ? n - 1 : n, by_route, n), CVL_LENGTH_MISMATCH, -1));
+    check("one rank's arrays overlap", is(cvl_route_permute_int(route, a, n, rank == size - 1 ? a : by_route, n), CVL_OVERLAP, -1));
+    check("then nothing is written", is_filled(by_route, n, 0) && a[0] == of_place(own_from(rank)));
+    cvl_route_free(route);
+}
+
+/* A repeated index, and one that is no place. */
+static void try_bad_routes(int32_t *index, int64_t total, size_t n) {
+    int32_t a[MOST], out[MOST] = {0};
+    CvlRoute *route = NULL;
+    const int64_t last = total - 1, from = own_from(rank);
+    const int has_last = last >= from && last < from + (int64_t)n;
+    if (total < 2) return;
+    fill(a);
+    const int32_t kept = index[n - 1];
+    if (has_last) index[n - 1] = goes_to(0, total, step_for(total));
+    check("a route of a repeated index", is(cvl_route_new(ranks, index, n, n, &route), CVL_DONE, -1));
+    check("no permute", is(cvl_route_permute_int(route, a, n, out, n), CVL_INDEX_REPEATED, last) && is_filled(out, n, 0));
+    check("but back", is(cvl_route_back_int(route, a, n, out, n), CVL_DONE, -1));
+    cvl_route_free(route);
+    route = NULL;
+    if (has_last) index[n - 1] = (int32_t)total;
+    check("no route of an index out of range", is(cvl_route_new(ranks, index, n, n, &route), CVL_INDEX_OUT_OF_RANGE, last) && route == NULL);
+    if (has_last) index[n - 1] = kept;
+}
+
+static void try_refused_route(const int32_t *index, size_t n) {
+    for (long k = 0, more = 1; more && k < 60; k++) {
+        CvlRoute *route = NULL;
+        asked = 0, refused = 0, refuse_at = rank == 0 ? k : -1;
+        const CvlStatus status = cvl_route_new(ranks, index, n, n, &route);
+        refuse_at = -1;
+        more = any_rank(refused);
+        check("a route without memory", more ? is(status, CVL_NO_RESOURCES, -1) && route == NULL : is(status, CVL_DONE, -1));
+        cvl_route_free(route);
+    }
+}
+
+/* Each rank has one row of two entries and the beginning of one that goes on in the next rank. */
+static void try_products(int64_t total, size_t n) {
+    const int32_t pieces[] = {1, 2, 1};
+    const int first = rank == 0;
+    const CvlLengths lengths = {first ? pieces + 1 : pieces, first ? 2 : 3};
+    const size_t entries = first ? 3 : 4;
+    int32_t columns[4], values[4], x[MOST], plain[2], by_route[2];
+    CvlRankSegments *rows = NULL;
+    CvlRoute *route = NULL;
+    for (size_t k = 0; k < entries; k++) columns[k] = (int32_t)((rank * 3 + (int)k * 2) % total), values[k] = (int32_t)k + rank - 2;
+    fill(x);
+    check("rows", is(cvl_rank_segments_new(ranks, lengths, !first, &rows), CVL_DONE, -1));
+    check("a route of columns", is(cvl_route_new(ranks, columns, entries, n, &route), CVL_DONE, -1));
+    check("a product", is(cvl_sparse_product_mpi(ranks, rows, columns, entries, values, entries, x, n, plain, 2), CVL_DONE, -1));
+    check("by a route", is(cvl_route_sparse_product(route, rows, values, entries, x, n, by_route, 2), CVL_DONE, -1));
+    check("the same product", memcmp(plain, by_route, sizeof plain) == 0);
+    check("checked", is(cvl_route_checked_sparse_product(route, rows, values, entries, x, n, by_route, 2), CVL_DONE, -1) && memcmp(plain, by_route, sizeof plain) == 0);
+    int32_t whole = values[first ? 0 : 1] * of_place(columns[first ? 0 : 1]) + values[first ? 1 : 2] * of_place(columns[first ? 1 : 2]);
+    check("a whole row", plain[0] == whole);
+    by_route[0] = by_route[1] = 9;
+    check("no rows", is(cvl_route_sparse_product(route, rank == 0 ? NULL : rows, values, entries, x, n, by_route, 2), CVL_NO_DESCRIPTOR, -1));
+    check("a room that is too short", is(cvl_route_sparse_product(route, rows, values, entries, x, n, by_route, rank == 0 ? 1 : 2), CVL_LENGTH_MISMATCH, -1));
+    check("the room as before", is_filled(by_route, 2, 9));
+    cvl_route_free(route), cvl_rank_segments_free(rows);
+}
+
+static void try_routes(void) {
+    int32_t index[MOST];
+    const size_t n = own_count(rank);
+    const int64_t total = own_from(size), step = step_for(total);
+    for (size_t k = 0; k < n; k++) index[k] = goes_to(own_from(rank) + (int64_t)k, total, step);
+    try_route_both_ways(index, n);
+    try_bad_routes(index, total, n);
+    try_refused_route(index, n);
+    try_products(total, n);
+}
+
+/* ---- vectors that are spread otherwise ---- */
+
+static void try_spreads(void) {
+    int32_t a[MOST], even[MOST], back[MOST];
+    bool flags[MOST], even_flags[MOST];
+    uint64_t from = 99, first = 99, total = 0;
+    size_t count = 99;
+    const size_t n = own_count(rank);
+    fill(a);
+    check("a share", is(cvl_share(ranks, n, &first, &total), CVL_DONE, -1) && first == (uint64_t)own_from(rank) && total == (uint64_t)own_from(size));
+    check("an even share", is(cvl_even_share(ranks, total, &from, &count), CVL_DONE, -1) && (count == total / (uint64_t)size || count == total / (uint64_t)size + 1));
+    check("spread evenly", is(cvl_spread_ints(ranks, a, n, even, count), CVL_DONE, -1));
+    for (size_t k = 0; k < count; k++) check("the element of its place", even[k] == of_place((int64_t)(from + k)));
+    check("and back", is(cvl_spread_ints(ranks, even, count, back, n), CVL_DONE, -1) && memcmp(a, back, n * sizeof *a) == 0);
+    for (size_t k = 0; k < n; k++) flags[k] = a[k] > 2;
+    check("booleans", is(cvl_spread_bools(ranks, flags, n, even_flags, count), CVL_DONE, -1));
+    for (size_t k = 0; k < count; k++) check("the boolean of its place", even_flags[k] == (of_place((int64_t)(from + k)) > 2));
+    check("not as many", is(cvl_spread_ints(ranks, a, n, back, rank == 0 ? n - 1 : n), CVL_LENGTH_MISMATCH, -1));
+    check("into itself", is(cvl_spread_ints(ranks, a, n, rank == size - 1 ? a : back, n), CVL_OVERLAP, -1));
+    const size_t all = rank == 0 ? (size_t)total : 0;
+    check("all to one rank", is(cvl_spread_ints(ranks, a, n, back, all), CVL_DONE, -1));
+    for (size_t k = 0; k < all; k++) check("the whole", back[k] == of_place((int64_t)k));
+}
+
+/* ---- ranks ---- */
+
+static void try_refused_ranks(void) {
+    for (long k = 0, more = 1; more && k < 10; k++) {
+        CvlRanks *made = NULL;
+        asked = 0, refused = 0, refuse_at = rank == size - 1 ? k : -1;
+        /* what MPI itself asks for is not refused: it is not linked with this program */
+        const CvlStatus status = cvl_ranks_new(MPI_COMM_WORLD, &made);
+        refuse_at = -1;
+        more = any_rank(refused);
+        check("ranks without memory", more ? is(status, CVL_NO_RESOURCES, -1) && made == NULL : is(status, CVL_DONE, -1));
+        cvl_ranks_free(made);
+    }
+}
+
+/* A call of a few of the ranks, whose numbers are others than those of the program. */
+static void try_some_ranks(void) {
+    MPI_Comm some;
+    CvlRanks *few = NULL;
+    int32_t one = 0;
+    const int32_t a[] = {rank};
+    MPI_Comm_split(MPI_COMM_WORLD, rank % 2, -rank, &some);
+    check("some ranks", is(cvl_ranks_new(some, &few), CVL_DONE, -1));
+    check("their reduce", is(cvl_max_ruz_mpi(few, a, 1, &one), CVL_DONE, -1) && one == (size - 1 - rank) / 2 * 2 + rank);
+    cvl_ranks_free(few);
+    MPI_Comm_free(&some);
+}
+
+int main(int words, char **word) {
+    int32_t a[1] = {1}, out[1] = {9};
+    MPI_Init(&words, &word);
+    MPI_Comm_rank(MPI_COMM_WORLD, &rank);
+    MPI_Comm_size(MPI_COMM_WORLD, &size);
+    check("ranks", is(cvl_ranks_new(MPI_COMM_WORLD, &ranks), CVL_DONE, -1));
+    try_none();
+    try_other_descriptors();
+    try_bad_pieces();
+    try_overlaps();
+    try_differences();
+    try_routes();
+    try_spreads();
+    try_refused_ranks();
+    try_some_ranks();
+    failed = any_rank(failed);
+    if (rank == 0 && !failed) printf("calls over %d ranks: all as they should be\n", size);
+    MPI_Finalize();
+    check("no call after the end", is(cvl_add_suz_mpi(ranks, a, out, 1), CVL_NO_DESCRIPTOR, -1) && out[0] == 9);
+    cvl_ranks_free(ranks);
+    return failed ? EXIT_FAILURE : EXIT_SUCCESS;
+}
