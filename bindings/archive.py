@@ -141,6 +141,14 @@ def over_ranks(folder, written, flags=()):
     return made
 
 
+def over_ranks_alone(folder):
+    """The same with its header, in a folder that has the library."""
+    with tempfile.TemporaryDirectory() as work:
+        written = generated.below(pathlib.Path(work) / "written")
+        (folder / "cvl_mpi.h").write_text((written / "bindings/mpi/cvl_mpi.h").read_text())
+        return over_ranks(folder, written)
+
+
 def proved_alone(folder, archive):
     """The exports with the parts of the kit, as an archive in the folder."""
     names = sorted(name for name in symbols(archive) if name.startswith("cvl_proved_"))

@@ -263,3 +263,39 @@ def tried_rows():
     said = in_c.comment("The families and the calls over ranks, each beside the plain one.", rows.NOTE)
     found = [*families(), *calls()]
     return "\n".join([said, *map(tried_functions, found), "", "static const Tried tried[] = {", *map(tried_row, found), "};", ""])
+
+
+# ---- Python ----
+
+
+def of_python():
+    """The calls that Python has: those of the table, and the families without operators that have none there."""
+    named = {row.family.name for row in calls()}
+    return [*calls(), *(row for row in families() if row.family.name not in named and not row.family.operators)]
+
+
+def python_row(row):
+    """A call by its family, of which each array has its own length, so that no other one is read to its end."""
+    operands = tuple((operand.name, operand.role, operand.kind, operand.extent) for operand in row.operands)
+    number = in_rows.table.NUMBERS[row.operator] if row.operator else None
+    return f'    "{row.name}": ("{row.family.name}", {number}, {operands!r}),'.replace("'", '"')
+
+
+def python_rows():
+    """`bindings/python/cvl/over_ranks.py`."""
+    names = "".join(f'    {number}: "{name}",\n' for number, name in in_rows.table.STATUSES)
+    return "\n".join([
+        '"""The calls over ranks: of each its family, its operator if it has one, and its operands, each with its role, its kind and its extent; and',
+        "the names of what calls answer.",
+        "",
+        rows.NOTE,
+        '"""',
+        "",
+        "NAMES = {",
+        f"{names}}}",
+        "",
+        "CALLS = {",
+        *map(python_row, of_python()),
+        "}",
+        "",
+    ])

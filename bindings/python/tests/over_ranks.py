@@ -1,0 +1,80 @@
+"""Calls over ranks beside the plain readings of what they should give: `mpirun -np 3 python3 over_ranks.py`."""
+
+import itertools
+
+import numpy
+from mpi4py import MPI
+
+from cvl import mpi
+from cvl.fault import Fault
+
+WHOLE = numpy.array([3, 1, -4, 1, 5, 9, -2, 6, 5, 3, 5], dtype=numpy.int32)
+# segments of 3, 0, 5 and 3 elements, of which ranks have pieces by how the whole is cut
+LENGTHS = [3, 0, 5, 3]
+
+
+def raised(function, *words):
+    try:
+        function(*words)
+    except Fault as fault:
+        return fault.number, fault.place
+    return None
+
+
+def pieces_of(first, last):
+    """The pieces of segments between two places, and whether the first goes on."""
+    found, goes_on, start = [], False, 0
+    for length in LENGTHS:
+        end = start + length
+        if start >= first and (start < last or start == last == len(WHOLE)) or (start < last and end > first):
+            goes_on = goes_on or (not found and start < first)
+            found.append(min(end, last) - max(start, first))
+        start = end
+    return numpy.array(found, dtype=numpy.int32), goes_on
+
+
+def same(got, wanted):
+    assert numpy.array_equal(got, wanted), (got, wanted)
+
+
+def main():
+    comm = MPI.COMM_WORLD
+    ranks = mpi.Ranks(comm)
+    first, count = ranks.even_share(len(WHOLE))
+    last = first + count
+    own = WHOLE[first:last].copy()
+
+    def whole(part):
+        return numpy.concatenate(comm.allgather(part))
+
+    same(whole(ranks.add_suz(own)), numpy.concatenate([[0], numpy.cumsum(WHOLE)[:-1]]))
+    assert ranks.max_ruz(own) == 9 and ranks.tot_ruz(own) == int(WHOLE.sum())
+    same(whole(ranks.pck_luz(own, own > 2)), WHOLE[WHOLE > 2])
+    assert ranks.cnt_lub(own > 2) == 7
+    index = numpy.arange(len(WHOLE) - 1, -1, -1, dtype=numpy.int32)[first:last].copy()
+    same(whole(ranks.smp_puz(own, index)), WHOLE[::-1])
+    same(whole(ranks.bck_puz(own, index)), WHOLE[::-1])
+    route = ranks.route(index, count)
+    for _ in range(3):
+        same(whole(route.back(own)), WHOLE[::-1])
+        same(whole(route.permute(own)), WHOLE[::-1])
+    lengths, goes_on = pieces_of(first, last)
+    rows = ranks.segments(lengths, goes_on)
+    starts = list(itertools.accumulate([0, *LENGTHS]))
+    same(whole(ranks.add_rez(own, rows)), [WHOLE[a:b].sum() for a, b in zip(starts, starts[1:])])
+    same(whole(ranks.cnt_leb(own > 2, rows)), [(WHOLE[a:b] > 2).sum() for a, b in zip(starts, starts[1:])])
+    same(whole(ranks.spread(own, len(WHOLE) if comm.rank == 0 else 0)), WHOLE)
+    senders = ranks.first_senders(numpy.zeros(count, dtype=numpy.int32), length=2 if comm.rank == 0 else 0)
+    assert comm.rank or senders.tolist() == [0, -1]
+    bad = index.copy()
+    if comm.rank == comm.size - 1:
+        bad[-1] = len(WHOLE)
+    assert raised(ranks.smp_puz, own, bad) == (10, len(WHOLE) - 1)
+    assert raised(ranks.div_wuz, own, own - 1) == (8, 1)
+    assert raised(ranks.add_wuz, own, own[:-1] if comm.rank == 0 else own) == (7, None)
+    ranks.free()
+    if comm.rank == 0:
+        print(f"calls over {comm.size} ranks from Python: as they should be")
+
+
+main()
