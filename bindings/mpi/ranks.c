@@ -60,6 +60,14 @@ CvlStatus cvl_ranks_new(MPI_Comm comm, CvlRanks **made) {
     return cvl_done();
 }
 
+CvlStatus cvl_ranks_of_fortran(MPI_Fint comm, CvlRanks **made) {
+    int begun = 0, ended = 0;
+    MPI_Initialized(&begun);
+    MPI_Finalized(&ended);
+    if (!begun || ended) return cvl_status(CVL_NO_DESCRIPTOR, -1);
+    return cvl_ranks_new(MPI_Comm_f2c(comm), made);
+}
+
 void cvl_ranks_free(CvlRanks *ranks) {
     if (ranks == NULL) return;
     if (cvl_are_ranks(ranks)) {

@@ -46,7 +46,7 @@ get_target_property(linked cvl::cvl_static INTERFACE_LINK_LIBRARIES)
 message(STATUS "none: ${cvl_FOUND}, ${linked}")
 """)
         told = self.run_in_shell('cmake -S . -B build -DCMAKE_PREFIX_PATH="$ROOT" 2>&1', ROOT=str(self.root))
-        why = "the package cvl has no components, and {} was asked for"
+        why = "the package cvl has no component {} here"
         wanted = [f"-- one: 0, {why.format('nonsense')}, FALSE", f"-- and another at will: 0, {why.format('cvl')}"]
         wanted += ["-- one at will: 1, FALSE", "-- none: 1, -pthread"]
         self.assertEqual(told.split("\n")[: len(wanted)], wanted)

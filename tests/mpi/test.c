@@ -288,6 +288,45 @@ static void try_spreads(void) {
     for (size_t k = 0; k < all; k++) check("the whole", back[k] == of_place((int64_t)k));
 }
 
+/* ---- texts ---- */
+
+static void try_texts(void) {
+    static const char path[] = "over_ranks_text";
+    int32_t a[MOST], back[MOST];
+    bool flags[MOST];
+    char text[1024], *read = NULL;
+    size_t count = 0, read_len = 0;
+    const size_t n = rank == 1 ? 0 : own_count(rank);
+    fill(a);
+    for (size_t k = 0; k < n; k++) a[k] = rank * 1000000 - (int32_t)k;
+    check("no room", is(cvl_write_ints_mpi(ranks, a, n, text, rank == size - 1 ? 0 : sizeof text, &count), CVL_LENGTH_MISMATCH, -1) && count < sizeof text);
+    check("written", is(cvl_write_ints_mpi(ranks, a, n, text, count, &count), CVL_DONE, -1) && (rank > 0 || memcmp(text, "[0", 2) == 0));
+    check("the last bracket", rank < size - 1 || text[count - 1] == ']');
+    /* the integers alone, with other white space and an end of line */
+    for (size_t k = 0; k < count; k++) text[k] = text[k] == '[' || text[k] == ']' ? '\n' : text[k];
+    check("to a file", is(cvl_rank_text_write(ranks, path, text, count), CVL_DONE, -1));
+    check("from a file", is(cvl_rank_text_read(ranks, path, &read, &read_len), CVL_DONE, -1));
+    memset(back, 0, sizeof back);
+    count = 99;
+    check("no room for integers", is(cvl_read_ints_mpi(ranks, read, read_len, back, 0, &count), CVL_LENGTH_MISMATCH, -1) && is_filled(back, MOST, 0));
+    check("integers", is(cvl_read_ints_mpi(ranks, read, read_len, back, MOST, &count), CVL_DONE, -1));
+    int32_t same[MOST];
+    check("as they were", is(cvl_spread_ints(ranks, back, count, same, n), CVL_DONE, -1) && memcmp(same, a, n * sizeof *a) == 0);
+    if (rank == size - 1 && read_len > 1) read[read_len - 2] = 'x';
+    uint64_t from = 0, total = 0;
+    check("words", is(cvl_share(ranks, count, &from, &total), CVL_DONE, -1));
+    int has_bad = rank == size - 1 && read_len > 1;
+    has_bad = any_rank(has_bad);
+    if (has_bad) check("a bad word", is(cvl_read_ints_mpi(ranks, read, read_len, back, MOST, &count), CVL_BAD_INPUT, (int64_t)total - 1));
+    cvl_rank_text_free(read);
+    for (size_t k = 0; k < n; k++) flags[k] = k % 2 == 0;
+    check("booleans", is(cvl_write_bools_mpi(ranks, flags, n, text, sizeof text, &count), CVL_DONE, -1));
+    check("of the first rank", rank > 0 || memcmp(text, size == 1 ? "[T]" : "[T", count) == 0);
+    MPI_Barrier(MPI_COMM_WORLD);
+    if (rank == 0) remove(path);
+    check("no file", is(cvl_rank_text_read(ranks, "no/such/file", &read, &read_len), CVL_BAD_INPUT, -1));
+}
+
 /* ---- ranks ---- */
 
 static void try_refused_ranks(void) {
@@ -329,6 +368,7 @@ int main(int words, char **word) {
     try_differences();
     try_routes();
     try_spreads();
+    try_texts();
     try_refused_ranks();
     try_some_ranks();
     failed = any_rank(failed);
