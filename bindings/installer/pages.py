@@ -27,7 +27,7 @@ EXAMPLES = (
     ("crates/script_cases/data/examples", ("*.cvl", "*.txt")),
     ("examples/c", ("sparse_product.c", "sparse_transpose.c", "polynomial.c", "quicksort.c", "radix_sort.c", "distinct.c", "threads.c", "descriptors.c")),
     ("examples/cpp", ("*.cpp",)),
-    ("examples/mpi", ("parts.c", "data.h")),
+    ("examples/mpi", ("samplesort.c", "breadth_search.c", "products.c", "spread.h")),
     ("bindings/python/examples", ("*.py",)),
     ("bindings/rust/examples", ("sparse_product.rs", "join.rs")),
     ("bindings/fortran/examples", ("*.f90",)),

@@ -1,0 +1,122 @@
+/*
+ * How many collectives each kind of call over ranks makes, and how many bytes a rank hands in, by MPI's profiling interface. Each rank has
+ * 1,000 elements; a permute sends each to a place at random.
+ *
+ *     mpirun -np 4 messages
+ */
+#include <mpi.h>
+
+#include <stdio.h>
+#include <stdlib.h>
+#include <string.h>
+
+#include "cvl_mpi.h"
+
+enum { N = 1000 };
+
+typedef enum Kind { ALLREDUCE, EXSCAN, ALLGATHER, ALLTOALL, ALLTOALLV, KINDS } Kind;
+static const char *const kinds[] = {"Allreduce", "Exscan", "Allgather", "Alltoall", "Alltoallv"};
+static long calls[KINDS], bytes[KINDS];
+
+static void count(Kind kind, int number, MPI_Datatype type, int ranks) {
+    int size;
+    PMPI_Type_size(type, &size);
+    calls[kind]++, bytes[kind] += (long)number * size * ranks;
+}
+
+int MPI_Allreduce(const void *from, void *to, int number, MPI_Datatype type, MPI_Op op, MPI_Comm comm) {
+    count(ALLREDUCE, number, type, 1);
+    return PMPI_Allreduce(from, to, number, type, op, comm);
+}
+
+int MPI_Exscan(const void *from, void *to, int number, MPI_Datatype type, MPI_Op op, MPI_Comm comm) {
+    count(EXSCAN, number, type, 1);
+    return PMPI_Exscan(from, to, number, type, op, comm);
+}
+
+int MPI_Allgather(const void *from, int number, MPI_Datatype type, void *to, int to_number, MPI_Datatype to_type, MPI_Comm comm) {
+    count(ALLGATHER, number, type, 1);
+    return PMPI_Allgather(from, number, type, to, to_number, to_type, comm);
+}
+
+int MPI_Alltoall(const void *from, int number, MPI_Datatype type, void *to, int to_number, MPI_Datatype to_type, MPI_Comm comm) {
+    int size;
+    PMPI_Comm_size(comm, &size);
+    count(ALLTOALL, number, type, size);
+    return PMPI_Alltoall(from, number, type, to, to_number, to_type, comm);
+}
+
+int MPI_Alltoallv(const void *from, const int *numbers, const int *starts, MPI_Datatype type, void *to, const int *to_numbers, const int *to_starts,
+    MPI_Datatype to_type, MPI_Comm comm) {
+    int size, all = 0;
+    PMPI_Comm_size(comm, &size);
+    for (int r = 0; r < size; r++) all += numbers[r];
+    count(ALLTOALLV, all, type, 1);
+    return PMPI_Alltoallv(from, numbers, starts, type, to, to_numbers, to_starts, to_type, comm);
+}
+
+static int rank, size;
+
+static void begin(void) { memset(calls, 0, sizeof calls), memset(bytes, 0, sizeof bytes); }
+
+static void tell(const char *name, CvlStatus status) {
+    if (status.number != CVL_DONE) printf("%s: fault %u\n", name, status.number);
+    if (rank == 0) {
+        printf("%-28s", name);
+        for (int k = 0; k < KINDS; k++) {
+            if (calls[k]) printf(" %s %ld (%ld)", kinds[k], calls[k], bytes[k]);
+        }
+        printf("\n");
+    }
+    begin();
+}
+
+int main(int words, char **word) {
+    static int32_t a[N], b[N], index[N], out[N], one;
+    static bool flags[N];
+    int32_t lengths[3];
+    CvlRanks *ranks;
+    CvlRankSegments *segments;
+    CvlRoute *route;
+    MPI_Init(&words, &word);
+    MPI_Comm_rank(MPI_COMM_WORLD, &rank);
+    MPI_Comm_size(MPI_COMM_WORLD, &size);
+    tell("ranks", cvl_ranks_new(MPI_COMM_WORLD, &ranks));
+    const int64_t total = (int64_t)N * size;
+    for (int64_t k = 0; k < N; k++) {
+        a[k] = (int32_t)k, b[k] = 1, flags[k] = k % 3 == 0;
+        index[k] = (int32_t)(((int64_t)rank * N + k) * 7 % total);
+    }
+    lengths[0] = N / 4, lengths[1] = N / 2, lengths[2] = N / 4;
+    size_t kept = 0;
+    begin();
+    tell("segments", cvl_rank_segments_new(ranks, (CvlLengths){lengths, 3}, rank > 0, &segments));
+    tell("add_wuz", cvl_add_wuz_mpi(ranks, a, b, out, N));
+    tell("div_wuz", cvl_div_wuz_mpi(ranks, a, b, out, N));
+    tell("add_ruz", cvl_add_ruz_mpi(ranks, a, N, &one));
+    tell("add_suz", cvl_add_suz_mpi(ranks, a, out, N));
+    tell("tot_ruz", cvl_tot_ruz_mpi(ranks, b, N, &one));
+    tell("tot_suz", cvl_tot_suz_mpi(ranks, b, out, N));
+    tell("cnt_lub", cvl_cnt_lub_mpi(ranks, flags, N, &one));
+    tell("pck_luz", cvl_pck_luz_mpi(ranks, a, flags, N, out, N, &kept));
+    tell("ext_vuz", cvl_ext_vuz_mpi(ranks, a, N, 5, &one));
+    tell("rep_vuz", cvl_rep_vuz_mpi(ranks, a, 5, 9, out, N));
+    tell("ind_luz", cvl_ind_luz_mpi(ranks, 0, 1, N, out));
+    tell("add_sez", cvl_add_sez_mpi(ranks, a, segments, out, N));
+    tell("add_rez", cvl_add_rez_mpi(ranks, a, N, segments, out));
+    tell("tot_sez", cvl_tot_sez_mpi(ranks, b, segments, out, N));
+    tell("tot_rez", cvl_tot_rez_mpi(ranks, b, N, segments, out));
+    tell("cnt_leb", cvl_cnt_leb_mpi(ranks, flags, N, segments, out));
+    tell("dis_vez", cvl_dis_vez_mpi(ranks, a, segments, out, N));
+    tell("smp_puz", cvl_smp_puz_mpi(ranks, a, index, out, N));
+    tell("bck_puz", cvl_bck_puz_mpi(ranks, a, N, index, out, N));
+    tell("first_senders", cvl_first_senders_mpi(ranks, index, N, out, N));
+    tell("a route", cvl_route_new(ranks, index, N, N, &route));
+    tell("back by a route", cvl_route_back_int(route, a, N, out, N));
+    tell("permute by a route", cvl_route_permute_int(route, a, N, out, N));
+    tell("sparse_product", cvl_sparse_product_mpi(ranks, segments, index, N, a, N, b, N, out, cvl_rank_segments_starts(segments)));
+    tell("product by a route", cvl_route_sparse_product(route, segments, a, N, b, N, out, cvl_rank_segments_starts(segments)));
+    cvl_route_free(route), cvl_rank_segments_free(segments), cvl_ranks_free(ranks);
+    MPI_Finalize();
+    return 0;
+}
