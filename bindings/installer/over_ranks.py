@@ -16,7 +16,7 @@ def _placed(places, source):
     libdir = places.libdir
     found = {
         f"{libdir}/libcvl_mpi.a": source("libcvl_mpi.a"), f"{libdir}/{archive.MPI_FULL}": source(archive.MPI_FULL),
-        "include/cvl_mpi.h": source("cvl_mpi.h"), **{f"{libdir}/{place}/{name[:-3]}": source(name) for name, place in TEMPLATES},
+        "include/cvl_mpi.h": source("cvl_mpi.h"), "include/cvl_mpi.f90": source("cvl_mpi.f90"), **{f"{libdir}/{place}/{name[:-3]}": source(name) for name, place in TEMPLATES},
     }
     return found, {f"{libdir}/{archive.MPI_SONAME}": archive.MPI_FULL, f"{libdir}/{archive.MPI_LINKED}": archive.MPI_SONAME}
 
@@ -34,5 +34,5 @@ def files(places, folder, work, written, rpath):
     made = {name: for_builds.filled(proved.TOP / "bindings/mpi" / name, places, place, rpath) for name, place in TEMPLATES}
     for name, text in made.items():
         (folder / name).write_text(text)
-    tops = {"cvl_mpi.h": written / "bindings/mpi", **{name: folder for name in made}}
+    tops = {"cvl_mpi.h": written / "bindings/mpi", "cvl_mpi.f90": written / "bindings/fortran", **{name: folder for name in made}}
     return _placed(places, lambda name: tops.get(name, work) / name)

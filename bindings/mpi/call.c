@@ -116,12 +116,28 @@ void cvl_move_in(CvlCall *c) {
     if (c->aside != NULL && bytes > 0) memcpy((void *)c->in[CVL_AS_OUT].at, c->aside, bytes);
 }
 
+/* Whether all ranks make the same call: asked first in a library that is built to find programs' mistakes, and else with the status. */
+#ifdef CVL_COMPARE_CALLS
+static bool is_one_call(const CvlCall *c) {
+    bool short_room = 0;
+    uint64_t none;
+    const uint32_t call = (uint32_t)c->family->call << 8;
+    return cvl_agreed(c->ranks, cvl_done(), call, 0, UINT64_MAX, &short_room, &none).number == CVL_DONE;
+}
+#else
+static bool is_one_call(const CvlCall *c) {
+    (void)c;
+    return 1;
+}
+#endif
+
 CvlStatus cvl_over_ranks(CvlRanks *ranks, const CvlRankRow *family, uint32_t op, const CvlSlot *s) {
     CvlCall c;
     if (!cvl_are_ranks(ranks)) return cvl_status(CVL_NO_DESCRIPTOR, -1);
     memset(&c, 0, sizeof c);
     c.ranks = ranks, c.family = family, c.op = op, c.status = cvl_done();
     memcpy(c.s, s, family->row.operands * sizeof *s);
+    if (!is_one_call(&c)) return cvl_status(CVL_UNKNOWN_CALL, -1);
     name_slots(&c);
     look(&c);
     name_slots(&c);

@@ -148,6 +148,10 @@ static void try_differences(void) {
     if (size < 2) return;
     const int odd = rank == 1;
     check("other operators", is(cvl_int_scan_mpi(ranks, odd ? CVL_MAX : CVL_ADD, a, n, out, n), CVL_UNKNOWN_CALL, -1));
+    check("other families", is(odd ? cvl_add_suz_mpi(ranks, a, out, n) : cvl_tot_ruz_mpi(ranks, a, n, &one), CVL_UNKNOWN_CALL, -1));
+#ifdef CVL_COMPARE_CALLS
+    check("other families from the first word on", is(odd ? cvl_tot_suz_mpi(ranks, a, out, n) : cvl_smp_puz_mpi(ranks, a, a, out, n), CVL_UNKNOWN_CALL, -1));
+#endif
     check("other values", is(cvl_dis_vuz_mpi(ranks, odd ? 4 : 5, (int64_t)n, out), CVL_UNKNOWN_CALL, -1));
     check("other strides", is(cvl_ind_luz_mpi(ranks, 0, odd ? 2 : 1, (int64_t)n, out), CVL_UNKNOWN_CALL, -1));
     check("other places", is(cvl_ext_vuz_mpi(ranks, a, n, odd, &one), CVL_UNKNOWN_CALL, -1));
