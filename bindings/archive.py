@@ -146,7 +146,11 @@ def over_ranks_alone(folder):
     with tempfile.TemporaryDirectory() as work:
         written = generated.below(pathlib.Path(work) / "written")
         (folder / "cvl_mpi.h").write_text((written / "bindings/mpi/cvl_mpi.h").read_text())
-        return over_ranks(folder, written)
+        made = over_ranks(folder, written)
+    for name, target in ((MPI_SONAME, MPI_FULL), (MPI_LINKED, MPI_SONAME)):
+        (folder / name).unlink(missing_ok=True)
+        (folder / name).symlink_to(target)
+    return made
 
 
 def proved_alone(folder, archive):
