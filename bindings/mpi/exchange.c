@@ -1,5 +1,6 @@
 /* Which rank has a place, and the elements that ranks send one another. */
 #include "ranks.h"
+#include "shares.h"
 
 uint64_t cvl_offsets(CvlRanks *ranks, uint64_t number) {
     MPI_Allgather(&number, 1, MPI_UINT64_T, ranks->offsets + 1, 1, MPI_UINT64_T, ranks->comm);
@@ -8,31 +9,12 @@ uint64_t cvl_offsets(CvlRanks *ranks, uint64_t number) {
     return ranks->offsets[ranks->size];
 }
 
-/* Without a branch on what is found, since the places of a permute at random would mislead it. */
-int cvl_owner(const CvlRanks *ranks, uint64_t place) {
-    int low = 0, n = ranks->size;
-    while (n > 1) {
-        const int half = n / 2;
-        low += place >= ranks->offsets[low + half] ? half : 0;
-        n -= half;
-    }
-    return low;
-}
-
-/* Where the elements for each rank begin, and how many there are in all. */
-static size_t lay_out(const int *counts, int *from, int size) {
-    size_t all = 0;
-    for (int r = 0; r < size; r++) {
-        from[r] = (int)all;
-        all += (size_t)counts[r];
-    }
-    return all;
-}
+int cvl_owner(const CvlRanks *ranks, uint64_t place) { return cvl_owner_of(ranks->offsets, ranks->size, place); }
 
 size_t cvl_counts(CvlRanks *ranks) {
     MPI_Alltoall(ranks->sends, 1, MPI_INT, ranks->receives, 1, MPI_INT, ranks->comm);
-    lay_out(ranks->sends, ranks->send_from, ranks->size);
-    return lay_out(ranks->receives, ranks->receive_from, ranks->size);
+    cvl_lay_out(ranks->sends, ranks->send_from, ranks->size);
+    return cvl_lay_out(ranks->receives, ranks->receive_from, ranks->size);
 }
 
 static MPI_Datatype type_of(size_t size) { return size == sizeof(bool) ? MPI_UINT8_T : MPI_INT32_T; }
@@ -44,15 +26,9 @@ void cvl_send(CvlRanks *ranks, const void *from, void *to, size_t size) {
 
 /* ---- vectors that are spread otherwise ---- */
 
-/* How many elements two ranges of places have in common, and where that begins. */
-static uint64_t in_common(uint64_t from, uint64_t to, uint64_t other_from, uint64_t other_to) {
-    const uint64_t first = from > other_from ? from : other_from, last = to < other_to ? to : other_to;
-    return last > first ? last - first : 0;
-}
-
 /* How many elements of the own range each rank has in its range. */
 static void shares(const CvlRanks *ranks, const uint64_t *offsets, uint64_t from, uint64_t to, int *counts) {
-    for (int r = 0; r < ranks->size; r++) counts[r] = (int)in_common(from, to, offsets[r], offsets[r + 1]);
+    for (int r = 0; r < ranks->size; r++) counts[r] = (int)cvl_common(from, to, offsets[r], offsets[r + 1]);
 }
 
 static CvlStatus spread(CvlRanks *ranks, const void *a, size_t a_len, void *out, size_t out_len, size_t size) {
@@ -70,8 +46,8 @@ static CvlStatus spread(CvlRanks *ranks, const void *a, size_t a_len, void *out,
     shares(ranks, ranks->offsets, to_from, to_from + out_len, ranks->receives);
     if (cvl_offsets(ranks, out_len) != total) return cvl_status(CVL_LENGTH_MISMATCH, -1);
     shares(ranks, ranks->offsets, from, from + a_len, ranks->sends);
-    lay_out(ranks->sends, ranks->send_from, ranks->size);
-    lay_out(ranks->receives, ranks->receive_from, ranks->size);
+    cvl_lay_out(ranks->sends, ranks->send_from, ranks->size);
+    cvl_lay_out(ranks->receives, ranks->receive_from, ranks->size);
     cvl_send(ranks, a, out, size);
     return status;
 }
@@ -86,9 +62,9 @@ CvlStatus cvl_spread_bools(CvlRanks *ranks, const bool *a, size_t a_len, bool *o
 
 CvlStatus cvl_even_share(CvlRanks *ranks, uint64_t total, uint64_t *from, size_t *count) {
     if (!cvl_are_ranks(ranks)) return cvl_status(CVL_NO_DESCRIPTOR, -1);
-    const uint64_t size = (uint64_t)ranks->size, rank = (uint64_t)ranks->rank, each = total / size, more = total % size;
-    *from = rank * each + (rank < more ? rank : more);
-    *count = (size_t)(each + (rank < more ? 1 : 0));
+    const uint64_t size = (uint64_t)ranks->size, rank = (uint64_t)ranks->rank;
+    *from = cvl_even_start(total, size, rank);
+    *count = (size_t)(cvl_even_start(total, size, rank + 1) - *from);
     return cvl_done();
 }
 

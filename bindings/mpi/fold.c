@@ -1,5 +1,6 @@
 /* What ranks join: reduces, sums and counts of their parts, and the first of their faults. */
 #include "ranks.h"
+#include "shares.h"
 
 CvlFold cvl_fold(CvlJoin join, uint32_t op, int64_t high, int64_t low, bool starts) {
     const CvlFold fold = {high, low, (uint32_t)join, op, starts, 0};
@@ -24,10 +25,8 @@ static CvlStatus join_bools(uint32_t op, const bool *flags, size_t count, int64_
 
 /* Adds exactly; where 64 bits don't do, or didn't do before, `high` says so. */
 static void add_exactly(CvlFold first, CvlFold second, CvlFold *joined) {
-    const int64_t a = first.low, b = second.low;
-    const bool past = b > 0 ? a > INT64_MAX - b : a < INT64_MIN - b;
-    joined->high = first.high != 0 || second.high != 0 || past;
-    joined->low = joined->high ? 0 : a + b;
+    joined->high = first.high != 0 || second.high != 0 || cvl_is_past(first.low, second.low);
+    joined->low = joined->high ? 0 : first.low + second.low;
 }
 
 /* Adds numbers of a high word and a low one of 32 bits. */

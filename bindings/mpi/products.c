@@ -3,6 +3,7 @@
  * plain family, and a row that crosses ranks is joined as a segmented reduce is.
  */
 #include "permutes.h"
+#include "shares.h"
 
 /* The entries of a rank, with what its columns name in `x`. */
 typedef struct Entries {
@@ -32,15 +33,13 @@ static void multiply(CvlCall *c, const Entries *e) {
 
 /* The exact sum of entries: no sum of their products' low words, or of their high ones, is past 64 bits. */
 static CvlFold exact_product(const Entries *e, size_t from, size_t to, bool starts) {
-    int64_t high = 0;
+    int64_t all = 0, high;
     uint64_t low = 0;
     for (size_t k = from; k < to; k++) {
-        const int64_t product = (int64_t)e->values[k] * e->x[e->slots[k]];
-        const uint32_t below = (uint32_t)product;
-        low += below;
-        high += (product - below) / INT64_C(0x100000000);
+        low += (uint64_t)cvl_low_of_product(e->values[k], e->x[e->slots[k]], &high);
+        all += high;
     }
-    return cvl_fold(CVL_JOIN_WIDE, 0, high + (int64_t)(low >> 32), (int64_t)(low & 0xffffffffu), starts);
+    return cvl_fold(CVL_JOIN_WIDE, 0, all + (int64_t)(low >> 32), (int64_t)(low & 0xffffffffu), starts);
 }
 
 /* Whether a sum fits 32 bits, and the sum. */

@@ -1,5 +1,6 @@
 /* Texts over ranks: a file that is read by all, cut at white space, and written by all; and the integers and booleans of such texts. */
 #include "ranks.h"
+#include "shares.h"
 
 enum { CVL_CHUNK = 1 << 12, CVL_MOST_READ = 1 << 30, CVL_CALL_TEXT = 0xfa00 };
 
@@ -155,8 +156,8 @@ static CvlStatus read_share(const CvlRanks *ranks, MPI_File file, char **text, s
     const uint64_t rank = (uint64_t)ranks->rank, all = (uint64_t)ranks->size;
     MPI_Offset bytes = 0;
     if (MPI_File_get_size(file, &bytes) != MPI_SUCCESS) return cvl_status(CVL_BAD_INPUT, -1);
-    const uint64_t size = (uint64_t)bytes, each = size / all, more = size % all;
-    uint64_t from = rank * each + (rank < more ? rank : more), to = from + each + (rank < more ? 1 : 0);
+    const uint64_t size = (uint64_t)bytes;
+    uint64_t from = cvl_even_start(size, all, rank), to = cvl_even_start(size, all, rank + 1);
     if (!find_cut(file, size, &from) || !find_cut(file, size, &to)) return cvl_status(CVL_BAD_INPUT, -1);
     *text_len = (size_t)(to - from);
     *text = malloc(*text_len + 1);
