@@ -141,7 +141,7 @@ CvlStatus cvl_over_ranks(CvlRanks *ranks, const CvlRankRow *family, uint32_t op,
     name_slots(&c);
     look(&c);
     name_slots(&c);
-    const CvlStatus status = family->way(&c);
+    c.status = family->way(&c);
     let_go(&c);
-    return status;
+    return c.status;
 }
