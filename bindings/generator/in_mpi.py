@@ -6,7 +6,7 @@ import re
 import in_c
 import in_rows
 import rows
-from in_c import kept, parameters, statement, wrapped
+from in_c import indented, kept, parameters, wrapped
 
 # How a family goes over ranks, by its name or else by how it is cut into parts: the name of its way, and what a comment says of it.
 BY_NAME = {
@@ -131,7 +131,7 @@ def plain_function(found):
     words += [plain_argument(found, k) for k in range(len(found.operands))]
     lines = [] if found.family.operators else ["    (void)op;"]
     head = f"static CvlStatus make_{found.name}(uint32_t op, const CvlSlot *s) {{"
-    return "\n".join([head, *lines, statement(f"return cvl_{found.name}({', '.join(map(kept, words))});"), "}"])
+    return "\n".join([head, *lines, indented(f"return cvl_{found.name}({', '.join(map(kept, words))});"), "}"])
 
 
 # ---- rows ----
@@ -168,7 +168,7 @@ def row_of(number, row):
         "        .operand = {",
         *(operand_row(found, k) for k in range(len(found.operands))),
         "        },",
-        *(statement(line, 2) for line in said),
+        *(indented(line, 2) for line in said),
         "    },",
         f"    .way = cvl_{name}_over_ranks, .call = {number}{so},",
         "};",
