@@ -36,3 +36,11 @@ out_of_range place = fault_at no.IndexOutOfRange place
 
 abbrev pub repeated : ℕ → Fault
 repeated place = fault_at no.IndexRepeated place
+
+-- the number at this place does not fit
+abbrev pub overflow : ℕ → Fault
+overflow place = fault_at no.Overflow place
+
+-- the lengths of this segment don't agree
+abbrev pub other_length : ℕ → Fault
+other_length segment = fault_at no.LengthMismatch segment

@@ -8,6 +8,7 @@
 //! stands on it.
 #![tactic(auto, unfolding(core::specs::Int::int_wrap))]
 
+pub mod byte_values;
 pub mod checked_sums;
 pub mod combines;
 pub mod descriptors;
@@ -22,4 +23,6 @@ pub mod reduces;
 pub mod scans;
 pub mod senders;
 pub mod shares;
+pub mod slices;
+pub mod transposed;
 pub mod written;

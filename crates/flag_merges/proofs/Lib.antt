@@ -1,0 +1,4 @@
+mod BySegments
+mod Counted
+mod Merged
+mod Packed

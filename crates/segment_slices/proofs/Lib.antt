@@ -1,0 +1,3 @@
+mod Checked
+mod Paired
+mod Written

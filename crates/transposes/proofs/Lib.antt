@@ -1,0 +1,3 @@
+mod Moved
+mod Shapes
+mod Sources

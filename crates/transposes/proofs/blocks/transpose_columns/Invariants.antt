@@ -1,0 +1,12 @@
+use Rattle.std.proofs.Common.{◌-◌, ◌≤◌}
+use Rattle.transposes.specs.Transposes.{IsTransposedIn}
+use Rattle.transposes.proofs.blocks.transpose_columns.Given as goal
+
+abbrev pub invariant-loop-top : goal.invariant-loop-top
+invariant-loop-top g l = record {
+  inside : l.top ≤ l.rows;
+  moved : IsTransposedIn l.rows l.columns l.from 0 l.top 0 l.count l.source l.fn.out l.out;
+}
+
+abbrev pub decreases-loop-top : goal.decreases-loop-top
+decreases-loop-top g l = l.rows - l.top
