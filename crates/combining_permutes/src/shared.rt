@@ -15,7 +15,7 @@ use crate::ranges::combine_range;
 use cvl_base::{Fault, IntMonoid, Monoid, by_int_monoid, check_agree};
 use permute_walks::check_places_alone;
 use scan_walks::{Itself, Reading, know_numbers};
-use sharing::ThreadCount;
+use sharing::{LEAST_EACH, ThreadCount};
 use std::marker::PhantomData;
 use std::thread::{Threads, join_mut};
 
@@ -134,7 +134,8 @@ fn send_both<T: Copy + Send, R: Threads + Sync, W: Sender<T> + Sync>(
 }
 
 /// [`combine_over`](crate::combine_over), which at most so many threads share. Its definition, its faults and its conditions are
-/// the same.
+/// the same. Each thread has at least as many places, and as many elements for each, as a thread writes elsewhere: a room of few
+/// places stays in the cache of one thread, which is done as soon alone.
 pub fn combine_shared<R, M, X, E>(
     rt: &R,
     threads: ThreadCount,
@@ -153,6 +154,7 @@ where
     requires items { AllPass M.is_item out.old }
     ensures { Overwrites (combine_of M.join (map E.item source.now) index.now out.old) result out.old out.new }
 {
+    let threads = threads.at_most(index.len().min(out.len()) / LEAST_EACH);
     if threads.get() < 2 {
         return combine_over::<M, X, E>(source, index, out);
     }
