@@ -1,7 +1,7 @@
 //! Tests of what threads share: the scan board and the least board, by hand, and the scan board by two threads of the test's own
 //! beside a third worker; a list that is gathered from the pieces of a crew; the world of workers; and vectors that several
 //! threads write, also one of two runs that wait for each other, which are pushed to, shrunk and cloned afterwards, and one that
-//! a thread leaves early. What asks for memory is made with each of its requests refused in turn.
+//! a thread leaves early; and partitions by a digit. What asks for memory is made with each of its requests refused in turn.
 #![tactic(auto)]
 
 #[cfg(test)]
@@ -12,6 +12,8 @@ mod crews;
 mod doubles;
 #[cfg(test)]
 mod lowered_places;
+#[cfg(test)]
+mod partitions;
 #[cfg(test)]
 mod requests;
 #[cfg(test)]

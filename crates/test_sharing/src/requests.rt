@@ -1,7 +1,7 @@
 //! What threads share, with ample memory and with each of its requests refused in turn.
 
 use crate::counter::Counter;
-use crate::{crews, doubles, lowered_places, scan_boards, worlds};
+use crate::{crews, doubles, lowered_places, partitions, scan_boards, worlds};
 use cvl_base::{Config, Memory, NoResources};
 use refusing_memory::withstands_refusals;
 use sharing::all_workers;
@@ -19,6 +19,8 @@ enum Made {
     Doubles(usize),
     /// What a thread leaves that stops early.
     Early,
+    /// So many numbers by their last digit.
+    Partition(u16),
 }
 
 /// Each, by so many workers, and how many requests it makes at least.
@@ -36,6 +38,10 @@ const ALL: &[(Made, &[u32], u64)] = &[
     (Made::Doubles(40), &[1, 3, 8], 2),
     (Made::Doubles(262_145), &[8], 2),
     (Made::Early, &[1], 1),
+    // no number, fewer than threads or digits, and more; the numbers, the room and the counts
+    (Made::Partition(0), &[1, 2, 3, 4, 5], 1),
+    (Made::Partition(3), &[1, 2, 3, 4, 5], 3),
+    (Made::Partition(997), &[1, 2, 3, 4, 5, 9], 3),
 ];
 
 /// Whether it is right.
@@ -55,6 +61,7 @@ fn is_right<R: Threads + Sync, A: Memory>(
             doubles::are_written(rt, heap, threads, *length, &Counter::new(0))
         }
         Made::Early => doubles::keeps_what_is_written(heap),
+        Made::Partition(length) => partitions::are_parted(rt, heap, threads, *length),
     }
 }
 

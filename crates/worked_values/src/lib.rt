@@ -17,6 +17,7 @@ pub mod elementwise;
 pub mod extracts;
 pub mod nests;
 pub mod packs;
+pub mod partitions;
 pub mod permuted;
 pub mod races;
 pub mod reduces;
