@@ -133,33 +133,37 @@ static bool are_too_long(const CvlRow *row, const CvlSlot *s) {
     return 0;
 }
 
-/* The first fault of lengths and offsets, in their order; and whether they add up to what they should. */
-/*@ requires is_call(row, s) && \valid(agree) && \separated(agree, row, s + (0 .. row->operands - 1));
-    assigns *agree;
-    ensures *agree ==> \old(*agree);
-    ensures is_flat(row) ==> \result.number == CVL_DONE && *agree == \old(*agree); */
-static CvlStatus all_lengths_told(const CvlRow *row, const CvlSlot *s, bool *agree) {
-    /*@ loop invariant 0 <= k <= row->operands && (*agree ==> \at(*agree, Pre)) && (is_flat(row) ==> *agree == \at(*agree, Pre));
-        loop assigns k, *agree;
+/* What lengths and offsets of a call say: their first fault, in their order, and whether they add up to what they should. */
+typedef struct LengthsTold {
+    CvlStatus first;
+    bool agree;
+} LengthsTold;
+
+/*@ requires is_call(row, s);
+    assigns \nothing;
+    ensures is_flat(row) ==> \result.first.number == CVL_DONE && \result.agree == 1; */
+static LengthsTold all_lengths_told(const CvlRow *row, const CvlSlot *s) {
+    LengthsTold all = {cvl_done(), 1};
+    /*@ loop invariant 0 <= k <= row->operands && all.first.number == CVL_DONE && (is_flat(row) ==> all.agree == 1);
+        loop assigns k, all;
         loop variant row->operands - k; */
     for (size_t k = 0; k < row->operands; k++) {
         const CvlOperand *const o = &row->operand[k];
         size_t total = 0;
         if (o->total == k) continue;
-        const CvlStatus told = lengths_told(o, s[k], row->most, &total);
-        if (told.number != CVL_DONE) return told;
-        if (total != s[o->total].number) *agree = 0;
+        all.first = lengths_told(o, s[k], row->most, &total);
+        if (all.first.number != CVL_DONE) return all;
+        if (total != s[o->total].number) all.agree = 0;
     }
-    return cvl_done();
+    return all;
 }
 
 CvlStatus cvl_told(const CvlRow *row, uint32_t op, const CvlSlot *s) {
-    bool agree = cvl_do_agree(row, op, s);
     if (!cvl_is_known(row, op)) return cvl_status(CVL_UNKNOWN_CALL, -1);
-    const CvlStatus told = all_lengths_told(row, s, &agree);
-    if (told.number != CVL_DONE) return told;
+    const LengthsTold lengths = all_lengths_told(row, s);
+    if (lengths.first.number != CVL_DONE) return lengths.first;
     if (are_too_long(row, s)) return cvl_status(CVL_TOO_LONG, -1);
-    return agree ? room_told(row, s) : cvl_status(CVL_LENGTH_MISMATCH, -1);
+    return lengths.agree && cvl_do_agree(row, op, s) ? room_told(row, s) : cvl_status(CVL_LENGTH_MISMATCH, -1);
 }
 
 /* Whether a status may stand behind one that an export did not ask yet: no memory, and faults of elements. */

@@ -32,7 +32,7 @@ bool cvl_step(const CvlPool *pool, CvlWork *w, CvlKind kind, CvlStepPart part) {
     }
     pool->run(pool->state, run_part, &step, w->parts);
     for (size_t k = 0; k < w->parts; k++) {
-        if (step.told[k].number == NOT_RUN && kind == CVL_WRITES) run_part(&step, k);
+        if (step.told[k].number == NOT_RUN && kind != CVL_READS) run_part(&step, k);
         if (step.told[k].number == NOT_RUN) w->left_out = 1;
         if (step.told[k].number != CVL_DONE) done = 0;
     }
@@ -272,7 +272,7 @@ bool cvl_make_all(const CvlPool *pool, CvlWork *w) {
     if (w->left_out) return 0;
     for (size_t j = next_copied(row, 0); j < row->operands; j = next_copied(row, j + 1)) bytes += w->in[row->operand[j].as].number;
     w->copies = malloc(bytes);
-    if (w->copies == NULL || !cvl_step(pool, w, CVL_WRITES, copies_part)) return 0;
+    if (w->copies == NULL || !cvl_step(pool, w, CVL_COPIES, copies_part)) return 0;
     const bool *copy = w->copies;
     for (size_t j = next_copied(row, 0); j < row->operands; j = next_copied(row, j + 1)) {
         w->in[row->operand[j].as].at = copy;

@@ -59,18 +59,29 @@ static CvlStatus on_rows(const CvlPool *pool, const CvlRow *row, uint32_t op, co
 }
 
 /*
+ * Runs the parts of a call by the way of its row. Each way leaves the rooms as they were where its parts are not done, and where it tells
+ * a fault.
+ */
+/*@ assigns *w, rooms, told;
+    ensures !\result ==> rooms == \old(rooms);
+    ensures \result && w->told.number != CVL_DONE ==> rooms == \old(rooms); */
+static bool run_parts(const CvlPool *pool, CvlWork *w, const CvlRow *row) { return row->in_parts(pool, w); }
+
+/*
  * Cuts a call that is in order and runs its parts. Whether they are done; else the rooms are as they were, as the ways to run parts leave
  * them, and w->left_out says whether the pool left a part out of a step that reads.
  */
-/*@ requires is_call(row, s) && are_apart(row, s) && do_agree(row, op, s);
+/*@ requires is_call(row, s) && are_apart(row, s) && do_agree(row, op, s) && \separated(w, row);
     assigns *w, rooms, told;
     ensures !\result ==> rooms == \old(rooms);
     ensures \result && w->told.number != CVL_DONE ==> rooms == \old(rooms); */
 static bool are_parts_done(const CvlPool *pool, CvlWork *w, const CvlRow *row, uint32_t op, const CvlSlot *s) {
     if (!cvl_cut(pool, w, row, s)) return 0;
     w->row = row, w->op = op;
+    /*@ loop invariant 0 <= k <= row->operands;
+        loop assigns k, w->in[0 .. CVL_ROLES - 1]; */
     for (size_t k = 0; k < row->operands; k++) w->in[row->operand[k].as] = s[k];
-    const bool done = row->in_parts(pool, w);
+    const bool done = run_parts(pool, w, row);
     cvl_let_go(w);
     return done;
 }

@@ -32,7 +32,8 @@
 /*@ predicate is_row{L}(CvlRow *row) =
       row->operands <= CVL_MOST_OPERANDS && row->out < row->operands && row->cut < row->operands &&
       (row->operand[row->out].is & CVL_WRITTEN) != 0 &&
-      (\forall integer k; 0 <= k < row->operands ==> row->operand[k].like < row->operands && row->operand[k].total < row->operands) &&
+      (\forall integer k; 0 <= k < row->operands ==>
+        row->operand[k].like < row->operands && row->operand[k].total < row->operands && row->operand[k].as < CVL_ROLES) &&
       (\forall integer k; 0 <= k < row->operands && (row->operand[k].is & CVL_IN_PLACE) != 0 ==> (row->operand[k].is & CVL_READ) != 0);
 
     predicate is_read{L}(CvlRow *row, integer k) = (row->operand[k].is & CVL_READ) != 0;

@@ -43,6 +43,7 @@ static CvlSlot slot_of_part(const CvlWork *w, const CvlOperand *o, size_t k) {
     if (o->by == CVL_BY_NONE) return slot;
     if (o->size == 0) return number_of_part(w, o, k);
     const size_t *const from = cvl_boundaries(w, o->by);
+    /*@ assert from[k] * o->size <= CVL_MOST_ELEMENTS * 255; */
     slot.at = (const char *)slot.at + from[k] * o->size;
     slot.number = from[k + 1] - from[k];
     return slot;
@@ -112,8 +113,13 @@ static CvlStatus reduce_part(CvlWork *w, size_t k) { return cvl_reduce_of(w, w->
 static CvlStatus scan_part(CvlWork *w, size_t k) { return cvl_scan_range(w, w->before[k], w->from[k], w->from[k + 1]); }
 
 /* What stands before each part, from the parts' reduces; and the reduce of all of them. */
+/*@ requires w->parts <= CVL_MOST_PARTS && \separated(w, sum);
+    assigns *w, *sum, rooms;
+    ensures rooms == \old(rooms); */
 static bool join_parts(const CvlPool *pool, CvlWork *w, CvlItem *sum) {
     bool done = cvl_step(pool, w, CVL_READS, reduce_part) && cvl_reduce_of(w, 0, 0, sum).number == CVL_DONE;
+    /*@ loop invariant 0 <= k && w->parts == \at(w->parts, Pre);
+        loop assigns k, done, *sum, w->before[0 .. CVL_MOST_PARTS - 1]; */
     for (size_t k = 0; k < w->parts && done; k++) {
         w->before[k] = *sum;
         done = cvl_join_of(w, w->before[k], w->sums[k], sum).number == CVL_DONE;

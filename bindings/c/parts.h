@@ -51,9 +51,14 @@ struct CvlWork {
 #define CVL_INT_ROOM(w, place) ((int32_t *)(w)->in[CVL_AS_OUT].at + (place))
 #define CVL_BOOL_ROOM(w, place) ((bool *)(w)->in[CVL_AS_OUT].at + (place))
 
+/*@ logic integer of_bools{L}(CvlWork *w) = w->row->is & CVL_OF_BOOLS; */
+/*@ requires \valid_read(w) && \valid_read(w->row);
+    assigns \nothing;
+    ensures \result != 0 <==> of_bools(w) != 0; */
 static inline bool cvl_of_bools(const CvlWork *w) { return (w->row->is & CVL_OF_BOOLS) != 0; }
 
 /* The bytes of an element of the room. */
+/*@ assigns \nothing; */
 static inline size_t cvl_size(const CvlWork *w) { return w->row->operand[w->row->out].size; }
 
 /* What an argument has from one place to another. */
@@ -76,15 +81,20 @@ static inline int32_t cvl_number_at(int32_t init, int32_t stride, size_t place) 
  * Cuts a call: at places; a text at white space; and where there are segments, at places, so that each part knows the segments that start
  * in it. Whether there is more than one part, and a pool that runs each.
  */
+/*@ assigns *w; */
 CVL_HIDDEN bool cvl_cut(const CvlPool *pool, CvlWork *w, const CvlRow *row, const CvlSlot *s);
 
-/* What a step does to the rooms of the call. */
-typedef enum CvlKind { CVL_READS, CVL_WRITES } CvlKind;
+/* What a step does: it reads, writes memory of the call's own, or writes the rooms. */
+typedef enum CvlKind { CVL_READS, CVL_COPIES, CVL_WRITES } CvlKind;
 
 /*
  * Runs a step in all parts, and answers whether all are done. A part that the pool leaves out of a step that only reads ends the call;
- * one of a step that writes is run by the thread that calls, so that no room is half written.
+ * one of a step that writes is run by the thread that calls, so that no room is half written. Flags are copied before a room is written.
  */
+/*@ requires kind == CVL_WRITES ==> made != 0;
+    assigns *w, rooms;
+    ensures kind != CVL_WRITES ==> rooms == \old(rooms);
+    ensures w->parts == \old(w->parts); */
 CVL_HIDDEN bool cvl_step(const CvlPool *pool, CvlWork *w, CvlKind kind, CvlStepPart part);
 
 /*
@@ -100,18 +110,28 @@ static inline CvlStatus cvl_first_of(CvlStatus first, CvlStatus second, CvlStatu
 }
 
 /* Copies the flags that are to be 0 and 1 and are not, all at once, and answers whether there was memory for that. */
+/*@ assigns *w, made;
+    ensures (\result ==> made != 0) && w->parts == \old(w->parts); */
 CVL_HIDDEN bool cvl_make_all(const CvlPool *pool, CvlWork *w);
 
-/* Takes memory for so many bytes, and answers whether there is some. */
+/* Takes memory for so many bytes, and answers whether there is some. What parts keep there is what the rooms hold now. */
+/*@ assigns *w, kept;
+    ensures \result ==> kept == rooms; */
 CVL_HIDDEN bool cvl_keep(CvlWork *w, size_t bytes);
 
 /* Puts back what stood in the room, which the parts kept. */
+/*@ assigns rooms;
+    ensures rooms == kept; */
 CVL_HIDDEN void cvl_put_back(CvlWork *w);
 
 /* Runs a step that may be refused, whose parts keep what stood in their ranges of the room; it is put back where one isn't done. */
+/*@ requires made != 0 && kept == rooms;
+    assigns *w, rooms;
+    ensures !\result ==> rooms == kept; */
 CVL_HIDDEN bool cvl_writes_kept(const CvlPool *pool, CvlWork *w, CvlStepPart part);
 
 /* Lets go of the memory of a call. */
+/*@ assigns \nothing; */
 CVL_HIDDEN void cvl_let_go(CvlWork *w);
 
 /* The elements of a part: the end of a segment of an earlier part, whole segments, and the beginning of a segment that is cut. */
@@ -123,26 +143,42 @@ typedef struct CvlPiece {
 
 CVL_HIDDEN CvlPiece cvl_piece(const CvlWork *w, size_t k);
 
-/* ---- each way to cut a call: whether its parts are done, and then w->told is the answer ---- */
+/*
+ * ---- each way to cut a call: whether its parts are done, and then w->told is the answer; else the rooms are as they were, as is proved of
+ * ---- the ways that keep what stood in them ----
+ */
 
 /* Each part is a range of places; the faults of elements are looked at in all parts before one is written. */
+/*@ assigns *w, rooms, made; */
 CVL_HIDDEN bool cvl_places_in_parts(const CvlPool *pool, CvlWork *w);
 CVL_HIDDEN bool cvl_replace_in_parts(const CvlPool *pool, CvlWork *w);
 CVL_HIDDEN bool cvl_reduce_in_parts(const CvlPool *pool, CvlWork *w);
+/*@ requires w->parts <= CVL_MOST_PARTS;
+    assigns *w, rooms, made; */
 CVL_HIDDEN bool cvl_scan_in_parts(const CvlPool *pool, CvlWork *w);
 CVL_HIDDEN bool cvl_checked_reduce_in_parts(const CvlPool *pool, CvlWork *w);
 CVL_HIDDEN bool cvl_checked_scan_in_parts(const CvlPool *pool, CvlWork *w);
 CVL_HIDDEN bool cvl_count_in_parts(const CvlPool *pool, CvlWork *w);
 CVL_HIDDEN bool cvl_pack_in_parts(const CvlPool *pool, CvlWork *w);
 CVL_HIDDEN bool cvl_lengths_in_parts(const CvlPool *pool, CvlWork *w);
+/*@ assigns *w, rooms, kept, made;
+    ensures !\result ==> rooms == \old(rooms); */
 CVL_HIDDEN bool cvl_ranges_in_parts(const CvlPool *pool, CvlWork *w);
+/*@ assigns *w, rooms, kept, made;
+    ensures !\result ==> rooms == \old(rooms); */
 CVL_HIDDEN bool cvl_senders_in_parts(const CvlPool *pool, CvlWork *w);
+/*@ requires w->parts <= CVL_MOST_PARTS;
+    assigns *w, rooms, kept, made;
+    ensures !\result ==> rooms == \old(rooms); */
 CVL_HIDDEN bool cvl_segments_in_parts(const CvlPool *pool, CvlWork *w);
+/*@ requires w->parts <= CVL_MOST_PARTS;
+    assigns *w, rooms, made; */
 CVL_HIDDEN bool cvl_seg_scan_in_parts(const CvlPool *pool, CvlWork *w);
 CVL_HIDDEN bool cvl_seg_reduce_in_parts(const CvlPool *pool, CvlWork *w);
 CVL_HIDDEN bool cvl_seg_checked_scan_in_parts(const CvlPool *pool, CvlWork *w);
 CVL_HIDDEN bool cvl_seg_checked_reduce_in_parts(const CvlPool *pool, CvlWork *w);
 CVL_HIDDEN bool cvl_seg_count_in_parts(const CvlPool *pool, CvlWork *w);
+/*@ assigns *w, rooms, made; */
 CVL_HIDDEN bool cvl_seg_copies_in_parts(const CvlPool *pool, CvlWork *w);
 CVL_HIDDEN bool cvl_seg_numbers_in_parts(const CvlPool *pool, CvlWork *w);
 CVL_HIDDEN bool cvl_write_in_parts(const CvlPool *pool, CvlWork *w);
@@ -156,7 +192,9 @@ CVL_HIDDEN CvlStatus cvl_make_part(CvlWork *w, size_t k);
 CVL_HIDDEN const size_t *cvl_boundaries(const CvlWork *w, CvlBy by);
 
 /* What one element, or a part's elements, join to: for reduces and scans of segments too. */
+/*@ assigns *sum; */
 CVL_HIDDEN CvlStatus cvl_reduce_of(const CvlWork *w, size_t from, size_t to, CvlItem *sum);
+/*@ assigns *joined; */
 CVL_HIDDEN CvlStatus cvl_join_of(const CvlWork *w, CvlItem first, CvlItem second, CvlItem *joined);
 CVL_HIDDEN CvlStatus cvl_scan_range(const CvlWork *w, CvlItem before, size_t from, size_t to);
 

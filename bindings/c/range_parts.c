@@ -2,6 +2,7 @@
 #include "parts.h"
 
 /* How many bytes are kept of a room, up to whole words. The marks stand behind them, a bit a place, and each part has words of its own. */
+/*@ assigns \nothing; */
 static size_t kept_bytes(const CvlWork *w) { return (w->in[CVL_AS_OUT].number * cvl_size(w) + 3) / 4 * 4; }
 
 /* The part's range of the result, over its defaults where there are any, by its own marks. */
@@ -42,18 +43,24 @@ static CvlStatus trues_part(CvlWork *w, size_t k) {
 }
 
 /* How many flags are true, or how many indices there are where no flags are given. Whether the parts have counted. */
+/*@ assigns *w, *sent, rooms;
+    ensures rooms == \old(rooms); */
 static bool count_sent(const CvlPool *pool, CvlWork *w, size_t *sent) {
     const bool all = w->in[CVL_AS_FLAGS].at == NULL;
     *sent = all ? w->in[CVL_AS_INDEX].number : 0;
     if (all) return 1;
     if (!cvl_step(pool, w, CVL_READS, trues_part)) return 0;
+    /*@ loop assigns k, *sent; */
     for (size_t k = 0; k < w->parts; k++) *sent += (size_t)w->sums[k].number;
     return 1;
 }
 
 /* Whether the parts count as much as is wanted. Else what stood in the room is put back. */
+/*@ assigns rooms;
+    ensures !\result ==> rooms == kept; */
 static bool are_all(CvlWork *w, size_t wanted) {
     size_t counted = 0;
+    /*@ loop assigns k, counted; */
     for (size_t k = 0; k < w->parts; k++) counted += w->counts[k];
     if (counted != wanted) cvl_put_back(w);
     return counted == wanted;

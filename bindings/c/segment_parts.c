@@ -22,6 +22,8 @@ static CvlStatus scan_part(CvlWork *w, size_t k) {
 
 bool cvl_seg_scan_in_parts(const CvlPool *pool, CvlWork *w) {
     bool done = cvl_make_all(pool, w) && cvl_step(pool, w, CVL_READS, since_part);
+    /*@ loop invariant 0 <= k && w->parts == \at(w->parts, Pre) && (done ==> made != 0);
+        loop assigns k, done, w->before[0 .. CVL_MOST_PARTS - 1]; */
     for (size_t k = 0; k + 1 < w->parts && done; k++) {
         if (cvl_piece(w, k).starts) w->before[k + 1] = w->sums[k];
         else done = cvl_join_of(w, w->before[k], w->sums[k], &w->before[k + 1]).number == CVL_DONE;
@@ -203,6 +205,7 @@ static CvlStatus lengths_of_part(CvlWork *w, size_t k) {
 }
 
 /* The operand that is cut as a second vector is, or the number of operands. */
+/*@ assigns \nothing; */
 static size_t other_operand(const CvlRow *row) {
     size_t k = 0;
     while (k < row->operands && row->operand[k].by != CVL_BY_OTHER) k++;
@@ -210,11 +213,16 @@ static size_t other_operand(const CvlRow *row) {
 }
 
 /* Where each part's segments stand in a second vector, whose length is known. */
+/*@ requires w->parts <= CVL_MOST_PARTS;
+    assigns *w, rooms;
+    ensures rooms == \old(rooms); */
 static bool cut_other(const CvlPool *pool, CvlWork *w) {
     const size_t other = other_operand(w->row);
     if (other == w->row->operands) return 1;
     if (!cvl_step(pool, w, CVL_READS, w->row->is & CVL_BY_TRUES ? flags_of_part : lengths_of_part)) return 0;
     w->other[0] = 0;
+    /*@ loop invariant 0 <= k && w->parts == \at(w->parts, Pre);
+        loop assigns k, w->other[0 .. CVL_MOST_PARTS]; */
     for (size_t k = 0; k < w->parts; k++) w->other[k + 1] = w->other[k] + w->counts[k];
     const size_t len = w->in[w->row->operand[other].as].number;
     return w->other[w->parts] == len && len <= CVL_MOST_ELEMENTS;

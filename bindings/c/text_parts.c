@@ -5,11 +5,11 @@
  * Where a part's text begins in the memory for all of them, which are as long as they can be: an element has 12 bytes with its sign and a
  * space, or 2, a segment 3 more, and a text 2 brackets.
  */
-/*@ requires \valid_read(w) && k <= w->parts <= CVL_MOST_PARTS && w->from[k] <= CVL_MOST_ELEMENTS;
+/*@ requires \valid_read(w) && \valid_read(w->row) && k <= w->parts <= CVL_MOST_PARTS && w->from[k] <= CVL_MOST_ELEMENTS;
     requires w->start[k] <= CVL_MOST_ELEMENTS && w->first[k] <= CVL_MOST_ELEMENTS;
     assigns \nothing;
-    ensures w->lengths == \null ==> \result == text_begins(cvl_of_bools(w), w->from[k], 0, k);
-    ensures w->lengths != \null ==> \result == text_begins(cvl_of_bools(w), w->start[k], w->first[k], k); */
+    ensures w->lengths == \null ==> \result == text_begins(of_bools(w), w->from[k], 0, k);
+    ensures w->lengths != \null ==> \result == text_begins(of_bools(w), w->start[k], w->first[k], k); */
 static size_t text_place(const CvlWork *w, size_t k) {
     const size_t each = cvl_of_bools(w) ? 2 : 12;
     return w->lengths == NULL ? w->from[k] * each + 2 * k : w->start[k] * each + w->first[k] * 3 + 2 * k;
@@ -45,7 +45,7 @@ static CvlStatus put_text_part(CvlWork *w, size_t k) {
 bool cvl_write_in_parts(const CvlPool *pool, CvlWork *w) {
     if (!cvl_make_all(pool, w) || !cvl_keep(w, text_place(w, w->parts))) return 0;
     memset(w->counts, 0, sizeof w->counts);
-    if (!cvl_step(pool, w, CVL_WRITES, w->lengths == NULL ? write_part : seg_write_part)) return 0;
+    if (!cvl_step(pool, w, CVL_COPIES, w->lengths == NULL ? write_part : seg_write_part)) return 0;
     w->other[0] = 0;
     for (size_t k = 0; k < w->parts; k++) w->other[k + 1] = w->other[k] + (w->counts[k] == 0 ? 0 : w->counts[k] - 1);
     const size_t length = w->other[w->parts] + 1;
@@ -77,7 +77,7 @@ static CvlStatus put_read_part(CvlWork *w, size_t k) {
 
 /* Where a part has a fault, or there are too many integers, the whole text is read again, and tells it. */
 bool cvl_read_in_parts(const CvlPool *pool, CvlWork *w) {
-    if (!cvl_keep(w, read_place(w, w->parts) * sizeof(int32_t)) || !cvl_step(pool, w, CVL_WRITES, read_part)) return 0;
+    if (!cvl_keep(w, read_place(w, w->parts) * sizeof(int32_t)) || !cvl_step(pool, w, CVL_COPIES, read_part)) return 0;
     for (size_t k = 0; k < w->parts; k++) w->other[k + 1] = w->other[k] + w->counts[k];
     const size_t count = w->other[w->parts];
     if (count > CVL_MOST_OF_TEXT) return 0;

@@ -39,10 +39,10 @@ static inline unsigned char atomic_exchange(unsigned char *at, unsigned char val
     lemma product_of_some: \forall integer n, s; n >= 0 && s > 0 ==> (n * s > 0 <==> n > 0); */
 
 /*
- * What all rooms of a call hold, and what a call tells beside its room: each stands for bytes that a proof doesn't see, and changes where
- * they may.
+ * What all rooms of a call hold, what it kept of them, and what it tells beside its room: each stands for bytes that a proof doesn't see,
+ * and changes where they may. And whether flags that have to be 0 and 1 are copied where they aren't.
  */
-extern int rooms, told;
+extern int rooms, kept, told, made;
 
 /* ---- flags ---- */
 
