@@ -49,6 +49,7 @@ EDITS = {
 # what a row of the table of wrong bodies may name, and what is not there
 THERE = (
     "crates/boards/must-fail/join_swapped.edit",
+    "bindings/tests/analysis/wrong/room_not_put_back.edit",
     "crates/test_runs/src/shown.rt::as_text",
     "crates/script_cases/data/scans.cases: a sum that wraps",
     "tests/installation/test_archive.py::test_a_compiler_with_options",
@@ -57,6 +58,7 @@ THERE = (
 )
 NOT_THERE = (
     "crates/boards/must-fail/no_such.edit",
+    "bindings/tests/analysis/wrong/no_such.edit",
     "crates/boards/src/look_back.rt",
     "crates/test_runs/src/shown.rt::no_such",
     "crates/test_runs/src/no_such.rt::as_text",

@@ -32,6 +32,7 @@ def has_name(text, name):
 # what may refuse a wrong body: its form, and what its file has then
 FORMS = (
     (r"(crates/\w+/must-fail/\w+\.edit)", lambda text: True),
+    (r"(bindings/tests/analysis/wrong/\w+\.edit)", lambda text: True),
     (r"(crates/\w+/src/[\w/]+\.rt)::(\w+)", has_test),
     (rf"({CASES}/[\w-]+\.cases): (.+)", has_case),
     (r"(tests/process/[\w-]+): (.+)", has_line),
@@ -70,7 +71,7 @@ def check_promises():
 
 
 def check_edits():
-    """Each must-fail edit stands in the table, so that none goes unseen."""
+    """Each must-fail edit of the crates stands in the table, so that none goes unseen."""
     named = {reference for _, _, references in rows() for reference in references}
     for edit in sorted(str(path.relative_to(TOP)) for path in TOP.glob("crates/*/must-fail/*.edit")):
         if edit not in named:

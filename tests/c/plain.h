@@ -374,7 +374,11 @@ static void name_call(const Row *row, char *call) {
         return;
     }
     for (; begins(name, "seg"); cut_up = true) name = strchr(name, '_') + 1;
-    while (strcmp(calls_of_exports[k][0], name) != 0) k++;
+    while (k < sizeof calls_of_exports / sizeof *calls_of_exports && strcmp(calls_of_exports[k][0], name) != 0) k++;
+    if (k == sizeof calls_of_exports / sizeof *calls_of_exports) {
+        fprintf(stderr, "%s has no row in calls_of_exports of plain.h\n", row->name);
+        exit(1);
+    }
     strcpy(call, calls_of_exports[k][1]);
     if (cut_up && call[5] == 'u') call[5] = 'e';
 }
