@@ -1,4 +1,4 @@
-/* What a call is told that is not in order: the first fault that stands before those of the export, also by a walk over lengths, flags or a text. */
+/* The first fault of a call that is not in order, if it comes before those of the export. Finding it may take a walk over lengths, flags or a text. */
 #include "driver.h"
 #include "segments.h"
 

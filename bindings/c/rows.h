@@ -22,7 +22,7 @@ typedef enum CvlAs {
     CVL_ROLES
 } CvlAs;
 
-/* How the number of an operand hangs together with that of another one. */
+/* How the number of an operand depends on that of another one. */
 typedef enum CvlRelation {
     CVL_SAME,       /* they are the same, or the other one is the operand itself */
     CVL_ONE_MORE,   /* offsets are one more than rows */
@@ -33,7 +33,7 @@ typedef enum CvlRelation {
 /* Where the parts of an operand begin: the boundaries in CvlWork of this name; or each part has the whole. */
 typedef enum CvlBy { CVL_BY_NONE, CVL_BY_FROM, CVL_BY_FIRST, CVL_BY_START, CVL_BY_OTHER } CvlBy;
 
-/* What is so of an operand. */
+/* How a call uses an operand. */
 enum {
     CVL_READ = 1,      /* an array that is read */
     CVL_WRITTEN = 2,   /* a room, or one value that is written */
@@ -54,7 +54,7 @@ typedef struct CvlOperand {
     unsigned char is;       /* CVL_READ .. */
 } CvlOperand;
 
-/* What is so of a family. */
+/* How the driver makes the calls of a family. */
 enum {
     CVL_ASKED = 1,        /* the driver looks for what the export would tell behind other faults, or behind memory */
     CVL_LATE = 2,         /* and once more where the export tells a fault of elements or of memory */

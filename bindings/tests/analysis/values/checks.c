@@ -1,58 +1,53 @@
-/* checks.c: what is asked of a call before memory is, descriptors, and copies of flags: checks.c and segments.c. */
+/* checks.c: calls that are not in order, descriptors, and copies of flags, by the thread that calls: checks.c, driver.c and segments.c. */
 #include "drivers.h"
 
 static int32_t length[2];
 static const CvlLengths cut = {length, 2};
+static char text[16];
 
-/* What a call asks, of any numbers. */
-static void ask(CvlAsked asked_for) {
-    for (int k = -1; k < 3; k++) {
-        refused = k, asked = 0;
-        (void)cvl_asked(&asked_for);
-    }
-    refused = -1;
-}
+/* Calls that are not in order: lengths of any numbers, counts that are none, and rooms whose length only a walk tells. */
+static void seg_scan(size_t n) { (void)cvl_seg_int_scan(CVL_ADD, ints[n], n, cut, room[n], n); }
+static void seg_checked_scan(size_t n) { (void)cvl_seg_checked_scan(ints[n], n, cut, room[n], n); }
+static void seg_permute(size_t n) { (void)cvl_seg_permute_int(ints[n], n, others[n], n, cut, room[n], n); }
+static void divide_into_less(size_t n) { (void)cvl_int2(CVL_DIV, ints[n], n, others[n], n, room[n > 1], n > 1); }
+static void no_operator(size_t n) { (void)cvl_int2(CVL_NOT, ints[n], n, others[n], n, room[n], n); }
+static void into_itself(size_t n) { (void)cvl_permute_int(ints[n], n, others[n], n, ints[n], n); }
+static void no_count(size_t n) { (void)cvl_index(1, 2, (int64_t)n - 3, room[n], n); }
+static void pack(size_t n) { (void)cvl_pack_int(ints[n], n, flags[n], n, room[n > 1], n > 1, &count); }
+static void select_permute(size_t n) { (void)cvl_select_permute_int(ints[n], n, others[n], n, flags[n], n, room[n > 1], n > 1); }
+static void write_ints(size_t n) { (void)cvl_write_ints(ints[n], n, text, sizeof text, &count); }
+static void write_bools(size_t n) { (void)cvl_write_bools(bools[n], n, text, sizeof text, &count); }
+static void seg_write_ints(size_t n) { (void)cvl_seg_write_ints(ints[n], n, cut, text, sizeof text, &count); }
+static void seg_write_bools(size_t n) { (void)cvl_seg_write_bools(bools[n], n, cut, text, sizeof text, &count); }
 
 static void lengths_of_any(void) {
-    CvlAsked of_two = {0};
-    of_two.known = any_flag(), of_two.agree = any_flag();
-    of_two.most = CVL_MOST_ELEMENTS, of_two.limited = Frama_C_unsigned_int_interval(0, UINT32_MAX);
-    ask(of_two);
-    of_two.lengths[0] = of_two.lengths[1] = &cut;
-    of_two.totals[0] = Frama_C_unsigned_int_interval(0, UINT32_MAX), of_two.totals[1] = 2;
+    fill(6, 1);
+    fill_ints(room);
     length[0] = any_int(), length[1] = any_int();
-    ask(of_two);
+    each_length(seg_scan, 2, 0);
+    each_length(seg_checked_scan, 2, 0);
+    each_length(seg_permute, 2, 0);
+    each_length(divide_into_less, 2, 0);
+    each_length(no_operator, 1, 0);
+    each_length(into_itself, 1, 0);
+    each_length(no_count, 1, 0);
 }
 
 static void rooms_of_any(void) {
-    CvlAsked by = {0};
-    fill(6, 0);
-    by.known = by.agree = 1, by.most = CVL_MOST_OF_TEXT;
-    by.by_flags = 1, by.flags = flags[MOST], by.flags_len = MOST, by.room = Frama_C_unsigned_int_interval(0, MOST);
-    ask(by);
-    by.count = &count;
-    ask(by);
-    by.by_flags = 0, by.ints = ints[MOST], by.written = MOST;
-    ask(by);
-    by.ints = NULL, by.bools = bools[MOST];
-    ask(by);
-    length[0] = Frama_C_interval(0, MOST), length[1] = Frama_C_interval(0, MOST);
-    by.lengths[0] = &cut, by.totals[0] = MOST;
-    ask(by);
+    length[0] = 1, length[1] = MOST - 1;
+    each_pattern(pack, 3, 0);
+    each_pattern(select_permute, 3, 0);
+    each_pattern(write_ints, 2, 0);
+    each_pattern(write_bools, 2, 0);
+    each_pattern(seg_write_ints, 2, 0);
+    each_pattern(seg_write_bools, 2, 0);
 }
 
+/* A call on flags that are copied by the thread that calls, with no memory for them too. */
+static void scan_bools(size_t n) { (void)cvl_bool_scan(CVL_IOR, bools[n], n, bool_room[n], n); }
+
 static void copies(void) {
-    for (unsigned clean = 0; clean < 2; clean++) {
-        fill(6, clean);
-        for (int k = -1; k < 1; k++) {
-            const bool *given = flags[MOST];
-            bool *copy = NULL;
-            refused = k, asked = 0;
-            if (cvl_copy_flags(&given, MOST, &copy)) reads_flags(given, MOST);
-            free(copy);
-        }
-    }
-    refused = -1;
+    each_pattern(scan_bools, 4, 0);
     cvl_make_flags(flags[MOST], MOST);
     if (cvl_are_flags(flags[MOST], MOST)) reads_flags(flags[MOST], MOST);
 }
@@ -72,21 +67,20 @@ static void descriptors(void) {
     (void)cvl_version();
 }
 
-/* Offsets of any numbers: as rows of a matrix, as a descriptor, and as what a call asks. */
+/* Offsets of any numbers: as rows of a matrix, by a pool too, and as a descriptor. */
 static void rows_by_offsets(void) {
     int32_t offsets[3] = {Frama_C_interval(-1, 1), any_int(), any_int()};
     CvlSegments made = CVL_NO_SEGMENTS;
-    CvlAsked by = {0};
-    by.known = by.agree = 1, by.most = CVL_MOST_ELEMENTS, by.by_offsets = 1, by.offsets = offsets;
-    by.totals[0] = Frama_C_unsigned_int_interval(0, UINT32_MAX);
-    for (by.offsets_len = 0; by.offsets_len <= 3; by.offsets_len++) {
+    for (size_t n = 0; n <= 3; n++) {
+        const size_t rows = n > 0 ? n - 1 : 0;
         for (refused = -1; refused < 1; refused++) {
             asked = 0;
-            free(cvl_lengths_between(offsets, by.offsets_len));
+            free(cvl_lengths_between(offsets, n));
         }
-        refused = -1;
-        if (by.offsets_len > 0) (void)cvl_segments_from_offsets(offsets, by.offsets_len, length, by.offsets_len - 1, &made);
-        (void)cvl_asked(&by);
+        refused = -1, pool = cvl_pool_alone(2);
+        if (n > 0) (void)cvl_segments_from_offsets(offsets, n, length, rows, &made);
+        (void)cvl_sparse_product_by_offsets(offsets, n, others[2], 2, ints[2], 2, ints[1], 1, room[rows], rows);
+        (void)cvl_sparse_product_by_offsets_on(&pool, offsets, n, others[2], 2, ints[2], 2, ints[1], 1, room[rows], rows);
     }
 }
 
