@@ -23,7 +23,8 @@ import call_table
 #           "trues", how many flags are true; "total", what the lengths add up to; "room", what the caller says; "offsets", one more than
 #           segments
 #   copied  whether flags that are neither 0 nor 1 are copied, since the export takes no others
-Operand = namedtuple("Operand", "name role kind extent copied")
+#   over    whether a room holds what stands before, which the call joins with what it reads; its example has that under `before(name)`
+Operand = namedtuple("Operand", "name role kind extent copied over", defaults=(False,))
 
 # A fault: its numbers, and what is said of it. One of the room is C's alone.
 Fault = namedtuple("Fault", "numbers said of_room")
@@ -41,7 +42,7 @@ Operator = namedtuple("Operator", "name number sentence fault")
 #   asks       whether the export asks for memory
 #   cut        how it is cut into parts, a name of CUTS, and the extent that is cut; or nothing
 #   sentence   what it does; `shape` how long its arrays are; `told` what C alone is told
-#   example    where no call has one
+#   example    where no call has one; with operators it says of which it is, as op
 Family = namedtuple(
     "Family", "name exported section operators operands limit in_place faults asks cut sentence shape told example"
 )
@@ -155,6 +156,14 @@ VERSION = "1.0.0"
 
 # What stands before the functions of a section: of families, and of calls.
 OF_FAMILIES = {
+    "combining permutes": (
+        "No script calls these. A combining permute sends each element to the place that its index names and joins it with what stands there, so that one "
+        "call adds up by key, or finds the least of each group; several elements that go to one place are joined in their order. out holds what stands "
+        "before, and then the result, so that a call on a few elements of a large table touches no other place. To begin anew, fill out with what changes "
+        "nothing, as 0 for CVL_ADD and INT32_MAX for CVL_MIN. Booleans in out that are neither 0 nor 1 become 1.",
+        "Where there are lengths an index counts from the start of its segment of out. The faults by the lengths come first, those of `lengths` before "
+        "those of `result_lengths`; there are as many of the one as of the other, else 7 LengthMismatch.",
+    ),
     "first senders": (
         "No script calls these. Of several places that name one place of the result the least wins, whatever the number of threads, and no values are "
         "combined: so a search by breadth, a sort or the removal of duplicates finds its winners. A back permute by the senders that are not -1 gives "
@@ -249,6 +258,16 @@ def room(kind, extent="n", name="out"):
     return Operand(name, "room", kind, extent, False)
 
 
+def over(kind, extent="m", name="out"):
+    """A room that holds what stands before; flags of it are copied, and the copies are put back."""
+    return Operand(name, "room", kind, extent, kind == "flags", True)
+
+
+def before(name):
+    """Under which name an example says what stands in a room before."""
+    return f"{name}_before"
+
+
 def single(kind, name="out"):
     return Operand(name, "single", kind, None, False)
 
@@ -340,6 +359,10 @@ FLAGS_DIFFER = Fault((7,), "7 LengthMismatch where index and flags are not equal
 BAD_NAMED = Fault((10,), "10 IndexOutOfRange at the first index that is no place of the result", False)
 SUMS_OF_RESULT = Fault((7,), "7 LengthMismatch where the lengths do not add up to the index, or the result lengths to out", False)
 BAD_NAMED_IN_SEGMENT = Fault((10,), "10 IndexOutOfRange at the first index that is no place of its segment of the result", False)
+LONG_ROOM = Fault((13,), "13 TooLong, also where out is", False)
+NOT_AS_MANY = Fault((7,), "7 LengthMismatch where source and index are not equally long", False)
+SUMS_OF_SENT = Fault(
+    (7,), "7 LengthMismatch where source and index are not equally long, or the lengths do not add up to them, or the result lengths to out", False)
 OVERFLOW_AT_PLACE = Fault((18,), "18 Overflow at the first place whose sum does not fit 32 bits", False)
 OVERFLOW_AT_0 = Fault((18,), "18 Overflow at 0 where it does not fit 32 bits", False)
 BAD_COLUMN = Fault((10,), "10 IndexOutOfRange at the first column below 0, or m or more", False)
@@ -576,6 +599,45 @@ FAMILIES = (
         example={
             "index": "1 1 9 3 0", "flags": "false true false true true", "lengths": "2 0 3", "result_lengths": "2 1 4", "out": "-1 1 -1 2 -1 -1 1",
         },
+    ),
+    # ---- combining permutes ----
+    *twins(
+        ("combine_permute_int", "combine_permute_bool"), "combining permutes", lambda kind: (items(kind, "source"), ints("index"), over(kind)),
+        lambda kind: f"At each place of out what stands there, joined by the operator, of {first_to_last(joining(kind))}, with each {word(kind)} whose index "
+        "names the place. out may have any number of places.",
+        operators=joining, faults=(LONG_ROOM, NOT_AS_MANY, BAD_NAMED), cut=("whole", None),
+        example=lambda kind: {
+            "ints": {"op": "ADD", "source": "5 6 7 8", "index": "2 0 2 1", "out_before": "100 200 300", "out": "106 208 312"},
+            "flags": {"op": "XOR", "source": "true true true", "index": "2 0 2", "out_before": "false false true", "out": "true false true"},
+        }[kind],
+    ),
+    family(
+        "counts", "combining permutes", (ints("index"), room("ints", "m")),
+        "For each place of the result how many indices name it. The result may have any number of places.",
+        faults=(LONG_ROOM, BAD_NAMED), cut=("whole", None), example={"index": "2 0 2 3", "out": "1 0 2 1"},
+    ),
+    *twins(
+        ("seg_combine_permute_int", "seg_combine_permute_bool"), "combining permutes",
+        lambda kind: (items(kind, "source"), ints("index"), lengths(), lengths("result_lengths", "m"), over(kind)),
+        lambda kind: f"At each place of each segment of out what stands there, joined by the operator, of {first_to_last(joining(kind))}, with each "
+        f"{word(kind)} of the same segment whose index names the place.",
+        operators=joining, limit=None, faults=(SUMS_OF_SENT, BAD_NAMED_IN_SEGMENT), cut=("segments", "n"),
+        example=lambda kind: {
+            "ints": {
+                "op": "MAX", "source": "5 6 7 8 9", "index": "1 1 0 3 0", "lengths": "2 0 3", "result_lengths": "2 1 4",
+                "out_before": "0 0 0 0 0 0 10", "out": "0 6 0 9 0 0 10",
+            },
+            "flags": {
+                "op": "IOR", "source": "true false true", "index": "1 0 0", "lengths": "2 1", "result_lengths": "2 2",
+                "out_before": "false false false true", "out": "false true true true",
+            },
+        }[kind],
+    ),
+    family(
+        "seg_counts", "combining permutes", (ints("index"), lengths(), lengths("result_lengths", "m"), room("ints", "m")),
+        "For each place of each segment of the result how many indices of the same segment name it.",
+        limit=None, faults=(SUMS_OF_RESULT, BAD_NAMED_IN_SEGMENT), cut=("segments", "n"),
+        example={"index": "1 1 0 3 0", "lengths": "2 0 3", "result_lengths": "2 1 4", "out": "0 2 0 2 0 0 1"},
     ),
     # ---- texts ----
     family(

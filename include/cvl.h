@@ -502,6 +502,77 @@ CVL_CHECKED CvlStatus cvl_seg_first_senders(const int32_t *index, size_t index_l
 CVL_CHECKED CvlStatus cvl_seg_select_first_senders(const int32_t *index, size_t index_len, const bool *flags, size_t flags_len,
     CvlLengths lengths, CvlLengths result_lengths, int32_t *out, size_t out_len);
 
+/* ---- combining permutes: families ---- */
+
+/*
+ * No script calls these. A combining permute sends each element to the place that its index names and joins it with what stands
+ * there, so that one call adds up by key, or finds the least of each group; several elements that go to one place are joined in
+ * their order. out holds what stands before, and then the result, so that a call on a few elements of a large table touches no
+ * other place. To begin anew, fill out with what changes nothing, as 0 for CVL_ADD and INT32_MAX for CVL_MIN. Booleans in out
+ * that are neither 0 nor 1 become 1.
+ *
+ * Where there are lengths an index counts from the start of its segment of out. The faults by the lengths come first, those of
+ * `lengths` before those of `result_lengths`; there are as many of the one as of the other, else 7 LengthMismatch.
+ */
+
+/*
+ * cvl_combine_permute_int: At each place of out what stands there, joined by the operator, of CVL_ADD to CVL_XOR, with each
+ * integer whose index names the place. out may have any number of places.
+ * Faults: 13 TooLong, also where out is; 7 LengthMismatch where source and index are not equally long; 10 IndexOutOfRange at
+ * the first index that is no place of the result.
+ * op = CVL_ADD, source = 5 6 7 8, index = 2 0 2 1, out = 100 200 300: out = 106 208 312
+ */
+CVL_CHECKED CvlStatus cvl_combine_permute_int(uint32_t op, const int32_t *source, size_t source_len, const int32_t *index,
+    size_t index_len, int32_t *out, size_t out_len);
+
+/*
+ * cvl_combine_permute_bool: At each place of out what stands there, joined by the operator, of CVL_AND to CVL_XOR, with each
+ * boolean whose index names the place. out may have any number of places.
+ * Faults: 13 TooLong, also where out is; 7 LengthMismatch where source and index are not equally long; 10 IndexOutOfRange at
+ * the first index that is no place of the result.
+ * op = CVL_XOR, source = true true true, index = 2 0 2, out = false false true: out = true false true
+ */
+CVL_CHECKED CvlStatus cvl_combine_permute_bool(uint32_t op, const bool *source, size_t source_len, const int32_t *index,
+    size_t index_len, bool *out, size_t out_len);
+
+/*
+ * cvl_counts: For each place of the result how many indices name it. The result may have any number of places.
+ * Faults: 13 TooLong, also where out is; 10 IndexOutOfRange at the first index that is no place of the result.
+ * index = 2 0 2 3: out = 1 0 2 1
+ */
+CVL_CHECKED CvlStatus cvl_counts(const int32_t *index, size_t index_len, int32_t *out, size_t out_len);
+
+/*
+ * cvl_seg_combine_permute_int: At each place of each segment of out what stands there, joined by the operator, of CVL_ADD to
+ * CVL_XOR, with each integer of the same segment whose index names the place.
+ * Faults: 7 LengthMismatch where source and index are not equally long, or the lengths do not add up to them, or the result
+ * lengths to out; 10 IndexOutOfRange at the first index that is no place of its segment of the result.
+ * op = CVL_MAX, source = 5 6 7 8 9, index = 1 1 0 3 0, lengths = 2 0 3, result_lengths = 2 1 4, out = 0 0 0 0 0 0 10: out = 0 6
+ * 0 9 0 0 10
+ */
+CVL_CHECKED CvlStatus cvl_seg_combine_permute_int(uint32_t op, const int32_t *source, size_t source_len, const int32_t *index,
+    size_t index_len, CvlLengths lengths, CvlLengths result_lengths, int32_t *out, size_t out_len);
+
+/*
+ * cvl_seg_combine_permute_bool: At each place of each segment of out what stands there, joined by the operator, of CVL_AND to
+ * CVL_XOR, with each boolean of the same segment whose index names the place.
+ * Faults: 7 LengthMismatch where source and index are not equally long, or the lengths do not add up to them, or the result
+ * lengths to out; 10 IndexOutOfRange at the first index that is no place of its segment of the result.
+ * op = CVL_IOR, source = true false true, index = 1 0 0, lengths = 2 1, result_lengths = 2 2, out = false false false true: out
+ * = false true true true
+ */
+CVL_CHECKED CvlStatus cvl_seg_combine_permute_bool(uint32_t op, const bool *source, size_t source_len, const int32_t *index,
+    size_t index_len, CvlLengths lengths, CvlLengths result_lengths, bool *out, size_t out_len);
+
+/*
+ * cvl_seg_counts: For each place of each segment of the result how many indices of the same segment name it.
+ * Faults: 7 LengthMismatch where the lengths do not add up to the index, or the result lengths to out; 10 IndexOutOfRange at
+ * the first index that is no place of its segment of the result.
+ * index = 1 1 0 3 0, lengths = 2 0 3, result_lengths = 2 1 4: out = 0 2 0 2 0 0 1
+ */
+CVL_CHECKED CvlStatus cvl_seg_counts(const int32_t *index, size_t index_len, CvlLengths lengths, CvlLengths result_lengths,
+    int32_t *out, size_t out_len);
+
 /* ---- texts: families ---- */
 
 /*
@@ -1923,6 +1994,26 @@ CVL_CHECKED CvlStatus cvl_segments_first_senders(const int32_t *index, size_t in
  */
 CVL_CHECKED CvlStatus cvl_segments_select_first_senders(const int32_t *index, size_t index_len, const bool *flags,
     size_t flags_len, const CvlSegments *segments, const CvlSegments *result_segments, int32_t *out, size_t out_len);
+
+/*
+ * At each place of each segment of out what stands there, joined by the operator, of CVL_ADD to CVL_XOR, with each integer of
+ * the same segment whose index names the place.
+ */
+CVL_CHECKED CvlStatus cvl_segments_combine_permute_int(uint32_t op, const int32_t *source, size_t source_len,
+    const int32_t *index, size_t index_len, const CvlSegments *segments, const CvlSegments *result_segments, int32_t *out,
+    size_t out_len);
+
+/*
+ * At each place of each segment of out what stands there, joined by the operator, of CVL_AND to CVL_XOR, with each boolean of
+ * the same segment whose index names the place.
+ */
+CVL_CHECKED CvlStatus cvl_segments_combine_permute_bool(uint32_t op, const bool *source, size_t source_len,
+    const int32_t *index, size_t index_len, const CvlSegments *segments, const CvlSegments *result_segments, bool *out,
+    size_t out_len);
+
+/* For each place of each segment of the result how many indices of the same segment name it. */
+CVL_CHECKED CvlStatus cvl_segments_counts(const int32_t *index, size_t index_len, const CvlSegments *segments,
+    const CvlSegments *result_segments, int32_t *out, size_t out_len);
 
 /*
  * The text of a vector of integers that is cut into segments: the texts of the segments, a space between each two, in brackets.

@@ -322,6 +322,29 @@ CVL_CHECKED CvlStatus cvl_seg_first_senders_on(const CvlPool *pool, const int32_
 CVL_CHECKED CvlStatus cvl_seg_select_first_senders_on(const CvlPool *pool, const int32_t *index, size_t index_len,
     const bool *flags, size_t flags_len, CvlLengths lengths, CvlLengths result_lengths, int32_t *out, size_t out_len);
 
+/* cvl_combine_permute_int in parts: not cut. */
+CVL_CHECKED CvlStatus cvl_combine_permute_int_on(const CvlPool *pool, uint32_t op, const int32_t *source, size_t source_len,
+    const int32_t *index, size_t index_len, int32_t *out, size_t out_len);
+
+/* cvl_combine_permute_bool in parts: not cut. */
+CVL_CHECKED CvlStatus cvl_combine_permute_bool_on(const CvlPool *pool, uint32_t op, const bool *source, size_t source_len,
+    const int32_t *index, size_t index_len, bool *out, size_t out_len);
+
+/* cvl_counts in parts: not cut. */
+CVL_CHECKED CvlStatus cvl_counts_on(const CvlPool *pool, const int32_t *index, size_t index_len, int32_t *out, size_t out_len);
+
+/* cvl_seg_combine_permute_int in parts: cut between segments. */
+CVL_CHECKED CvlStatus cvl_seg_combine_permute_int_on(const CvlPool *pool, uint32_t op, const int32_t *source, size_t source_len,
+    const int32_t *index, size_t index_len, CvlLengths lengths, CvlLengths result_lengths, int32_t *out, size_t out_len);
+
+/* cvl_seg_combine_permute_bool in parts: cut between segments. */
+CVL_CHECKED CvlStatus cvl_seg_combine_permute_bool_on(const CvlPool *pool, uint32_t op, const bool *source, size_t source_len,
+    const int32_t *index, size_t index_len, CvlLengths lengths, CvlLengths result_lengths, bool *out, size_t out_len);
+
+/* cvl_seg_counts in parts: cut between segments. */
+CVL_CHECKED CvlStatus cvl_seg_counts_on(const CvlPool *pool, const int32_t *index, size_t index_len, CvlLengths lengths,
+    CvlLengths result_lengths, int32_t *out, size_t out_len);
+
 /* cvl_read_ints in parts: cut at white space. */
 CVL_CHECKED CvlStatus cvl_read_ints_on(const CvlPool *pool, const char *text, size_t text_len, int32_t *out, size_t out_len,
     size_t *count);

@@ -5,7 +5,7 @@
 
 CvlStatus cvl_alone(const CvlRow *row, uint32_t op, const CvlSlot *s) { return cvl_make_alone(row, op, s); }
 
-/* Copies flags that are neither 0 nor 1 into memory that is to be freed. Whether there was some. */
+/* Copies flags that are neither 0 nor 1 into memory that is to be freed. Whether there was memory. */
 static bool copy(CvlSlot *slot, bool **copied) {
     if (cvl_proved_are_flags(slot->at, slot->number)) return 1;
     *copied = malloc(slot->number);
@@ -26,19 +26,27 @@ CvlStatus cvl_make_on_copies(const CvlRow *row, uint32_t op, const CvlSlot *s) {
         if (row->operand[k].is & CVL_COPIED) done = copy(&mine[k], &copies[k]);
     }
     status = done ? cvl_make(row, op, mine) : cvl_status(CVL_NO_RESOURCES, -1);
-    for (size_t k = 0; k < row->operands; k++) free(copies[k]);
+    for (size_t k = 0; k < row->operands; k++) {
+        /* a room that holds what stands before was copied, too, and the copy has the result */
+        if (copies[k] != NULL && (row->operand[k].is & CVL_WRITTEN) && status.number == CVL_DONE) memcpy((void *)s[k].at, copies[k], s[k].number);
+        free(copies[k]);
+    }
     return status;
 }
 
 /* ---- by a pool ---- */
 
-/* Whether a call has no fault that the driver can see, so that it may be cut; a place is one of the vector. */
+/*
+ * Whether a call has no fault that the driver can see, so that it may be cut; a place is one of the vector. Flags that stand in the room
+ * before have to be 0 and 1, since parts write into the room itself.
+ */
 /*@ requires is_call(row, s) && ((row->is & CVL_ONE_VALUE) != 0 ==> row->operands > 1);
     assigns \nothing;
     ensures \result ==> are_apart(row, s) && do_agree(row, op, s);
     ensures \result && (row->is & CVL_ONE_VALUE) != 0 ==> s[1].number < s[0].number; */
 static bool may_be_cut(const CvlRow *row, uint32_t op, const CvlSlot *s) {
     if (row->in_parts == NULL || !cvl_are_apart(row, s) || !cvl_do_agree(row, op, s)) return 0;
+    if ((row->operand[row->out].is & CVL_COPIED) && !cvl_is_clean(s[row->out])) return 0;
     return !(row->is & CVL_ONE_VALUE) || s[1].number < s[0].number;
 }
 

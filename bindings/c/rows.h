@@ -40,7 +40,7 @@ enum {
     CVL_IN_PLACE = 4,  /* an array that may be the room */
     CVL_BOUNDED = 8,   /* has no more elements than a vector may have, */
     CVL_TOO_MANY = 16, /* and more are told as such */
-    CVL_COPIED = 32,   /* flags that are copied if a byte is neither 0 nor 1, */
+    CVL_COPIED = 32,   /* flags that are copied if a byte is neither 0 nor 1; of a room that holds what stands before back, too */
     CVL_COPIED_IN_PARTS = 64 /* in parts too */
 };
 

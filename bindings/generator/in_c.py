@@ -68,13 +68,14 @@ def given(arguments):
 def example_text(row):
     """The example as one line: what is given, a colon, and what it gives."""
     operands = [operand.name for operand in row.takes]
-    known = [name for name in row.example if name in operands or name == "out_len"]
+    before = {table.before(operand.name): operand.name for operand in row.rooms if operand.over}
+    known = [name for name in row.example if name in operands or name in ("op", "out_len", *before)]
     gives = [operand for operand in row.written if operand.name in row.example]
 
     def shown(name):
         operand = next((found for found in row.operands if found.name == name), None)
         star = "*" if row.call and operand is not None and operand.role in ("single", "told") else ""
-        return f"{star}{name} = {row.example[name]}"
+        return f"{star}{before.get(name, name)} = {'CVL_' if name == 'op' else ''}{row.example[name]}"
 
     return f"{', '.join(map(shown, known))}: {', '.join(shown(operand.name) for operand in gives)}"
 

@@ -5,7 +5,7 @@ import table
 
 HEAD = f"""# The example of each call, and of each function that is no call: its name, its family and the number of its operator, or -1. Then a line for
 # each operand: what the call does with it, its name, its kind, how long it is, how many numbers it has, and these: 1 for true, and the
-# bytes of a text.
+# bytes of a text. Behind a room over which a call is made stands, as `before`, what it holds before.
 #
 # {rows.NOTE}
 """
@@ -18,14 +18,23 @@ def _numbers(operand, words):
     return [{"true": 1, "false": 0}.get(word, word) for word in words.split()]
 
 
-def _operand(operand, words):
+def _operand(operand, words, role=None):
     numbers = _numbers(operand, words)
-    return " ".join(map(str, [operand.role, operand.name, operand.kind, operand.extent or "alone", len(numbers), *numbers]))
+    return " ".join(map(str, [role or operand.role, operand.name, operand.kind, operand.extent or "alone", len(numbers), *numbers]))
+
+
+def _lines(row):
+    for operand in row.operands:
+        if operand.name in row.example:
+            yield _operand(operand, row.example[operand.name])
+        if operand.over:
+            yield _operand(operand, row.example[table.before(operand.name)], "before")
 
 
 def _example(row):
-    operator = next((found.number for found in table.OPERATORS if found.name == row.operator), -1)
-    lines = [_operand(operand, row.example[operand.name]) for operand in row.operands if operand.name in row.example]
+    operator = row.operator or row.example.get("op")
+    operator = next((found.number for found in table.OPERATORS if found.name == operator), -1)
+    lines = _lines(row)
     return "\n".join([f"= {row.name} {row.family.name} {operator}", *lines, ""])
 
 

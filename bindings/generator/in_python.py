@@ -45,6 +45,8 @@ class Direct(packages.Call):
         """What it gives that no call of the table gives, or nothing."""
         if self.is_range:
             return "WRITTEN"
+        if self.over:
+            return f"OVER_{self.result.kind.upper()}"
         if self.operands[-1].kind == "text":
             return "READ_NESTED" if len(self.told) > 1 else "READ"
         return "TEXT" if self.result.kind == "text" else None
@@ -91,6 +93,8 @@ def _shown(call, operand):
         return f"{name} = cvl.operators.{said}"
     if operand.kind == "text":
         return f"{name} = {said}"
+    if operand.over:
+        return f"{name} = numpy.array({_literal(_example_of(call)[table.before(name)].split())}, dtype={NUMPY[operand.kind]})"
     if operand.role == "room":
         many = _example_of(call)["out_len"]
         return f"{name} = numpy.zeros({many if operand.name == 'out' else (int(many) + 31) // 32}, dtype={NUMPY[operand.kind]})"
@@ -118,8 +122,9 @@ def _direct_result(call, shown):
 
 def _example(call):
     """The lines of the example, and what the last one shows."""
-    lines = [_shown(call, operand) for operand in call.operands]
-    shown = f"cvl.{call.name}({', '.join(map(name_of, call.operands))})"
+    taken = [*call.operands, *call.over]
+    lines = [_shown(call, operand) for operand in taken]
+    shown = f"cvl.{call.name}({', '.join(map(name_of, taken))})"
     direct = _direct_result(call, shown) if isinstance(call, Direct) else None
     if direct:
         lines += [f"values, segments = {shown}"] if call.gives == "READ_NESTED" else []
@@ -153,6 +158,7 @@ def _purpose(call):
         said += " out may be longer than the result, which stands at its front." if call.fills and call.told else ""
         said += f" It gives {call.told[0].name}." if call.is_range and len(call.row.rooms) == 1 else ""
         said += " It gives how many places it wrote." if call.is_range and len(call.row.rooms) > 1 else ""
+        said += " out is written where it is, and given." if call.over else ""
         said += " op is one of cvl.operators." if call.family.operators else ""
     return said + (" A number may stand for an array of it." if _spreads(call) else "")
 
@@ -167,7 +173,8 @@ def _docstring(call):
 
 
 def _names(call):
-    return [*map(name_of, call.operands), *(["*", "out=None"] if call.fills else [])]
+    room = ["out"] if call.over else ["*", "out=None"] if call.fills else []
+    return [*map(name_of, call.operands), *room]
 
 
 # ---- the compiled table ----
@@ -452,6 +459,9 @@ def _stub(call):
         yield f"def {call.name}({taken}) -> {direct or ('Segments' if call.gives_segments else GIVEN[call.result.kind])}: ..."
         return
     given, room = GIVEN[call.result.kind], ROOMS[call.result.kind]
+    if call.over:
+        yield f"def {call.name}({taken}, out: {room}) -> {room}: ..."
+        return
     yield "@overload"
     yield f"def {call.name}({taken}, *, out: None = ...) -> {given}: ..."
     yield "@overload"

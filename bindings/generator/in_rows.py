@@ -128,13 +128,13 @@ class Family:
             yield "IN_PLACE"
         cut = rows.is_array(operand) and self.first_of(operand.extent) == k and any(self.operands[j].extent == operand.extent for j in self.lengths)
         limited = operand is rows.limited(self.family)
-        if limited or k in self.lengths[:1] or cut:
+        if limited or k in self.lengths[:1] or cut or operand.over:
             yield "BOUNDED"
-        if limited or operand.extent == "range":
+        if limited or operand.extent == "range" or operand.over and not self.lengths:
             yield "TOO_MANY"
         if operand.copied:
             yield "COPIED"
-            if self.role(k) == "FLAGS" or self.cut not in ANY_BYTES:
+            if self.role(k) == "FLAGS" or not (operand.over or self.cut in ANY_BYTES):
                 yield "COPIED_IN_PARTS"
 
     def size(self, k):

@@ -59,6 +59,8 @@ def _literal(function, operand):
 
 
 def _operator_of_example(function):
+    if function.example and "op" in function.example:
+        return function.example["op"].title()
     return "Add" if any("int" in operand.kind for operand in function.operands) else "Ior"
 
 
@@ -105,6 +107,9 @@ def _example(function):
     if _has_ranges(function):
         yield from _example_of_range(function)
         return
+    if function.over:
+        yield from _example_over(function)
+        return
     call = f"cvl::{function.name}({', '.join(_example_arguments(function))})?"
     yield from _asserted(f"{call}{'.lengths()' if function.gives_segments else ''}", _result(function))
 
@@ -119,6 +124,13 @@ def _example_of_range(function):
     arguments = ", ".join([*_example_arguments(function), *(f"&mut {room.name}" for room in rooms)])
     yield from _asserted(f"cvl::{function.name}({arguments})?", example[_told(function).name])
     yield f"assert_eq!({_tuple([room.name for room in rooms], several)}, {_tuple(found, several)});"
+
+
+def _example_over(function):
+    room = function.result.name
+    yield f"let mut {room} = [{', '.join(function.example[table.before(room)].split())}];"
+    yield f"cvl::{function.name}({', '.join([*_example_arguments(function), f'&mut {room}'])})?;"
+    yield f"assert_eq!({room}, {_result(function)});"
 
 
 def _tuple(words, several):
@@ -265,6 +277,12 @@ def _range(function):
     return _function(function.name, taken, "usize", [f"let mut {told} = 0;", f"{_called(function)}?;", f"Ok({told})"])
 
 
+def _over(function):
+    """A function over a room that holds what stands before."""
+    taken = [*_taken(function), *(f"{room.name}: {ROOMS[room.kind]}" for room in function.over)]
+    return _function(function.name, taken, "()", [_called(function)])
+
+
 def _into(function):
     """The function into a room."""
     body, answer, room = [*_text(function)], "()", "as long as the result"
@@ -320,6 +338,8 @@ def _written(function):
         code = _function(function.name, ["lengths: &[i32]"], "Segments", ["Segments::new(lengths)"])
     elif _has_ranges(function):
         code = _range(function)
+    elif function.over:
+        code = _over(function)
     else:
         code = _several(function) if function.result.role == "room" else _single(function)
     if function.in_place:
@@ -407,11 +427,11 @@ def _tried(function):
         return f"cvl::{function.name}{end}({', '.join([*operator, *words, *(f'&mut room.{o.kind}' for o in rooms)])})"
 
     gives = fills = within = "None"
-    if _has_ranges(function):
+    if _has_ranges(function) or function.over:
         fills = f"Some(|given, room| told({called('', function.operands, function.row.rooms)}))"
     else:
         gives = f"Some(|given| numbers({called('', function.operands, [])}))"
-    if function.fills and not _has_ranges(function):
+    if gives != "None" and function.fills:
         fills = f"Some(|given, room| told({called('_into', _beside_room(function), [function.result])}))"
         for place in function.in_place[:1]:
             words = called("_in", function.operands, [], place)

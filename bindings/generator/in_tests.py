@@ -150,7 +150,7 @@ def operators():
 
 ROLES = {
     "reads": "READS", "lengths": "CUTS", "value": "VALUE", "place": "PLACE", "count": "COPIES", "room": "WRITES", "single": "WRITES_ONE",
-    "told": "COUNTS",
+    "told": "WRITES_COUNT",
 }  # fmt: skip
 KINDS = {"ints": "INT", "flags": "FLAG", "text": "BYTE", "marks": "WORD", "int": "INT", "flag": "FLAG", "sum": "SUM", "size": "SIZE"}
 EXTENTS = {

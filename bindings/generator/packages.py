@@ -34,7 +34,13 @@ class Call:
     def is_sized(self):
         """Whether no operand says how long the result is."""
         others = [operand for operand in self.row.operands if operand != self.result]
-        return self.result is not None and self.result.extent == "m" and all(operand.extent != "m" for operand in others)
+        is_new = self.result is not None and not self.result.over
+        return is_new and self.result.extent == "m" and all(operand.extent != "m" for operand in others)
+
+    @property
+    def over(self):
+        """The rooms that hold what stands before, which a caller always has."""
+        return [operand for operand in self.row.rooms if operand.over]
 
     @property
     def example(self):

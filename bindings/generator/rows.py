@@ -248,6 +248,11 @@ def extent_differences():
                 words = row.example[operand.name].split()
                 lengths["segments"].add(len(words))
                 lengths[operand.extent].add(sum(map(int, words)))
+        for operand in row.rooms:
+            if operand.over and table.before(operand.name) not in row.example:
+                yield f"the example of {row.name} does not say what stands in {operand.name} before"
+            elif operand.over:
+                lengths[operand.extent].add(len(row.example[table.before(operand.name)].split()))
         if row.result and row.result.role == "room" and row.result.kind not in ("text", "marks") and row.result.extent in ("n", "m", "segments", "total"):
             lengths[row.result.extent].add(len(row.example["out"].split()))
         for extent, found in lengths.items():

@@ -274,11 +274,12 @@ static void fill_row_offsets(int32_t *offsets, size_t count, size_t entries) {
     }
 }
 
-/* The indices of first senders, most times each a place of its segment of the result; those whose flag is false are no places. */
+/* The indices of first senders or combining permutes, most times each a place of its segment of the result; those whose flag is false are no
+ * places. */
 static void fill_senders(const Row *row, Given *g) {
-    const bool selects = kind_of(row, 1) == FLAG;
-    const size_t out = operand(row, WRITES), many = g->len[0];
-    int32_t *index = (int32_t *)g->at[0];
+    const bool selects = kind_of(row, 1) == FLAG, combines = row->model == COMBINE_PERMUTE || row->model == SEG_COMBINE_PERMUTE;
+    const size_t out = operand(row, WRITES), many = g->len[combines];
+    int32_t *index = (int32_t *)g->at[combines];
     if (has_negative(g, row)) return;
     const Cuts from = cuts_of(row, g, 0, many), to = cuts_of(row, g, 1, g->len[out] + (extent_of(row, out) == OF_RANGE ? below(9) : 0));
     for (size_t s = 0; s < from.count && s < to.count; s++) {
@@ -420,7 +421,7 @@ static void make(const Row *row, Given *g) {
     }
     if (row->model >= PERMUTE && row->model <= SEG_BACK_PERMUTE) fill_indices(row, g, n, m);
     if (row->model == SEG_EXTRACT || row->model == SEG_REPLACE || row->model == PERMUTE_RANGE || row->model == SELECT_PERMUTE_RANGE) fill_indices(row, g, n, n);
-    if (row->model >= FIRST_SENDERS && row->model <= SELECT_FIRST_SENDERS_RANGE) fill_senders(row, g);
+    if (row->model >= FIRST_SENDERS && row->model <= SEG_COUNTS) fill_senders(row, g);
     if (row->model >= SPARSE_PRODUCT && row->model <= CHECKED_SPARSE_PRODUCT_BY_OFFSETS) fill_columns(g);
     move_rooms(row, g);
     for (size_t k = 0; k < count; k++) {

@@ -243,8 +243,15 @@ static void vectors(void) {
             cvl_int2(CVL_DIV, a, n, a + 1, n, room, n),
             cvl_back_permute_int(a, n, a, n, room, n),
             cvl_first_senders(a, n, room, n),
+            cvl_combine_permute_int(CVL_ADD, a, n, a, n, room, n),
+            cvl_combine_permute_int(CVL_ADD, a, 1, a, 1, room, n),
+            cvl_counts(a, n, room, n),
+            cvl_counts(a, 1, room, n),
         };
-        const uint32_t of_elements[] = {CVL_DIVIDE_BY_ZERO, CVL_INDEX_OUT_OF_RANGE, CVL_INDEX_OUT_OF_RANGE};
+        const uint32_t of_elements[] = {
+            CVL_DIVIDE_BY_ZERO, CVL_INDEX_OUT_OF_RANGE, CVL_INDEX_OUT_OF_RANGE, CVL_INDEX_OUT_OF_RANGE, CVL_INDEX_OUT_OF_RANGE, CVL_INDEX_OUT_OF_RANGE,
+            CVL_INDEX_OUT_OF_RANGE,
+        };
         for (size_t k = 0; k < sizeof status / sizeof *status; k++, calls++) {
             const uint32_t right = n == most ? of_elements[k] : CVL_TOO_LONG;
             if (status[k].number != right) fail("a long vector", "another status", status[k].number, right);

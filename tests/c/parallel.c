@@ -153,6 +153,14 @@ static bool is_white(char byte) { return byte == ' ' || byte == '\t' || byte == 
     X(seg_first_senders, cvl_seg_first_senders, in.seg_default_index, in.n, BY(in.lengths, in.segments), BY(in.wide, in.segments), r->ints, in.m) \
     X(seg_select_first_senders, cvl_seg_select_first_senders, in.seg_select_index, in.n, in.flags, in.n, BY(in.lengths, in.segments), \
       BY(in.lengths, in.segments), r->ints, in.n)                                                                              \
+    X(combine, cvl_combine_permute_int, CVL_ADD, in.a, in.n, in.default_index, in.n, r->ints, in.m)                            \
+    X(combine_bools, cvl_combine_permute_bool, CVL_XOR, in.p, in.n, in.default_index, in.n, r->bools, in.m)                    \
+    X(counts, cvl_counts, in.back_index, in.k, r->ints, in.n)                                                                  \
+    X(seg_combine, cvl_seg_combine_permute_int, CVL_MUL, in.a, in.n, in.seg_default_index, in.n, BY(in.lengths, in.segments),  \
+      BY(in.wide, in.segments), r->ints, in.m)                                                                                 \
+    X(seg_combine_bools, cvl_seg_combine_permute_bool, CVL_XOR, in.p, in.n, in.seg_default_index, in.n, BY(in.lengths, in.segments), \
+      BY(in.wide, in.segments), r->bools, in.m)                                                                                \
+    X(seg_counts, cvl_seg_counts, in.seg_back_index, in.k, BY(in.back_lengths, in.segments), BY(in.lengths, in.segments), r->ints, in.n) \
     X(askew, cvl_int2, CVL_ADD, r->ints, in.n / 2, in.b, in.n / 2, r->ints + in.n / 4, in.n / 2)                               \
     X(askew_scan, cvl_int_scan, CVL_ADD, r->ints, in.n / 2, r->ints + in.n / 4, in.n / 2)                                      \
     X(differ, cvl_int2, CVL_ADD, in.a, in.n, in.b, in.n / 2, r->ints, in.n)                                                    \

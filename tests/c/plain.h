@@ -297,6 +297,29 @@ static size_t send_first(const char *call) {
 /* The range of all places that have a sender, of which there are as many as true flags. */
 static size_t send_first_flagged(const char *call) { return send_first(call) == n ? trues_in(0, n) : 0; }
 
+/* Each group of the room is as long as that of the index. The bytes of the room are one another's before. */
+static size_t combine(const char *call) {
+    int32_t before;
+    memset(&before, UNTOUCHED, sizeof before);
+    for (size_t k = 0; k < n; k++) wanted[k] = is_bool(call) ? 1 : before;
+    for (size_t g = 0; g < groups(by_segments(call)); g++) {
+        int32_t *const there = wanted + from(by_segments(call), g);
+        for (size_t k = from(by_segments(call), g); k < to(by_segments(call), g); k++) {
+            there[held[1][k]] = joined(is_bool(call) ? CVL_XOR : CVL_ADD, there[held[1][k]], held[0][k]);
+        }
+    }
+    return n;
+}
+
+static size_t count_named(const char *call) {
+    memset(wanted, 0, n * sizeof *wanted);
+    for (size_t g = 0; g < groups(by_segments(call)); g++) {
+        const size_t start = from(by_segments(call), g);
+        for (size_t k = start; k < to(by_segments(call), g); k++) wanted[start + (size_t)held[0][k]]++;
+    }
+    return n;
+}
+
 static size_t total(const char *call) {
     (void)call;
     return n;
@@ -329,7 +352,8 @@ static const struct Reading {
 } readings[] = {
     {"sel", "w", chosen}, {"sel", "p", send_flagged}, {"smp", "p", send}, {"def", "p", send}, {"bck", "p", gather}, {"pck", "l", pack},
     {"pck", "f", count_trues}, {"cnt", "l", count_trues}, {"ext", "v", extract}, {"rep", "v", replace}, {"dis", "v", distribute},
-    {"ind", "l", number}, {"fst", "l", send_first}, {"fsr", "l", send_first_flagged}, {"mke", "f", total}, {"off", "f", tell_offsets},
+    {"ind", "l", number}, {"fst", "l", send_first}, {"fsr", "l", send_first_flagged}, {"cmb", "l", combine},
+    {"nmd", "l", count_named}, {"mke", "f", total}, {"off", "f", tell_offsets},
     {"len", "f", tell_lengths}, {"num", "f", tell_numbers}, {"prd", "r", multiply}, {"", "w", place_by_place}, {"", "s", scan},
     {"", "r", reduce},
 };
@@ -354,7 +378,8 @@ static const char *const calls_of_exports[][2] = {
     {"default_permute_bool", "def_pub"}, {"back_permute_int", "bck_puz"}, {"back_permute_bool", "bck_pub"},
     {"permute_int_range", "smp_puz"}, {"permute_bool_range", "smp_pub"}, {"select_permute_int_range", "sel_puz"},
     {"select_permute_bool_range", "sel_pub"}, {"first_senders", "fst_luz"}, {"select_first_senders", "fst_luz"},
-    {"first_senders_range", "fst_luz"}, {"select_first_senders_range", "fsr_luz"}, {"int_scan_after", "add_suz"}, {"bool_scan_after", "xor_sub"},
+    {"first_senders_range", "fst_luz"}, {"select_first_senders_range", "fsr_luz"}, {"combine_permute_int", "cmb_luz"},
+    {"combine_permute_bool", "cmb_lub"}, {"counts", "nmd_luz"}, {"int_scan_after", "add_suz"}, {"bool_scan_after", "xor_sub"},
     {"checked_scan_after", "tot_suz"}, {"exact_sum", "tot_ruz"}, {"read_ints", "cpy_wuz"},
     {"read_ints_after", "cpy_wuz"}, {"write_ints", "cpy_wuz"}, {"write_bools", "cpy_wub"}, {"new", "mke_fov"},
     {"free", "mke_fov"}, {"from_offsets", "len_fov"}, {"offsets", "off_fov"}, {"numbers", "num_fov"}, {"sparse_product", "prd_rez"},
@@ -387,13 +412,19 @@ static void name_call(const Row *row, char *call) {
 
 static unsigned char *memory[MOST_ARRAYS];
 
+/* What each byte of a room is before a call. A boolean that a call joins with others is true, by 1 or by any byte but 0. */
+static int byte_before(const Row *row, Holds holds, bool odd) {
+    if (holds == NEW_DESCRIPTOR) return 0;
+    return holds == ROOM_FOR_FLAGS && strstr(row->name, "combine") != NULL && !odd ? 1 : UNTOUCHED;
+}
+
 /* Puts what array j holds where the call finds it. True flags are 1, or any byte but 0. */
 static void put(const Row *row, size_t j, bool odd) {
     const Holds holds = row->arrays[j];
     const Array array = array_of(holds);
     const CvlSegments descriptor = {lengths, segments, true};
     if (is_room(holds)) {
-        memset(memory[j], holds == NEW_DESCRIPTOR ? 0 : UNTOUCHED, bytes_of(holds));
+        memset(memory[j], byte_before(row, holds, odd), bytes_of(holds));
     } else if (holds == DESCRIPTOR) {
         memcpy(memory[j], &descriptor, sizeof descriptor);
     } else if (is_read_text(holds)) {

@@ -836,6 +836,82 @@ static void first_senders_of_segments(void) {
     FAULT(cvl_seg_select_first_senders(some, 5, f, 4, S(lengths, 3), S(widths, 3), ints, 7), CVL_LENGTH_MISMATCH, -1);
 }
 
+/* The rooms hold 77 at each place before, or true at each other place. */
+static void combining_permutes(void) {
+    const int32_t *source = I(5, 6, 7, 8), *index = I(2, 0, 2, 1);
+    const bool *f = B(true, true, true, false);
+    const size_t many = (size_t)CVL_MOST_ELEMENTS + 1;
+    INTS(cvl_combine_permute_int(CVL_ADD, source, 4, index, 4, ints, 3), 83, 85, 89);
+    INTS(cvl_combine_permute_int(CVL_MUL, source, 4, index, 4, ints, 4), 462, 616, 2695, 77);
+    INTS(cvl_combine_permute_int(CVL_MIN, source, 4, index, 4, ints, 3), 6, 8, 5);
+    INTS(cvl_combine_permute_int(CVL_MAX, I(99, 6, 100, -8), 4, index, 4, ints, 3), 77, 77, 100);
+    INTS(cvl_combine_permute_int(CVL_AND, source, 4, index, 4, ints, 3), 4, 8, 5);
+    INTS(cvl_combine_permute_int(CVL_IOR, source, 4, index, 4, ints, 3), 79, 77, 79);
+    INTS(cvl_combine_permute_int(CVL_XOR, source, 4, index, 4, ints, 3), 75, 69, 79);
+    INTS(cvl_combine_permute_int(CVL_ADD, I(INT32_MAX, INT32_MAX), 2, I(0, 0), 2, ints, 1), 75);
+    INTS(cvl_combine_permute_int(CVL_ADD, NULL, 0, NULL, 0, ints, 2), 77, 77);
+    BOOLS(cvl_combine_permute_bool(CVL_XOR, f, 4, I(0, 1, 1, 2), 4, bools, 3), false, false, true);
+    BOOLS(cvl_combine_permute_bool(CVL_AND, f, 4, index, 4, bools, 3), true, false, true);
+    BOOLS_OF_COPIES(1, cvl_combine_permute_bool(CVL_IOR, O(0, 9, 2, 1), 4, I(0, 1, 1, 3), 4, bools, 4), true, true, true, true);
+    INTS(cvl_counts(index, 4, ints, 4), 1, 1, 2, 0);
+    INTS(cvl_counts(NULL, 0, ints, 2), 0, 0);
+    FAULT(cvl_combine_permute_int(CVL_ADD, source, 4, index, 4, ints, 2), CVL_INDEX_OUT_OF_RANGE, 0);
+    FAULT(cvl_combine_permute_int(CVL_ADD, source, 4, I(0, -1, 9, 0), 4, ints, 3), CVL_INDEX_OUT_OF_RANGE, 1);
+    FAULT(cvl_combine_permute_int(CVL_ADD, source, 1, index, 1, NULL, 0), CVL_INDEX_OUT_OF_RANGE, 0);
+    FAULT(cvl_combine_permute_int(CVL_ADD, source, 3, I(0, 9, 0, 0), 4, ints, 3), CVL_LENGTH_MISMATCH, -1);
+    FAULT(cvl_combine_permute_int(CVL_SUB, source, 4, index, 3, ints, 3), CVL_UNKNOWN_CALL, -1);
+    FAULT(cvl_combine_permute_bool(CVL_ADD, f, 4, index, 4, bools, 3), CVL_UNKNOWN_CALL, -1);
+    FAULT(cvl_combine_permute_int(CVL_ADD, source, 4, too_many_ints, many, ints, 3), CVL_TOO_LONG, -1);
+    FAULT(cvl_combine_permute_int(CVL_ADD, source, 4, index, 3, too_many_ints, many), CVL_TOO_LONG, -1);
+    FAULT(cvl_combine_permute_bool(CVL_IOR, f, 4, I(0, 0, 3, 0), 4, bools, 3), CVL_INDEX_OUT_OF_RANGE, 2);
+    FAULT(cvl_combine_permute_int(CVL_ADD, source, 4, index, 4, (int32_t *)(uintptr_t)(source + 1), 3), CVL_OVERLAP, -1);
+    FAULT(cvl_counts(index, 4, ints, 2), CVL_INDEX_OUT_OF_RANGE, 0);
+    FAULT(cvl_counts(too_many_ints, many, ints, 3), CVL_TOO_LONG, -1);
+    FAULT(cvl_counts(index, 4, too_many_ints, many), CVL_TOO_LONG, -1);
+}
+
+/* Booleans that stand in the room and are neither 0 nor 1 are true, and become 1; at a fault and without memory they stay. */
+static void combining_permutes_over_odd_booleans(void) {
+    static const unsigned char before[] = {2, 0, 77, 255}, wanted[] = {1, 1, 0, 1};
+    static const char call[] = "cvl_combine_permute_bool over odd booleans";
+    unsigned char room[4];
+    CvlStatus status;
+    memcpy(room, before, 4);
+    tells(call, cvl_combine_permute_bool(CVL_XOR, B(true, true), 2, I(1, 4), 2, (bool *)room, 4), CVL_INDEX_OUT_OF_RANGE, 1);
+    if (memcmp(room, before, 4) != 0) fail(call, "a boolean was written");
+    refusing = 1;
+    status = cvl_combine_permute_bool(CVL_XOR, B(true, true), 2, I(1, 2), 2, (bool *)room, 4);
+    refusing = 0;
+    tells(call, status, CVL_NO_RESOURCES, -1);
+    if (memcmp(room, before, 4) != 0) fail(call, "a boolean was written without memory");
+    tells(call, cvl_combine_permute_bool(CVL_XOR, B(true, true), 2, I(1, 2), 2, (bool *)room, 4), CVL_DONE, -1);
+    if (memcmp(room, wanted, 4) != 0) fail(call, "other booleans");
+}
+
+static void combining_permutes_of_segments(void) {
+    const int32_t *source = I(5, 6, 7, 8, 9), *index = I(1, 1, 0, 3, 0), *lengths = I(2, 0, 3), *widths = I(2, 1, 4);
+    const bool *f = B(true, false, true, true, true);
+    INTS(cvl_seg_combine_permute_int(CVL_ADD, source, 5, index, 5, S(lengths, 3), S(widths, 3), ints, 7), 77, 88, 77, 93, 77, 77, 85);
+    INTS(cvl_seg_combine_permute_int(CVL_MIN, source, 5, index, 5, S(lengths, 3), S(widths, 3), ints, 7), 77, 5, 77, 7, 77, 77, 8);
+    BOOLS(cvl_seg_combine_permute_bool(CVL_XOR, f, 5, index, 5, S(lengths, 3), S(widths, 3), bools, 7), true, true, true, false, true, false, false);
+    BOOLS_OF_COPIES(1, cvl_seg_combine_permute_bool(CVL_XOR, O(3, 0, 1, 9, 1), 5, index, 5, S(lengths, 3), S(widths, 3), bools, 7), true, true, true,
+        false, true, false, false);
+    INTS(cvl_seg_counts(index, 5, S(lengths, 3), S(widths, 3), ints, 7), 0, 2, 0, 2, 0, 0, 1);
+    INTS(cvl_seg_counts(NULL, 0, S(I(0, 0), 2), S(I(1, 2), 2), ints, 3), 0, 0, 0);
+    FAULT(cvl_seg_combine_permute_int(CVL_ADD, source, 5, index, 5, S(lengths, 3), S(I(2, 2, 3), 3), ints, 7), CVL_INDEX_OUT_OF_RANGE, 3);
+    FAULT(cvl_seg_combine_permute_int(CVL_ADD, source, 5, I(1, -1, 0, 9, 0), 5, S(lengths, 3), S(widths, 3), ints, 7), CVL_INDEX_OUT_OF_RANGE, 1);
+    FAULT(cvl_seg_combine_permute_int(CVL_ADD, source, 5, I(1, 2, 0, 9, 0), 5, S(lengths, 3), S(widths, 3), ints, 6), CVL_LENGTH_MISMATCH, -1);
+    FAULT(cvl_seg_combine_permute_int(CVL_ADD, source, 4, index, 5, S(lengths, 3), S(widths, 3), ints, 7), CVL_LENGTH_MISMATCH, -1);
+    FAULT(cvl_seg_combine_permute_int(CVL_ADD, source, 5, index, 5, S(I(2, 0, 2), 3), S(widths, 3), ints, 7), CVL_LENGTH_MISMATCH, -1);
+    FAULT(cvl_seg_combine_permute_int(CVL_ADD, source, 5, index, 5, S(lengths, 3), S(I(2, 5), 2), ints, 7), CVL_LENGTH_MISMATCH, -1);
+    FAULT(cvl_seg_combine_permute_int(CVL_DIV, source, 5, index, 5, S(I(2, -1, 4), 3), S(widths, 3), ints, 7), CVL_UNKNOWN_CALL, -1);
+    FAULT(cvl_seg_combine_permute_int(CVL_ADD, source, 5, index, 5, S(I(2, -1, 4), 3), S(I(-1, 4, 4), 3), ints, 7), CVL_NEGATIVE_LENGTH, 1);
+    FAULT(cvl_seg_combine_permute_int(CVL_ADD, source, 5, index, 5, S(lengths, 3), S(I(2, 6, -1), 3), ints, 7), CVL_NEGATIVE_LENGTH, 2);
+    FAULT(cvl_seg_combine_permute_bool(CVL_AND, f, 5, index, 5, S(lengths, 3), S(I(1, 2, 4), 3), bools, 7), CVL_INDEX_OUT_OF_RANGE, 0);
+    FAULT(cvl_seg_counts(index, 5, S(lengths, 3), S(I(2, 2, 3), 3), ints, 7), CVL_INDEX_OUT_OF_RANGE, 3);
+    FAULT(cvl_seg_counts(index, 5, S(lengths, 3), S(widths, 3), ints, 6), CVL_LENGTH_MISMATCH, -1);
+}
+
 static void permutes_of_wrong_segments(void) {
     const int32_t *five = I(1, 2, 3, 4, 5), *lengths = I(2, 0, 3), *turn = I(1, 0, 2, 0, 1), *negative = I(2, 4, -1);
     const bool *flags = B(false, true, true, false, true);
@@ -1549,6 +1625,9 @@ int main(void) {
     permutes_of_wrong_segments();
     first_senders();
     first_senders_of_segments();
+    combining_permutes();
+    combining_permutes_over_odd_booleans();
+    combining_permutes_of_segments();
     texts();
     texts_of_any_length();
     made_descriptors();

@@ -19,7 +19,7 @@ module examples
     integer, parameter :: most_operands = 8
     character(64) :: name, family
     integer(c_int32_t) :: op
-    type(operand) :: given(most_operands)
+    type(operand) :: given(most_operands), before(most_operands)
     integer :: operands = 0, tried = 0, wrong = 0
 
 contains
@@ -43,7 +43,7 @@ contains
         one%count = int(numbers(1), c_size_t)
     end subroutine hold
 
-    ! Reads an operand of the example.
+    ! Reads an operand of the example, or what the last one holds before the call.
     subroutine read_operand(line)
         character(*), intent(in) :: line
         character(16) :: role, named, kind, extent
@@ -53,11 +53,17 @@ contains
         read (line, *) role, named, kind, extent, count
         allocate (numbers(count))
         read (line, *) role, named, kind, extent, count, numbers
+        if (role == "before") then
+            call hold(before(operands), numbers)
+            return
+        end if
         operands = operands + 1
         given(operands)%role = role
         given(operands)%name = named
         given(operands)%kind = kind
         call hold(given(operands), numbers)
+        before(operands) = given(operands)
+        if (is_written(given(operands))) before(operands) = other(given(operands))
     end subroutine read_operand
 
     ! Whether a call writes an operand.
@@ -131,8 +137,7 @@ contains
         integer :: k, place
 
         do k = 1, operands
-            o(k) = given(k)
-            if (is_written(given(k))) o(k) = other(given(k))
+            o(k) = before(k)
         end do
         call make(key, o(:operands), status, place, made)
         if (.not. (made .or. asked)) return

@@ -164,13 +164,12 @@ impl Room {
         room
     }
 
-    /// Rooms that are so much longer, in which each number differs from that of the example.
+    /// Rooms that are so much longer, which hold what the example says, or numbers that differ from those that it leaves.
     fn before(example: &Example, longer: isize) -> Room {
         let mut room = Room::default();
         for operand in example.operands.iter().filter(|operand| operand.role == "room") {
             let length = (operand.numbers.len() as isize + longer) as usize;
-            let others = operand.numbers.iter().map(|number| number ^ 1).chain([1]);
-            room.put(operand.kind, others.take(length));
+            room.put(operand.kind, operand.numbers_before().into_iter().chain([1]).take(length));
         }
         room
     }
@@ -242,8 +241,8 @@ fn check_other_lengths(call: &Call, example: &Example) {
             assert!(is_refused(call.fills.unwrap()(&given, &mut room)), "{}, {}", call.name, operand.name);
             assert_eq!(room, Room::before(example, 0), "{}, {}", call.name, operand.name);
         }
-        if several {
-            assert!(is_refused(call.gives.unwrap()(&given)), "{}, {}", call.name, operand.name);
+        if let (true, Some(gives)) = (several, call.gives) {
+            assert!(is_refused(gives(&given)), "{}, {}", call.name, operand.name);
         }
     }
 }

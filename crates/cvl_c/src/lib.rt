@@ -6,6 +6,7 @@
 #![tactic(auto)]
 
 mod checked_sums;
+mod combines;
 mod descriptors;
 mod elements;
 mod flags;

@@ -20,9 +20,9 @@ const DONE: CvlStatus = CvlStatus {
     place: -1,
 };
 
-/// The memory of an operand, in which a number has as many bytes as in C.
-fn stored(operand: &Operand, number_at: impl Fn(i64) -> i64) -> Vec<Cell<u64>> {
-    let bytes = operand.numbers.iter().map(|&number| number_at(number)).flat_map(|number| match operand.kind {
+/// The memory of an operand that holds these numbers, each in as many bytes as in C.
+fn stored(operand: &Operand, numbers: &[i64]) -> Vec<Cell<u64>> {
+    let bytes = numbers.iter().flat_map(|&number| match operand.kind {
         "ints" | "int" => (number as i32).to_ne_bytes().to_vec(),
         "flags" | "flag" | "text" => vec![number as u8],
         "marks" => (number as u32).to_ne_bytes().to_vec(),
@@ -36,7 +36,7 @@ fn stored(operand: &Operand, number_at: impl Fn(i64) -> i64) -> Vec<Cell<u64>> {
     words.map(Cell::new).collect()
 }
 
-/// What a call is given: where it writes, each number differs from that of the example in its lowest bit.
+/// What a call is given.
 pub struct Held<'a> {
     example: &'a Example,
     memory: Vec<Vec<Cell<u64>>>,
@@ -44,7 +44,7 @@ pub struct Held<'a> {
 
 impl Held<'_> {
     fn of(example: &Example) -> Held<'_> {
-        let before = |operand: &Operand| stored(operand, |number| number ^ i64::from(operand.is_written()));
+        let before = |operand: &Operand| stored(operand, &operand.numbers_before());
         Held {
             example,
             memory: example.operands.iter().map(before).collect(),
@@ -82,7 +82,7 @@ impl Held<'_> {
 
     /// Whether all memory is now as the example says: what was written, and what was read.
     fn is_as_the_example(&self) -> bool {
-        let wanted = self.example.operands.iter().map(|operand| stored(operand, |number| number));
+        let wanted = self.example.operands.iter().map(|operand| stored(operand, &operand.numbers));
         self.memory.iter().cloned().eq(wanted)
     }
 }

@@ -1,6 +1,7 @@
 //! The examples of the calls, read from the file that `bindings/generate` writes for each build.
 
-/// An operand: what the call does with it, what it is, how long, and its numbers: 1 for true, and the bytes of a text.
+/// An operand: what the call does with it, what it is, how long, and its numbers: 1 for true, and the bytes of a text. A room may say what it
+/// holds before.
 #[derive(Clone)]
 pub struct Operand {
     pub role: &'static str,
@@ -8,11 +9,18 @@ pub struct Operand {
     pub kind: &'static str,
     pub extent: &'static str,
     pub numbers: Vec<i64>,
+    pub before: Option<Vec<i64>>,
 }
 
 impl Operand {
     pub fn is_written(&self) -> bool {
         ["room", "single", "told"].contains(&self.role)
+    }
+
+    /// What it holds before a call: where a call writes, and nothing is said, each number differs from that of the example in its lowest bit.
+    pub fn numbers_before(&self) -> Vec<i64> {
+        let others = || self.numbers.iter().map(|number| number ^ i64::from(self.is_written()));
+        self.before.clone().unwrap_or_else(|| others().collect())
     }
 
     fn read(line: &'static str) -> Operand {
@@ -25,6 +33,7 @@ impl Operand {
             kind: words[2],
             extent: words[3],
             numbers,
+            before: None,
         }
     }
 }
@@ -47,11 +56,18 @@ impl Example {
     fn read(paragraph: &'static str) -> Example {
         let mut lines = paragraph.lines();
         let head: Vec<_> = lines.next().unwrap().split(' ').collect();
+        let mut operands: Vec<Operand> = Vec::new();
+        for operand in lines.map(Operand::read) {
+            match operands.last_mut() {
+                Some(room) if operand.role == "before" => room.before = Some(operand.numbers),
+                _ => operands.push(operand),
+            }
+        }
         Example {
             name: head[1],
             family: head[2],
             operator: head[3].parse().unwrap(),
-            operands: lines.map(Operand::read).collect(),
+            operands,
         }
     }
 
