@@ -39,7 +39,11 @@ static int is_room(const Operand *operand) { return cvl_needs[operand->kind].fla
 /* What to write instead of an object that is no array. A copy of a room would be another room, so none is advised. */
 static PyObject *advice_for(const Operand *operand) {
     const Element *element = cvl_needs[operand->kind].element;
-    if (is_room(operand)) return PyUnicode_FromFormat("a room is made by numpy.empty(n, dtype=%s)", element->written);
+    if (is_room(operand)) {
+        const char *const form = operand->extent == EXTENT_NONE ? "a room is made by numpy.empty(n, dtype=%s)"
+            : "a room that holds what stands before is made by, for instance, numpy.zeros(n, dtype=%s)";
+        return PyUnicode_FromFormat(form, element->written);
+    }
     if (element == &cvl_ints) return PyUnicode_FromFormat("write cvl.as_ints(%s)", operand->name);
     return PyUnicode_FromFormat("write numpy.array(%s, dtype=%s)", operand->name, element->written);
 }

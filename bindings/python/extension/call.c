@@ -5,7 +5,8 @@
 
 static PyObject *out_keyword;
 
-static const Operand out_ints = {"out", KIND_ROOM_INTS, EXTENT_NONE, NULL}, out_flags = {"out", KIND_ROOM_FLAGS, EXTENT_NONE, NULL};
+static const Operand out_ints = {"out", KIND_ROOM_INTS, EXTENT_NONE, NULL}, out_flags = {"out", KIND_ROOM_FLAGS, EXTENT_NONE, NULL},
+    over_ints = {"out", KIND_ROOM_INTS, EXTENT_M, NULL}, over_flags = {"out", KIND_ROOM_FLAGS, EXTENT_M, NULL};
 
 int cvl_keywords_ready(void) {
     out_keyword = PyUnicode_InternFromString("out");
@@ -22,6 +23,19 @@ int cvl_keywords_ready(void) {
 
 static int takes_out(const Family *family) { return family->gives <= GIVES_FRONT_FLAGS || family->gives == GIVES_READ; }
 
+/* Whether the room holds what stands before. Then a caller has to have one, and may give it by its place. */
+static int is_over(const Family *family) { return family->gives == GIVES_OVER_INTS || family->gives == GIVES_OVER_FLAGS; }
+
+static const Operand *out_of(const Family *family) {
+    switch (family->gives) {
+    case GIVES_FLAGS:
+    case GIVES_FRONT_FLAGS: return &out_flags;
+    case GIVES_OVER_INTS: return &over_ints;
+    case GIVES_OVER_FLAGS: return &over_flags;
+    default: return &out_ints;
+    }
+}
+
 /* The operand of a name, the number of operands for `out`, or -1. */
 static int place_of(const Family *family, PyObject *name) {
     for (int k = 0; k < family->count; k++) {
@@ -37,8 +51,9 @@ static int place_of(const Family *family, PyObject *name) {
 static int bind(const Row *row, PyObject *const *arguments, Py_ssize_t count, PyObject *keywords, PyObject **bound) {
     const Family *family = row->family;
     const Py_ssize_t named = keywords == NULL ? 0 : PyTuple_GET_SIZE(keywords);
-    if (count > family->count) {
-        PyErr_Format(PyExc_TypeError, "%s() takes %d positional arguments but %zd were given", row->name, family->count, count);
+    const int required = family->count + is_over(family);
+    if (count > required) {
+        PyErr_Format(PyExc_TypeError, "%s() takes %d positional arguments but %zd were given", row->name, required, count);
         return -1;
     }
     for (int k = 0; k <= family->count; k++) bound[k] = k < count ? arguments[k] : NULL;
@@ -52,9 +67,10 @@ static int bind(const Row *row, PyObject *const *arguments, Py_ssize_t count, Py
         }
         bound[place] = arguments[count + k];
     }
-    for (int k = 0; k < family->count; k++) {
+    for (int k = 0; k < required; k++) {
         if (bound[k] != NULL) continue;
-        PyErr_Format(PyExc_TypeError, "%s() missing 1 required argument: '%s'", row->name, family->operands[k].name);
+        PyErr_Format(PyExc_TypeError, "%s() missing 1 required argument: '%s'", row->name,
+            k < family->count ? family->operands[k].name : "out");
         return -1;
     }
     return 0;
@@ -259,7 +275,9 @@ static PyObject *lengths_result(Frame *frame) {
 static PyObject *result(Frame *frame, PyObject **bound, PyObject *out) {
     switch (frame->row->family->gives) {
     case GIVES_INTS:
-    case GIVES_FLAGS: return array_result(frame, out);
+    case GIVES_FLAGS:
+    case GIVES_OVER_INTS:
+    case GIVES_OVER_FLAGS: return array_result(frame, out);
     case GIVES_FRONT_INTS:
     case GIVES_FRONT_FLAGS: return front_result(frame, out);
     case GIVES_SEGMENTS: return fill(frame, NULL) ? cvl_segments_of(frame->room.held) : NULL;
@@ -277,10 +295,10 @@ PyObject *cvl_call(const Row *row, PyObject *const *arguments, Py_ssize_t count,
     Frame frame;
     if (bind(row, arguments, count, keywords, bound) < 0) return NULL;
     frame.row = row;
-    frame.out = row->family->gives == GIVES_FLAGS || row->family->gives == GIVES_FRONT_FLAGS ? &out_flags : &out_ints;
+    frame.out = out_of(row->family);
     frame.room = frame.second = (Given){.at = NULL};
     frame.no_memory = 0;
-    PyObject *out = bound[row->family->count] == Py_None ? NULL : bound[row->family->count];
+    PyObject *out = bound[row->family->count] == Py_None && !is_over(row->family) ? NULL : bound[row->family->count];
     if (take(&frame, bound, out) == 0) found = result(&frame, bound, out);
     let_go(&frame);
     return found;

@@ -62,6 +62,8 @@ typedef enum Extent { EXTENT_NONE, EXTENT_N, EXTENT_M, EXTENT_SEGMENTS, EXTENT_C
 typedef enum Gives {
     GIVES_INTS, /* an array, which may stand in the caller's room */
     GIVES_FLAGS,
+    GIVES_OVER_INTS, /* the caller's room, which holds what stands before */
+    GIVES_OVER_FLAGS,
     GIVES_FRONT_INTS, /* one that may be shorter than the room, and whose elements are counted */
     GIVES_FRONT_FLAGS,
     GIVES_INT, /* one value */

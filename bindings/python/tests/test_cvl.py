@@ -890,6 +890,95 @@ class FirstSenders(Limited):
             self.assertEqual((fault.number, fault.place, fault.said), (number, place, said))
 
 
+def combined(operator, source, index, out):
+    """What stands in `out`, joined with what is sent there, read plainly."""
+    found = [int(value) for value in out]
+    for value, place in zip(source, index):
+        found[place] = operator(found[place], int(value))
+    return found
+
+
+class CombiningPermutes(Limited):
+    def setUp(self):
+        rng = numpy.random.default_rng(7)
+        self.index, self.source = rng.integers(0, 60, 100, numpy.int32), rng.integers(-9, 9, 100, numpy.int32)
+        self.before = rng.integers(-9, 9, 64, numpy.int32)
+
+    def test_over_what_stands_there(self):
+        for number, operator in ((cvl.operators.ADD, int.__add__), (cvl.operators.MIN, min), (cvl.operators.XOR, int.__xor__)):
+            room = self.before.copy()
+            self.assertIs(cvl.combine_permute_int(number, self.source, self.index, room), room)
+            self.assertEqual(room.tolist(), combined(operator, self.source, self.index, self.before))
+            room = self.before.copy()
+            self.assertIs(cvl.combine_permute_int(op=number, source=self.source, index=self.index, out=room), room)
+            self.assertEqual(room.tolist(), combined(operator, self.source, self.index, self.before))
+
+    def test_of_booleans(self):
+        source, room = self.source > 0, self.before > 0
+        wanted = combined(int.__xor__, source, self.index, room)
+        self.assertEqual(cvl.combine_permute_bool(cvl.operators.XOR, source, self.index, room).tolist(), [bool(found) for found in wanted])
+        odd = numpy.array([2, 0, 255], dtype=numpy.uint8).view(bool)
+        cvl.combine_permute_bool(cvl.operators.XOR, flags(True, True), ints(1, 2), odd)
+        self.assertEqual(odd.view(numpy.uint8).tolist(), [1, 1, 0])
+
+    def test_counts(self):
+        self.assertEqual(cvl.counts(self.index, 64).tolist(), numpy.bincount(self.index, minlength=64).tolist())
+        room = numpy.ones(64, numpy.int32)
+        self.assertIs(cvl.counts(self.index, 64, out=room), room)
+        self.assertEqual(room.tolist(), numpy.bincount(self.index, minlength=64).tolist())
+
+    def test_by_segments(self):
+        index, source, halves, rooms = self.index, self.source, ints(40, 0, 60), ints(64, 2, 61)
+        room = numpy.concatenate([self.before, self.before])[:127]
+        wanted = [
+            *combined(int.__add__, source[:40], index[:40], room[:64]), *room[64:66].tolist(), *combined(int.__add__, source[40:], index[40:], room[66:]),
+        ]  # fmt: skip
+        self.assertIs(cvl.seg_combine_permute_int(cvl.operators.ADD, source, index, halves, rooms, room), room)
+        self.assertEqual(room.tolist(), wanted)
+        counts = [*numpy.bincount(index[:40], minlength=64), 0, 0, *numpy.bincount(index[40:], minlength=61)]
+        self.assertEqual(cvl.seg_counts(index, halves, rooms).tolist(), counts)
+
+    def test_faults(self):
+        add, one, most = cvl.operators.ADD, ints(1), 2**31 - 1
+        for call, number, place, said in (
+            (lambda: cvl.combine_permute_int(add, ints(1, 2, 3), ints(0, 3, 4), ints(7, 7, 7)), 10, 1, "index[1] is 3, and the result has 3 elements"),
+            (lambda: cvl.combine_permute_int(add, one, ints(0, 0), ints(7)), 7, None, "len(index) is 2, and len(source) is 1"),
+            (lambda: cvl.combine_permute_int(cvl.operators.SUB, one, one, ints(7, 7)), 2, None, None),
+            (lambda: cvl.combine_permute_int(add, one, (room := ints(0, 0))[:1], room), 102, None, "out and index share memory"),
+            (lambda: cvl.seg_combine_permute_int(add, one, one, ints(1), ints(2), ints(7)), 7, None, "len(out) is 1, and has to be 2"),
+            (lambda: cvl.seg_combine_permute_int(add, one, ints(2), ints(1), ints(2), ints(7, 7)), 10, 0, "index[0] is 2"),
+            (lambda: cvl.counts(one, -1), 12, None, "count is -1"),
+            (lambda: cvl.counts(one, most + 1), 13, None, None),
+            (lambda: cvl.counts(ints(0, 3), 3), 10, 1, "index[1] is 3, and the result has 3 elements"),
+            (lambda: cvl.seg_counts(ints(0, 2), ints(1, 1), ints(2, 1)), 10, 1, "index[1] is 2"),
+        ):
+            with self.assertRaises(cvl.Fault) as caught:
+                call()
+            fault = caught.exception
+            self.assertEqual((fault.number, fault.place, fault.said), (number, place, said))
+
+    def test_a_fault_leaves_the_room(self):
+        room = self.before.copy()
+        with self.assertRaises(cvl.Fault):
+            cvl.combine_permute_int(cvl.operators.ADD, ints(1, 2), ints(0, 64), room)
+        self.assertEqual(room.tolist(), self.before.tolist())
+
+    def test_a_room_is_needed(self):
+        given = cvl.operators.ADD, ints(1), ints(0)
+        read_only = ints(7)
+        read_only.flags.writeable = False
+        for arguments, error, said in (
+            (given, TypeError, r"combine_permute_int\(\) missing 1 required argument: 'out'"),
+            ((*given, None), TypeError, "out is no array but a NoneType; a room that holds what stands before is made by"),
+            ((*given, [7]), TypeError, "out is no array but a list; a room that holds what stands before is made by"),
+            ((*given, flags(True)), TypeError, r"out has elements of bool, and has to have int32; a room .* numpy.zeros\(n, dtype=numpy.int32\)"),
+            ((*given, read_only), ValueError, "out may not be written"),
+            ((*given, ints(7), ints(7)), TypeError, r"combine_permute_int\(\) takes 4 positional arguments but 5 were given"),
+        ):
+            with self.assertRaisesRegex(error, said):
+                cvl.combine_permute_int(*arguments)
+
+
 class Names(Limited):
     def test_each_call_says_what_it_does(self):
         for name in cvl.calls.__all__:

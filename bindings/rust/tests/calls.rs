@@ -511,6 +511,28 @@ fn first_senders_are_their_ranges() {
 }
 
 #[test]
+fn elements_are_combined_with_what_stands_there() {
+    let index: Vec<i32> = (0..90).map(|k| k * k % 61).collect();
+    let source: Vec<i32> = (0..90).map(|k| k * 7 % 19 - 9).collect();
+    let before: Vec<i32> = (0..64).collect();
+    let (mut out, mut wanted) = (before.clone(), before);
+    for (value, place) in source.iter().zip(&index) {
+        wanted[*place as usize] += value;
+    }
+    cvl::combine_permute_int(cvl::Operator::Add, &source, &index, &mut out).unwrap();
+    assert_eq!(out, wanted);
+    let wrong = cvl::combine_permute_int(cvl::Operator::Add, &[5, 5], &[0, 64], &mut out).unwrap_err();
+    assert_eq!((told(wrong), &out), ((10, Some(1)), &wanted));
+    let unequal = cvl::combine_permute_int(cvl::Operator::Add, &[5], &[0, 1], &mut out).unwrap_err();
+    assert_eq!((told(unequal), &out), ((7, None), &wanted));
+    let unknown = cvl::combine_permute_bool(cvl::Operator::Add, &[true], &[0], &mut [true]).unwrap_err();
+    assert_eq!(told(unknown), (2, None));
+    assert_eq!(told(cvl::counts(&[0, 3, 4], 3).unwrap_err()), (10, Some(1)));
+    assert_eq!(told(cvl::counts(&index, -1).unwrap_err()), (12, None));
+    assert_eq!(cvl::counts(&[0, 2, 0], 4).unwrap(), [2, 0, 1, 0]);
+}
+
+#[test]
 fn the_version() {
     assert_eq!(cvl::version(), env!("CARGO_PKG_VERSION"));
 }
