@@ -22,8 +22,8 @@ ABOUT = (
     "vector is as it was. Arrays that are only read may overlap. An array of 0 elements overlaps nothing, and its pointer may be null.",
     "A boolean is a byte, and any byte but 0 is true, as in C. That is so for each array of booleans that a function reads, and for a boolean by value; "
     "an array of another type of bytes may be passed by a cast, since no function reads it as bool. Booleans that are results are 0 and 1. Packs, "
-    "permutes, first senders, scans, texts, and replaces and distributes in segments read booleans where they lie if each is 0 or 1, and else take memory for a "
-    "copy, one byte an element. All other functions read any bytes where they lie.",
+    "permutes, combining permutes, also in the room that they join with, first senders, scans, texts, and replaces and distributes in segments read booleans "
+    "where they lie if each is 0 or 1, and else take memory for a copy, one byte an element. All other functions read any bytes where they lie.",
     "What a caller owes, and what it costs where it isn't so:",
     "  - A pointer leads to as many elements as is said, aligned for their type, which may be read and in a room written. Else the call may crash, or "
     "read or write other memory.",
@@ -42,7 +42,8 @@ ABOUT = (
     "  - 102 Overlap; where there is no descriptor, 101 NoDescriptor, before overlaps of other arguments than it;",
     "  - 2 UnknownCall, without a place, where a number is that of no operator of the family;",
     f"  - 13 TooLong, without a place, where the vector that a call goes by has more than {MOST_ELEMENTS} elements: its first vector, the flags of a pack, "
-    f"or the index of a permute or of first senders; on segments after the lengths. Another call on segments asks no vector: there are at most {MOST_ELEMENTS} "
+    f"or the index of a permute, of first senders or of counts; the room of a flat combining permute or of counts, too; on segments after the lengths. Another "
+    f"call on segments asks no vector: there are at most {MOST_ELEMENTS} "
     "lengths, which add up to at most as much, and a longer vector has not as many elements as they add up to, which is 7. A vector that is too "
     "long is not read;",
     "  - 13, 12 and 13 again by the lengths of segments;",
@@ -90,7 +91,8 @@ THREADS = (
     "At the start there is one thread, the one that calls. Where cvl_set_threads or the variable CVL_NUM_THREADS says that there are more, for the whole "
     "process, a long call runs on them: from 262144 elements on, where it reads a text from 131072 bytes on, and where it writes one from 32768 elements "
     "on. A shorter call runs on the thread that calls, and so does a call that reads one element, reads a nested text or one behind another, scans after "
-    "a carry, adds up exactly, or makes a range of a permute or of first senders. What a call answers and writes is the same by any number of threads. By "
+    "a carry, adds up exactly, makes a range of a permute or of first senders, or combines or counts without segments. "
+    "What a call answers and writes is the same by any number of threads. By "
     "several it may take memory for a copy of its room; where there is none, it runs on the thread that calls.",
     "One call at a time has the threads. Another one meanwhile runs on the thread that calls it, and so does a call that comes "
     "while cvl_set_threads waits or is at work: no call waits for another, or for a number to be set. A call in parts on a pool "

@@ -27,9 +27,9 @@
  *
  * A boolean is a byte, and any byte but 0 is true, as in C. That is so for each array of booleans that a function reads, and
  * for a boolean by value; an array of another type of bytes may be passed by a cast, since no function reads it as bool.
- * Booleans that are results are 0 and 1. Packs, permutes, first senders, scans, texts, and replaces and distributes in segments
- * read booleans where they lie if each is 0 or 1, and else take memory for a copy, one byte an element. All other functions
- * read any bytes where they lie.
+ * Booleans that are results are 0 and 1. Packs, permutes, combining permutes, also in the room that they join with, first
+ * senders, scans, texts, and replaces and distributes in segments read booleans where they lie if each is 0 or 1, and else take
+ * memory for a copy, one byte an element. All other functions read any bytes where they lie.
  *
  * What a caller owes, and what it costs where it isn't so:
  *
@@ -53,9 +53,10 @@
  *   - 102 Overlap; where there is no descriptor, 101 NoDescriptor, before overlaps of other arguments than it;
  *   - 2 UnknownCall, without a place, where a number is that of no operator of the family;
  *   - 13 TooLong, without a place, where the vector that a call goes by has more than 2147483647 elements: its first vector,
- *     the flags of a pack, or the index of a permute or of first senders; on segments after the lengths. Another call on
- *     segments asks no vector: there are at most 2147483647 lengths, which add up to at most as much, and a longer vector has
- *     not as many elements as they add up to, which is 7. A vector that is too long is not read;
+ *     the flags of a pack, or the index of a permute, of first senders or of counts; the room of a flat combining permute or of
+ *     counts, too; on segments after the lengths. Another call on segments asks no vector: there are at most 2147483647
+ *     lengths, which add up to at most as much, and a longer vector has not as many elements as they add up to, which is 7. A
+ *     vector that is too long is not read;
  *   - 13, 12 and 13 again by the lengths of segments;
  *   - 7 LengthMismatch, without a place, where vectors that belong together are not equally long, and then where a room is not
  *     as long as the result, or shorter where a count is told;
@@ -173,9 +174,9 @@ const char *cvl_fault_name(uint32_t number);
  * At the start there is one thread, the one that calls. Where cvl_set_threads or the variable CVL_NUM_THREADS says that there
  * are more, for the whole process, a long call runs on them: from 262144 elements on, where it reads a text from 131072 bytes
  * on, and where it writes one from 32768 elements on. A shorter call runs on the thread that calls, and so does a call that
- * reads one element, reads a nested text or one behind another, scans after a carry, adds up exactly, or makes a range of a
- * permute or of first senders. What a call answers and writes is the same by any number of threads. By several it may take
- * memory for a copy of its room; where there is none, it runs on the thread that calls.
+ * reads one element, reads a nested text or one behind another, scans after a carry, adds up exactly, makes a range of a
+ * permute or of first senders, or combines or counts without segments. What a call answers and writes is the same by any number
+ * of threads. By several it may take memory for a copy of its room; where there is none, it runs on the thread that calls.
  *
  * One call at a time has the threads. Another one meanwhile runs on the thread that calls it, and so does a call that comes
  * while cvl_set_threads waits or is at work: no call waits for another, or for a number to be set. A call in parts on a pool of

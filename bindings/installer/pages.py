@@ -25,7 +25,7 @@ MOVED = {
 # the examples: the folder of the repository, and its files
 EXAMPLES = (
     ("crates/script_cases/data/examples", ("*.cvl", "*.txt")),
-    ("examples/c", ("sparse_product.c", "sparse_transpose.c", "polynomial.c", "quicksort.c", "radix_sort.c", "distinct.c", "threads.c", "descriptors.c")),
+    ("examples/c", ("sparse_product.c", "sparse_transpose.c", "polynomial.c", "quicksort.c", "radix_sort.c", "distinct.c", "groups.c", "threads.c", "descriptors.c")),
     ("examples/cpp", ("*.cpp",)),
     ("examples/mpi", ("samplesort.c", "breadth_search.c", "products.c", "spread.h")),
     ("bindings/python/examples", ("*.py",)),

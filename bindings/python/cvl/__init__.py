@@ -29,8 +29,8 @@ What has no value raises `Fault`, whose numbers are in `cvl.faults`:
 A long call runs on several threads where the program asks for them, by `set_threads(4)` or `with cvl.threads(4):`.
 
 Texts are read and written by `read_ints`, `write_ints` and their like. `first_senders` and its like find of several places that
-name one place of a result the first. What ends in `_after` or `_range`, and `exact_sum`, serves
-who makes a call in parts.
+name one place of a result the first. `combine_permute_int` and its like add up by key, over what an array holds, and `counts`
+counts how often each key is there. What ends in `_after` or `_range`, and `exact_sum`, serves who makes a call in parts.
 """
 
 from typing import List

@@ -20,6 +20,7 @@ sys.path.insert(0, str(pathlib.Path(__file__).resolve().parent.parent / "example
 
 from breadth_first import breadth_first
 from connected_parts import connected_parts
+from groups import Groups
 from test_cvl import Limited
 
 
@@ -86,6 +87,27 @@ class Programs(Limited):
     def test_connected_parts(self):
         for edges in graphs():
             self.assertEqual(connected_parts(*graph(edges)).tolist(), parts_plainly(edges), edges)
+
+    def test_groups(self):
+        drawn = random.Random(2)
+        for many in (1, 2, 7, 40):
+            groups, all_of = Groups(many), [[] for _ in range(many)]
+            for n in (0, 1, 3, 100):
+                keys, values = [drawn.randrange(many) for _ in range(n)], [drawn.randrange(-99, 99) for _ in range(n)]
+                groups.add_up(cvl.as_ints(keys), cvl.as_ints(values))
+                for key, value in zip(keys, values):
+                    all_of[key].append(value)
+            self.assertEqual(groups.counts.tolist(), list(map(len, all_of)))
+            self.assertEqual(groups.sums.tolist(), list(map(sum, all_of)))
+            self.assertEqual(groups.least.tolist(), [min(found, default=2**31 - 1) for found in all_of])
+            self.assertEqual(groups.greatest.tolist(), [max(found, default=-(2**31)) for found in all_of])
+
+    def test_a_key_that_is_no_group(self):
+        groups = Groups(3)
+        groups.add_up(cvl.as_ints([0, 2]), cvl.as_ints([5, 6]))
+        with self.assertRaises(cvl.Fault):
+            groups.add_up(cvl.as_ints([0, 3]), cvl.as_ints([7, 8]))
+        self.assertEqual((groups.counts.tolist(), groups.sums.tolist()), ([1, 0, 1], [5, 0, 6]))
 
     def test_a_vertex_that_is_not_there(self):
         rows, ends = graph([[1], [2]])

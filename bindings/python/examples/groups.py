@@ -1,0 +1,41 @@
+"""Sums of groups: each value has a key, the number of its group, and goes to its group's sum.
+
+How many values a group has, the least and the greatest come the same way. The values may come in batches, in any order.
+"""
+
+import numpy
+
+import cvl
+
+BOUNDS = numpy.iinfo(numpy.int32)
+
+
+class Groups:
+    """So many groups, without values at first: the sum 0, the greatest integer as the least value, and the least as the greatest."""
+
+    def __init__(self, many):
+        self.counts, self.sums = numpy.zeros(many, numpy.int32), numpy.zeros(many, numpy.int32)
+        self.least, self.greatest = numpy.full(many, BOUNDS.max, numpy.int32), numpy.full(many, BOUNDS.min, numpy.int32)
+
+    def add_up(self, keys, values):
+        """Adds a batch of values to their groups. A key that is no group raises a `Fault`, and then the groups are as they were."""
+        cvl.add_wuz(self.counts, cvl.counts(keys, len(self.counts)), out=self.counts)
+        cvl.combine_permute_int(cvl.operators.ADD, values, keys, self.sums)
+        cvl.combine_permute_int(cvl.operators.MIN, values, keys, self.least)
+        cvl.combine_permute_int(cvl.operators.MAX, values, keys, self.greatest)
+
+
+def main():
+    groups = Groups(4)
+    groups.add_up(cvl.as_ints([2, 0, 2, 1]), cvl.as_ints([5, 6, 7, 8]))
+    groups.add_up(cvl.as_ints([0, 2]), cvl.as_ints([-1, 4]))
+    for k in range(4):
+        print(f"group {k}: count {groups.counts[k]}, sum {groups.sums[k]}")
+    try:
+        groups.add_up(cvl.as_ints([3, 4]), cvl.as_ints([5, 6]))
+    except cvl.Fault as fault:
+        print("keys 3 4:", fault)
+
+
+if __name__ == "__main__":
+    main()
