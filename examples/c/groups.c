@@ -25,7 +25,7 @@ static Groups groups_of(size_t many) {
     return g;
 }
 
-/* Adds a batch of values to their groups. A key that is no group is told, with its place, and then the groups are as they were. */
+/* Adds a batch of values to their groups. If a key is no group, the status has its place, and the groups stay as they were. */
 static CvlStatus add_up(const int32_t *keys, const int32_t *values, size_t n, Groups *g) {
     CvlStatus status = cvl_counts(keys, n, g->more, g->many);
     if (status.number == CVL_DONE) status = cvl_add_wuz(g->counts, g->more, g->counts, g->many);

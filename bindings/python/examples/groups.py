@@ -18,7 +18,7 @@ class Groups:
         self.least, self.greatest = numpy.full(many, BOUNDS.max, numpy.int32), numpy.full(many, BOUNDS.min, numpy.int32)
 
     def add_up(self, keys, values):
-        """Adds a batch of values to their groups. A key that is no group raises a `Fault`, and then the groups are as they were."""
+        """Adds a batch of values to their groups. A key that is no group raises a `Fault`, and the groups stay as they were."""
         cvl.add_wuz(self.counts, cvl.counts(keys, len(self.counts)), out=self.counts)
         cvl.combine_permute_int(cvl.operators.ADD, values, keys, self.sums)
         cvl.combine_permute_int(cvl.operators.MIN, values, keys, self.least)
