@@ -1,4 +1,4 @@
-"""The programs of the examples beside plain readings, on graphs at random. It runs where the package is installed; the examples
+"""The programs of the examples beside plain readings, on graphs and groups at random. It runs where the package is installed; the examples
 are those of the repository. With the word times it prints how long each takes beside scipy's.
 
     python3 -m unittest test_programs
