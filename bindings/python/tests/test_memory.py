@@ -137,11 +137,19 @@ class Kept(Limited):
 # ---- the process in which memory is refused ----
 
 
+def with_its_room(arguments):
+    """The arguments with a copy of the room, as some calls join with what stands in it."""
+    if "out" not in arguments:
+        return arguments
+    room = numpy.array(arguments["out"])
+    return {**arguments, "out": memoryview(room) if isinstance(arguments["out"], memoryview) else room}
+
+
 def refused_in_turn(name, call, arguments, refused):
     """Refuses the first request of a call, then the second and so on, alone and with those behind it. How many there were."""
-    wanted = outcome(call, **arguments)
+    wanted = outcome(call, **with_its_room(arguments))
     for after in range(1000):
-        told = [outcome(lambda: refused(call, (), arguments, after, alone, 0)) for alone in (True, False)]
+        told = [outcome(lambda given: refused(call, (), given, after, alone, 0), given=with_its_room(arguments)) for alone in (True, False)]
         if any(found not in (MemoryError, wanted) for found in told):
             sys.exit(f"{name} gives {told} and not {wanted}, where request {after} is refused")
         if MemoryError not in told:
