@@ -67,7 +67,13 @@ static void descriptors(void) {
     (void)cvl_version();
 }
 
-/* Offsets of any numbers: as rows of a matrix, by a pool too, and as a descriptor. */
+/* Two rows of an element each, by a pool of one part: the export that makes their lengths gives any, which no part could be cut by here. */
+static void product_on_a_pool(size_t n) {
+    const int32_t offsets[3] = {0, 1, 2};
+    (void)cvl_sparse_product_by_offsets_on(&pool, offsets, 3, others[2], 2, ints[2], 2, ints[n], n, room[2], 2);
+}
+
+/* Offsets of any numbers: as rows of a matrix, and as a descriptor. */
 static void rows_by_offsets(void) {
     int32_t offsets[3] = {Frama_C_interval(-1, 1), any_int(), any_int()};
     CvlSegments made = CVL_NO_SEGMENTS;
@@ -77,11 +83,11 @@ static void rows_by_offsets(void) {
             asked = 0;
             free(cvl_lengths_between(offsets, n));
         }
-        refused = -1, pool = cvl_pool_alone(2);
+        refused = -1;
         if (n > 0) (void)cvl_segments_from_offsets(offsets, n, length, rows, &made);
         (void)cvl_sparse_product_by_offsets(offsets, n, others[2], 2, ints[2], 2, ints[1], 1, room[rows], rows);
-        (void)cvl_sparse_product_by_offsets_on(&pool, offsets, n, others[2], 2, ints[2], 2, ints[1], 1, room[rows], rows);
     }
+    for (int k = -1; k < 3; k++) make(product_on_a_pool, 2, 1, k);
 }
 
 void checks(void) {
