@@ -8,7 +8,7 @@
 
 enum { VERTICES = 30000, MOST_ROUNDS = 1000 };
 
-static int32_t degree(uint64_t vertex) { return (int32_t)(noise(vertex) % 4); }
+static int32_t degree(uint64_t vertex) { return (int32_t)(noise(vertex) % 3) + 1; }
 static int32_t neighbour(uint64_t vertex, int32_t k) { return (int32_t)(noise(vertex * 4 + (uint64_t)k + VERTICES) % VERTICES); }
 
 /* The same by one thread. */

@@ -8,6 +8,7 @@ pub mod FirstBadPlaces
 pub mod FirstSent
 pub mod InParts
 pub mod LeastFaults
+pub mod Owned
 pub mod Packing
 pub mod PlaceByPlace
 pub mod Places

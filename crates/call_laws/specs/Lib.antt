@@ -2,5 +2,6 @@ pub mod Carried
 pub mod CheckedParts
 pub mod CutAgain
 pub mod InParts
+pub mod Owned
 pub mod Permuted
 pub mod Senders

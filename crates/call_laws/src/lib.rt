@@ -12,6 +12,7 @@ pub mod distributes;
 pub mod elementwise;
 pub mod extracts;
 pub mod nests;
+pub mod owners;
 pub mod packs;
 pub mod permuted;
 pub mod permutes_in_parts;

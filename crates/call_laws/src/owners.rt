@@ -1,0 +1,16 @@
+//! Laws of permutes by the owners of their places, each a function that takes and gives nothing and whose contract is the law.
+
+ghost use Rattle.std.specs.Prelude.{◌≡◌, ℕ, ℤ, pos, Bool, Option, List, find, option_map};
+ghost use Rattle.std.specs.List.{list_any};
+ghost use Rattle.call_laws.specs.Owned.{HasPlace, owned_destinations, owned_pairs};
+ghost use Rattle.cvl_base.specs.Permutes.{is_destination, sent_to};
+
+/// The owner of a place finds in what it is sent, in the order of senders, the element that the whole permute sends to the place,
+/// and it finds an index repeated exactly where the whole has it at an earlier place.
+pub fn permute_by_owners<T>()
+    ensures sent { (owns : Option ℤ → Bool) (source : List T) (destinations : List (Option ℤ)) (d : ℕ) → HasPlace owns (pos d) →
+        option_map (λ p. p.1) (find (λ p. is_destination (pos d) p.0) (owned_pairs owns source destinations))
+        ≡ sent_to source destinations d }
+    ensures repeated { (owns : Option ℤ → Bool) (earlier : List (Option ℤ)) (d : ℤ) → HasPlace owns d →
+        list_any (is_destination d) (owned_destinations owns earlier) ≡ list_any (is_destination d) earlier }
+{}
