@@ -15,6 +15,7 @@ pub mod descriptors;
 pub mod distributes;
 pub mod elementwise;
 pub mod extracts;
+pub mod key_orders;
 pub mod nests;
 pub mod packs;
 pub mod partitions;
