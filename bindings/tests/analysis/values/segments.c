@@ -67,11 +67,6 @@ static void default_permute(size_t n) {
         bool_room[2], 2);
 }
 
-/* The room has two segments of one element, too, and holds what stands before. */
-static void combine(size_t n) {
-    if (cut.segments == 2) (void)cvl_seg_combine_permute_bool_on(&pool, CVL_XOR, bools[n], n, others[n], n, cut, other_cut, bool_room[2], 2);
-}
-
 /* Each way to cut n elements into so many segments: what is left goes to the last one. */
 static void each_cut_of(Call *call, size_t n, size_t segments, int32_t more) {
     cut.segments = segments;
@@ -140,10 +135,6 @@ void between_segments(void) {
     each_cut(select_permute, 10, 5);
     each_cut(back_permute, 10, 5);
     each_cut(default_permute, 10, 5);
-    fill_flags(bool_room, 5, 1);
-    each_cut(combine, 10, 5);
-    fill_flags(bool_room, 5, 0);
-    each_cut(combine, 2, 0);
     begin(5, 1);
     each_cut(select_permute, 0, 0);
 }
