@@ -1,4 +1,4 @@
-/* shares.h: who has which places of a spread vector, and exact sums: what the ways of calls over ranks reckon with, without MPI. */
+/* shares.h: which rank has a place of a spread vector, even shares, and exact sums and products: arithmetic of calls over ranks, without MPI. */
 #ifndef CVL_MPI_SHARES_H
 #define CVL_MPI_SHARES_H
 

@@ -438,7 +438,7 @@ static int is_written(const Case *c, int k) {
     return role == ROOM_OF || role == SINGLE || role == TOLD;
 }
 
-/* Whether a rank's room is that of the whole, cut; and what is told that of the whole, or how many elements the rank keeps. */
+/* Whether a rank's room is its part of the whole's, and a count that of the whole, or how many elements the rank keeps. */
 static int is_cut_of(const Case *c, const Own *own, int k, int rank) {
     const TriedOperand *o = &c->tried->operand[k];
     const size_t size = size_of(o->kind);

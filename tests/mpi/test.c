@@ -1,7 +1,7 @@
 /*
- * What the differential test does not try of calls over ranks: arrays that overlap, ranks that differ in what they ask for, descriptors and
- * routes that are none, routes beside the calls without them, vectors that are spread otherwise, and communicators that are none. Every rank
- * checks what it is told. Values are worked by hand, or those of the plain call on the whole.
+ * Calls over ranks that the differential test leaves out: arrays that overlap, ranks that ask for different things, null descriptors and
+ * routes, routes beside the calls without them, vectors that are spread otherwise, texts, and communicators that are none. Every rank checks
+ * its status. Values are worked by hand, or those of the plain call on the whole.
  */
 #include <mpi.h>
 
@@ -86,7 +86,7 @@ static void try_none(void) {
     check("no descriptor has no segments", cvl_rank_segments_starts(NULL) == 0 && cvl_rank_segments_all(NULL) == 0);
 }
 
-/* One rank has no descriptor, or one of other ranks: all are told. */
+/* One rank has no descriptor, or one of other ranks: all ranks get 101. */
 static void try_other_descriptors(void) {
     int32_t a[3] = {1, 2, 3}, out[3] = {9, 9, 9};
     const int32_t length[] = {3};
