@@ -46,7 +46,7 @@ struct CvlRanks {
 };
 
 /* The numbers of what is no family, by which ranks see that they make the same call. */
-enum { CVL_CALL_SEGMENTS = 0xfd00, CVL_CALL_ROUTE = 0xfc00, CVL_CALL_SPREAD = 0xfb00 };
+enum { CVL_CALL_SEGMENTS = 0xf900, CVL_CALL_SPREAD = 0xfb00, CVL_CALL_ROUTE = 0xfc00 };
 
 /* ---- the descriptor ---- */
 
