@@ -23,7 +23,8 @@ def write(folder, jobs, anew=False):
     record, time = found_right.read(), found_right.time_of_revision()
     with tempfile.TemporaryDirectory() as work:
         builds = Built(work, time, jobs, anew)
-        names = [*trees.write(folder, builds, time), *debian.write(folder, builds), *pythons.write(folder, builds), *crates.write(folder, builds, time)]
+        names = [*trees.write(folder, builds, time), *debian.write(folder, builds)]
+        names += [*pythons.write(folder, builds), *crates.write(folder, builds, time)]
         when = datetime.datetime.fromtimestamp(time, datetime.timezone.utc).strftime("%Y-%m-%dT%H:%M:%SZ")
         (folder / PARTS).write_text(licences.document(record.kit, when))
         (folder / RECEIPT).write_text(receipt.text(record, builds, folder, [*names, PARTS]))
