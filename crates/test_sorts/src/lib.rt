@@ -1,5 +1,10 @@
-//! Tests of orders, ranks and sorts on worked values.
+//! Tests of orders, ranks and sorts: worked values, keys beyond each length at which a sort changes its way, and each request
+//! for memory refused in turn.
 #![tactic(auto)]
 
+#[cfg(test)]
+mod refused;
+#[cfg(test)]
+mod ways;
 #[cfg(test)]
 mod worked;
