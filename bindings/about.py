@@ -91,7 +91,7 @@ THREADS = (
     "At the start there is one thread, the one that calls. Where cvl_set_threads or the variable CVL_NUM_THREADS says that there are more, for the whole "
     "process, a long call runs on them: from 262144 elements on, where it reads a text from 131072 bytes on, and where it writes one from 32768 elements "
     "on. A shorter call runs on the thread that calls, and so does a call that reads one element, reads a nested text or one behind another, scans after "
-    "a carry, adds up exactly, makes a range of a permute or of first senders, or combines or counts without segments. "
+    "a carry, adds up exactly, makes a range of a permute or of first senders, combines or counts without segments, or sorts. "
     "What a call answers and writes is the same by any number of threads. By "
     "several it may take memory for a copy of its room; where there is none, it runs on the thread that calls.",
     "One call at a time has the threads. Another one meanwhile runs on the thread that calls it, and so does a call that comes "

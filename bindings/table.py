@@ -172,6 +172,13 @@ OF_FAMILIES = {
         "by the lengths come first, those of `lengths` before those of `result_lengths`; there are as many of the one as of the other, else 7 "
         "LengthMismatch.",
     ),
+    "orders, ranks and sorts": (
+        "No script calls these. Keys are signed integers, and equal ones keep the order of their places, so that each call has one answer. An order and a "
+        "rank are inverse permutations; by either of them other vectors follow their keys. CVL_NOT of the keys before a call, and of a sort after it, "
+        "gives the descending order, in which equal keys still keep the order of their places. The room of a sort may be the keys themselves.",
+        "These calls run on the thread that calls. An order and a rank take up to 16 bytes a key while they run, a sort up to 4, by segments of the keys of "
+        "the longest one, and all of them up to 8192 bytes more. If these are refused, the status is 100 NoResources, and the room is as it was.",
+    ),
     "texts": (
         "A text is bytes, with no zero at its end. A caller may not know how long a result is: it stands at the front of its room, and count is its "
         "length; the rest of the room is as it was. Where the room is too short it is as it was, the status is 7 LengthMismatch, without a place, and "
@@ -638,6 +645,39 @@ FAMILIES = (
         "For each place of each segment of the result how many indices of the same segment name it.",
         limit=None, faults=(SUMS_OF_RESULT, BAD_NAMED_IN_SEGMENT), cut=("segments", "n"),
         example={"index": "1 1 0 3 0", "lengths": "2 0 3", "result_lengths": "2 1 4", "out": "0 2 0 2 0 0 1"},
+    ),
+    # ---- orders, ranks and sorts ----
+    family(
+        "order", "orders, ranks and sorts", (ints("keys"), room("ints")),
+        "The places in ascending order of their keys, equal keys in the order of their places. A back permute by them sorts whatever belongs to the keys.",
+        asks=True, cut=("whole", None), shape="keys and out have n elements.", example={"keys": "3 1 2 1", "out": "1 3 2 0"},
+    ),
+    family(
+        "rank", "orders, ranks and sorts", (ints("keys"), room("ints")),
+        "For each place how many keys stand before its key in that order: the lesser ones, and the equal ones of earlier places. A simple permute by them "
+        "sorts whatever belongs to the keys.",
+        asks=True, cut=("whole", None), shape="keys and out have n elements.", example={"keys": "3 1 2 1", "out": "3 0 2 1"},
+    ),
+    family(
+        "sort", "orders, ranks and sorts", (ints("keys"), room("ints")), "The keys in ascending order.",
+        in_place=(("keys",),), asks=True, cut=("whole", None), shape="keys and out have n elements.", example={"keys": "3 1 2 1", "out": "1 1 2 3"},
+    ),
+    family(
+        "seg_order", "orders, ranks and sorts", (ints("keys"), lengths(), room("ints")),
+        "The order of the keys of each segment, whose places count from the start of the segment.",
+        faults=(TOO_LONG, SUM_OF_N), asks=True, cut=("whole", None), shape="keys and out have n elements.",
+        example={"keys": "3 1 9 2 7", "lengths": "2 0 3", "out": "1 0 1 2 0"},
+    ),
+    family(
+        "seg_rank", "orders, ranks and sorts", (ints("keys"), lengths(), room("ints")),
+        "The rank of each key in its segment.",
+        faults=(TOO_LONG, SUM_OF_N), asks=True, cut=("whole", None), shape="keys and out have n elements.",
+        example={"keys": "3 1 9 2 7", "lengths": "2 0 3", "out": "1 0 2 0 1"},
+    ),
+    family(
+        "seg_sort", "orders, ranks and sorts", (ints("keys"), lengths(), room("ints")), "The keys of each segment in ascending order.",
+        in_place=(("keys",),), faults=(TOO_LONG, SUM_OF_N), asks=True, cut=("whole", None), shape="keys and out have n elements.",
+        example={"keys": "3 1 9 2 7", "lengths": "2 0 3", "out": "1 3 2 7 9"},
     ),
     # ---- texts ----
     family(

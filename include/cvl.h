@@ -175,8 +175,9 @@ const char *cvl_fault_name(uint32_t number);
  * are more, for the whole process, a long call runs on them: from 262144 elements on, where it reads a text from 131072 bytes
  * on, and where it writes one from 32768 elements on. A shorter call runs on the thread that calls, and so does a call that
  * reads one element, reads a nested text or one behind another, scans after a carry, adds up exactly, makes a range of a
- * permute or of first senders, or combines or counts without segments. What a call answers and writes is the same by any number
- * of threads. By several it may take memory for a copy of its room; where there is none, it runs on the thread that calls.
+ * permute or of first senders, combines or counts without segments, or sorts. What a call answers and writes is the same by any
+ * number of threads. By several it may take memory for a copy of its room; where there is none, it runs on the thread that
+ * calls.
  *
  * One call at a time has the threads. Another one meanwhile runs on the thread that calls it, and so does a call that comes
  * while cvl_set_threads waits or is at work: no call waits for another, or for a number to be set. A call in parts on a pool of
@@ -573,6 +574,63 @@ CVL_CHECKED CvlStatus cvl_seg_combine_permute_bool(uint32_t op, const bool *sour
  */
 CVL_CHECKED CvlStatus cvl_seg_counts(const int32_t *index, size_t index_len, CvlLengths lengths, CvlLengths result_lengths,
     int32_t *out, size_t out_len);
+
+/* ---- orders, ranks and sorts: families ---- */
+
+/*
+ * No script calls these. Keys are signed integers, and equal ones keep the order of their places, so that each call has one
+ * answer. An order and a rank are inverse permutations; by either of them other vectors follow their keys. CVL_NOT of the keys
+ * before a call, and of a sort after it, gives the descending order, in which equal keys still keep the order of their places.
+ * The room of a sort may be the keys themselves.
+ *
+ * These calls run on the thread that calls. An order and a rank take up to 16 bytes a key while they run, a sort up to 4, by
+ * segments of the keys of the longest one, and all of them up to 8192 bytes more. If these are refused, the status is 100
+ * NoResources, and the room is as it was.
+ */
+
+/*
+ * cvl_order: The places in ascending order of their keys, equal keys in the order of their places. A back permute by them sorts
+ * whatever belongs to the keys.
+ * Faults: 13 TooLong.
+ * keys = 3 1 2 1: out = 1 3 2 0
+ */
+CVL_CHECKED CvlStatus cvl_order(const int32_t *keys, size_t keys_len, int32_t *out, size_t out_len);
+
+/*
+ * cvl_rank: For each place how many keys stand before its key in that order: the lesser ones, and the equal ones of earlier
+ * places. A simple permute by them sorts whatever belongs to the keys.
+ * Faults: 13 TooLong.
+ * keys = 3 1 2 1: out = 3 0 2 1
+ */
+CVL_CHECKED CvlStatus cvl_rank(const int32_t *keys, size_t keys_len, int32_t *out, size_t out_len);
+
+/*
+ * cvl_sort: The keys in ascending order.
+ * Faults: 13 TooLong.
+ * keys = 3 1 2 1: out = 1 1 2 3
+ */
+CVL_CHECKED CvlStatus cvl_sort(const int32_t *keys, size_t keys_len, int32_t *out, size_t out_len);
+
+/*
+ * cvl_seg_order: The order of the keys of each segment, whose places count from the start of the segment.
+ * Faults: 13 TooLong; 7 LengthMismatch where the lengths do not add up to n.
+ * keys = 3 1 9 2 7, lengths = 2 0 3: out = 1 0 1 2 0
+ */
+CVL_CHECKED CvlStatus cvl_seg_order(const int32_t *keys, size_t keys_len, CvlLengths lengths, int32_t *out, size_t out_len);
+
+/*
+ * cvl_seg_rank: The rank of each key in its segment.
+ * Faults: 13 TooLong; 7 LengthMismatch where the lengths do not add up to n.
+ * keys = 3 1 9 2 7, lengths = 2 0 3: out = 1 0 2 0 1
+ */
+CVL_CHECKED CvlStatus cvl_seg_rank(const int32_t *keys, size_t keys_len, CvlLengths lengths, int32_t *out, size_t out_len);
+
+/*
+ * cvl_seg_sort: The keys of each segment in ascending order.
+ * Faults: 13 TooLong; 7 LengthMismatch where the lengths do not add up to n.
+ * keys = 3 1 9 2 7, lengths = 2 0 3: out = 1 3 2 7 9
+ */
+CVL_CHECKED CvlStatus cvl_seg_sort(const int32_t *keys, size_t keys_len, CvlLengths lengths, int32_t *out, size_t out_len);
 
 /* ---- texts: families ---- */
 
@@ -2015,6 +2073,18 @@ CVL_CHECKED CvlStatus cvl_segments_combine_permute_bool(uint32_t op, const bool 
 /* For each place of each segment of the result how many indices of the same segment name it. */
 CVL_CHECKED CvlStatus cvl_segments_counts(const int32_t *index, size_t index_len, const CvlSegments *segments,
     const CvlSegments *result_segments, int32_t *out, size_t out_len);
+
+/* The order of the keys of each segment, whose places count from the start of the segment. */
+CVL_CHECKED CvlStatus cvl_segments_order(const int32_t *keys, size_t keys_len, const CvlSegments *segments, int32_t *out,
+    size_t out_len);
+
+/* The rank of each key in its segment. */
+CVL_CHECKED CvlStatus cvl_segments_rank(const int32_t *keys, size_t keys_len, const CvlSegments *segments, int32_t *out,
+    size_t out_len);
+
+/* The keys of each segment in ascending order. */
+CVL_CHECKED CvlStatus cvl_segments_sort(const int32_t *keys, size_t keys_len, const CvlSegments *segments, int32_t *out,
+    size_t out_len);
 
 /*
  * The text of a vector of integers that is cut into segments: the texts of the segments, a space between each two, in brackets.

@@ -345,6 +345,27 @@ CVL_CHECKED CvlStatus cvl_seg_combine_permute_bool_on(const CvlPool *pool, uint3
 CVL_CHECKED CvlStatus cvl_seg_counts_on(const CvlPool *pool, const int32_t *index, size_t index_len, CvlLengths lengths,
     CvlLengths result_lengths, int32_t *out, size_t out_len);
 
+/* cvl_order in parts: not cut. */
+CVL_CHECKED CvlStatus cvl_order_on(const CvlPool *pool, const int32_t *keys, size_t keys_len, int32_t *out, size_t out_len);
+
+/* cvl_rank in parts: not cut. */
+CVL_CHECKED CvlStatus cvl_rank_on(const CvlPool *pool, const int32_t *keys, size_t keys_len, int32_t *out, size_t out_len);
+
+/* cvl_sort in parts: not cut. */
+CVL_CHECKED CvlStatus cvl_sort_on(const CvlPool *pool, const int32_t *keys, size_t keys_len, int32_t *out, size_t out_len);
+
+/* cvl_seg_order in parts: not cut. */
+CVL_CHECKED CvlStatus cvl_seg_order_on(const CvlPool *pool, const int32_t *keys, size_t keys_len, CvlLengths lengths,
+    int32_t *out, size_t out_len);
+
+/* cvl_seg_rank in parts: not cut. */
+CVL_CHECKED CvlStatus cvl_seg_rank_on(const CvlPool *pool, const int32_t *keys, size_t keys_len, CvlLengths lengths,
+    int32_t *out, size_t out_len);
+
+/* cvl_seg_sort in parts: not cut. */
+CVL_CHECKED CvlStatus cvl_seg_sort_on(const CvlPool *pool, const int32_t *keys, size_t keys_len, CvlLengths lengths,
+    int32_t *out, size_t out_len);
+
 /* cvl_read_ints in parts: cut at white space. */
 CVL_CHECKED CvlStatus cvl_read_ints_on(const CvlPool *pool, const char *text, size_t text_len, int32_t *out, size_t out_len,
     size_t *count);

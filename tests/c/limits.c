@@ -230,7 +230,7 @@ static void numbers(void) {
     }
 }
 
-/* ---- vectors as long as may be: their first elements have a fault, so that no other is looked at */
+/* ---- vectors as long as may be: their first elements have a fault, or the room is another's, so that no other is looked at */
 
 static void vectors(void) {
     const size_t most = CVL_MOST_ELEMENTS, bytes = (most + 1) * sizeof(int32_t);
@@ -247,15 +247,18 @@ static void vectors(void) {
             cvl_combine_permute_int(CVL_ADD, a, 1, a, 1, room, n),
             cvl_counts(a, n, room, n),
             cvl_counts(a, 1, room, n),
+            cvl_order(a, n, room, 1),
+            cvl_rank(a, n, room, 1),
+            cvl_sort(a, n, room, 1),
         };
         const uint32_t of_elements[] = {
             CVL_DIVIDE_BY_ZERO, CVL_INDEX_OUT_OF_RANGE, CVL_INDEX_OUT_OF_RANGE, CVL_INDEX_OUT_OF_RANGE, CVL_INDEX_OUT_OF_RANGE, CVL_INDEX_OUT_OF_RANGE,
-            CVL_INDEX_OUT_OF_RANGE,
+            CVL_INDEX_OUT_OF_RANGE, CVL_LENGTH_MISMATCH, CVL_LENGTH_MISMATCH, CVL_LENGTH_MISMATCH,
         };
         for (size_t k = 0; k < sizeof status / sizeof *status; k++, calls++) {
             const uint32_t right = n == most ? of_elements[k] : CVL_TOO_LONG;
             if (status[k].number != right) fail("a long vector", "another status", status[k].number, right);
-            if (status[k].place != (n == most ? 0 : -1)) fail("a long vector", "another place", (long long)status[k].place, 0);
+            if (status[k].place != (right == CVL_TOO_LONG || right == CVL_LENGTH_MISMATCH ? -1 : 0)) fail("a long vector", "another place", (long long)status[k].place, 0);
         }
     }
     munmap(a, bytes);

@@ -53,11 +53,22 @@ static size_t descriptors_of(const Row *row, const char *call) {
     return count * segments * 2 * sizeof(int32_t);
 }
 
+/* Whether a call orders keys, which it does as a whole. */
+static bool orders(const char *call) { return begins(call, "ord") || begins(call, "rnk") || begins(call, "srt"); }
+
+/* How many bytes such a call asks for: few keys are sorted where they are, and others in as much room and in counts of digits. */
+static size_t memory_of_keys(const char *call) {
+    const size_t keys = by_segments(call) ? longest : n, counts = keys <= 1535 ? 256 : 2048;
+    const size_t each = begins(call, "srt") ? sizeof(int32_t) : 2 * sizeof(int32_t), room = keys <= 48 ? 0 : each * keys + sizeof(uint32_t) * counts;
+    return room + (begins(call, "srt") ? 0 : each * keys);
+}
+
 /* How many bytes of memory a call asks for that has no text: its descriptors, and a mark or a sender for each place of a permute, or a
  * result that is made before it is put into the room. */
 static size_t memory_of(const Row *row, const char *call) {
     const size_t item = is_bool(call) ? 1 : sizeof(int32_t), descriptors = descriptors_of(row, call);
     if (strstr(row->name, "_range") != NULL) return 0; /* a part of a permute has the caller's marks */
+    if (orders(call)) return memory_of_keys(call);
     if (begins(call, "smp")) return descriptors + (by_segments(call) ? longest : n);
     if (begins(call, "sel_p")) return descriptors + sizeof(uint32_t) * trues;
     if (begins(call, "def")) return descriptors + sizeof(uint32_t) * n;
@@ -113,7 +124,7 @@ static void check(const Row *row, bool odd) {
     put_all(row, odd, p);
     asked = asked_by_parts = 0;
     const CvlStatus status = row->call(p);
-    const size_t needed = !is_known(row, odd) ? asked : in_parts(row) ? memory_in_parts(row, call) : memory_of(row, call);
+    const size_t needed = !is_known(row, odd) ? asked : in_parts(row) && !orders(call) ? memory_in_parts(row, call) : memory_of(row, call);
     if (status.number != CVL_DONE || status.place != -1) {
         fail(row, "another status", status.number, CVL_DONE);
         return;

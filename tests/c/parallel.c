@@ -161,6 +161,12 @@ static bool is_white(char byte) { return byte == ' ' || byte == '\t' || byte == 
     X(seg_combine_bools, cvl_seg_combine_permute_bool, CVL_XOR, in.p, in.n, in.seg_default_index, in.n, BY(in.lengths, in.segments), \
       BY(in.wide, in.segments), r->bools, in.m)                                                                                \
     X(seg_counts, cvl_seg_counts, in.seg_back_index, in.k, BY(in.back_lengths, in.segments), BY(in.lengths, in.segments), r->ints, in.n) \
+    X(order, cvl_order, in.a, in.n, r->ints, in.n)                                                                             \
+    X(rank, cvl_rank, in.a, in.n, r->ints, in.n)                                                                               \
+    X(sort, cvl_sort, in.a, in.n, r->ints, in.n)                                                                               \
+    X(seg_order, cvl_seg_order, in.a, in.n, BY(in.lengths, in.segments), r->ints, in.n)                                        \
+    X(seg_rank, cvl_seg_rank, in.a, in.n, BY(in.lengths, in.segments), r->ints, in.n)                                          \
+    X(seg_sort, cvl_seg_sort, in.a, in.n, BY(in.lengths, in.segments), r->ints, in.n)                                          \
     X(askew, cvl_int2, CVL_ADD, r->ints, in.n / 2, in.b, in.n / 2, r->ints + in.n / 4, in.n / 2)                               \
     X(askew_scan, cvl_int_scan, CVL_ADD, r->ints, in.n / 2, r->ints + in.n / 4, in.n / 2)                                      \
     X(differ, cvl_int2, CVL_ADD, in.a, in.n, in.b, in.n / 2, r->ints, in.n)                                                    \

@@ -320,6 +320,23 @@ static size_t count_named(const char *call) {
     return n;
 }
 
+/* The keys are from 1 to 31, and those of a group that are equal stand one behind another, in the order of their places. */
+static size_t order(const char *call) {
+    const bool ranks = begins(call, "rnk"), sorts = begins(call, "srt");
+    for (size_t g = 0; g < groups(by_segments(call)); g++) {
+        const size_t start = from(by_segments(call), g);
+        size_t next = start;
+        for (int32_t key = 1; key <= 31; key++) {
+            for (size_t k = start; k < to(by_segments(call), g); k++) {
+                if (held[0][k] != key) continue;
+                wanted[ranks ? k : next] = sorts ? key : (int32_t)((ranks ? next : k) - start);
+                next++;
+            }
+        }
+    }
+    return n;
+}
+
 static size_t total(const char *call) {
     (void)call;
     return n;
@@ -353,7 +370,7 @@ static const struct Reading {
     {"sel", "w", chosen}, {"sel", "p", send_flagged}, {"smp", "p", send}, {"def", "p", send}, {"bck", "p", gather}, {"pck", "l", pack},
     {"pck", "f", count_trues}, {"cnt", "l", count_trues}, {"ext", "v", extract}, {"rep", "v", replace}, {"dis", "v", distribute},
     {"ind", "l", number}, {"fst", "l", send_first}, {"fsr", "l", send_first_flagged}, {"cmb", "l", combine},
-    {"nmd", "l", count_named}, {"mke", "f", total}, {"off", "f", tell_offsets},
+    {"nmd", "l", count_named}, {"ord", "l", order}, {"rnk", "l", order}, {"srt", "l", order}, {"mke", "f", total}, {"off", "f", tell_offsets},
     {"len", "f", tell_lengths}, {"num", "f", tell_numbers}, {"prd", "r", multiply}, {"", "w", place_by_place}, {"", "s", scan},
     {"", "r", reduce},
 };
@@ -379,7 +396,7 @@ static const char *const calls_of_exports[][2] = {
     {"permute_int_range", "smp_puz"}, {"permute_bool_range", "smp_pub"}, {"select_permute_int_range", "sel_puz"},
     {"select_permute_bool_range", "sel_pub"}, {"first_senders", "fst_luz"}, {"select_first_senders", "fst_luz"},
     {"first_senders_range", "fst_luz"}, {"select_first_senders_range", "fsr_luz"}, {"combine_permute_int", "cmb_luz"},
-    {"combine_permute_bool", "cmb_lub"}, {"counts", "nmd_luz"}, {"int_scan_after", "add_suz"}, {"bool_scan_after", "xor_sub"},
+    {"combine_permute_bool", "cmb_lub"}, {"counts", "nmd_luz"}, {"order", "ord_luz"}, {"rank", "rnk_luz"}, {"sort", "srt_luz"}, {"int_scan_after", "add_suz"}, {"bool_scan_after", "xor_sub"},
     {"checked_scan_after", "tot_suz"}, {"exact_sum", "tot_ruz"}, {"read_ints", "cpy_wuz"},
     {"read_ints_after", "cpy_wuz"}, {"write_ints", "cpy_wuz"}, {"write_bools", "cpy_wub"}, {"new", "mke_fov"},
     {"free", "mke_fov"}, {"from_offsets", "len_fov"}, {"offsets", "off_fov"}, {"numbers", "num_fov"}, {"sparse_product", "prd_rez"},

@@ -912,6 +912,83 @@ static void combining_permutes_of_segments(void) {
     FAULT(cvl_seg_counts(index, 5, S(lengths, 3), S(widths, 3), ints, 6), CVL_LENGTH_MISMATCH, -1);
 }
 
+static void orders_ranks_and_sorts(void) {
+    const int32_t *keys = I(3, 1, 2, 1), *extremes = I(0, INT32_MIN, INT32_MAX, -1, 1);
+    const size_t many = (size_t)CVL_MOST_ELEMENTS + 1;
+    int32_t own[] = {3, 1, 2, 1};
+    INTS(cvl_order(keys, 4, ints, 4), 1, 3, 2, 0);
+    INTS(cvl_rank(keys, 4, ints, 4), 3, 0, 2, 1);
+    INTS(cvl_sort(keys, 4, ints, 4), 1, 1, 2, 3);
+    INTS(cvl_order(extremes, 5, ints, 5), 1, 3, 0, 4, 2);
+    INTS(cvl_rank(extremes, 5, ints, 5), 2, 0, 4, 1, 3);
+    INTS(cvl_sort(extremes, 5, ints, 5), INT32_MIN, -1, 0, 1, INT32_MAX);
+    INTS(cvl_order(I(7, 7, 7), 3, ints, 3), 0, 1, 2);
+    INTS(cvl_rank(I(7), 1, ints, 1), 0);
+    FAULT(cvl_order(NULL, 0, NULL, 0), CVL_DONE, -1);
+    FAULT(cvl_rank(NULL, 0, NULL, 0), CVL_DONE, -1);
+    FAULT(cvl_sort(NULL, 0, NULL, 0), CVL_DONE, -1);
+    tells("cvl_sort in place", cvl_sort(own, 4, own, 4), CVL_DONE, -1);
+    if (memcmp(own, I(1, 1, 2, 3), sizeof own) != 0) fail("cvl_sort in place", "other keys");
+    FAULT(cvl_order(keys, 4, ints, 3), CVL_LENGTH_MISMATCH, -1);
+    FAULT(cvl_rank(keys, 4, ints, 5), CVL_LENGTH_MISMATCH, -1);
+    FAULT(cvl_sort(keys, 4, ints, 3), CVL_LENGTH_MISMATCH, -1);
+    FAULT(cvl_order(own, 4, own, 4), CVL_OVERLAP, -1);
+    FAULT(cvl_rank(own, 4, own, 4), CVL_OVERLAP, -1);
+    FAULT(cvl_sort(own, 3, own + 1, 3), CVL_OVERLAP, -1);
+    FAULT(cvl_order(too_many_ints, many, ints, 4), CVL_TOO_LONG, -1);
+    FAULT(cvl_rank(too_many_ints, many, ints, 4), CVL_TOO_LONG, -1);
+    FAULT(cvl_sort(too_many_ints, many, ints, 4), CVL_TOO_LONG, -1);
+}
+
+static void orders_ranks_and_sorts_of_segments(void) {
+    const int32_t *keys = I(3, 1, 9, 2, 7), *lengths = I(2, 0, 3);
+    int32_t own[] = {3, 1, 9, 2, 7};
+    INTS(cvl_seg_order(keys, 5, S(lengths, 3), ints, 5), 1, 0, 1, 2, 0);
+    INTS(cvl_seg_rank(keys, 5, S(lengths, 3), ints, 5), 1, 0, 2, 0, 1);
+    INTS(cvl_seg_sort(keys, 5, S(lengths, 3), ints, 5), 1, 3, 2, 7, 9);
+    INTS(cvl_seg_order(I(4, 4, 4, -4), 4, S(I(2, 2), 2), ints, 4), 0, 1, 1, 0);
+    FAULT(cvl_seg_order(NULL, 0, S(I(0, 0), 2), NULL, 0), CVL_DONE, -1);
+    tells("cvl_seg_sort in place", cvl_seg_sort(own, 5, S(lengths, 3), own, 5), CVL_DONE, -1);
+    if (memcmp(own, I(1, 3, 2, 7, 9), sizeof own) != 0) fail("cvl_seg_sort in place", "other keys");
+    tells("cvl_seg_sort in place", cvl_seg_sort(own, 5, S(I(2, 2), 2), own, 5), CVL_LENGTH_MISMATCH, -1);
+    FAULT(cvl_seg_order(keys, 5, S(I(2, 2), 2), ints, 5), CVL_LENGTH_MISMATCH, -1);
+    FAULT(cvl_seg_rank(keys, 5, S(lengths, 3), ints, 4), CVL_LENGTH_MISMATCH, -1);
+    FAULT(cvl_seg_sort(keys, 5, S(I(2, 4), 2), ints, 5), CVL_LENGTH_MISMATCH, -1);
+    FAULT(cvl_seg_order(keys, 5, S(I(2, -1, 4), 3), ints, 4), CVL_NEGATIVE_LENGTH, 1);
+    FAULT(cvl_seg_rank(keys, 5, S(I(2, 4, -1), 3), ints, 5), CVL_NEGATIVE_LENGTH, 2);
+    FAULT(cvl_seg_sort(keys, 5, S(I(CVL_MOST_ELEMENTS, 1), 2), ints, 5), CVL_TOO_LONG, -1);
+    FAULT(cvl_seg_sort(own, 5, S(own, 5), own, 5), CVL_OVERLAP, -1);
+}
+
+/* More keys than are sorted by insertion, so that each call asks for memory; where some is refused the room and the keys are as they were. */
+static void sorts_without_memory(void) {
+    enum { MANY = 60, LENGTHS = 2 };
+    int32_t keys[MANY], sorted[MANY], room[MANY], before[MANY];
+    const int32_t cut_up[LENGTHS] = {MANY - 5, 5};
+    for (int32_t k = 0; k < MANY; k++) keys[k] = k * 7 % MANY, sorted[k] = k;
+    memset(before, UNTOUCHED, sizeof before);
+    for (int which = 0; which < 8; which++) {
+        int32_t *const out = which < 6 ? room : keys;
+        const int32_t *const left = which < 6 ? before : keys;
+        int32_t kept[MANY];
+        memcpy(kept, left, sizeof kept);
+        for (int granted = 0; granted < 4; granted++) {
+            memcpy(out, kept, sizeof kept);
+            spared = granted;
+            refusing = 1;
+            const CvlStatus status = which == 0 ? cvl_order(keys, MANY, out, MANY) : which == 1 ? cvl_rank(keys, MANY, out, MANY)
+                : which == 2 || which == 6 ? cvl_sort(keys, MANY, out, MANY) : which == 3 ? cvl_seg_order(keys, MANY, S(cut_up, LENGTHS), out, MANY)
+                : which == 4 ? cvl_seg_rank(keys, MANY, S(cut_up, LENGTHS), out, MANY) : cvl_seg_sort(keys, MANY, S(cut_up, LENGTHS), out, MANY);
+            refusing = spared = 0;
+            const bool sorts = which == 2 || which >= 5;
+            tells("an order, a rank or a sort", status, granted < (sorts ? 2 : 3) ? CVL_NO_RESOURCES : CVL_DONE, -1);
+            if (status.number != CVL_DONE && memcmp(out, kept, sizeof kept) != 0) fail("a sort without memory", "the room was written");
+            if (status.number == CVL_DONE && (which == 2 || which == 6) && memcmp(out, sorted, sizeof sorted) != 0) fail("cvl_sort", "other keys");
+        }
+        for (int32_t k = 0; k < MANY; k++) keys[k] = k * 7 % MANY;
+    }
+}
+
 static void permutes_of_wrong_segments(void) {
     const int32_t *five = I(1, 2, 3, 4, 5), *lengths = I(2, 0, 3), *turn = I(1, 0, 2, 0, 1), *negative = I(2, 4, -1);
     const bool *flags = B(false, true, true, false, true);
@@ -1628,6 +1705,9 @@ int main(void) {
     combining_permutes();
     combining_permutes_over_odd_booleans();
     combining_permutes_of_segments();
+    orders_ranks_and_sorts();
+    orders_ranks_and_sorts_of_segments();
+    sorts_without_memory();
     texts();
     texts_of_any_length();
     made_descriptors();

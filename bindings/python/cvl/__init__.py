@@ -30,7 +30,8 @@ A long call runs on several threads where the program asks for them, by `set_thr
 
 Texts are read and written by `read_ints`, `write_ints` and their like. `first_senders` and its like find of several places that
 name one place of a result the first. `combine_permute_int` and its like add up by key, over what an array holds, and `counts`
-counts how often each key is there. What ends in `_after` or `_range`, and `exact_sum`, serves who makes a call in parts.
+counts how often each key is there. `order`, `rank` and `sort` put keys in order. What ends in `_after` or `_range`, and
+`exact_sum`, serves who makes a call in parts.
 """
 
 from typing import List

@@ -23,5 +23,6 @@ mod seg_scans;
 mod segment_permutes;
 mod segments;
 mod senders;
+mod sorts;
 mod text_exports;
 mod tiles;
