@@ -10,7 +10,8 @@ use c_calls::checks::{check_limit, segments};
 use c_calls::or_tell;
 use c_calls::status::{CvlStatus, done, told_over_or};
 use stable_sorts::{
-    order_over, rank_over, seg_order_over, seg_rank_over, seg_sort_in, seg_sort_over, sort_in, sort_over,
+    order_over, rank_over, seg_order_over, seg_rank_over, seg_sort_in, seg_sort_over, sort_in,
+    sort_over,
 };
 use std::alloc::Global;
 
@@ -101,7 +102,11 @@ pub extern "C" fn cvl_proved_seg_sort(
 
 /// `cvl_proved_seg_sort` over `keys`.
 #[unsafe(no_mangle)]
-pub extern "C" fn cvl_proved_seg_sort_in(alloc: Global, keys: &mut [i32], lengths: &[i32]) -> CvlStatus
+pub extern "C" fn cvl_proved_seg_sort_in(
+    alloc: Global,
+    keys: &mut [i32],
+    lengths: &[i32],
+) -> CvlStatus
     ensures { ToldOr (by_segments lengths.now (λ d. in_limit keys.old (seg_sorted_of keys.old d))) result keys.old keys.new }
 {
     let d = or_tell!(segments(lengths));
