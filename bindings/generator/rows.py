@@ -214,6 +214,8 @@ def _export_differences(name, wanted, family, found):
     for operand in family.operands:
         if dict(parameters).get(operand.name) == "&[bool]" and not operand.copied:
             yield f"{name} takes no flags but 0 and 1 as {operand.name}, and its row doesn't copy others"
+    if any(right == "Global" for _, right in found) != family.asks:
+        yield f"{name} {'asks' if not family.asks else 'does not ask'} for memory, and its row says the other"
 
 
 def export_differences(exports):
@@ -222,10 +224,7 @@ def export_differences(exports):
     for row in FAMILIES.values():
         family = row.family
         named.add(family.exported)
-        found = exports.get(family.exported, [])
-        yield from _export_differences(family.exported, [(o.name, _types(o)) for o in family.operands], family, found)
-        if any(right == "Global" for _, right in found) != family.asks:
-            yield f"{family.exported} {'asks' if not family.asks else 'does not ask'} for memory, and its row says the other"
+        yield from _export_differences(family.exported, [(o.name, _types(o)) for o in family.operands], family, exports.get(family.exported, []))
         for name, rooms in in_place_exports(family):
             named.add(name)
             left = [o for o in family.operands if o.role != "room" and (o.name not in rooms or o.name == rooms[0])]

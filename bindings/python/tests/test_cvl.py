@@ -979,6 +979,48 @@ class CombiningPermutes(Limited):
                 cvl.combine_permute_int(*arguments)
 
 
+class Sorts(Limited):
+    def setUp(self):
+        # few keys, keys by digits of 8 bits, and keys by digits of 11; many that are equal, and the greatest and the least
+        rng = numpy.random.default_rng(8)
+        self.vectors = [rng.integers(low, high, n, numpy.int32) for n in (0, 40, 900, 5000) for low, high in ((-5, 5), (-(2**31), 2**31 - 1))]
+
+    def test_as_numpy_sorts(self):
+        for keys in self.vectors:
+            order = numpy.argsort(keys, kind="stable")
+            self.assertEqual(cvl.order(keys).tolist(), order.tolist())
+            self.assertEqual(cvl.rank(keys).tolist(), numpy.argsort(order).tolist())
+            self.assertEqual(cvl.sort(keys).tolist(), numpy.sort(keys).tolist())
+            own = keys.copy()
+            self.assertIs(cvl.sort(own, out=own), own)
+            self.assertEqual(own.tolist(), numpy.sort(keys).tolist())
+
+    def test_descending(self):
+        for keys in self.vectors:
+            self.assertEqual(cvl.order(~keys).tolist(), numpy.argsort(~keys.astype(numpy.int64), kind="stable").tolist())
+            self.assertEqual((~cvl.sort(~keys)).tolist(), numpy.sort(keys)[::-1].tolist())
+
+    def test_by_segments(self):
+        for keys in self.vectors:
+            lengths = ints(len(keys) // 3, 0, len(keys) - len(keys) // 3)
+            pieces = keys[: lengths[0]], keys[lengths[0] :]
+            for call, flat in ((cvl.seg_order, cvl.order), (cvl.seg_rank, cvl.rank), (cvl.seg_sort, cvl.sort)):
+                self.assertEqual(call(keys, lengths).tolist(), [*flat(pieces[0].copy()).tolist(), *flat(pieces[1].copy()).tolist()])
+
+    def test_faults(self):
+        room = ints(1, 2)
+        for call, number, place, said in (
+            (lambda: cvl.order(ints(3, 1), out=ints(7)), 7, None, "len(out) is 1, and has to be 2"),
+            (lambda: cvl.order(room, out=room), 102, None, "out and keys share memory"),
+            (lambda: cvl.seg_rank(ints(3, 1), ints(1)), 7, None, "segments add up to 1, and len(keys) is 2"),
+            (lambda: cvl.seg_sort(ints(3, 1), ints(3, -1)), 12, 1, "segments[1] is -1"),
+        ):
+            with self.assertRaises(cvl.Fault) as caught:
+                call()
+            fault = caught.exception
+            self.assertEqual((fault.number, fault.place, fault.said), (number, place, said))
+
+
 class Names(Limited):
     def test_each_call_says_what_it_does(self):
         for name in cvl.calls.__all__:

@@ -533,6 +533,31 @@ fn elements_are_combined_with_what_stands_there() {
 }
 
 #[test]
+fn keys_are_sorted_as_a_stable_sort_does() {
+    let keys: Vec<i32> = (0..2000).map(|k| (k * 7919 % 1201 - 600) * 65537).collect();
+    let mut order: Vec<i32> = (0..2000).collect();
+    order.sort_by_key(|&place| keys[place as usize]);
+    let mut rank = vec![0; 2000];
+    for (place, &key) in order.iter().enumerate() {
+        rank[key as usize] = place as i32;
+    }
+    let mut sorted = keys.clone();
+    sorted.sort();
+    assert_eq!(cvl::order(&keys).unwrap(), order);
+    assert_eq!(cvl::rank(&keys).unwrap(), rank);
+    assert_eq!(cvl::sort(&keys).unwrap(), sorted);
+    let mut own = keys.clone();
+    cvl::sort_in(&mut own).unwrap();
+    assert_eq!(own, sorted);
+    let halves = cvl::Segments::new(&[1000, 0, 1000]).unwrap();
+    let both = [cvl::order(&keys[..1000]).unwrap(), cvl::order(&keys[1000..]).unwrap()].concat();
+    assert_eq!(cvl::seg_order(&keys, &halves).unwrap(), both);
+    assert_eq!(told(cvl::seg_sort(&keys[1..], &halves).unwrap_err()), (7, None));
+    assert_eq!(told(cvl::order_into(&keys, &mut own[1..]).unwrap_err()), (7, None));
+    assert_eq!(own, sorted);
+}
+
+#[test]
 fn the_version() {
     assert_eq!(cvl::version(), env!("CARGO_PKG_VERSION"));
 }
