@@ -22,7 +22,8 @@ ABOUT = (
     "vector is as it was. Arrays that are only read may overlap. An array of 0 elements overlaps nothing, and its pointer may be null.",
     "A boolean is a byte, and any byte but 0 is true, as in C. That is so for each array of booleans that a function reads, and for a boolean by value; "
     "an array of another type of bytes may be passed by a cast, since no function reads it as bool. Booleans that are results are 0 and 1. Packs, "
-    "permutes, combining permutes, also in the room that they join with, first senders, scans, texts, and replaces and distributes in segments read booleans "
+    "permutes, combining permutes, also in the room that they join with, first senders, gathers of segments, searches for a true flag, scans, texts, and replaces "
+    "and distributes in segments read booleans "
     "where they lie if each is 0 or 1, and else take memory for a copy, one byte an element. All other functions read any bytes where they lie.",
     "What a caller owes, and what it costs where it isn't so:",
     "  - A pointer leads to as many elements as is said, aligned for their type, which may be read and in a room written. Else the call may crash, or "
@@ -42,7 +43,8 @@ ABOUT = (
     "  - 102 Overlap; where there is no descriptor, 101 NoDescriptor, before overlaps of other arguments than it;",
     "  - 2 UnknownCall, without a place, where a number is that of no operator of the family;",
     f"  - 13 TooLong, without a place, where the vector that a call goes by has more than {MOST_ELEMENTS} elements: its first vector, the flags of a pack, "
-    f"or the index of a permute, of first senders or of counts; the room of a flat combining permute or of counts, too; on segments after the lengths. Another "
+    f"or the index of a permute, of first senders or of counts; the room of a flat combining permute or of counts, too; the starts of a gather of segments; on "
+    f"segments after the lengths. Another "
     f"call on segments asks no vector: there are at most {MOST_ELEMENTS} "
     "lengths, which add up to at most as much, and a longer vector has not as many elements as they add up to, which is 7. A vector that is too "
     "long is not read;",
@@ -52,7 +54,7 @@ ABOUT = (
     "  - 100 NoResources;",
     "  - the faults of elements, in the order of the comment. Of a text that is read a room that is too short comes last.",
     f"Other vectors may be longer than {MOST_ELEMENTS} elements where they need not be as long as another: the source of a back permute, the defaults of a "
-    "permute, the result of first senders, and the vectors of which one element is taken or replaced.",
+    "permute, the result of first senders, the source of a gather of segments, and the vectors of which one element is taken or replaced.",
     "Each call of the table has its name with the prefix cvl_, as cvl_add_wuz. Where CVL_SHORT_NAMES is defined before this header is included it has "
     "the name without it too.",
 )
@@ -91,7 +93,8 @@ THREADS = (
     "At the start there is one thread, the one that calls. Where cvl_set_threads or the variable CVL_NUM_THREADS says that there are more, for the whole "
     "process, a long call runs on them: from 262144 elements on, where it reads a text from 131072 bytes on, and where it writes one from 32768 elements "
     "on. A shorter call runs on the thread that calls, and so does a call that reads one element, reads a nested text or one behind another, scans after "
-    "a carry, adds up exactly, makes a range of a permute or of first senders, combines or counts without segments, or sorts. "
+    "a carry, adds up exactly, makes a range of a permute or of first senders, combines or counts without segments, sorts, gathers segments, or looks for "
+    "the first true flag. "
     "What a call answers and writes is the same by any number of threads. By "
     "several it may take memory for a copy of its room; where there is none, it runs on the thread that calls.",
     "One call at a time has the threads. Another one meanwhile runs on the thread that calls it, and so does a call that comes "

@@ -179,6 +179,12 @@ OF_FAMILIES = {
         "These calls run on the thread that calls. An order and a rank take up to 16 bytes a key while they run, a sort up to 4, by segments of the keys of "
         "the longest one, and all of them up to 8192 bytes more. If these are refused, the status is 100 NoResources, and the room is as it was.",
     ),
+    "slices and merges": (
+        "No script calls these. They move runs of elements where a back permute would move one after another, or give one value of each segment that no "
+        "operator joins. None asks for memory but for booleans that are neither 0 nor 1, and each runs on the thread that calls.",
+        "The faults by the lengths come first, as at the other calls on segments, and then 7 LengthMismatch, without a place, where arrays are not as long as "
+        "is said.",
+    ),
     "texts": (
         "A text is bytes, with no zero at its end. A caller may not know how long a result is: it stands at the front of its room, and count is its "
         "length; the rest of the room is as it was. Where the room is too short it is as it was, the status is 7 LengthMismatch, without a place, and "
@@ -370,6 +376,7 @@ LONG_ROOM = Fault((13,), "13 TooLong, also where out is", False)
 NOT_AS_MANY = Fault((7,), "7 LengthMismatch where source and index are not equally long", False)
 SUMS_OF_SENT = Fault(
     (7,), "7 LengthMismatch where source and index are not equally long, or the lengths do not add up to them, or the result lengths to out", False)
+BAD_SLICE = Fault((10,), "10 IndexOutOfRange at the first segment whose start is below 0, or whose end is behind that of the source", False)
 OVERFLOW_AT_PLACE = Fault((18,), "18 Overflow at the first place whose sum does not fit 32 bits", False)
 OVERFLOW_AT_0 = Fault((18,), "18 Overflow at 0 where it does not fit 32 bits", False)
 BAD_COLUMN = Fault((10,), "10 IndexOutOfRange at the first column below 0, or m or more", False)
@@ -678,6 +685,28 @@ FAMILIES = (
         "seg_sort", "orders, ranks and sorts", (ints("keys"), lengths(), room("ints")), "The keys of each segment in ascending order.",
         in_place=(("keys",),), faults=(TOO_LONG, SUM_OF_N), asks=True, cut=("whole", None), shape="keys and out have n elements.",
         example={"keys": "3 1 9 2 7", "lengths": "2 0 3", "out": "1 3 2 7 9"},
+    ),
+    # ---- slices and merges ----
+    *twins(
+        ("gather_segments_int", "gather_segments_bool"), "slices and merges",
+        lambda kind: (items(kind, "source"), ints("starts", "segments"), lengths(extent="total"), room(kind, "total")),
+        "For each segment the elements of the source from the place `starts` on, as many as the segment is long, one segment behind another. The slices may "
+        "overlap, come in any order and be empty; an empty one may start where the source ends.",
+        limit="segments", faults=(BAD_SLICE,), shape="There is one start for each segment; out has the total of the lengths.",
+        example=lambda kind: {
+            "ints": {"source": "10 20 30 40", "starts": "2 4 1", "lengths": "2 0 3", "out": "30 40 20 30 40"},
+            "flags": {"source": "true false false", "starts": "1 0", "lengths": "1 2", "out": "false true false"},
+        }[kind],
+    ),
+    family(
+        "first_true", "slices and merges", (copied("flags"), single("int")), "The place of the first true flag, or -1 where none is true.",
+        example={"flags": "false false true true", "out": "2"},
+    ),
+    family(
+        "seg_first_true", "slices and merges", (copied("flags"), lengths(), room("ints", "segments")),
+        "For each segment the place of its first true flag, counted from the start of the segment, or -1 where none is true.",
+        limit=None, faults=(SUM_OF_N,), shape="flags has n elements, out one for each segment.",
+        example={"flags": "false true false false true", "lengths": "2 1 0 2", "out": "1 -1 -1 1"},
     ),
     # ---- texts ----
     family(

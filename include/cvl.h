@@ -28,8 +28,9 @@
  * A boolean is a byte, and any byte but 0 is true, as in C. That is so for each array of booleans that a function reads, and
  * for a boolean by value; an array of another type of bytes may be passed by a cast, since no function reads it as bool.
  * Booleans that are results are 0 and 1. Packs, permutes, combining permutes, also in the room that they join with, first
- * senders, scans, texts, and replaces and distributes in segments read booleans where they lie if each is 0 or 1, and else take
- * memory for a copy, one byte an element. All other functions read any bytes where they lie.
+ * senders, gathers of segments, searches for a true flag, scans, texts, and replaces and distributes in segments read booleans
+ * where they lie if each is 0 or 1, and else take memory for a copy, one byte an element. All other functions read any bytes
+ * where they lie.
  *
  * What a caller owes, and what it costs where it isn't so:
  *
@@ -54,9 +55,9 @@
  *   - 2 UnknownCall, without a place, where a number is that of no operator of the family;
  *   - 13 TooLong, without a place, where the vector that a call goes by has more than 2147483647 elements: its first vector,
  *     the flags of a pack, or the index of a permute, of first senders or of counts; the room of a flat combining permute or of
- *     counts, too; on segments after the lengths. Another call on segments asks no vector: there are at most 2147483647
- *     lengths, which add up to at most as much, and a longer vector has not as many elements as they add up to, which is 7. A
- *     vector that is too long is not read;
+ *     counts, too; the starts of a gather of segments; on segments after the lengths. Another call on segments asks no vector:
+ *     there are at most 2147483647 lengths, which add up to at most as much, and a longer vector has not as many elements as
+ *     they add up to, which is 7. A vector that is too long is not read;
  *   - 13, 12 and 13 again by the lengths of segments;
  *   - 7 LengthMismatch, without a place, where vectors that belong together are not equally long, and then where a room is not
  *     as long as the result, or shorter where a count is told;
@@ -64,7 +65,8 @@
  *   - the faults of elements, in the order of the comment. Of a text that is read a room that is too short comes last.
  *
  * Other vectors may be longer than 2147483647 elements where they need not be as long as another: the source of a back permute,
- * the defaults of a permute, the result of first senders, and the vectors of which one element is taken or replaced.
+ * the defaults of a permute, the result of first senders, the source of a gather of segments, and the vectors of which one
+ * element is taken or replaced.
  *
  * Each call of the table has its name with the prefix cvl_, as cvl_add_wuz. Where CVL_SHORT_NAMES is defined before this header
  * is included it has the name without it too.
@@ -175,9 +177,9 @@ const char *cvl_fault_name(uint32_t number);
  * are more, for the whole process, a long call runs on them: from 262144 elements on, where it reads a text from 131072 bytes
  * on, and where it writes one from 32768 elements on. A shorter call runs on the thread that calls, and so does a call that
  * reads one element, reads a nested text or one behind another, scans after a carry, adds up exactly, makes a range of a
- * permute or of first senders, combines or counts without segments, or sorts. What a call answers and writes is the same by any
- * number of threads. By several it may take memory for a copy of its room; where there is none, it runs on the thread that
- * calls.
+ * permute or of first senders, combines or counts without segments, sorts, gathers segments, or looks for the first true flag.
+ * What a call answers and writes is the same by any number of threads. By several it may take memory for a copy of its room;
+ * where there is none, it runs on the thread that calls.
  *
  * One call at a time has the threads. Another one meanwhile runs on the thread that calls it, and so does a call that comes
  * while cvl_set_threads waits or is at work: no call waits for another, or for a number to be set. A call in parts on a pool of
@@ -631,6 +633,52 @@ CVL_CHECKED CvlStatus cvl_seg_rank(const int32_t *keys, size_t keys_len, CvlLeng
  * keys = 3 1 9 2 7, lengths = 2 0 3: out = 1 3 2 7 9
  */
 CVL_CHECKED CvlStatus cvl_seg_sort(const int32_t *keys, size_t keys_len, CvlLengths lengths, int32_t *out, size_t out_len);
+
+/* ---- slices and merges: families ---- */
+
+/*
+ * No script calls these. They move runs of elements where a back permute would move one after another, or give one value of
+ * each segment that no operator joins. None asks for memory but for booleans that are neither 0 nor 1, and each runs on the
+ * thread that calls.
+ *
+ * The faults by the lengths come first, as at the other calls on segments, and then 7 LengthMismatch, without a place, where
+ * arrays are not as long as is said.
+ */
+
+/*
+ * cvl_gather_segments_int: For each segment the elements of the source from the place `starts` on, as many as the segment is
+ * long, one segment behind another. The slices may overlap, come in any order and be empty; an empty one may start where the
+ * source ends.
+ * Faults: 10 IndexOutOfRange at the first segment whose start is below 0, or whose end is behind that of the source.
+ * source = 10 20 30 40, starts = 2 4 1, lengths = 2 0 3: out = 30 40 20 30 40
+ */
+CVL_CHECKED CvlStatus cvl_gather_segments_int(const int32_t *source, size_t source_len, const int32_t *starts,
+    size_t starts_len, CvlLengths lengths, int32_t *out, size_t out_len);
+
+/*
+ * cvl_gather_segments_bool: For each segment the elements of the source from the place `starts` on, as many as the segment is
+ * long, one segment behind another. The slices may overlap, come in any order and be empty; an empty one may start where the
+ * source ends.
+ * Faults: 10 IndexOutOfRange at the first segment whose start is below 0, or whose end is behind that of the source.
+ * source = true false false, starts = 1 0, lengths = 1 2: out = false true false
+ */
+CVL_CHECKED CvlStatus cvl_gather_segments_bool(const bool *source, size_t source_len, const int32_t *starts, size_t starts_len,
+    CvlLengths lengths, bool *out, size_t out_len);
+
+/*
+ * cvl_first_true: The place of the first true flag, or -1 where none is true.
+ * Faults: 13 TooLong.
+ * flags = false false true true: out = 2
+ */
+CVL_CHECKED CvlStatus cvl_first_true(const bool *flags, size_t flags_len, int32_t *out);
+
+/*
+ * cvl_seg_first_true: For each segment the place of its first true flag, counted from the start of the segment, or -1 where
+ * none is true.
+ * Faults: 7 LengthMismatch where the lengths do not add up to n.
+ * flags = false true false false true, lengths = 2 1 0 2: out = 1 -1 -1 1
+ */
+CVL_CHECKED CvlStatus cvl_seg_first_true(const bool *flags, size_t flags_len, CvlLengths lengths, int32_t *out, size_t out_len);
 
 /* ---- texts: families ---- */
 
@@ -2084,6 +2132,10 @@ CVL_CHECKED CvlStatus cvl_segments_rank(const int32_t *keys, size_t keys_len, co
 
 /* The keys of each segment in ascending order. */
 CVL_CHECKED CvlStatus cvl_segments_sort(const int32_t *keys, size_t keys_len, const CvlSegments *segments, int32_t *out,
+    size_t out_len);
+
+/* For each segment the place of its first true flag, counted from the start of the segment, or -1 where none is true. */
+CVL_CHECKED CvlStatus cvl_segments_first_true(const bool *flags, size_t flags_len, const CvlSegments *segments, int32_t *out,
     size_t out_len);
 
 /*

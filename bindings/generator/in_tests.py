@@ -51,6 +51,8 @@ def _holds(row, operand):
     """What an array of a call holds; nothing of an operand that is no array."""
     if operand.name == "columns":
         return "INDEX"
+    if operand.name == "starts":
+        return "STARTS"
     if operand.name == "index" and operand.role == "reads":
         return _index(row, operand)
     if operand.role == "reads":

@@ -29,11 +29,12 @@ static CvlPool pool;
 
 /*
  * What an array of a call holds. An index names places of the whole vector, or of the element's own segment; one of trues names a place
- * for each true flag, and is -1 where the flag is false. What is of segments has an element for each of them.
+ * for each true flag, and is -1 where the flag is false. What is of segments has an element for each of them, and starts are places from which
+ * on so many elements as the segment has are there.
  */
 typedef enum Holds {
     NO_MORE,
-    INTS, FLAGS, INDEX, INDEX_IN_SEGMENTS, INDEX_OF_TRUES, INDEX_OF_TRUES_IN_SEGMENTS, SEGMENT_INTS, SEGMENT_FLAGS, SEGMENT_PLACES,
+    INTS, FLAGS, INDEX, INDEX_IN_SEGMENTS, INDEX_OF_TRUES, INDEX_OF_TRUES_IN_SEGMENTS, SEGMENT_INTS, SEGMENT_FLAGS, SEGMENT_PLACES, STARTS,
     LENGTHS, OFFSETS, DESCRIPTOR, TEXT, NESTED_TEXT,
     /* what is written */
     ROOM_FOR_INTS, ROOM_FOR_FLAGS, ROOM_FOR_TRUE_INTS, ROOM_FOR_TRUE_FLAGS, ROOM_FOR_SEGMENT_INTS, ROOM_FOR_SEGMENT_FLAGS,
@@ -82,7 +83,7 @@ static Array array_of(Holds holds) {
     case INTS: case INDEX: case INDEX_IN_SEGMENTS: case INDEX_OF_TRUES: case INDEX_OF_TRUES_IN_SEGMENTS: case ROOM_FOR_INTS:
         return (Array){of_int, n};
     case FLAGS: case ROOM_FOR_FLAGS: return (Array){1, n};
-    case LENGTHS: case SEGMENT_INTS: case SEGMENT_PLACES: case ROOM_FOR_SEGMENT_INTS: return (Array){of_int, segments};
+    case LENGTHS: case SEGMENT_INTS: case SEGMENT_PLACES: case STARTS: case ROOM_FOR_SEGMENT_INTS: return (Array){of_int, segments};
     case SEGMENT_FLAGS: case ROOM_FOR_SEGMENT_FLAGS: return (Array){1, segments};
     case OFFSETS: case ROOM_FOR_OFFSETS: return (Array){of_int, segments + 1};
     case ROOM_FOR_TRUE_INTS: return (Array){of_int, trues};

@@ -100,6 +100,7 @@ static void fill(Holds holds, unsigned char *at, bool any) {
         case LENGTHS: ints[k] = length_at(k); break;
         case OFFSETS: ints[k] = k == 0 ? 0 : ints[k - 1] + length_at(k - 1); break;
         case SEGMENT_PLACES: ints[k] = 0; break;
+        case STARTS: ints[k] = (int32_t)n - length_at(k); break;
         case TEXT: at[k] = (unsigned char)"3 1 4 1"[k]; break;
         case NESTED_TEXT: at[k] = (unsigned char)"[[3 1]]"[k]; break;
         default: ints[k] = index_at(holds, k);

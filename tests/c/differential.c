@@ -293,6 +293,21 @@ static void fill_senders(const Row *row, Given *g) {
     }
 }
 
+/* Starts from which on each segment lies in the source; then sometimes others. */
+static void fill_starts(const Row *row, Given *g) {
+    int32_t *starts = (int32_t *)g->at[1];
+    const size_t many = g->len[1], places = g->len[0];
+    if (has_negative(g, row)) return;
+    const Cuts cuts = cuts_of(row, g, 0, 0);
+    for (size_t s = 0; s < many && s < cuts.count; s++) {
+        const size_t length = cuts.start[s + 1] - cuts.start[s];
+        starts[s] = length > places ? 0 : (int32_t)below(places - length + 1);
+    }
+    for (size_t bad = many > 0 && chance(3) ? 1 + below(3) : 0; bad > 0; bad--) {
+        starts[below(many)] = chance(2) ? -1 - (int32_t)below(2) : chance(2) ? INT32_MAX : (int32_t)(places - below(2));
+    }
+}
+
 /* Columns of which each is a place of the vector; then sometimes with some that are not. */
 static void fill_columns(Given *g) {
     int32_t *columns = (int32_t *)g->at[1];
@@ -422,6 +437,7 @@ static void make(const Row *row, Given *g) {
     if (row->model >= PERMUTE && row->model <= SEG_BACK_PERMUTE) fill_indices(row, g, n, m);
     if (row->model == SEG_EXTRACT || row->model == SEG_REPLACE || row->model == PERMUTE_RANGE || row->model == SELECT_PERMUTE_RANGE) fill_indices(row, g, n, n);
     if (row->model >= FIRST_SENDERS && row->model <= SEG_COUNTS) fill_senders(row, g);
+    if (row->model == GATHER_SEGMENTS) fill_starts(row, g);
     if (row->model >= SPARSE_PRODUCT && row->model <= CHECKED_SPARSE_PRODUCT_BY_OFFSETS) fill_columns(g);
     move_rooms(row, g);
     for (size_t k = 0; k < count; k++) {

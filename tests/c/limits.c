@@ -250,10 +250,11 @@ static void vectors(void) {
             cvl_order(a, n, room, 1),
             cvl_rank(a, n, room, 1),
             cvl_sort(a, n, room, 1),
+            cvl_gather_segments_int(a, 1, a, n, (CvlLengths){room, n}, NULL, 0),
         };
         const uint32_t of_elements[] = {
             CVL_DIVIDE_BY_ZERO, CVL_INDEX_OUT_OF_RANGE, CVL_INDEX_OUT_OF_RANGE, CVL_INDEX_OUT_OF_RANGE, CVL_INDEX_OUT_OF_RANGE, CVL_INDEX_OUT_OF_RANGE,
-            CVL_INDEX_OUT_OF_RANGE, CVL_LENGTH_MISMATCH, CVL_LENGTH_MISMATCH, CVL_LENGTH_MISMATCH,
+            CVL_INDEX_OUT_OF_RANGE, CVL_LENGTH_MISMATCH, CVL_LENGTH_MISMATCH, CVL_LENGTH_MISMATCH, CVL_INDEX_OUT_OF_RANGE,
         };
         for (size_t k = 0; k < sizeof status / sizeof *status; k++, calls++) {
             const uint32_t right = n == most ? of_elements[k] : CVL_TOO_LONG;

@@ -23,6 +23,8 @@ static void fail(const Row *row, const char *why, long long got, long long right
     failed = 1;
 }
 
+static bool begins(const char *name, const char *with) { return strncmp(name, with, strlen(with)) == 0; }
+
 /* ---- what the arrays of a call hold, as numbers: a boolean as 0 or 1 */
 
 static int32_t *held[MOST_ARRAYS], *wanted;
@@ -81,11 +83,14 @@ static void hold(const Row *row, size_t j) {
         case LENGTHS: held[j][k] = lengths[k]; break;
         case OFFSETS: held[j][k] = (int32_t)starts[k]; break;
         case SEGMENT_PLACES: held[j][k] = (int32_t)(k % (size_t)lengths[k]); break;
+        case STARTS: held[j][k] = (int32_t)(k * 7907 % (n - (size_t)lengths[k] + 1)); break;
         default: held[j][k] = (int32_t)((k * 7907 + j) % 31 + 1); /* none divides by 0, shifts too far or adds up to too much */
         }
     }
     /* the values of a matrix, so that no row adds up to too much */
     for (size_t k = 0; j == 2 && k < count && strstr(row->name, "sparse_product") != NULL; k++) held[j][k] %= 2;
+    /* the first true flag is far behind */
+    for (size_t k = 0; k < count && k < n / 2 && begins(row->name, "cvl_first_true"); k++) held[j][k] = 0;
     if (is_index(holds)) {
         const bool cut_up = holds == INDEX_IN_SEGMENTS || holds == INDEX_OF_TRUES_IN_SEGMENTS;
         hold_indices(held[j], cut_up, holds == INDEX_OF_TRUES || holds == INDEX_OF_TRUES_IN_SEGMENTS);
@@ -118,8 +123,6 @@ static size_t write_text(const int32_t *numbers, bool are_flags, bool cut_up) {
 }
 
 /* ---- the calls, as plain loops: each answers how many elements there are */
-
-static bool begins(const char *name, const char *with) { return strncmp(name, with, strlen(with)) == 0; }
 
 /* What is an operator of names of calls alone: exact sums and conversions. */
 enum { TOT = 1000, INT, BOO };
@@ -337,6 +340,25 @@ static size_t order(const char *call) {
     return n;
 }
 
+static size_t gather_slices(const char *call) {
+    size_t made = 0;
+    (void)call;
+    for (size_t s = 0; s < segments; s++) {
+        for (int32_t k = 0; k < lengths[s]; k++) wanted[made++] = held[0][held[1][s] + k];
+    }
+    return made;
+}
+
+static size_t find_true(const char *call) {
+    for (size_t g = 0; g < groups(by_segments(call)); g++) {
+        const size_t start = from(by_segments(call), g), end = to(by_segments(call), g);
+        size_t k = start;
+        while (k < end && !held[0][k]) k++;
+        wanted[g] = k < end ? (int32_t)(k - start) : -1;
+    }
+    return groups(by_segments(call));
+}
+
 static size_t total(const char *call) {
     (void)call;
     return n;
@@ -370,7 +392,8 @@ static const struct Reading {
     {"sel", "w", chosen}, {"sel", "p", send_flagged}, {"smp", "p", send}, {"def", "p", send}, {"bck", "p", gather}, {"pck", "l", pack},
     {"pck", "f", count_trues}, {"cnt", "l", count_trues}, {"ext", "v", extract}, {"rep", "v", replace}, {"dis", "v", distribute},
     {"ind", "l", number}, {"fst", "l", send_first}, {"fsr", "l", send_first_flagged}, {"cmb", "l", combine},
-    {"nmd", "l", count_named}, {"ord", "l", order}, {"rnk", "l", order}, {"srt", "l", order}, {"mke", "f", total}, {"off", "f", tell_offsets},
+    {"nmd", "l", count_named}, {"ord", "l", order}, {"rnk", "l", order}, {"srt", "l", order}, {"gth", "l", gather_slices}, {"ftr", "l", find_true},
+    {"mke", "f", total}, {"off", "f", tell_offsets},
     {"len", "f", tell_lengths}, {"num", "f", tell_numbers}, {"prd", "r", multiply}, {"", "w", place_by_place}, {"", "s", scan},
     {"", "r", reduce},
 };
@@ -396,7 +419,9 @@ static const char *const calls_of_exports[][2] = {
     {"permute_int_range", "smp_puz"}, {"permute_bool_range", "smp_pub"}, {"select_permute_int_range", "sel_puz"},
     {"select_permute_bool_range", "sel_pub"}, {"first_senders", "fst_luz"}, {"select_first_senders", "fst_luz"},
     {"first_senders_range", "fst_luz"}, {"select_first_senders_range", "fsr_luz"}, {"combine_permute_int", "cmb_luz"},
-    {"combine_permute_bool", "cmb_lub"}, {"counts", "nmd_luz"}, {"order", "ord_luz"}, {"rank", "rnk_luz"}, {"sort", "srt_luz"}, {"int_scan_after", "add_suz"}, {"bool_scan_after", "xor_sub"},
+    {"combine_permute_bool", "cmb_lub"}, {"counts", "nmd_luz"}, {"order", "ord_luz"}, {"rank", "rnk_luz"}, {"sort", "srt_luz"},
+    {"gather_segments_int", "gth_lez"}, {"gather_segments_bool", "gth_leb"}, {"first_true", "ftr_luz"}, {"int_scan_after", "add_suz"},
+    {"bool_scan_after", "xor_sub"},
     {"checked_scan_after", "tot_suz"}, {"exact_sum", "tot_ruz"}, {"read_ints", "cpy_wuz"},
     {"read_ints_after", "cpy_wuz"}, {"write_ints", "cpy_wuz"}, {"write_bools", "cpy_wub"}, {"new", "mke_fov"},
     {"free", "mke_fov"}, {"from_offsets", "len_fov"}, {"offsets", "off_fov"}, {"numbers", "num_fov"}, {"sparse_product", "prd_rez"},

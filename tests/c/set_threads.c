@@ -122,7 +122,7 @@ static bool is_cut(const char *name) {
     static const char *const whole[] = {
         "cvl_ext_vuz", "cvl_ext_vub", "cvl_extract_int", "cvl_extract_bool", "cvl_seg_read_ints", "cvl_segments_free", "cvl_combine_permute_int",
         "cvl_combine_permute_bool", "cvl_counts", "cvl_order", "cvl_rank", "cvl_sort", "cvl_seg_order", "cvl_seg_rank", "cvl_seg_sort",
-        "cvl_segments_order", "cvl_segments_rank", "cvl_segments_sort",
+        "cvl_segments_order", "cvl_segments_rank", "cvl_segments_sort", "cvl_segments_first_true",
     };
     char parts[64];
     for (size_t k = 0; k < sizeof whole / sizeof *whole; k++) {
@@ -155,7 +155,7 @@ static void fill(const Row *row, void **p) {
         if (bytes_of(holds) > sizeof memory[k]) abort();
         memset(memory[k], 0, sizeof memory[k]);
         for (int32_t place = 0; place < 6; place++) {
-            if (holds == INTS || holds == SEGMENT_INTS) ints[place] = 1;
+            if (holds == INTS || holds == SEGMENT_INTS || holds == STARTS) ints[place] = 1;
             if (holds == INDEX || holds == INDEX_OF_TRUES) ints[place] = place;
             if (holds == INDEX_IN_SEGMENTS || holds == INDEX_OF_TRUES_IN_SEGMENTS) ints[place] = place % 2;
             if (holds == OFFSETS && place <= 3) ints[place] = 2 * place;

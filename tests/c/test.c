@@ -989,6 +989,48 @@ static void sorts_without_memory(void) {
     }
 }
 
+static void slices(void) {
+    const int32_t *source = I(10, 20, 30, 40), *starts = I(2, 4, 1), *lengths = I(2, 0, 3), *negative = I(2, -1, 4);
+    const bool *f = B(true, false, false, true);
+    const size_t many = (size_t)CVL_MOST_ELEMENTS + 1;
+    INTS(cvl_gather_segments_int(source, 4, starts, 3, S(lengths, 3), ints, 5), 30, 40, 20, 30, 40);
+    INTS(cvl_gather_segments_int(source, 4, I(0, 0), 2, S(I(4, 1), 2), ints, 5), 10, 20, 30, 40, 10);
+    INTS(cvl_gather_segments_int(source, 4, I(3, 2, 1, 0), 4, S(I(1, 1, 1, 1), 4), ints, 4), 40, 30, 20, 10);
+    FAULT(cvl_gather_segments_int(NULL, 0, NULL, 0, S(NULL, 0), NULL, 0), CVL_DONE, -1);
+    FAULT(cvl_gather_segments_int(NULL, 0, I(0, 0), 2, S(I(0, 0), 2), NULL, 0), CVL_DONE, -1);
+    BOOLS(cvl_gather_segments_bool(f, 4, starts, 3, S(lengths, 3), bools, 5), false, true, false, false, true);
+    BOOLS_OF_COPIES(1, cvl_gather_segments_bool(O(9, 0, 0, 1), 4, starts, 3, S(lengths, 3), bools, 5), false, true, false, false, true);
+    FAULT(cvl_gather_segments_int(source, 4, I(2, 4, 2), 3, S(lengths, 3), ints, 5), CVL_INDEX_OUT_OF_RANGE, 2);
+    FAULT(cvl_gather_segments_int(source, 4, I(2, 5, 2), 3, S(lengths, 3), ints, 5), CVL_INDEX_OUT_OF_RANGE, 1);
+    FAULT(cvl_gather_segments_int(source, 4, I(-1, 5, 2), 3, S(lengths, 3), ints, 5), CVL_INDEX_OUT_OF_RANGE, 0);
+    FAULT(cvl_gather_segments_int(source, 4, I(INT32_MAX, 0, 0), 3, S(lengths, 3), ints, 5), CVL_INDEX_OUT_OF_RANGE, 0);
+    FAULT(cvl_gather_segments_int(source, 4, I(2, 4, 2), 3, S(lengths, 3), ints, 4), CVL_LENGTH_MISMATCH, -1);
+    FAULT(cvl_gather_segments_int(source, 4, I(-1, 4, 2), 2, S(lengths, 3), ints, 5), CVL_LENGTH_MISMATCH, -1);
+    FAULT(cvl_gather_segments_int(source, 4, I(9, 9, 9), 2, S(negative, 3), ints, 5), CVL_NEGATIVE_LENGTH, 1);
+    FAULT(cvl_gather_segments_int(source, 4, starts, 3, S(I(INT32_MAX, 1, 0), 3), ints, 5), CVL_TOO_LONG, -1);
+    FAULT(cvl_gather_segments_int(source, 4, too_many_ints, many, S(lengths, 3), ints, 5), CVL_TOO_LONG, -1);
+    FAULT(cvl_gather_segments_int(source, 4, starts, 3, S(too_many_ints, many), ints, 5), CVL_TOO_LONG, -1);
+    FAULT(cvl_gather_segments_bool(f, 4, I(2, 4, 2), 3, S(lengths, 3), bools, 5), CVL_INDEX_OUT_OF_RANGE, 2);
+    FAULT(cvl_gather_segments_bool(O(2, 0, 0, 1), 4, I(2, 4, 2), 3, S(lengths, 3), bools, 4), CVL_LENGTH_MISMATCH, -1);
+}
+
+static void first_trues(void) {
+    const bool *f = B(false, true, false, false, true);
+    const int32_t *lengths = I(2, 1, 0, 2);
+    const size_t many = (size_t)CVL_MOST_ELEMENTS + 1;
+    INTS(cvl_first_true(f, 5, ints), 1);
+    INTS(cvl_first_true(f + 2, 2, ints), -1);
+    INTS(cvl_first_true(NULL, 0, ints), -1);
+    INTS_OF_COPIES(1, cvl_first_true(O(0, 0, 7, 1), 4, ints), 2);
+    FAULT(cvl_first_true(too_many_bools, many, ints), CVL_TOO_LONG, -1);
+    INTS(cvl_seg_first_true(f, 5, S(lengths, 4), ints, 4), 1, -1, -1, 1);
+    INTS_OF_COPIES(1, cvl_seg_first_true(O(0, 2, 0, 0, 1), 5, S(lengths, 4), ints, 4), 1, -1, -1, 1);
+    FAULT(cvl_seg_first_true(f, 4, S(lengths, 4), ints, 4), CVL_LENGTH_MISMATCH, -1);
+    FAULT(cvl_seg_first_true(f, 5, S(lengths, 4), ints, 3), CVL_LENGTH_MISMATCH, -1);
+    FAULT(cvl_seg_first_true(f, 5, S(I(2, -1, 4), 3), ints, 3), CVL_NEGATIVE_LENGTH, 1);
+    FAULT(cvl_seg_first_true(f, 5, S(I(INT32_MAX, 1), 2), ints, 2), CVL_TOO_LONG, -1);
+}
+
 static void permutes_of_wrong_segments(void) {
     const int32_t *five = I(1, 2, 3, 4, 5), *lengths = I(2, 0, 3), *turn = I(1, 0, 2, 0, 1), *negative = I(2, 4, -1);
     const bool *flags = B(false, true, true, false, true);
@@ -1708,6 +1750,8 @@ int main(void) {
     orders_ranks_and_sorts();
     orders_ranks_and_sorts_of_segments();
     sorts_without_memory();
+    slices();
+    first_trues();
     texts();
     texts_of_any_length();
     made_descriptors();

@@ -890,6 +890,36 @@ class FirstSenders(Limited):
             self.assertEqual((fault.number, fault.place, fault.said), (number, place, said))
 
 
+class Slices(Limited):
+    def test_in_any_order(self):
+        source, starts, lengths = numpy.arange(90, dtype=numpy.int32), ints(40, 90, 7, 41), ints(50, 0, 3, 2)
+        wanted = numpy.concatenate([source[start : start + length] for start, length in zip(starts, lengths)])
+        self.assertEqual(cvl.gather_segments_int(source, starts, lengths).tolist(), wanted.tolist())
+        self.assertEqual(cvl.gather_segments_bool(source % 3 == 1, starts, lengths).tolist(), (wanted % 3 == 1).tolist())
+        room = numpy.zeros(55, numpy.int32)
+        self.assertIs(cvl.gather_segments_int(source, starts, cvl.Segments(lengths), out=room), room)
+        self.assertEqual(room.tolist(), wanted.tolist())
+
+    def test_first_true(self):
+        marks = flags(False, True, False, False, True)
+        self.assertEqual((cvl.first_true(marks), cvl.first_true(marks[2:4]), cvl.first_true(marks[:0])), (1, -1, -1))
+        self.assertEqual(cvl.seg_first_true(marks, ints(2, 1, 0, 2)).tolist(), [1, -1, -1, 1])
+
+    def test_faults(self):
+        source = ints(10, 20, 30)
+        for call, number, place in (
+            (lambda: cvl.gather_segments_int(source, ints(0, 2), ints(3, 2)), 10, 1),
+            (lambda: cvl.gather_segments_int(source, ints(-1, 2), ints(3, 2)), 10, 0),
+            (lambda: cvl.gather_segments_int(source, ints(0), ints(3, 2)), 7, None),
+            (lambda: cvl.gather_segments_int(source, ints(0, 0), ints(3, -1)), 12, 1),
+            (lambda: cvl.gather_segments_int(source, ints(0), ints(3), out=ints(7)), 7, None),
+            (lambda: cvl.seg_first_true(flags(True), ints(2)), 7, None),
+        ):
+            with self.assertRaises(cvl.Fault) as caught:
+                call()
+            self.assertEqual((caught.exception.number, caught.exception.place), (number, place))
+
+
 def combined(operator, source, index, out):
     """What stands in `out`, joined with what is sent there, read plainly."""
     found = [int(value) for value in out]

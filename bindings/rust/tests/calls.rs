@@ -561,3 +561,31 @@ fn keys_are_sorted_as_a_stable_sort_does() {
 fn the_version() {
     assert_eq!(cvl::version(), env!("CARGO_PKG_VERSION"));
 }
+
+#[test]
+fn slices_are_gathered_in_any_order() {
+    let source: Vec<i32> = (0..90).collect();
+    let (starts, lengths) = ([40, 90, 7, 41], [50, 0, 3, 2]);
+    let segments = Segments::new(&lengths).unwrap();
+    let slices = starts.iter().zip(lengths).flat_map(|(start, length)| &source[*start as usize..][..length as usize]);
+    let wanted: Vec<i32> = slices.copied().collect();
+    assert_eq!(cvl::gather_segments_int(&source, &starts, &segments).unwrap(), wanted);
+    let flags: Vec<bool> = source.iter().map(|k| k % 3 == 1).collect();
+    let wanted: Vec<bool> = wanted.iter().map(|k| k % 3 == 1).collect();
+    assert_eq!(cvl::gather_segments_bool(&flags, &starts, &segments).unwrap(), wanted);
+    let mut out = [7; 55];
+    let beyond = cvl::gather_segments_int_into(&source, &[40, 90, 88, 41], &segments, &mut out).unwrap_err();
+    assert_eq!((told(beyond), out), ((10, Some(2)), [7; 55]));
+    let short = cvl::gather_segments_int_into(&source, &starts, &segments, &mut out[..54]).unwrap_err();
+    assert_eq!((told(short), out), ((7, None), [7; 55]));
+    assert_eq!(told(cvl::gather_segments_int(&source, &[40, 90], &segments).unwrap_err()), (7, None));
+}
+
+#[test]
+fn the_first_true_flag_is_found() {
+    let flags = [false, true, false, false, true];
+    assert_eq!((cvl::first_true(&flags), cvl::first_true(&flags[2..4])), (Ok(1), Ok(-1)));
+    let segments = Segments::new(&[2, 1, 0, 2]).unwrap();
+    assert_eq!(cvl::seg_first_true(&flags, &segments).unwrap(), [1, -1, -1, 1]);
+    assert_eq!(told(cvl::seg_first_true(&flags[1..], &segments).unwrap_err()), (7, None));
+}

@@ -23,6 +23,7 @@ mod seg_scans;
 mod segment_permutes;
 mod segments;
 mod senders;
+mod slices;
 mod sorts;
 mod text_exports;
 mod tiles;

@@ -1,0 +1,68 @@
+//! Slices of a vector one behind another, and the first true flag.
+
+ghost use Rattle.std.specs.Prelude.{Ok, length};
+ghost use Rattle.c_calls.specs.Calls.{by_segments, in_limit};
+ghost use Rattle.c_calls.specs.Told.{Told, in_room};
+ghost use Rattle.segment_slices.specs.Slices.{gather_segments_of};
+ghost use Rattle.segment_values.specs.Values.{each_of, first_true_of};
+
+use c_calls::checks::{check_limit, segments};
+use c_calls::or_tell;
+use c_calls::status::{CvlStatus, told_one, told_over};
+use segment_slices::gather_segments_over;
+use segment_values::{first_true, seg_first_true_over};
+
+/// The slices of integers that begin at the starts and have the lengths, one behind another.
+#[unsafe(no_mangle)]
+pub extern "C" fn cvl_proved_gather_segments_int(
+    source: &[i32],
+    starts: &[i32],
+    lengths: &[i32],
+    out: &mut [i32],
+) -> CvlStatus
+    ensures { Told (in_room (length out.old) (by_segments lengths.now (λ d. in_limit starts.now
+        (gather_segments_of source.now starts.now lengths.now)))) result out.old out.new }
+{
+    or_tell!(segments(lengths));
+    or_tell!(check_limit(starts));
+    told_over::<i32>(gather_segments_over(source, starts, lengths, out))
+}
+
+/// The slices of booleans that begin at the starts and have the lengths, one behind another.
+#[unsafe(no_mangle)]
+pub extern "C" fn cvl_proved_gather_segments_bool(
+    source: &[bool],
+    starts: &[i32],
+    lengths: &[i32],
+    out: &mut [bool],
+) -> CvlStatus
+    ensures { Told (in_room (length out.old) (by_segments lengths.now (λ d. in_limit starts.now
+        (gather_segments_of source.now starts.now lengths.now)))) result out.old out.new }
+{
+    or_tell!(segments(lengths));
+    or_tell!(check_limit(starts));
+    told_over::<bool>(gather_segments_over(source, starts, lengths, out))
+}
+
+/// The place of the first true flag, or -1.
+#[unsafe(no_mangle)]
+pub extern "C" fn cvl_proved_first_true(flags: &[bool], out: &mut i32) -> CvlStatus
+    ensures { Told (in_limit flags.now (Ok (first_true_of flags.now))) result out.old out.new }
+{
+    or_tell!(check_limit(flags));
+    told_one(Ok(first_true(flags)), out)
+}
+
+/// The place of the first true flag of each segment, counted from its start, or -1.
+#[unsafe(no_mangle)]
+pub extern "C" fn cvl_proved_seg_first_true(
+    flags: &[bool],
+    lengths: &[i32],
+    out: &mut [i32],
+) -> CvlStatus
+    ensures { Told (in_room (length out.old) (by_segments lengths.now (each_of first_true_of flags.now)))
+        result out.old out.new }
+{
+    let d = or_tell!(segments(lengths));
+    told_over::<i32>(seg_first_true_over(flags, &d, out))
+}
