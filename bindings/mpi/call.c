@@ -143,5 +143,6 @@ CvlStatus cvl_over_ranks(CvlRanks *ranks, const CvlRankRow *family, uint32_t op,
     name_slots(&c);
     c.status = family->way(&c);
     let_go(&c);
+    /* cppcheck-suppress returnDanglingLifetime ; a status has no pointer in it */
     return c.status;
 }

@@ -52,6 +52,38 @@ static void copies(void) {
     if (cvl_are_flags(flags[MOST], MOST)) reads_flags(flags[MOST], MOST);
 }
 
+/* The offsets and the numbers of a descriptor, into rooms of each length, and with each request refused. */
+static void told_of(const CvlSegments *segments) {
+    for (size_t n = 0; n <= MOST; n++) {
+        for (refused = -1; refused < 4; refused++) {
+            asked = 0;
+            (void)cvl_segments_offsets(segments, room[n], n);
+            asked = 0;
+            (void)cvl_segments_numbers(segments, room[n], n);
+        }
+    }
+    refused = -1;
+}
+
+/* Two segments, cut in each way; lengths that are none, or too many; rooms that are the lengths or the descriptor; and none made. */
+void descriptors_told(void) {
+    CvlSegments made = {length, 2, 1}, empty = CVL_NO_SEGMENTS;
+    told_of(NULL);
+    told_of(&empty);
+    empty.some = 1;
+    told_of(&empty);
+    for (int32_t first = -1; first < MOST; first++) {
+        length[0] = first, length[1] = MOST - 1 - first;
+        told_of(&made);
+    }
+    length[0] = length[1] = INT32_MAX;
+    told_of(&made);
+    (void)cvl_segments_offsets(&made, length, 2);
+    (void)cvl_segments_numbers(&made, length, 2);
+    (void)cvl_segments_offsets(&made, (int32_t *)&made, 3);
+    (void)cvl_segments_numbers(&made, (int32_t *)&made, 3);
+}
+
 static void descriptors(void) {
     CvlSegments segments = CVL_NO_SEGMENTS, made = {length, 2, 1};
     size_t total;

@@ -47,6 +47,11 @@ static void default_permute_bools(size_t n) {
     (void)cvl_default_permute_bool_on(&pool, flags[1], 1, others[1], 1, bools[n], n, bool_room[n], n);
 }
 
+static void first_senders(size_t n) { (void)cvl_first_senders_on(&pool, others[n], n, room[n], n); }
+static void select_first_senders(size_t n) {
+    (void)cvl_select_first_senders_on(&pool, others[n], n, flags[n], n, room[n], n);
+}
+
 void places(void) {
     fill(5, 1);
     fill_ints(room);
@@ -85,4 +90,29 @@ void permutes(void) {
     each_pattern(select_permute_ints, 7, 4);
     each_pattern(select_permute_bools, 7, 4);
     each_pattern(default_permute_bools, 6, 4);
+}
+
+/* The room of a combining permute holds what stands before: 0 and 1, or bytes of which one is neither, and then it is copied. */
+static bool clean_room;
+
+static void combine_ints(size_t n) { (void)cvl_combine_permute_int_on(&pool, CVL_ADD, ints[n], n, others[n], n, room[n], n); }
+static void combine_bools(size_t n) {
+    fill_flags(bool_room, 5, clean_room);
+    (void)cvl_combine_permute_bool_on(&pool, CVL_XOR, bools[n], n, others[n], n, bool_room[n], n);
+}
+
+void combines(void) {
+    fill(5, 1);
+    fill_ints(room);
+    each_length(combine_ints, 1, 0);
+    clean_room = 1;
+    each_length(combine_bools, 1, 0);
+    clean_room = 0;
+    each_pattern(combine_bools, 4, 0);
+}
+
+void senders(void) {
+    fill(5, 1);
+    each_length(first_senders, 4, 2);
+    each_pattern(select_first_senders, 7, 4);
 }

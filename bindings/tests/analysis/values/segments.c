@@ -67,6 +67,15 @@ static void default_permute(size_t n) {
         bool_room[2], 2);
 }
 
+/* The room has two segments of one element, too, and holds what stands before: 0 and 1, or a byte that is neither, and then it is copied. */
+static bool clean_room;
+
+static void combine(size_t n) {
+    fill_flags(bool_room, 5, clean_room);
+    if (cut.segments == 2) (void)cvl_seg_combine_permute_bool_on(&pool, CVL_XOR, bools[n], n, others[n], n, cut, other_cut,
+        bool_room[2], 2);
+}
+
 /* Each way to cut n elements into so many segments: what is left goes to the last one. */
 static void each_cut_of(Call *call, size_t n, size_t segments, int32_t more) {
     cut.segments = segments;
@@ -137,4 +146,12 @@ void between_segments(void) {
     each_cut(default_permute, 10, 5);
     begin(5, 1);
     each_cut(select_permute, 0, 0);
+}
+
+void combines_of_segments(void) {
+    begin(5, 1);
+    clean_room = 1;
+    each_cut(combine, 6, 3);
+    clean_room = 0;
+    each_cut(combine, 4, 0);
 }

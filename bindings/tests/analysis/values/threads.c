@@ -13,7 +13,7 @@ extern bool one_pool;
 void begin_child(void);
 void run_started(void);
 
-static void shared(size_t n) { (void)cvl_int_scan_shared(CVL_ADD, ints[n], n, room[n], n); }
+static void shared(size_t n) { (void)cvl_int_scan(CVL_ADD, ints[n], n, room[n], n); }
 
 /* Some number of threads, which may be refused, and calls by them. */
 static void numbers(void) {
