@@ -20,7 +20,7 @@ import call_table
 #           "single", one value that is written; "told", a number that is told beside the room
 #   kind    of an array: "ints", "flags", "text", "marks"; of one value: "int", "flag", "sum" (64 bits) or "size"
 #   extent  how many elements an array has, and what lengths add up to: "n", "m"; "segments", one for each segment; "count", the operand;
-#           "trues", how many flags are true; "total", what the lengths add up to; "room", what the caller says; "offsets", one more than
+#           "both", n and m together; "trues" and "falses", how many flags are true or false; "total", what the lengths add up to; "room", what the caller says; "offsets", one more than
 #           segments
 #   copied  whether flags that are neither 0 nor 1 are copied, since the export takes no others
 #   over    whether a room holds what stands before, which the call joins with what it reads; its example has that under `before(name)`
@@ -377,6 +377,8 @@ NOT_AS_MANY = Fault((7,), "7 LengthMismatch where source and index are not equal
 SUMS_OF_SENT = Fault(
     (7,), "7 LengthMismatch where source and index are not equally long, or the lengths do not add up to them, or the result lengths to out", False)
 BAD_SLICE = Fault((10,), "10 IndexOutOfRange at the first segment whose start is below 0, or whose end is behind that of the source", False)
+SUMS_OF_BOTH = Fault((7,), "7 LengthMismatch where the lengths do not add up to a, or the other lengths to b", False)
+NO_SIDES = Fault((7,), "7 LengthMismatch where when_true has not as many elements as there are true flags, or when_false as there are false ones", False)
 OVERFLOW_AT_PLACE = Fault((18,), "18 Overflow at the first place whose sum does not fit 32 bits", False)
 OVERFLOW_AT_0 = Fault((18,), "18 Overflow at 0 where it does not fit 32 bits", False)
 BAD_COLUMN = Fault((10,), "10 IndexOutOfRange at the first column below 0, or m or more", False)
@@ -696,6 +698,27 @@ FAMILIES = (
         example=lambda kind: {
             "ints": {"source": "10 20 30 40", "starts": "2 4 1", "lengths": "2 0 3", "out": "30 40 20 30 40"},
             "flags": {"source": "true false false", "starts": "1 0", "lengths": "1 2", "out": "false true false"},
+        }[kind],
+    ),
+    *twins(
+        ("append_segments_int", "append_segments_bool"), "slices and merges",
+        lambda kind: (items(kind, "a"), items(kind, "b", "m"), lengths(), lengths("other_lengths", "m"), room(kind, "both")),
+        "The segments of a, each followed by the segment of b that has its number.",
+        limit=None, faults=(SUMS_OF_BOTH,), shape="a has n elements in segments with the lengths, b has m in as many segments with the other lengths, and out "
+        "n + m.",
+        example=lambda kind: {
+            "ints": {"a": "1 2 3", "b": "7 8 9", "lengths": "2 0 1", "other_lengths": "1 2 0", "out": "1 2 7 8 9 3"},
+            "flags": {"a": "true true", "b": "false", "lengths": "1 1", "other_lengths": "1 0", "out": "true false true"},
+        }[kind],
+    ),
+    *twins(
+        ("merge_by_flags_int", "merge_by_flags_bool"), "slices and merges",
+        lambda kind: (copied("flags"), items(kind, "when_true", "trues"), items(kind, "when_false", "falses"), room(kind)),
+        "At each place the next element of when_true where the flag is true, and of when_false where it is false: the inverse of two packs.",
+        faults=(TOO_LONG, NO_SIDES), shape="flags and out have n elements, when_true as many as there are true flags, and when_false the others.",
+        example=lambda kind: {
+            "ints": {"flags": "true false false true", "when_true": "1 2", "when_false": "7 8", "out": "1 7 8 2"},
+            "flags": {"flags": "false true true", "when_true": "true false", "when_false": "true", "out": "true true false"},
         }[kind],
     ),
     family(

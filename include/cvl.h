@@ -28,9 +28,9 @@
  * A boolean is a byte, and any byte but 0 is true, as in C. That is so for each array of booleans that a function reads, and
  * for a boolean by value; an array of another type of bytes may be passed by a cast, since no function reads it as bool.
  * Booleans that are results are 0 and 1. Packs, permutes, combining permutes, also in the room that they join with, first
- * senders, gathers of segments, searches for a true flag, scans, texts, and replaces and distributes in segments read booleans
- * where they lie if each is 0 or 1, and else take memory for a copy, one byte an element. All other functions read any bytes
- * where they lie.
+ * senders, gathers of segments, appends, merges, searches for a true flag, scans, texts, and replaces and distributes in
+ * segments read booleans where they lie if each is 0 or 1, and else take memory for a copy, one byte an element. All other
+ * functions read any bytes where they lie.
  *
  * What a caller owes, and what it costs where it isn't so:
  *
@@ -177,9 +177,9 @@ const char *cvl_fault_name(uint32_t number);
  * are more, for the whole process, a long call runs on them: from 262144 elements on, where it reads a text from 131072 bytes
  * on, and where it writes one from 32768 elements on. A shorter call runs on the thread that calls, and so does a call that
  * reads one element, reads a nested text or one behind another, scans after a carry, adds up exactly, makes a range of a
- * permute or of first senders, combines or counts without segments, sorts, gathers segments, or looks for the first true flag.
- * What a call answers and writes is the same by any number of threads. By several it may take memory for a copy of its room;
- * where there is none, it runs on the thread that calls.
+ * permute or of first senders, combines or counts without segments, sorts, gathers or appends segments, merges, or looks for
+ * the first true flag. What a call answers and writes is the same by any number of threads. By several it may take memory for a
+ * copy of its room; where there is none, it runs on the thread that calls.
  *
  * One call at a time has the threads. Another one meanwhile runs on the thread that calls it, and so does a call that comes
  * while cvl_set_threads waits or is at work: no call waits for another, or for a number to be set. A call in parts on a pool of
@@ -664,6 +664,42 @@ CVL_CHECKED CvlStatus cvl_gather_segments_int(const int32_t *source, size_t sour
  */
 CVL_CHECKED CvlStatus cvl_gather_segments_bool(const bool *source, size_t source_len, const int32_t *starts, size_t starts_len,
     CvlLengths lengths, bool *out, size_t out_len);
+
+/*
+ * cvl_append_segments_int: The segments of a, each followed by the segment of b that has its number.
+ * Faults: 7 LengthMismatch where the lengths do not add up to a, or the other lengths to b.
+ * a = 1 2 3, b = 7 8 9, lengths = 2 0 1, other_lengths = 1 2 0: out = 1 2 7 8 9 3
+ */
+CVL_CHECKED CvlStatus cvl_append_segments_int(const int32_t *a, size_t a_len, const int32_t *b, size_t b_len,
+    CvlLengths lengths, CvlLengths other_lengths, int32_t *out, size_t out_len);
+
+/*
+ * cvl_append_segments_bool: The segments of a, each followed by the segment of b that has its number.
+ * Faults: 7 LengthMismatch where the lengths do not add up to a, or the other lengths to b.
+ * a = true true, b = false, lengths = 1 1, other_lengths = 1 0: out = true false true
+ */
+CVL_CHECKED CvlStatus cvl_append_segments_bool(const bool *a, size_t a_len, const bool *b, size_t b_len, CvlLengths lengths,
+    CvlLengths other_lengths, bool *out, size_t out_len);
+
+/*
+ * cvl_merge_by_flags_int: At each place the next element of when_true where the flag is true, and of when_false where it is
+ * false: the inverse of two packs.
+ * Faults: 13 TooLong; 7 LengthMismatch where when_true has not as many elements as there are true flags, or when_false as there
+ * are false ones.
+ * flags = true false false true, when_true = 1 2, when_false = 7 8: out = 1 7 8 2
+ */
+CVL_CHECKED CvlStatus cvl_merge_by_flags_int(const bool *flags, size_t flags_len, const int32_t *when_true,
+    size_t when_true_len, const int32_t *when_false, size_t when_false_len, int32_t *out, size_t out_len);
+
+/*
+ * cvl_merge_by_flags_bool: At each place the next element of when_true where the flag is true, and of when_false where it is
+ * false: the inverse of two packs.
+ * Faults: 13 TooLong; 7 LengthMismatch where when_true has not as many elements as there are true flags, or when_false as there
+ * are false ones.
+ * flags = false true true, when_true = true false, when_false = true: out = true true false
+ */
+CVL_CHECKED CvlStatus cvl_merge_by_flags_bool(const bool *flags, size_t flags_len, const bool *when_true, size_t when_true_len,
+    const bool *when_false, size_t when_false_len, bool *out, size_t out_len);
 
 /*
  * cvl_first_true: The place of the first true flag, or -1 where none is true.

@@ -96,10 +96,27 @@ static CvlStatus needed_told(const CvlRow *row, const CvlSlot *s, size_t *needed
     return counted;
 }
 
-/* The fault of a room whose length elements say. */
+/* The fault of vectors that are merged, whose lengths flags say. */
+static CvlStatus sides_told(const CvlRow *row, const CvlSlot *s) {
+    const CvlSlot *const a = slot_of(row, s, CVL_AS_A), *const b = slot_of(row, s, CVL_AS_B), *const flags = slot_of(row, s, CVL_AS_FLAGS);
+    int32_t trues = 0;
+    const CvlStatus counted = cvl_proved_count(flags->at, flags->number, &trues);
+    if (counted.number != CVL_DONE) return counted;
+    return (size_t)trues == a->number && flags->number - (size_t)trues == b->number ? cvl_done() : cvl_status(CVL_LENGTH_MISMATCH, -1);
+}
+
+/* The fault of a room for two vectors together. */
+static CvlStatus appended_told(const CvlRow *row, const CvlSlot *s) {
+    const size_t room = slot_of(row, s, CVL_AS_OUT)->number, a = slot_of(row, s, CVL_AS_A)->number, b = slot_of(row, s, CVL_AS_B)->number;
+    return room == a + b ? cvl_done() : cvl_status(CVL_LENGTH_MISMATCH, -1);
+}
+
+/* The fault of a room, or of vectors, whose length elements say. */
 /*@ requires is_call(row, s);
     assigns told; */
 static CvlStatus room_told(const CvlRow *row, const CvlSlot *s) {
+    if (row->is & CVL_MERGES) return sides_told(row, s);
+    if (row->is & CVL_APPENDS) return appended_told(row, s);
     const size_t room = slot_of(row, s, CVL_AS_OUT)->number;
     size_t needed;
     if (!(row->is & (CVL_BY_TRUES | CVL_WRITES_TEXT))) return cvl_done();

@@ -65,7 +65,9 @@ enum {
     CVL_FRONT = 64,       /* and the room may be longer */
     CVL_OF_BOOLS = 128,   /* elements are booleans */
     CVL_ONE_VALUE = 256,  /* one element of the room is another one */
-    CVL_TOGETHER = 512    /* two operands may be the room at once */
+    CVL_TOGETHER = 512,   /* two operands may be the room at once */
+    CVL_MERGES = 1024,    /* A has an element for each true flag, and B one for each false one */
+    CVL_APPENDS = 2048    /* the room is as long as A and B together */
 };
 
 typedef struct CvlRow CvlRow;

@@ -185,7 +185,7 @@ KINDS = {
     ("value", "size"): "SIZE", ("place", "int"): "WIDE", ("count", "int"): "WIDE", ("room", "ints"): "ROOM_INTS",
     ("room", "flags"): "ROOM_FLAGS", ("room", "marks"): "ROOM_MARKS",
 }  # fmt: skip
-EXTENTS = ("n", "m", "segments", "count", "trues", "total", "offsets")
+EXTENTS = ("n", "m", "both", "segments", "count", "trues", "total", "offsets")
 TYPES = {"ints": "int32_t", "flags": "bool", "text": "char", "marks": "uint32_t"}
 SINGLES = {"int": "&frame->single.number", "flag": "(bool *)&frame->single.flag", "sum": "&frame->single.sum"}
 

@@ -57,7 +57,7 @@ class Family:
             others = [o for o in self.operands if o.role == "reads" and o.name not in NAMED]
             return NAMED.get(operand.name) or ("A" if operand is others[0] else "B")
         if operand.role == "lengths":
-            first = operand.extent == self.extent or self.cut == "lengths" or len(self.lengths) == 1
+            first = operand.extent == self.extent or self.cut in (None, "lengths") and k == self.lengths[0] or len(self.lengths) == 1
             return "LENGTHS" if first else "OTHER_LENGTHS"
         if operand.role in ("room", "single"):
             return "MARKS" if operand.kind == "marks" else "OUT" if k == self.out else "OTHER_OUT"
@@ -194,7 +194,8 @@ class Family:
             "COUNTED": any(o.role == "count" for o in self.operands), "BY_TRUES": by_elements and self.room.kind != "text",
             "WRITES_TEXT": by_elements and self.room.kind == "text", "FRONT": by_elements and self.room.extent == "room",
             "OF_BOOLS": self.of_bools, "ONE_VALUE": self.cut == "replace",
-            "TOGETHER": any(len(names) > 1 for names in self.family.in_place),
+            "TOGETHER": any(len(names) > 1 for names in self.family.in_place), "MERGES": any(o.extent == "falses" for o in self.operands),
+            "APPENDS": any(o.extent == "both" for o in self.operands),
         }
         return [word for word, is_so in said.items() if is_so]
 

@@ -221,6 +221,8 @@ def _extent(function):
     by = function.measure()
     if by:
         return f"{name_of(by)}.total()" if by.role == "lengths" else f"true_flags({by.name})"
+    if function.result.extent == "both":
+        return " + ".join(f"{operand.name}.len()" for operand in function.alike("n") + function.alike("m"))
     return "places(count)?" if function.is_sized or function.result.extent == "count" else _alike(function, function.result.extent)[0]
 
 

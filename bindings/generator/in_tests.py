@@ -11,10 +11,12 @@ from in_c import constant, held, on_segments, segments_name
 READ = {
     ("ints", "n"): "INTS", ("ints", "m"): "INTS", ("ints", "segments"): "SEGMENT_INTS", ("ints", "offsets"): "OFFSETS",
     ("flags", "n"): "FLAGS", ("flags", "m"): "FLAGS", ("flags", "segments"): "SEGMENT_FLAGS", ("text", "n"): "TEXT",
+    ("ints", "trues"): "TRUE_INTS", ("ints", "falses"): "FALSE_INTS", ("flags", "trues"): "TRUE_FLAGS", ("flags", "falses"): "FALSE_FLAGS",
 }  # fmt: skip
 WRITTEN = {
     ("ints", "n"): "ROOM_FOR_INTS", ("ints", "segments"): "ROOM_FOR_SEGMENT_INTS", ("ints", "trues"): "ROOM_FOR_TRUE_INTS",
     ("flags", "n"): "ROOM_FOR_FLAGS", ("flags", "segments"): "ROOM_FOR_SEGMENT_FLAGS", ("flags", "trues"): "ROOM_FOR_TRUE_FLAGS",
+    ("ints", "both"): "ROOM_FOR_BOTH_INTS", ("flags", "both"): "ROOM_FOR_BOTH_FLAGS",
     ("text", "n"): "ROOM_FOR_TEXT", ("marks", "n"): "ROOM_FOR_MARKS", ("marks", "trues"): "ROOM_FOR_TRUE_MARKS",
 }  # fmt: skip
 SINGLE = {"int": "ONE_INT", "flag": "ONE_FLAG", "sum": "ONE_SUM", "size": "ONE_COUNT"}
@@ -35,6 +37,10 @@ def _extent(row, operand):
     """How many elements an array of the test has: n, one for each segment, or one for each true flag."""
     if operand.extent == "trues" or (operand.extent in ("range", "marks") and _selects(row)):
         return "trues"
+    if operand.extent == "falses":
+        return "n - trues"
+    if operand.extent == "both":
+        return "2 * n"
     if operand.extent == "offsets":
         return "segments + 1"
     return "segments" if operand.extent in ("segments", "lengths_room") else "n"
@@ -61,7 +67,7 @@ def _holds(row, operand):
     if operand.role == "lengths":
         return "LENGTHS"
     if operand.role == "room":
-        return WRITTEN[operand.kind, _extent(row, operand)]
+        return WRITTEN[operand.kind, "both" if operand.extent == "both" else _extent(row, operand)]
     return SINGLE[operand.kind] if operand.role in ("single", "told") else None
 
 
@@ -156,7 +162,7 @@ ROLES = {
 }  # fmt: skip
 KINDS = {"ints": "INT", "flags": "FLAG", "text": "BYTE", "marks": "WORD", "int": "INT", "flag": "FLAG", "sum": "SUM", "size": "SIZE"}
 EXTENTS = {
-    "n": "OF_N", "m": "OF_M", "segments": "OF_SEGMENTS", "count": "OF_COPIES", "trues": "OF_TRUES", "total": "OF_TOTAL", "room": "OF_ROOM",
+    "n": "OF_N", "m": "OF_M", "both": "OF_BOTH", "segments": "OF_SEGMENTS", "count": "OF_COPIES", "trues": "OF_TRUES", "falses": "OF_FALSES", "total": "OF_TOTAL", "room": "OF_ROOM",
     "range": "OF_RANGE", "marks": "OF_MARKS", "lengths_room": "OF_ROOM", "offsets": "OF_OFFSETS", None: "ALONE",
 }  # fmt: skip
 TYPES = {"INT": "int32_t", "FLAG": "bool", "BYTE": "char", "WORD": "uint32_t", "SUM": "int64_t", "SIZE": "size_t"}

@@ -30,14 +30,16 @@ static CvlPool pool;
 /*
  * What an array of a call holds. An index names places of the whole vector, or of the element's own segment; one of trues names a place
  * for each true flag, and is -1 where the flag is false. What is of segments has an element for each of them, and starts are places from which
- * on so many elements as the segment has are there.
+ * on so many elements as the segment has are there. What is of true or false flags has an element for each of these, and a
+ * room for both one for each of two vectors.
  */
 typedef enum Holds {
     NO_MORE,
     INTS, FLAGS, INDEX, INDEX_IN_SEGMENTS, INDEX_OF_TRUES, INDEX_OF_TRUES_IN_SEGMENTS, SEGMENT_INTS, SEGMENT_FLAGS, SEGMENT_PLACES, STARTS,
+    TRUE_INTS, FALSE_INTS, TRUE_FLAGS, FALSE_FLAGS,
     LENGTHS, OFFSETS, DESCRIPTOR, TEXT, NESTED_TEXT,
     /* what is written */
-    ROOM_FOR_INTS, ROOM_FOR_FLAGS, ROOM_FOR_TRUE_INTS, ROOM_FOR_TRUE_FLAGS, ROOM_FOR_SEGMENT_INTS, ROOM_FOR_SEGMENT_FLAGS,
+    ROOM_FOR_INTS, ROOM_FOR_FLAGS, ROOM_FOR_BOTH_INTS, ROOM_FOR_BOTH_FLAGS, ROOM_FOR_TRUE_INTS, ROOM_FOR_TRUE_FLAGS, ROOM_FOR_SEGMENT_INTS, ROOM_FOR_SEGMENT_FLAGS,
     ROOM_FOR_OFFSETS, ROOM_FOR_MARKS, ROOM_FOR_TRUE_MARKS, ROOM_FOR_TEXT, ONE_INT, ONE_FLAG, ONE_SUM, ONE_COUNT, NEW_DESCRIPTOR
 } Holds;
 
@@ -83,11 +85,15 @@ static Array array_of(Holds holds) {
     case INTS: case INDEX: case INDEX_IN_SEGMENTS: case INDEX_OF_TRUES: case INDEX_OF_TRUES_IN_SEGMENTS: case ROOM_FOR_INTS:
         return (Array){of_int, n};
     case FLAGS: case ROOM_FOR_FLAGS: return (Array){1, n};
+    case ROOM_FOR_BOTH_INTS: return (Array){of_int, 2 * n};
+    case ROOM_FOR_BOTH_FLAGS: return (Array){1, 2 * n};
     case LENGTHS: case SEGMENT_INTS: case SEGMENT_PLACES: case STARTS: case ROOM_FOR_SEGMENT_INTS: return (Array){of_int, segments};
     case SEGMENT_FLAGS: case ROOM_FOR_SEGMENT_FLAGS: return (Array){1, segments};
     case OFFSETS: case ROOM_FOR_OFFSETS: return (Array){of_int, segments + 1};
-    case ROOM_FOR_TRUE_INTS: return (Array){of_int, trues};
-    case ROOM_FOR_TRUE_FLAGS: return (Array){1, trues};
+    case TRUE_INTS: case ROOM_FOR_TRUE_INTS: return (Array){of_int, trues};
+    case TRUE_FLAGS: case ROOM_FOR_TRUE_FLAGS: return (Array){1, trues};
+    case FALSE_INTS: return (Array){of_int, n - trues};
+    case FALSE_FLAGS: return (Array){1, n - trues};
     case ROOM_FOR_MARKS: return (Array){sizeof(uint32_t), words_of(n)};
     case ROOM_FOR_TRUE_MARKS: return (Array){sizeof(uint32_t), words_of(trues)};
     case TEXT: case NESTED_TEXT: return (Array){1, text_length};
@@ -112,7 +118,7 @@ static size_t array_count(const Row *row) {
 
 static inline bool is_room(Holds holds) { return holds >= ROOM_FOR_INTS; }
 static inline bool is_index(Holds holds) { return holds >= INDEX && holds <= INDEX_OF_TRUES_IN_SEGMENTS; }
-static inline bool is_flags(Holds holds) { return holds == FLAGS || holds == SEGMENT_FLAGS; }
+static inline bool is_flags(Holds holds) { return holds == FLAGS || holds == SEGMENT_FLAGS || holds == TRUE_FLAGS || holds == FALSE_FLAGS; }
 static inline bool is_read_text(Holds holds) { return holds == TEXT || holds == NESTED_TEXT; }
 static inline bool is_text(Holds holds) { return is_read_text(holds) || holds == ROOM_FOR_TEXT; }
 

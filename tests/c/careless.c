@@ -95,7 +95,8 @@ static void fill(Holds holds, unsigned char *at, bool any) {
     }
     for (size_t k = 0; k < array.count; k++) {
         switch (holds) {
-        case INTS: case SEGMENT_INTS: ints[k] = int_at(k, any); break;
+        case INTS: case SEGMENT_INTS: case TRUE_INTS: case FALSE_INTS: ints[k] = int_at(k, any); break;
+        case TRUE_FLAGS: case FALSE_FLAGS: at[k] = any ? any_byte() : k % 2; break;
         case FLAGS: case SEGMENT_FLAGS: at[k] = any ? any_byte() : flag_at(k); break;
         case LENGTHS: ints[k] = length_at(k); break;
         case OFFSETS: ints[k] = k == 0 ? 0 : ints[k - 1] + length_at(k - 1); break;

@@ -369,6 +369,7 @@ static size_t long_as(Extent extent, size_t n, size_t m, size_t segments, int64_
     switch (extent) {
     case OF_N: case OF_TOTAL: return n;
     case OF_M: return m;
+    case OF_BOTH: return n + m;
     case OF_SEGMENTS: return segments;
     case OF_OFFSETS: return segments + 1;
     case OF_COPIES: return count < 0 || count > MOST_PLACES ? 0 : (size_t)count;
@@ -432,7 +433,10 @@ static void make(const Row *row, Given *g) {
     if (marks < count) g->len[marks] = (g->len[marks - 1] + 31) / 32 + (chance(20) ? 1 : 0);
     for (size_t k = 0; k < count; k++) fill(row, g, k, n, m);
     for (size_t k = 0; k < count; k++) {
-        if (extent_of(row, k) == OF_TRUES) g->len[k] = trues_of(row, g, 2, 0, g->len[2]) + (chance(12) ? 1 : 0);
+        const size_t by = row->model == MERGE_BY_FLAGS ? 0 : 2;
+        if (extent_of(row, k) != OF_TRUES && extent_of(row, k) != OF_FALSES) continue;
+        const size_t of_trues = trues_of(row, g, by, 0, g->len[by]);
+        g->len[k] = (extent_of(row, k) == OF_TRUES ? of_trues : g->len[by] - of_trues) + (chance(12) ? 1 : 0);
     }
     if (row->model >= PERMUTE && row->model <= SEG_BACK_PERMUTE) fill_indices(row, g, n, m);
     if (row->model == SEG_EXTRACT || row->model == SEG_REPLACE || row->model == PERMUTE_RANGE || row->model == SELECT_PERMUTE_RANGE) fill_indices(row, g, n, n);

@@ -79,7 +79,7 @@ static void hold(const Row *row, size_t j) {
     for (size_t k = 0; k < count; k++) {
         switch (holds) {
         case FLAGS: held[j][k] = takes_part ? flag_at(k) : k % 5 < 2; break;
-        case SEGMENT_FLAGS: held[j][k] = k % 4 < 3; break;
+        case SEGMENT_FLAGS: case TRUE_FLAGS: case FALSE_FLAGS: held[j][k] = k % 4 < 3; break;
         case LENGTHS: held[j][k] = lengths[k]; break;
         case OFFSETS: held[j][k] = (int32_t)starts[k]; break;
         case SEGMENT_PLACES: held[j][k] = (int32_t)(k % (size_t)lengths[k]); break;
@@ -349,6 +349,24 @@ static size_t gather_slices(const char *call) {
     return made;
 }
 
+/* Both vectors have the same segments. */
+static size_t append(const char *call) {
+    size_t made = 0;
+    for (size_t g = 0; g < groups(by_segments(call)); g++) {
+        for (size_t j = 0; j < 2; j++) {
+            for (size_t k = from(by_segments(call), g); k < to(by_segments(call), g); k++) wanted[made++] = held[j][k];
+        }
+    }
+    return made;
+}
+
+static size_t merge(const char *call) {
+    size_t first = 0, second = 0;
+    (void)call;
+    for (size_t k = 0; k < n; k++) wanted[k] = held[0][k] ? held[1][first++] : held[2][second++];
+    return n;
+}
+
 static size_t find_true(const char *call) {
     for (size_t g = 0; g < groups(by_segments(call)); g++) {
         const size_t start = from(by_segments(call), g), end = to(by_segments(call), g);
@@ -392,8 +410,8 @@ static const struct Reading {
     {"sel", "w", chosen}, {"sel", "p", send_flagged}, {"smp", "p", send}, {"def", "p", send}, {"bck", "p", gather}, {"pck", "l", pack},
     {"pck", "f", count_trues}, {"cnt", "l", count_trues}, {"ext", "v", extract}, {"rep", "v", replace}, {"dis", "v", distribute},
     {"ind", "l", number}, {"fst", "l", send_first}, {"fsr", "l", send_first_flagged}, {"cmb", "l", combine},
-    {"nmd", "l", count_named}, {"ord", "l", order}, {"rnk", "l", order}, {"srt", "l", order}, {"gth", "l", gather_slices}, {"ftr", "l", find_true},
-    {"mke", "f", total}, {"off", "f", tell_offsets},
+    {"nmd", "l", count_named}, {"ord", "l", order}, {"rnk", "l", order}, {"srt", "l", order}, {"gth", "l", gather_slices}, {"app", "l", append},
+    {"mrg", "l", merge}, {"ftr", "l", find_true}, {"mke", "f", total}, {"off", "f", tell_offsets},
     {"len", "f", tell_lengths}, {"num", "f", tell_numbers}, {"prd", "r", multiply}, {"", "w", place_by_place}, {"", "s", scan},
     {"", "r", reduce},
 };
@@ -420,7 +438,8 @@ static const char *const calls_of_exports[][2] = {
     {"select_permute_bool_range", "sel_pub"}, {"first_senders", "fst_luz"}, {"select_first_senders", "fst_luz"},
     {"first_senders_range", "fst_luz"}, {"select_first_senders_range", "fsr_luz"}, {"combine_permute_int", "cmb_luz"},
     {"combine_permute_bool", "cmb_lub"}, {"counts", "nmd_luz"}, {"order", "ord_luz"}, {"rank", "rnk_luz"}, {"sort", "srt_luz"},
-    {"gather_segments_int", "gth_lez"}, {"gather_segments_bool", "gth_leb"}, {"first_true", "ftr_luz"}, {"int_scan_after", "add_suz"},
+    {"gather_segments_int", "gth_lez"}, {"gather_segments_bool", "gth_leb"}, {"append_segments_int", "app_lez"}, {"append_segments_bool", "app_leb"},
+    {"merge_by_flags_int", "mrg_luz"}, {"merge_by_flags_bool", "mrg_lub"}, {"first_true", "ftr_luz"}, {"int_scan_after", "add_suz"},
     {"bool_scan_after", "xor_sub"},
     {"checked_scan_after", "tot_suz"}, {"exact_sum", "tot_ruz"}, {"read_ints", "cpy_wuz"},
     {"read_ints_after", "cpy_wuz"}, {"write_ints", "cpy_wuz"}, {"write_bools", "cpy_wub"}, {"new", "mke_fov"},
@@ -562,9 +581,9 @@ static void *zeros(size_t count, size_t size) {
 /* Makes arrays for calls on so many elements, in so many segments; texts have three bytes for each element. */
 static void make_arrays(size_t most, size_t most_segments) {
     lengths = (int32_t *)zeros(most_segments, sizeof *lengths), starts = (size_t *)zeros(most_segments, sizeof *starts);
-    wanted = (int32_t *)zeros(most, sizeof *wanted), text = (char *)zeros(most, 3);
+    wanted = (int32_t *)zeros(2 * most, sizeof *wanted), text = (char *)zeros(most, 3);
     for (size_t j = 0; j < MOST_ARRAYS; j++) {
-        held[j] = (int32_t *)zeros(most, sizeof *wanted), memory[j] = (unsigned char *)zeros(most, sizeof *wanted);
+        held[j] = (int32_t *)zeros(most, sizeof *wanted), memory[j] = (unsigned char *)zeros(2 * most, sizeof *wanted);
     }
 }
 

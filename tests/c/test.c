@@ -1014,6 +1014,45 @@ static void slices(void) {
     FAULT(cvl_gather_segments_bool(O(2, 0, 0, 1), 4, I(2, 4, 2), 3, S(lengths, 3), bools, 4), CVL_LENGTH_MISMATCH, -1);
 }
 
+static void appends(void) {
+    const int32_t *a = I(1, 2, 3), *b = I(7, 8, 9), *lengths = I(2, 0, 1), *others = I(1, 2, 0), *negative = I(1, -1, 3);
+    const bool *f = B(true, false, true), *g = B(false, true, false);
+    INTS(cvl_append_segments_int(a, 3, b, 3, S(lengths, 3), S(others, 3), ints, 6), 1, 2, 7, 8, 9, 3);
+    INTS(cvl_append_segments_int(NULL, 0, b, 3, S(I(0, 0, 0), 3), S(others, 3), ints, 3), 7, 8, 9);
+    FAULT(cvl_append_segments_int(NULL, 0, NULL, 0, S(NULL, 0), S(NULL, 0), NULL, 0), CVL_DONE, -1);
+    BOOLS(cvl_append_segments_bool(f, 3, g, 3, S(lengths, 3), S(others, 3), bools, 6), true, false, false, true, false, true);
+    BOOLS_OF_COPIES(2, cvl_append_segments_bool(O(2, 0, 1), 3, O(0, 9, 0), 3, S(lengths, 3), S(others, 3), bools, 6), true, false, false, true,
+        false, true);
+    FAULT(cvl_append_segments_int(a, 2, b, 3, S(lengths, 3), S(others, 3), ints, 5), CVL_LENGTH_MISMATCH, -1);
+    FAULT(cvl_append_segments_int(a, 3, b, 2, S(lengths, 3), S(others, 3), ints, 5), CVL_LENGTH_MISMATCH, -1);
+    FAULT(cvl_append_segments_int(a, 3, b, 3, S(lengths, 3), S(I(1, 2), 2), ints, 6), CVL_LENGTH_MISMATCH, -1);
+    FAULT(cvl_append_segments_int(a, 3, b, 3, S(lengths, 3), S(others, 3), ints, 5), CVL_LENGTH_MISMATCH, -1);
+    FAULT(cvl_append_segments_bool(O(2, 0, 1), 3, g, 3, S(lengths, 3), S(others, 3), bools, 5), CVL_LENGTH_MISMATCH, -1);
+    FAULT(cvl_append_segments_int(a, 3, b, 3, S(negative, 3), S(I(-1, 1, 3), 3), ints, 6), CVL_NEGATIVE_LENGTH, 1);
+    FAULT(cvl_append_segments_int(a, 3, b, 3, S(lengths, 3), S(I(4, 0, -1), 3), ints, 6), CVL_NEGATIVE_LENGTH, 2);
+    FAULT(cvl_append_segments_int(a, 3, b, 3, S(lengths, 3), S(I(INT32_MAX, 1, 0), 3), ints, 6), CVL_TOO_LONG, -1);
+}
+
+static void merges(void) {
+    const bool *f = B(true, false, false, true, false), *g = B(true, false), *h = B(true, true, false);
+    const int32_t *a = I(1, 2), *b = I(7, 8, 9);
+    const size_t many = (size_t)CVL_MOST_ELEMENTS + 1;
+    INTS(cvl_merge_by_flags_int(f, 5, a, 2, b, 3, ints, 5), 1, 7, 8, 2, 9);
+    INTS(cvl_merge_by_flags_int(B(true, true), 2, a, 2, NULL, 0, ints, 2), 1, 2);
+    INTS(cvl_merge_by_flags_int(B(false, false, false), 3, NULL, 0, b, 3, ints, 3), 7, 8, 9);
+    INTS_OF_COPIES(1, cvl_merge_by_flags_int(O(2, 0, 0, 1, 0), 5, a, 2, b, 3, ints, 5), 1, 7, 8, 2, 9);
+    FAULT(cvl_merge_by_flags_int(NULL, 0, NULL, 0, NULL, 0, NULL, 0), CVL_DONE, -1);
+    BOOLS(cvl_merge_by_flags_bool(f, 5, g, 2, h, 3, bools, 5), true, true, true, false, false);
+    BOOLS_OF_COPIES(3, cvl_merge_by_flags_bool(O(2, 0, 0, 1, 0), 5, O(5, 0), 2, O(1, 9, 0), 3, bools, 5), true, true, true, false, false);
+    FAULT(cvl_merge_by_flags_int(f, 5, a, 1, b, 3, ints, 5), CVL_LENGTH_MISMATCH, -1);
+    FAULT(cvl_merge_by_flags_int(f, 5, a, 2, b, 2, ints, 5), CVL_LENGTH_MISMATCH, -1);
+    FAULT(cvl_merge_by_flags_int(f, 5, b, 3, a, 2, ints, 5), CVL_LENGTH_MISMATCH, -1);
+    FAULT(cvl_merge_by_flags_int(f, 5, a, 2, b, 3, ints, 4), CVL_LENGTH_MISMATCH, -1);
+    FAULT(cvl_merge_by_flags_int(O(2, 0, 0, 1, 0), 5, a, 1, b, 3, ints, 5), CVL_LENGTH_MISMATCH, -1);
+    FAULT(cvl_merge_by_flags_bool(f, 5, g, 2, h, 2, bools, 5), CVL_LENGTH_MISMATCH, -1);
+    FAULT(cvl_merge_by_flags_int(too_many_bools, many, a, 2, b, 3, ints, 5), CVL_TOO_LONG, -1);
+}
+
 static void first_trues(void) {
     const bool *f = B(false, true, false, false, true);
     const int32_t *lengths = I(2, 1, 0, 2);
@@ -1751,6 +1790,8 @@ int main(void) {
     orders_ranks_and_sorts_of_segments();
     sorts_without_memory();
     slices();
+    appends();
+    merges();
     first_trues();
     texts();
     texts_of_any_length();

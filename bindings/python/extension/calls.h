@@ -55,8 +55,8 @@ typedef enum Kind {
     KIND_ROOM_MARKS
 } Kind;
 
-/* How many elements an array has, and what lengths add up to; offsets are one more than segments. Arrays of one extent are equally long. */
-typedef enum Extent { EXTENT_NONE, EXTENT_N, EXTENT_M, EXTENT_SEGMENTS, EXTENT_COUNT, EXTENT_TRUES, EXTENT_TOTAL, EXTENT_OFFSETS } Extent;
+/* How many elements an array has, and what lengths add up to; offsets are one more than segments, and both are n and m. Arrays of one extent are equally long. */
+typedef enum Extent { EXTENT_NONE, EXTENT_N, EXTENT_M, EXTENT_BOTH, EXTENT_SEGMENTS, EXTENT_COUNT, EXTENT_TRUES, EXTENT_TOTAL, EXTENT_OFFSETS } Extent;
 
 /* What a call gives. */
 typedef enum Gives {

@@ -30,6 +30,10 @@ static int measure_by(const Given *given, Extent extent, size_t most, size_t *ne
 
 int cvl_measure(const Frame *frame, size_t *needed) {
     const Family *family = frame->row->family;
+    if (family->extent == EXTENT_BOTH) {
+        *needed = frame->given[0].count + frame->given[1].count;
+        return 1;
+    }
     return measure_by(&frame->given[family->by], family->extent, family->most, needed);
 }
 
@@ -113,14 +117,14 @@ static PyObject *room_differs(const Frame *frame) {
 
 /* ---- which value is at fault ---- */
 
-/* Whether a fault may be about an operand: a divisor or a shift, an index, or lengths and a count. */
+/* Whether a fault may be about an operand: a divisor or a shift, an index or a start, or lengths and a count. */
 static int is_about(uint32_t number, const Operand *operand) {
     const char *const name = operand->name;
     switch (number) {
     case CVL_DIVIDE_BY_ZERO:
     case CVL_SHIFT_OUT_OF_RANGE: return strcmp(name, "b") == 0;
     case CVL_INDEX_OUT_OF_RANGE:
-    case CVL_INDEX_REPEATED: return strcmp(name, "index") == 0 || strcmp(name, "columns") == 0;
+    case CVL_INDEX_REPEATED: return strcmp(name, "index") == 0 || strcmp(name, "columns") == 0 || strcmp(name, "starts") == 0;
     case CVL_NEGATIVE_LENGTH: return operand->kind == KIND_LENGTHS || strcmp(name, "lengths") == 0 || strcmp(name, "count") == 0;
     default: return 0;
     }

@@ -900,6 +900,19 @@ class Slices(Limited):
         self.assertIs(cvl.gather_segments_int(source, starts, cvl.Segments(lengths), out=room), room)
         self.assertEqual(room.tolist(), wanted.tolist())
 
+    def test_appends(self):
+        a, b, segments, others = ints(1, 2, 3), ints(7, 8, 9), ints(2, 0, 1), ints(1, 2, 0)
+        self.assertEqual(cvl.append_segments_int(a, b, segments, others).tolist(), [1, 2, 7, 8, 9, 3])
+        self.assertEqual(cvl.append_segments_bool(flags(True), flags(False), ints(1, 0), ints(0, 1)).tolist(), [True, False])
+        room = numpy.zeros(6, numpy.int32)
+        self.assertIs(cvl.append_segments_int(a, b, segments, others, out=room), room)
+
+    def test_merges(self):
+        values = numpy.arange(90, dtype=numpy.int32)
+        marks = values * values % 7 < 3
+        self.assertEqual(cvl.merge_by_flags_int(marks, values[marks], values[~marks]).tolist(), values.tolist())
+        self.assertEqual(cvl.merge_by_flags_bool(flags(False, True), flags(True), flags(False)).tolist(), [False, True])
+
     def test_first_true(self):
         marks = flags(False, True, False, False, True)
         self.assertEqual((cvl.first_true(marks), cvl.first_true(marks[2:4]), cvl.first_true(marks[:0])), (1, -1, -1))
@@ -907,12 +920,18 @@ class Slices(Limited):
 
     def test_faults(self):
         source = ints(10, 20, 30)
+        with self.assertRaisesRegex(cvl.Fault, r"starts\[1\] is 2"):
+            cvl.gather_segments_int(source, ints(0, 2), ints(3, 2))
         for call, number, place in (
             (lambda: cvl.gather_segments_int(source, ints(0, 2), ints(3, 2)), 10, 1),
             (lambda: cvl.gather_segments_int(source, ints(-1, 2), ints(3, 2)), 10, 0),
             (lambda: cvl.gather_segments_int(source, ints(0), ints(3, 2)), 7, None),
             (lambda: cvl.gather_segments_int(source, ints(0, 0), ints(3, -1)), 12, 1),
             (lambda: cvl.gather_segments_int(source, ints(0), ints(3), out=ints(7)), 7, None),
+            (lambda: cvl.merge_by_flags_int(flags(True, False), ints(1, 2), ints()), 7, None),
+            (lambda: cvl.append_segments_int(source, source, ints(3), ints(2)), 7, None),
+            (lambda: cvl.append_segments_int(source, source, ints(3), ints(1, 2)), 7, None),
+            (lambda: cvl.append_segments_int(source, source, ints(3), ints(3), out=ints(0, 0, 0)), 7, None),
             (lambda: cvl.seg_first_true(flags(True), ints(2)), 7, None),
         ):
             with self.assertRaises(cvl.Fault) as caught:

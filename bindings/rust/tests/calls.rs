@@ -589,3 +589,29 @@ fn the_first_true_flag_is_found() {
     assert_eq!(cvl::seg_first_true(&flags, &segments).unwrap(), [1, -1, -1, 1]);
     assert_eq!(told(cvl::seg_first_true(&flags[1..], &segments).unwrap_err()), (7, None));
 }
+
+#[test]
+fn a_merge_is_the_inverse_of_two_packs() {
+    let values: Vec<i32> = (0..90).collect();
+    let flags: Vec<bool> = values.iter().map(|k| k * k % 7 < 3).collect();
+    let others: Vec<bool> = flags.iter().map(|flag| !flag).collect();
+    let (first, second) = (cvl::pck_luz(&values, &flags).unwrap(), cvl::pck_luz(&values, &others).unwrap());
+    assert_eq!(cvl::merge_by_flags_int(&flags, &first, &second).unwrap(), values);
+    assert_eq!(cvl::merge_by_flags_bool(&[false, true], &[true], &[false]).unwrap(), [false, true]);
+    let mut out = [7; 90];
+    let wrong = cvl::merge_by_flags_int_into(&flags, &first[1..], &second, &mut out).unwrap_err();
+    assert_eq!((told(wrong), out), ((7, None), [7; 90]));
+}
+
+#[test]
+fn segments_are_appended_to_segments() {
+    let (lengths, others) = (Segments::new(&[2, 0, 1]).unwrap(), Segments::new(&[1, 2, 0]).unwrap());
+    assert_eq!(cvl::append_segments_int(&[1, 2, 3], &[7, 8, 9], &lengths, &others).unwrap(), [1, 2, 7, 8, 9, 3]);
+    let (one, none) = (Segments::new(&[1]).unwrap(), Segments::new(&[0]).unwrap());
+    assert_eq!(cvl::append_segments_bool(&[true], &[], &one, &none).unwrap(), [true]);
+    let fewer = cvl::append_segments_int(&[1, 2, 3], &[7], &lengths, &one).unwrap_err();
+    assert_eq!(told(fewer), (7, None));
+    let mut out = [5; 6];
+    let short = cvl::append_segments_int_into(&[1, 2, 3], &[7, 8, 9], &lengths, &others, &mut out[..5]).unwrap_err();
+    assert_eq!((told(short), out), ((7, None), [5; 6]));
+}

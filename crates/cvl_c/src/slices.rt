@@ -1,15 +1,18 @@
-//! Slices of a vector one behind another, and the first true flag.
+//! Slices and segments one behind another, merges by flags, and the first true flag.
 
 ghost use Rattle.std.specs.Prelude.{Ok, length};
 ghost use Rattle.c_calls.specs.Calls.{by_segments, in_limit};
 ghost use Rattle.c_calls.specs.Told.{Told, in_room};
+ghost use Rattle.flag_merges.specs.Merges.{merge_of};
+ghost use Rattle.segment_slices.specs.Pairs.{append_segments_of};
 ghost use Rattle.segment_slices.specs.Slices.{gather_segments_of};
 ghost use Rattle.segment_values.specs.Values.{each_of, first_true_of};
 
 use c_calls::checks::{check_limit, segments};
 use c_calls::or_tell;
 use c_calls::status::{CvlStatus, told_one, told_over};
-use segment_slices::gather_segments_over;
+use flag_merges::merge_by_flags_over;
+use segment_slices::{append_segments_over, gather_segments_over};
 use segment_values::{first_true, seg_first_true_over};
 
 /// The slices of integers that begin at the starts and have the lengths, one behind another.
@@ -42,6 +45,70 @@ pub extern "C" fn cvl_proved_gather_segments_bool(
     or_tell!(segments(lengths));
     or_tell!(check_limit(starts));
     told_over::<bool>(gather_segments_over(source, starts, lengths, out))
+}
+
+/// The segments of integers, each followed by the segment of other integers that has its number.
+#[unsafe(no_mangle)]
+pub extern "C" fn cvl_proved_append_segments_int(
+    a: &[i32],
+    b: &[i32],
+    lengths: &[i32],
+    other_lengths: &[i32],
+    out: &mut [i32],
+) -> CvlStatus
+    ensures { Told (in_room (length out.old) (by_segments lengths.now (λ d. by_segments other_lengths.now
+        (λ e. append_segments_of a.now d b.now e)))) result out.old out.new }
+{
+    let d = or_tell!(segments(lengths));
+    let other = or_tell!(segments(other_lengths));
+    told_over::<i32>(append_segments_over(a, &d, b, &other, out))
+}
+
+/// The segments of booleans, each followed by the segment of other booleans that has its number.
+#[unsafe(no_mangle)]
+pub extern "C" fn cvl_proved_append_segments_bool(
+    a: &[bool],
+    b: &[bool],
+    lengths: &[i32],
+    other_lengths: &[i32],
+    out: &mut [bool],
+) -> CvlStatus
+    ensures { Told (in_room (length out.old) (by_segments lengths.now (λ d. by_segments other_lengths.now
+        (λ e. append_segments_of a.now d b.now e)))) result out.old out.new }
+{
+    let d = or_tell!(segments(lengths));
+    let other = or_tell!(segments(other_lengths));
+    told_over::<bool>(append_segments_over(a, &d, b, &other, out))
+}
+
+/// The next integer of one vector where the flag is true, and of the other where it is false.
+#[unsafe(no_mangle)]
+pub extern "C" fn cvl_proved_merge_by_flags_int(
+    flags: &[bool],
+    when_true: &[i32],
+    when_false: &[i32],
+    out: &mut [i32],
+) -> CvlStatus
+    ensures { Told (in_room (length out.old) (in_limit flags.now (merge_of flags.now when_true.now when_false.now)))
+        result out.old out.new }
+{
+    or_tell!(check_limit(flags));
+    told_over::<i32>(merge_by_flags_over(flags, when_true, when_false, out))
+}
+
+/// The next boolean of one vector where the flag is true, and of the other where it is false.
+#[unsafe(no_mangle)]
+pub extern "C" fn cvl_proved_merge_by_flags_bool(
+    flags: &[bool],
+    when_true: &[bool],
+    when_false: &[bool],
+    out: &mut [bool],
+) -> CvlStatus
+    ensures { Told (in_room (length out.old) (in_limit flags.now (merge_of flags.now when_true.now when_false.now)))
+        result out.old out.new }
+{
+    or_tell!(check_limit(flags));
+    told_over::<bool>(merge_by_flags_over(flags, when_true, when_false, out))
 }
 
 /// The place of the first true flag, or -1.
