@@ -11,7 +11,7 @@ uint64_t cvl_offsets(CvlRanks *ranks, uint64_t number) {
 
 int cvl_owner(const CvlRanks *ranks, uint64_t place) { return cvl_owner_of(ranks->offsets, ranks->size, place); }
 
-size_t cvl_counts(CvlRanks *ranks) {
+size_t cvl_exchange_counts(CvlRanks *ranks) {
     MPI_Alltoall(ranks->sends, 1, MPI_INT, ranks->receives, 1, MPI_INT, ranks->comm);
     cvl_lay_out(ranks->sends, ranks->send_from, ranks->size);
     return cvl_lay_out(ranks->receives, ranks->receive_from, ranks->size);

@@ -178,7 +178,7 @@ static void let_go(Sending *s) {
 static void exchange(CvlCall *c, Sending *s) {
     cvl_offsets(c->ranks, c->in[CVL_AS_OUT].number);
     find_places(c, s);
-    s->received = cvl_counts(c->ranks);
+    s->received = cvl_exchange_counts(c->ranks);
     take_for_received(c, s);
     if (!cvl_agree(c, c->in[CVL_AS_INDEX].number)) return;
     fill(c, s);

@@ -166,7 +166,7 @@ CVL_HIDDEN uint64_t cvl_offsets(CvlRanks *ranks, uint64_t number);
 CVL_HIDDEN int cvl_owner(const CvlRanks *ranks, uint64_t place);
 
 /* Tells each rank how many elements it is sent, from ranks->sends; and how many this rank is. */
-CVL_HIDDEN size_t cvl_counts(CvlRanks *ranks);
+CVL_HIDDEN size_t cvl_exchange_counts(CvlRanks *ranks);
 
 /* Sends elements to and fro. */
 CVL_HIDDEN void cvl_send(CvlRanks *ranks, const void *from, void *to, size_t size);

@@ -105,7 +105,7 @@ bool cvl_make_route(CvlCall *c, CvlRoute *route, const int32_t *places, size_t p
     if (done) {
         cvl_offsets(ranks, source_len);
         by_owner(ranks, asked, route->asks);
-        route->answers = cvl_counts(ranks);
+        route->answers = cvl_exchange_counts(ranks);
         memcpy(route->counts, ranks->sends, bytes);
         route->answered = cvl_take(c, route->answers, sizeof(int32_t));
         route->sent = cvl_take(c, route->answers, sizeof(int32_t));
