@@ -330,7 +330,9 @@ class Pages(Tree):
         pages.write(self.top, written())
         self.files = pages.files(self.top, written())
         headers = {f"include/{path.name}": path for path in (TOP / "include").glob("*.h")}
-        self.headers = {**headers, "include/cvl.f90": written() / "bindings/fortran/cvl.f90"}
+        # the last one is there where --mpi puts it
+        drawn = {"include/cvl.f90": "bindings/fortran/cvl.f90", "include/cvl_mpi.h": "bindings/mpi/cvl_mpi.h"}
+        self.headers = {**headers, **{name: written() / path for name, path in drawn.items()}}
         self.crates = {str(path): path for path in (TOP / "bindings/rust").glob("**/README.md")}
         self.manual = {"share/man/man1/cvl.1": TOP / "docs/cvl.1", "share/man/man3/cvl.3": written() / "docs/cvl.3"}
         self.installed = pages.Installed({*self.files, *self.headers})
