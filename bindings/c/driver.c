@@ -43,6 +43,7 @@ CvlStatus cvl_make_on_copies(const CvlRow *row, uint32_t op, const CvlSlot *s) {
 /*@ requires is_call(row, s) && ((row->is & CVL_ONE_VALUE) != 0 ==> row->operands > 1);
     assigns \nothing;
     ensures \result ==> are_apart(row, s) && do_agree(row, op, s);
+    ensures \result ==> is_clean(row, s, row->out);
     ensures \result && (row->is & CVL_ONE_VALUE) != 0 ==> s[1].number < s[0].number; */
 static bool may_be_cut(const CvlRow *row, uint32_t op, const CvlSlot *s) {
     if (row->in_parts == NULL || !cvl_are_apart(row, s) || !cvl_do_agree(row, op, s)) return 0;
@@ -79,7 +80,7 @@ static bool run_parts(const CvlPool *pool, CvlWork *w, const CvlRow *row) { retu
  * Cuts a call that is in order and runs its parts. Whether they are done; else the rooms are as they were, as the ways to run parts leave
  * them, and w->left_out says whether the pool left a part out of a step that reads.
  */
-/*@ requires is_call(row, s) && are_apart(row, s) && do_agree(row, op, s) && \separated(w, row);
+/*@ requires is_call(row, s) && are_apart(row, s) && do_agree(row, op, s) && is_clean(row, s, row->out) && \separated(w, row);
     assigns *w, rooms, told;
     ensures !\result ==> rooms == \old(rooms);
     ensures \result && w->told.number != CVL_DONE ==> rooms == \old(rooms); */
