@@ -116,3 +116,12 @@ void senders(void) {
     each_length(first_senders, 4, 2);
     each_pattern(select_first_senders, 7, 4);
 }
+
+/* Numbers by a stride, and copies of one, whose parts begin with numbers of their own. */
+static void index_room(size_t n) { (void)cvl_index_on(&pool, any_int(), any_int(), (int64_t)n, room[n], n); }
+static void copy_number(size_t n) { (void)cvl_distribute_int_on(&pool, any_int(), (int64_t)n, room[n], n); }
+
+void progressions(void) {
+    each_length(index_room, 3, 2);
+    each_length(copy_number, 3, 2);
+}
