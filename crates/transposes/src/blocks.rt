@@ -92,7 +92,9 @@ pub fn transpose_columns<T: Copy>(
 {
     let mut top = 0;
     while top < rows {
-        let bottom = top + BLOCK.min(rows - top);
+        // rows without columns are one band, however many they are
+        let band = if count == 0 { rows } else { BLOCK };
+        let bottom = top + band.min(rows - top);
         write_band(source, rows, columns, from, count, top, bottom, out);
         top = bottom;
     }
