@@ -18,7 +18,7 @@ import call_table
 #
 #   role    "reads", an array; "lengths", those of segments; "value", "place" or "count", one number; "room", an array that is written;
 #           "single", one value that is written; "told", a number that is told beside the room
-#   kind    of an array: "ints", "flags", "text", "marks"; of one value: "int", "flag", "sum" (64 bits) or "size"
+#   kind    of an array: "ints", "flags", "text", "marks", "sums" (64 bits each); of one value: "int", "flag", "sum" (64 bits) or "size"
 #   extent  how many elements an array has, and what lengths add up to: "n", "m"; "segments", one for each segment; "count", the operand;
 #           "both", n and m together; "trues" and "falses", how many flags are true or false; "total", what the lengths add up to; "room", what the caller says; "offsets", one more than
 #           segments
@@ -730,6 +730,11 @@ FAMILIES = (
         "For each segment the place of its first true flag, counted from the start of the segment, or -1 where none is true.",
         limit=None, faults=(SUM_OF_N,), shape="flags has n elements, out one for each segment.",
         example={"flags": "false true false false true", "lengths": "2 1 0 2", "out": "1 -1 -1 1"},
+    ),
+    family(
+        "seg_exact_sums", "slices and merges", (ints("a"), lengths(), room("sums", "segments")),
+        "The sum of each segment in 64 bits, where it always fits.", limit=None, faults=(SUM_OF_N,), shape="a has n elements, out one for each segment.",
+        example={"a": "2147483647 1 5", "lengths": "2 0 1", "out": "2147483648 0 5"},
     ),
     # ---- texts ----
     family(

@@ -716,6 +716,13 @@ CVL_CHECKED CvlStatus cvl_first_true(const bool *flags, size_t flags_len, int32_
  */
 CVL_CHECKED CvlStatus cvl_seg_first_true(const bool *flags, size_t flags_len, CvlLengths lengths, int32_t *out, size_t out_len);
 
+/*
+ * cvl_seg_exact_sums: The sum of each segment in 64 bits, where it always fits.
+ * Faults: 7 LengthMismatch where the lengths do not add up to n.
+ * a = 2147483647 1 5, lengths = 2 0 1: out = 2147483648 0 5
+ */
+CVL_CHECKED CvlStatus cvl_seg_exact_sums(const int32_t *a, size_t a_len, CvlLengths lengths, int64_t *out, size_t out_len);
+
 /* ---- texts: families ---- */
 
 /*
@@ -2172,6 +2179,10 @@ CVL_CHECKED CvlStatus cvl_segments_sort(const int32_t *keys, size_t keys_len, co
 
 /* For each segment the place of its first true flag, counted from the start of the segment, or -1 where none is true. */
 CVL_CHECKED CvlStatus cvl_segments_first_true(const bool *flags, size_t flags_len, const CvlSegments *segments, int32_t *out,
+    size_t out_len);
+
+/* The sum of each segment in 64 bits, where it always fits. */
+CVL_CHECKED CvlStatus cvl_segments_exact_sums(const int32_t *a, size_t a_len, const CvlSegments *segments, int64_t *out,
     size_t out_len);
 
 /*

@@ -16,7 +16,7 @@ UNMERGED = ("int_from_bool", "bool_from_int")
 
 # The types of what is taken, and of a single value that is written.
 TYPES = {
-    "ints": "integer(c_int32_t)", "flags": "logical(c_bool)", "text": "character(*)", "marks": "integer(c_int32_t)",
+    "ints": "integer(c_int32_t)", "flags": "logical(c_bool)", "text": "character(*)", "marks": "integer(c_int32_t)", "sums": "integer(c_int64_t)",
     "int": "integer(c_int32_t)", "flag": "logical(c_bool)", "sum": "integer(c_int64_t)", "size": "integer(c_size_t)",
 }  # fmt: skip
 
@@ -261,7 +261,7 @@ KINDS = """
 
     ! The address of an array.
     interface at
-        module procedure at_ints, at_flags
+        module procedure at_ints, at_flags, at_sums
     end interface at
 """
 
@@ -363,6 +363,14 @@ TAIL = """
         if (size(array) > 0) address = c_loc(array)
     end function at_flags
 
+    function at_sums(array) result(address)
+        integer(c_int64_t), intent(in), target, contiguous :: array(:)
+        type(c_ptr) :: address
+
+        address = c_null_ptr
+        if (size(array) > 0) address = c_loc(array)
+    end function at_sums
+
     function cut(lengths) result(found)
         integer(c_int32_t), intent(in), target, contiguous :: lengths(:)
         type(lengths_of) :: found
@@ -439,7 +447,7 @@ TRIED_HEAD = f"""! Each subroutine on the operands of an example, by the name of
 
 def _held(operand):
     """Which part of an operand holds it."""
-    if operand.kind in ("text", "flags", "flag"):
+    if operand.kind in ("text", "flags", "flag", "sums"):
         return operand.kind
     if rows.is_array(operand) or operand.role == "lengths":
         return "ints"

@@ -10,7 +10,7 @@ import table
 from packages import name_of
 
 WIDTH = 118
-NUMPY = {"ints": "numpy.int32", "flags": "bool", "marks": "numpy.uint32"}
+NUMPY = {"ints": "numpy.int32", "flags": "bool", "marks": "numpy.uint32", "sums": "numpy.int64"}
 
 # Examples of families that have none in the table.
 EXAMPLES = {
@@ -186,7 +186,7 @@ KINDS = {
     ("room", "flags"): "ROOM_FLAGS", ("room", "marks"): "ROOM_MARKS",
 }  # fmt: skip
 EXTENTS = ("n", "m", "both", "segments", "count", "trues", "total", "offsets")
-TYPES = {"ints": "int32_t", "flags": "bool", "text": "char", "marks": "uint32_t"}
+TYPES = {"ints": "int32_t", "flags": "bool", "text": "char", "marks": "uint32_t", "sums": "int64_t"}
 SINGLES = {"int": "&frame->single.number", "flag": "(bool *)&frame->single.flag", "sum": "&frame->single.sum"}
 
 ROWS_HEAD = f"""/*
@@ -430,19 +430,20 @@ from typing import SupportsIndex, Tuple, TypeVar, Union, overload
 
 import numpy
 
-from cvl._kinds import FlagArray, Flags, IntArray, Ints, Marks, Text
+from cvl._kinds import FlagArray, Flags, IntArray, Ints, Marks, SumArray, Sums, Text
 from cvl.segments import Segments
 
 _Ints = TypeVar("_Ints", bound=Ints)
 _Flags = TypeVar("_Flags", bound=Flags)
+_Sums = TypeVar("_Sums", bound=Sums)
 '''
 TAKEN = {
     "ints": "Ints", "flags": "Flags", "text": "Text", "marks": "Marks", "int": "SupportsIndex", "sum": "SupportsIndex",
     "size": "SupportsIndex", "flag": "Union[bool, numpy.bool_]",
 }  # fmt: skip
 SPREAD = {"ints": "Union[Ints, SupportsIndex]", "flags": "Union[Flags, bool, numpy.bool_]"}
-GIVEN = {"ints": "IntArray", "flags": "FlagArray", "int": "int", "flag": "bool", "sum": "int"}
-ROOMS = {"ints": "_Ints", "flags": "_Flags"}
+GIVEN = {"ints": "IntArray", "flags": "FlagArray", "sums": "SumArray", "int": "int", "flag": "bool", "sum": "int"}
+ROOMS = {"ints": "_Ints", "flags": "_Flags", "sums": "_Sums"}
 DIRECT_GIVEN = {"WRITTEN": "int", "TEXT": "str", "READ_NESTED": "Tuple[IntArray, Segments]"}
 
 

@@ -13,7 +13,7 @@ NAMED = {"index": "INDEX", "columns": "INDEX", "flags": "FLAGS", "offsets": "OFF
 NUMBERS = {"stride": "STRIDE", "lowest": "LOWEST"}
 
 SIZES = {
-    "ints": "sizeof(int32_t)", "flags": "sizeof(bool)", "text": "sizeof(char)", "marks": "sizeof(uint32_t)", "int": "sizeof(int32_t)",
+    "ints": "sizeof(int32_t)", "flags": "sizeof(bool)", "text": "sizeof(char)", "marks": "sizeof(uint32_t)", "sums": "sizeof(int64_t)", "int": "sizeof(int32_t)",
     "flag": "sizeof(bool)", "sum": "sizeof(int64_t)", "size": "sizeof(size_t)",
 }
 
@@ -249,7 +249,7 @@ def export_argument(found, k, is_room=False):
         return {"int": f"(int32_t)s[{k}].number", "flag": f"s[{k}].number != 0", "sum": f"(int64_t)s[{k}].number", "size": f"s[{k}].number"}[operand.kind]
     if operand.role in ("single", "told"):
         return f"({rows.NUMBERS[operand.kind]}*)s[{k}].at"
-    kind = {"ints": "int32_t *", "flags": "bool *", "text": "bool *", "marks": "uint32_t *"}[operand.kind]
+    kind = {"ints": "int32_t *", "flags": "bool *", "text": "bool *", "marks": "uint32_t *", "sums": "int64_t *"}[operand.kind]
     cast = f"({kind})" if operand.role == "room" or is_room else ""
     return f"{cast}s[{k}].at, s[{k}].number"
 

@@ -16,7 +16,7 @@ READ = {
 WRITTEN = {
     ("ints", "n"): "ROOM_FOR_INTS", ("ints", "segments"): "ROOM_FOR_SEGMENT_INTS", ("ints", "trues"): "ROOM_FOR_TRUE_INTS",
     ("flags", "n"): "ROOM_FOR_FLAGS", ("flags", "segments"): "ROOM_FOR_SEGMENT_FLAGS", ("flags", "trues"): "ROOM_FOR_TRUE_FLAGS",
-    ("ints", "both"): "ROOM_FOR_BOTH_INTS", ("flags", "both"): "ROOM_FOR_BOTH_FLAGS",
+    ("sums", "segments"): "ROOM_FOR_SEGMENT_SUMS", ("ints", "both"): "ROOM_FOR_BOTH_INTS", ("flags", "both"): "ROOM_FOR_BOTH_FLAGS",
     ("text", "n"): "ROOM_FOR_TEXT", ("marks", "n"): "ROOM_FOR_MARKS", ("marks", "trues"): "ROOM_FOR_TRUE_MARKS",
 }  # fmt: skip
 SINGLE = {"int": "ONE_INT", "flag": "ONE_FLAG", "sum": "ONE_SUM", "size": "ONE_COUNT"}
@@ -160,7 +160,7 @@ ROLES = {
     "reads": "READS", "lengths": "CUTS", "value": "VALUE", "place": "PLACE", "count": "COPIES", "room": "WRITES", "single": "WRITES_ONE",
     "told": "WRITES_COUNT",
 }  # fmt: skip
-KINDS = {"ints": "INT", "flags": "FLAG", "text": "BYTE", "marks": "WORD", "int": "INT", "flag": "FLAG", "sum": "SUM", "size": "SIZE"}
+KINDS = {"ints": "INT", "flags": "FLAG", "text": "BYTE", "marks": "WORD", "sums": "SUM", "int": "INT", "flag": "FLAG", "sum": "SUM", "size": "SIZE"}
 EXTENTS = {
     "n": "OF_N", "m": "OF_M", "both": "OF_BOTH", "segments": "OF_SEGMENTS", "count": "OF_COPIES", "trues": "OF_TRUES", "falses": "OF_FALSES", "total": "OF_TOTAL", "room": "OF_ROOM",
     "range": "OF_RANGE", "marks": "OF_MARKS", "lengths_room": "OF_ROOM", "offsets": "OF_OFFSETS", None: "ALONE",

@@ -17,8 +17,8 @@
 
 enum { SECONDS = 60, SLOT = 1 << 11, MEMORY = (MOST_OPERANDS + 1) * SLOT, THREADS = 3 };
 
-/* As many bytes as the longest vector of integers has, and some more, which nobody may touch. */
-static const size_t far_bytes = ((size_t)CVL_MOST_ELEMENTS + 1) * 4 + (1 << 14);
+/* As many bytes as the longest vector of exact sums has, and some more, which nobody may touch. */
+static const size_t far_bytes = ((size_t)CVL_MOST_ELEMENTS + 1) * 8 + (1 << 14);
 
 static unsigned char memory[MEMORY], wanted[MEMORY], before[MEMORY];
 static unsigned char *far_memory[MOST_OPERANDS];

@@ -1053,6 +1053,19 @@ static void merges(void) {
     FAULT(cvl_merge_by_flags_int(too_many_bools, many, a, 2, b, 3, ints, 5), CVL_TOO_LONG, -1);
 }
 
+static void exact_sums(void) {
+    const int32_t *a = I(INT32_MAX, INT32_MAX, 5, INT32_MIN, INT32_MIN), *lengths = I(2, 0, 1, 2);
+    const int64_t sums[] = {4294967294, 0, 5, -4294967296};
+    int64_t found[4] = {UNTOUCHED, UNTOUCHED, UNTOUCHED, UNTOUCHED};
+    tells("cvl_seg_exact_sums", cvl_seg_exact_sums(a, 4, S(lengths, 4), found, 4), CVL_LENGTH_MISMATCH, -1);
+    tells("cvl_seg_exact_sums", cvl_seg_exact_sums(a, 5, S(lengths, 4), found, 3), CVL_LENGTH_MISMATCH, -1);
+    tells("cvl_seg_exact_sums", cvl_seg_exact_sums(a, 5, S(I(2, -1, 4), 3), found, 3), CVL_NEGATIVE_LENGTH, 1);
+    tells("cvl_seg_exact_sums", cvl_seg_exact_sums(a, 5, S(I(INT32_MAX, 1), 2), found, 2), CVL_TOO_LONG, -1);
+    if (found[0] != UNTOUCHED || found[3] != UNTOUCHED) fail("cvl_seg_exact_sums", "a sum was written");
+    tells("cvl_seg_exact_sums", cvl_seg_exact_sums(a, 5, S(lengths, 4), found, 4), CVL_DONE, -1);
+    if (memcmp(found, sums, sizeof sums) != 0) fail("cvl_seg_exact_sums", "other sums");
+}
+
 static void first_trues(void) {
     const bool *f = B(false, true, false, false, true);
     const int32_t *lengths = I(2, 1, 0, 2);
@@ -1792,6 +1805,7 @@ int main(void) {
     slices();
     appends();
     merges();
+    exact_sums();
     first_trues();
     texts();
     texts_of_any_length();

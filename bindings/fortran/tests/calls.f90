@@ -9,6 +9,7 @@ module examples
         character(16) :: role, name, kind
         integer(c_int32_t), allocatable :: ints(:)
         logical(c_bool), allocatable :: flags(:)
+        integer(c_int64_t), allocatable :: sums(:)
         character(:), allocatable :: text
         integer(c_int32_t) :: int = 0
         logical(c_bool) :: flag = .false.
@@ -32,6 +33,7 @@ contains
 
         one%ints = int(numbers, c_int32_t)
         one%flags = logical(numbers /= 0, c_bool)
+        one%sums = numbers
         one%text = repeat(" ", size(numbers))
         do k = 1, size(numbers)
             one%text(k:k) = char(int(iand(numbers(k), 127_c_int64_t)))
@@ -81,6 +83,7 @@ contains
         before = one
         before%ints = ieor(one%ints, 1_c_int32_t)
         before%flags = .not. one%flags
+        before%sums = ieor(one%sums, 1_c_int64_t)
         before%text = repeat("?", len(one%text))
         before%int = ieor(one%int, 1_c_int32_t)
         before%flag = .not. one%flag
@@ -95,6 +98,8 @@ contains
         select case (wanted%kind)
         case ("ints", "marks")
             agree = all(found%ints == wanted%ints)
+        case ("sums")
+            agree = all(found%sums == wanted%sums)
         case ("flags")
             agree = all(logical(found%flags .eqv. wanted%flags))
         case ("text")

@@ -9,7 +9,9 @@ from numpy.typing import NDArray
 
 IntArray = NDArray[numpy.int32]
 FlagArray = NDArray[numpy.bool_]
+SumArray = NDArray[numpy.int64]
 Ints = Union[IntArray, array[int], memoryview]
 Flags = Union[FlagArray, memoryview]
+Sums = Union[SumArray, array[int], memoryview]
 Marks = Union[NDArray[numpy.uint32], array[int], memoryview]
 Text = Union[str, bytes, bytearray, memoryview, mmap]

@@ -108,6 +108,7 @@ int cvl_take(PyObject *object, const Operand *operand, int spreads, Given *given
     case KIND_SIZE: return take_number(object, name, 0, INT64_MAX, "a number of elements", given);
     case KIND_ROOM_INTS:
     case KIND_ROOM_FLAGS:
+    case KIND_ROOM_SUMS:
     case KIND_ROOM_MARKS: return cvl_take_array(object, operand, given);
     }
     return -1;

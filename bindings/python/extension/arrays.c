@@ -4,6 +4,7 @@
 Element cvl_ints = {NPY_INT32, "int32", "numpy.int32", NULL};
 Element cvl_flags = {NPY_BOOL, "bool", "bool", NULL};
 Element cvl_marks = {NPY_UINT32, "uint32", "numpy.uint32", NULL};
+Element cvl_sums = {NPY_INT64, "int64", "numpy.int64", NULL};
 
 enum { TO_READ = NPY_ARRAY_C_CONTIGUOUS | NPY_ARRAY_ALIGNED, TO_WRITE = TO_READ | NPY_ARRAY_WRITEABLE };
 
@@ -15,12 +16,13 @@ const Need cvl_needs[] = {
     [KIND_ROOM_INTS] = {&cvl_ints, TO_WRITE},
     [KIND_ROOM_FLAGS] = {&cvl_flags, TO_WRITE},
     [KIND_ROOM_MARKS] = {&cvl_marks, TO_WRITE},
+    [KIND_ROOM_SUMS] = {&cvl_sums, TO_WRITE},
 };
 
 static PyObject *masked_array;
 
 int cvl_learn_kinds(void) {
-    Element *const elements[] = {&cvl_ints, &cvl_flags, &cvl_marks};
+    Element *const elements[] = {&cvl_ints, &cvl_flags, &cvl_marks, &cvl_sums};
     for (size_t k = 0; k < sizeof elements / sizeof *elements; k++) {
         elements[k]->descr = PyArray_DescrFromType(elements[k]->number);
         if (elements[k]->descr == NULL) return -1;

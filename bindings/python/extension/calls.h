@@ -52,6 +52,7 @@ typedef enum Kind {
     KIND_SIZE,
     KIND_ROOM_INTS, /* arrays that are written, beside the result */
     KIND_ROOM_FLAGS,
+    KIND_ROOM_SUMS,
     KIND_ROOM_MARKS
 } Kind;
 
@@ -62,6 +63,7 @@ typedef enum Extent { EXTENT_NONE, EXTENT_N, EXTENT_M, EXTENT_BOTH, EXTENT_SEGME
 typedef enum Gives {
     GIVES_INTS, /* an array, which may stand in the caller's room */
     GIVES_FLAGS,
+    GIVES_SUMS,
     GIVES_OVER_INTS, /* the caller's room, which holds what stands before */
     GIVES_OVER_FLAGS,
     GIVES_FRONT_INTS, /* one that may be shorter than the room, and whose elements are counted */
@@ -114,7 +116,7 @@ typedef struct Element {
     PyArray_Descr *descr;
 } Element;
 
-extern Element cvl_ints, cvl_flags, cvl_marks;
+extern Element cvl_ints, cvl_flags, cvl_marks, cvl_sums;
 
 /* What an array needs that is taken for an operand: the kind of its elements, or none if it is a text, which has any of one byte;
    and flags of numpy, of which one value needs none. */

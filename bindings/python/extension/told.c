@@ -198,6 +198,7 @@ static PyObject *value_at_fault(const Frame *frame, CvlStatus status) {
 }
 
 static size_t bytes_of(const Given *given, Kind kind) {
+    if (kind == KIND_ROOM_SUMS) return given->count * sizeof(int64_t);
     return given->count * (kind == KIND_FLAGS || kind == KIND_ROOM_FLAGS || kind == KIND_TEXT ? sizeof(bool) : sizeof(int32_t));
 }
 

@@ -720,7 +720,7 @@ class EachCall(Limited):
         for name, example in self.examples.items():
             if not example.has_room:
                 continue
-            for dtype in (numpy.int64, numpy.uint8, bool if example.found.dtype == numpy.int32 else numpy.int32):
+            for dtype in {numpy.dtype(kind) for kind in (numpy.int64, numpy.uint8, bool, numpy.int32)} - {example.found.dtype}:
                 room = numpy.ones(len(example.found), dtype)
                 with self.assertRaisesRegex(TypeError, "^out has elements of", msg=name):
                     example.call(**example.arguments, out=room)
@@ -907,6 +907,15 @@ class Slices(Limited):
         room = numpy.zeros(6, numpy.int32)
         self.assertIs(cvl.append_segments_int(a, b, segments, others, out=room), room)
 
+    def test_sums(self):
+        a, wanted = ints(2**31 - 1, 2**31 - 1, 5), [2**32 - 2, 0, 5]
+        self.assertEqual(cvl.seg_exact_sums(a, ints(2, 0, 1)).tolist(), wanted)
+        room = numpy.zeros(3, numpy.int64)
+        self.assertIs(cvl.seg_exact_sums(a, ints(2, 0, 1), out=room), room)
+        self.assertEqual((room.tolist(), room.dtype), (wanted, numpy.int64))
+        with self.assertRaisesRegex(TypeError, "out has elements of int32, and has to have int64"):
+            cvl.seg_exact_sums(a, ints(2, 0, 1), out=ints(0, 0, 0))
+
     def test_merges(self):
         values = numpy.arange(90, dtype=numpy.int32)
         marks = values * values % 7 < 3
@@ -930,6 +939,8 @@ class Slices(Limited):
             (lambda: cvl.gather_segments_int(source, ints(0), ints(3), out=ints(7)), 7, None),
             (lambda: cvl.merge_by_flags_int(flags(True, False), ints(1, 2), ints()), 7, None),
             (lambda: cvl.append_segments_int(source, source, ints(3), ints(2)), 7, None),
+            (lambda: cvl.seg_exact_sums(source, ints(2)), 7, None),
+            (lambda: cvl.seg_exact_sums(source, ints(3), out=numpy.zeros(2, numpy.int64)), 7, None),
             (lambda: cvl.append_segments_int(source, source, ints(3), ints(1, 2)), 7, None),
             (lambda: cvl.append_segments_int(source, source, ints(3), ints(3), out=ints(0, 0, 0)), 7, None),
             (lambda: cvl.seg_first_true(flags(True), ints(2)), 7, None),

@@ -12,6 +12,7 @@ use crate::{MOST_ELEMENTS, MOST_OF_TEXT};
 pub(crate) trait Zero {}
 
 impl Zero for i32 {}
+impl Zero for i64 {}
 impl Zero for bool {}
 impl Zero for u8 {}
 

@@ -615,3 +615,10 @@ fn segments_are_appended_to_segments() {
     let short = cvl::append_segments_int_into(&[1, 2, 3], &[7, 8, 9], &lengths, &others, &mut out[..5]).unwrap_err();
     assert_eq!((told(short), out), ((7, None), [5; 6]));
 }
+
+#[test]
+fn sums_of_segments_fit_64_bits() {
+    let segments = Segments::new(&[2, 0, 1]).unwrap();
+    assert_eq!(cvl::seg_exact_sums(&[i32::MAX, i32::MAX, 5], &segments).unwrap(), [2 * i64::from(i32::MAX), 0, 5]);
+    assert_eq!(told(cvl::seg_exact_sums(&[5], &segments).unwrap_err()), (7, None));
+}

@@ -37,6 +37,12 @@ impl Numbers for Vec<bool> {
     }
 }
 
+impl Numbers for Vec<i64> {
+    fn numbers(self) -> Vec<i64> {
+        self
+    }
+}
+
 impl Numbers for String {
     fn numbers(self) -> Vec<i64> {
         self.bytes().map(i64::from).collect()
@@ -143,6 +149,7 @@ pub struct Room {
     flags: Vec<bool>,
     text: Vec<u8>,
     marks: Vec<u32>,
+    sums: Vec<i64>,
 }
 
 impl Room {
@@ -151,6 +158,7 @@ impl Room {
             "ints" => self.ints = numbers.map(|number| number as i32).collect(),
             "flags" => self.flags = numbers.map(|number| number != 0).collect(),
             "text" => self.text = numbers.map(|number| number as u8).collect(),
+            "sums" => self.sums = numbers.collect(),
             _ => self.marks = numbers.map(|number| number as u32).collect(),
         }
     }

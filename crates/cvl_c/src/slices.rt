@@ -1,8 +1,9 @@
-//! Slices and segments one behind another, merges by flags, and the first true flag.
+//! Slices and segments one behind another, merges by flags, and values of segments that no operator joins.
 
 ghost use Rattle.std.specs.Prelude.{Ok, length};
 ghost use Rattle.c_calls.specs.Calls.{by_segments, in_limit};
 ghost use Rattle.c_calls.specs.Told.{Told, in_room};
+ghost use Rattle.cvl_base.specs.Exact.{total_of};
 ghost use Rattle.flag_merges.specs.Merges.{merge_of};
 ghost use Rattle.segment_slices.specs.Pairs.{append_segments_of};
 ghost use Rattle.segment_slices.specs.Slices.{gather_segments_of};
@@ -13,7 +14,7 @@ use c_calls::or_tell;
 use c_calls::status::{CvlStatus, told_one, told_over};
 use flag_merges::merge_by_flags_over;
 use segment_slices::{append_segments_over, gather_segments_over};
-use segment_values::{first_true, seg_first_true_over};
+use segment_values::{first_true, seg_exact_sums_over, seg_first_true_over};
 
 /// The slices of integers that begin at the starts and have the lengths, one behind another.
 #[unsafe(no_mangle)]
@@ -132,4 +133,17 @@ pub extern "C" fn cvl_proved_seg_first_true(
 {
     let d = or_tell!(segments(lengths));
     told_over::<i32>(seg_first_true_over(flags, &d, out))
+}
+
+/// The sum of each segment in 64 bits, where it always fits.
+#[unsafe(no_mangle)]
+pub extern "C" fn cvl_proved_seg_exact_sums(
+    a: &[i32],
+    lengths: &[i32],
+    out: &mut [i64],
+) -> CvlStatus
+    ensures { Told (in_room (length out.old) (by_segments lengths.now (each_of total_of a.now))) result out.old out.new }
+{
+    let d = or_tell!(segments(lengths));
+    told_over::<i64>(seg_exact_sums_over(a, &d, out))
 }

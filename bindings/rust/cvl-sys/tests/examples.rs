@@ -27,7 +27,7 @@ fn stored(operand: &Operand, numbers: &[i64]) -> Vec<Cell<u64>> {
         "flags" | "flag" | "text" => vec![number as u8],
         "marks" => (number as u32).to_ne_bytes().to_vec(),
         "size" => (number as usize).to_ne_bytes().to_vec(),
-        "sum" => number.to_ne_bytes().to_vec(),
+        "sum" | "sums" => number.to_ne_bytes().to_vec(),
         other => panic!("no kind {}", other),
     });
     let mut bytes: Vec<u8> = bytes.collect();
