@@ -19,6 +19,8 @@ static void write_ints(size_t n) { (void)cvl_write_ints(ints[n], n, text, sizeof
 static void write_bools(size_t n) { (void)cvl_write_bools(bools[n], n, text, sizeof text, &count); }
 static void seg_write_ints(size_t n) { (void)cvl_seg_write_ints(ints[n], n, cut, text, sizeof text, &count); }
 static void seg_write_bools(size_t n) { (void)cvl_seg_write_bools(bools[n], n, cut, text, sizeof text, &count); }
+static void merge(size_t n) { (void)cvl_merge_by_flags_bool(flags[n], n, bools[n > 1], n > 1, bools[n > 0], n > 0, bool_room[n], n); }
+static void append(size_t n) { (void)cvl_append_segments_bool(bools[MOST], MOST, bools[MOST], MOST, cut, cut, bool_room[n], n); }
 
 static void lengths_of_any(void) {
     fill(6, 1);
@@ -41,6 +43,8 @@ static void rooms_of_any(void) {
     each_pattern(write_bools, 2, 0);
     each_pattern(seg_write_ints, 2, 0);
     each_pattern(seg_write_bools, 2, 0);
+    each_pattern(merge, 3, 0);
+    each_pattern(append, 3, 0);
 }
 
 /* A call on flags that are copied by the thread that calls, with no memory for them too. */
