@@ -1,20 +1,20 @@
 """Differences that `.ci/check-pages` has to report: for each comparison edits of files, each a file, a text in it and another text.
 If the first text is empty, the other one stands at the end of the file, which may be new. The last file is the one reported."""
 
-CALLS, SCRIPT, MANUAL = "docs/calls.md", "docs/script.md", "docs/cvl.1"
+CALLS, SCRIPT, MANUAL = "docs/user/calls.md", "docs/user/script.md", "docs/man/cvl.1"
 
 # a table of wrong bodies
-PROVED, TABLE = "docs/proved.md", "\n## What shows each promise\n\n| Wrong body | Refused by |\n|---|---|\n"
+PROVED, TABLE = "docs/user/proved.md", "\n## What shows each promise\n\n| Wrong body | Refused by |\n|---|---|\n"
 
 EDITS = {
     "examples.check_examples": [(CALLS, "sum = [22 -5", "sum = [23 -5")],
     "examples.check_runs": [("README.md", "\n    y = [5 0 18]", "\n    y = [5 0 19]")],
-    "examples.check_code": [("docs/embedding.md", "pub fn sums<", "pub fn totals<")],
-    "examples.check_embedding": [("docs/embedding.md", "sums: Ok([4, 2, 8", "sums: Ok([4, 2, 9")],
+    "examples.check_code": [("docs/dev/embedding.md", "pub fn sums<", "pub fn totals<")],
+    "examples.check_embedding": [("docs/dev/embedding.md", "sums: Ok([4, 2, 8", "sums: Ok([4, 2, 9")],
     "calls.check_names": [(CALLS, "### div_wuz mod_wuz", "### div_wuz rem_wuz")],
     "calls.check_plain_reading": [("crates/script_cases/generator/calls.py", '"cpy_wuz":', '"copy_wuz":')],
     "calls.check_index": [(CALLS, "| [`div_wuz` `mod_wuz`]", "| [`div_wuz`]")],
-    "calls.check_glossary": [("docs/glossary.md", "`len_fos`", "`len`")],
+    "calls.check_glossary": [("docs/user/glossary.md", "`len_fos`", "`len`")],
     "calls.check_faults": [(SCRIPT, "| 10 | IndexOutOfRange |", "| 10 | OutOfRange |")],
     "calls.check_limits": [(SCRIPT, "| 1,048,576 |", "| 1,048,577 |")],
     "program.check_help": [(SCRIPT, "    Usage: cvl [OPTIONS]", "    Usage: cvl [OPTION]")],
@@ -26,9 +26,9 @@ EDITS = {
     "program.check_zsh": [("bindings/shell/_cvl", "--workers=[", "--worker=[")],
     "program.check_numbers": [("bindings/shell/cvl.fish", "-l tile -x -a", "-l tile -r -a")],
     "program.check_bash": [("bindings/shell/cvl.bash", "--workers", "--worker")],
-    "source.check_definitions": [("docs/definitions.md", "`wrap`, `IsWrapped`", "`wraps`, `IsWrapped`")],
-    "source.check_drawing": [("docs/architecture.md", "\ncrew  ", "\nteam  ")],
-    "source.check_bases": [("docs/architecture.md", ", `sharing`, `tile_plan` |", ", `tile_plan` |")],
+    "source.check_definitions": [("docs/dev/definitions.md", "`wrap`, `IsWrapped`", "`wraps`, `IsWrapped`")],
+    "source.check_drawing": [("docs/dev/architecture.md", "\ncrew  ", "\nteam  ")],
+    "source.check_bases": [("docs/dev/architecture.md", ", `sharing`, `tile_plan` |", ", `tile_plan` |")],
     "source.check_programs": [(".ci/pages/paths.py", '"""The paths', '#!/usr/bin/env python3\n"""The paths')],
     "source.check_columns": [("crates/sharing/src/lib.rt", "", "//" + " long" * 26 + "\n")],
     "promises.check_promises": [(PROVED, "", f"{TABLE}| a body | `crates/boards/must-fail/no_such.edit` |\n")],
@@ -36,8 +36,8 @@ EDITS = {
     "paths.check_paths": [("README.md", "", "\nSee `docs/no-such-page.md`.\n")],
     "paths.check_links": [("README.md", "", "\nSee [a page](docs/no-such-page.md).\n")],
     "paths.check_named_pages": [("README.md", "", "\nSee `no-such-page.md`.\n")],
-    "docs/performance/draw": [("docs/performance.svg", "</svg>", "<!-- another --></svg>")],
-    "docs/pictures/draw": [("docs/pictures/pack.svg", "</svg>", "<!-- another --></svg>")],
+    "docs/dev/performance/draw": [("docs/user/performance.svg", "</svg>", "<!-- another --></svg>")],
+    "docs/dev/pictures/draw": [("docs/user/pictures/pack.svg", "</svg>", "<!-- another --></svg>")],
     "bindings/generate": [("include/cvl.h", "", "/* another */\n")],
     # one of its files is made instead of all, which takes half a minute
     "crates/script_cases/generate": [

@@ -5,7 +5,7 @@ from table import MOST_ELEMENTS, MOST_OF_TEXT, MOST_STACK
 
 ABOUT = (
     "cvl.h: the vector calls of CVL, the C Vector Library, on a caller's own memory.",
-    "Link with -lcvl, an archive and a shared object; docs/programs.md shows how. C99 to C23, and C++.",
+    "Link with -lcvl, an archive and a shared object; docs/user/programs.md shows how. C99 to C23, and C++.",
     "Every call answers a CvlStatus: number 0 where all is done, the number of a fault, with its place or -1, 100 where memory ran out, 101 where "
     "there is no descriptor, or 102 where arrays overlap. Where all is done the result is in the caller's room, the last array, value or values "
     "given. Else the room is as it was.",

@@ -208,7 +208,7 @@ OF_FAMILIES = {
     ),
     "calls in parts": (
         "A caller with threads or machines of its own makes a call in parts, each a range of the vector. Most calls need nothing more than "
-        "themselves for that, and the functions here are what a part needs where the whole does not. docs/parallel.md tells for each call how it is "
+        "themselves for that, and the functions here are what a part needs where the whole does not. docs/user/parallel.md tells for each call how it is "
         "cut, what its parts tell one another and what gives the whole; cvl_parallel.h does it for threads.",
     ),
 }

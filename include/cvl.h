@@ -3,7 +3,7 @@
  *
  * Written by the generator of the repository from its table of calls; edit the table and not this file.
  *
- * Link with -lcvl, an archive and a shared object; docs/programs.md shows how. C99 to C23, and C++.
+ * Link with -lcvl, an archive and a shared object; docs/user/programs.md shows how. C99 to C23, and C++.
  *
  * Every call answers a CvlStatus: number 0 where all is done, the number of a fault, with its place or -1, 100 where memory ran
  * out, 101 where there is no descriptor, or 102 where arrays overlap. Where all is done the result is in the caller's room, the
@@ -82,7 +82,7 @@
 extern "C" {
 #endif
 
-/* The version of this header; cvl_version() tells that of the library. docs/versions.md says what may change at which number. */
+/* The version of this header; cvl_version() tells that of the library. docs/user/versions.md says what may change at which number. */
 #define CVL_VERSION "1.0.0"
 #define CVL_VERSION_MAJOR 1
 #define CVL_VERSION_MINOR 0
@@ -809,8 +809,8 @@ CVL_CHECKED CvlStatus cvl_bool_scan_after(uint32_t op, bool before, const bool *
 
 /*
  * A caller with threads or machines of its own makes a call in parts, each a range of the vector. Most calls need nothing more
- * than themselves for that, and the functions here are what a part needs where the whole does not. docs/parallel.md tells for
- * each call how it is cut, what its parts tell one another and what gives the whole; cvl_parallel.h does it for threads.
+ * than themselves for that, and the functions here are what a part needs where the whole does not. docs/user/parallel.md tells
+ * for each call how it is cut, what its parts tell one another and what gives the whole; cvl_parallel.h does it for threads.
  */
 
 /*

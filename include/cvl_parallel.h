@@ -7,7 +7,7 @@
  * cvl_add_wuz(a, b, out, n), and cvl_int2_on(&pool, ..) is cvl_int2(..). The status is that of the plain call, with the same place, and
  * so is what stands in its rooms, also after a fault. Long vectors are cut into parts, the pool runs the parts, and what they
  * tell is joined; short ones, whatever a plain call refuses, and calls for which there is no memory in parts run as the plain call on the
- * thread that calls. docs/parallel.md tells for each call how it is cut.
+ * thread that calls. docs/user/parallel.md tells for each call how it is cut.
  *
  * There are pools of one thread and of POSIX threads here, and of OpenMP in cvl_openmp.h. Declarations, types and comments alone.
  */

@@ -7,9 +7,9 @@ from pages.texts import CASES, TOP, blocks_of, held, indented_behind, lines_of, 
 # pages whose examples are the cases of a file
 PAGES_OF_CASES = {"calls": "reference", "segments": "segments", "mistakes": "mistakes"}
 
-PAGES_WITH_RUNS = ("README.md", "docs/examples.md")
+PAGES_WITH_RUNS = ("README.md", "docs/user/examples.md")
 
-PAGES_WITH_CODE = ("docs/embedding.md", "docs/look-back.md", "docs/segments.md")
+PAGES_WITH_CODE = ("docs/dev/embedding.md", "docs/dev/look-back.md", "docs/user/segments.md")
 
 EMBEDDING = "crates/embedding"
 
@@ -56,15 +56,15 @@ def examples_of(page):
 
 
 def check_examples():
-    """The examples of docs/calls.md, docs/segments.md and docs/mistakes.md are the cases of their files."""
+    """The examples of docs/user/calls.md, docs/user/segments.md and docs/user/mistakes.md are the cases of their files."""
     for name, cases in PAGES_OF_CASES.items():
-        page, file = f"docs/{name}.md", f"{CASES}/{cases}.cases"
+        page, file = f"docs/user/{name}.md", f"{CASES}/{cases}.cases"
         wanted = [line.replace("== case ", "== case ### ", 1) if line.startswith("== case ") else line for line in cases_of(file)]
         yield from held(page, file, examples_of(lines_of(page)), wanted)
 
 
 def runs_of(page):
-    """Each run of a page: the words of its line `./cvl ..`, what the page says that it prints, and the block before it, if one is."""
+    """Each run of a page: the words of its line `cvl ..`, what the page says that it prints, and the block before it, if one is."""
     command, waits, printed, block = "", "", [], []
     blocks = {number + 1: (len(lines), lines) for _, number, lines in blocks_of(page)}
     skipped = 0
@@ -73,8 +73,8 @@ def runs_of(page):
             skipped, block = blocks[number]
         if skipped:
             skipped -= 1
-        elif line.startswith("    ./cvl "):
-            command, waits, printed = line.removeprefix("    ./cvl "), "prints", []
+        elif found := re.fullmatch(r"    (?:\./)?cvl (.*)", line):
+            command, waits, printed = found[1], "prints", []
         elif waits and re.fullmatch(r" *(and )?prints", line):
             waits = "text"
         elif waits == "text" and line.startswith("    "):
@@ -103,7 +103,7 @@ def check_runs():
     script's file."""
     for page in PAGES_WITH_RUNS:
         for words, printed, block in runs_of(lines_of(page)):
-            run, script = f"{page}: ./cvl {' '.join(words)}", f"{CASES}/examples/{words[0]}"
+            run, script = f"{page}: cvl {' '.join(words)}", f"{CASES}/examples/{words[0]}"
             yield from held(run, f"{CASES}/examples.cases", printed, text_of_run(words))
             yield from stands_in(run, script, block)
 
@@ -130,8 +130,8 @@ def check_code():
 
 
 def check_embedding():
-    """What docs/embedding.md says that its program prints, and the line of crates.txt, are the crate's."""
-    page = lines_of("docs/embedding.md")
-    yield from held("docs/embedding.md", f"{EMBEDDING}/stdout", indented_behind(page, "## What it prints"), lines_of(f"{EMBEDDING}/stdout"))
+    """What docs/dev/embedding.md says that its program prints, and the line of crates.txt, are the crate's."""
+    page = lines_of("docs/dev/embedding.md")
+    yield from held("docs/dev/embedding.md", f"{EMBEDDING}/stdout", indented_behind(page, "## What it prints"), lines_of(f"{EMBEDDING}/stdout"))
     shown, wanted = ([line.strip() for line in lines if line.strip().startswith("embedding: ")] for lines in (page, lines_of("crates.txt")))
-    yield from held("docs/embedding.md", "crates.txt", shown, wanted)
+    yield from held("docs/dev/embedding.md", "crates.txt", shown, wanted)

@@ -1,35 +1,14 @@
 """The paths, the pages and the links that pages name."""
 
-import functools
 import re
-import sys
-import tempfile
 
 from pages.texts import TOP, lines_of, outside_blocks
-
-sys.path.append(str(TOP / "bindings"))
-
-import generated
-
-HEADER, HEADER_PAGE = "include/cvl.h", "docs/header.md"
-
-
-@functools.lru_cache
-def header_page():
-    """The lines of the page of the header, which an install has, and the repository has not."""
-    with tempfile.TemporaryDirectory() as folder:
-        return (generated.below(folder) / HEADER_PAGE).read_text().splitlines()
 
 
 def pages():
     """The lines of all pages, by their paths."""
-    paths = sorted(str(path.relative_to(TOP)) for files in ("*.md", "docs/*.md", "bindings/*.md", "tests/*.md") for path in TOP.glob(files))
-    return {**{path: lines_of(path) for path in paths}, HEADER_PAGE: header_page()}
-
-
-def linked(path):
-    """The lines of what a link leads to. Links to the header lead to its page in an install."""
-    return header_page() if path.resolve() == TOP / HEADER else path.read_text().splitlines()
+    paths = sorted(str(path.relative_to(TOP)) for files in ("*.md", "docs/*/*.md", "bindings/*.md", "tests/*.md") for path in TOP.glob(files))
+    return {path: lines_of(path) for path in paths}
 
 
 def anchors_of(page):
@@ -58,7 +37,7 @@ def check_links():
                     continue
                 if path and not (folder / path).exists():
                     yield f"{page}:{number} {link} is not there"
-                elif heading and f"#{heading}" not in (anchors_of(linked(folder / path)) if path else own):
+                elif heading and f"#{heading}" not in (anchors_of((folder / path).read_text().splitlines()) if path else own):
                     yield f"{page}:{number} no heading {link}"
 
 
@@ -67,5 +46,5 @@ def check_named_pages():
     for page, lines in pages().items():
         for number, line in outside_blocks(lines):
             for name in re.findall(r"`([a-z-]+\.md)`", line):
-                if not any((folder / name).exists() for folder in ((TOP / page).parent, TOP / "docs", TOP)):
+                if not any((folder / name).exists() for folder in ((TOP / page).parent, TOP / "docs/user", TOP / "docs/dev", TOP)):
                     yield f"{page}:{number} {name} is not there"

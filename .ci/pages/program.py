@@ -7,7 +7,7 @@ from pages.texts import held, indented_behind, lines_of, text_of
 
 TEST = "crates/test_runs/src/programs.rt"
 
-MANUAL = "docs/cvl.1"
+MANUAL = "docs/man/cvl.1"
 
 BASH, ZSH, FISH = "bindings/shell/cvl.bash", "bindings/shell/_cvl", "bindings/shell/cvl.fish"
 

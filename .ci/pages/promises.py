@@ -1,11 +1,11 @@
-"""The table of wrong bodies in docs/proved.md: what refuses each one is there, and each must-fail edit stands in the table."""
+"""The table of wrong bodies in docs/user/proved.md: what refuses each one is there, and each must-fail edit stands in the table."""
 
 import re
 
 from pages.source import cells_of
 from pages.texts import CASES, TOP, lines_of, text_of
 
-PAGE, HEADING = "docs/proved.md", "## What shows each promise"
+PAGE, HEADING = "docs/user/proved.md", "## What shows each promise"
 
 
 def has_test(text, name):

@@ -7,7 +7,7 @@ from pages.texts import TOP, lines_of, text_of
 
 CRATES = TOP / "crates"
 
-DEFINITIONS, ARCHITECTURE, LIST = "docs/definitions.md", "docs/architecture.md", "crates.txt"
+DEFINITIONS, ARCHITECTURE, LIST = "docs/dev/definitions.md", "docs/dev/architecture.md", "crates.txt"
 
 # what these define serves an example and a test
 UNNAMED_CRATES = {"embedding", "test_sharing"}

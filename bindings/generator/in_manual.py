@@ -122,7 +122,7 @@ def _statuses():
 
 
 def page():
-    """`docs/cvl.3`."""
+    """`docs/man/cvl.3`."""
     lines = [
         '.\\" ' + rows.NOTE,
         f'.TH CVL 3 "{DATE}" "cvl {table.VERSION}" "Library functions"',

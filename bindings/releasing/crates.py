@@ -8,8 +8,8 @@ import table
 
 from . import packed
 
-RUST = "bindings/rust"
-SOURCES = ("src/**/*.rs", "build/*.rs", "tests/**/*", "examples/*.rs", "README.md", "LICENSE", "Cargo.toml")
+RUST, EXAMPLES = "bindings/rust", "examples/rust"
+SOURCES = ("src/**/*.rs", "build/*.rs", "tests/**/*", "README.md", "LICENSE", "Cargo.toml")
 
 
 def _standing_alone(text):
@@ -35,6 +35,7 @@ def write(folder, builds, time):
     with tempfile.TemporaryDirectory() as work:
         written = generated.below(work)
         own = generated.both(written, RUST, *SOURCES)
+        own.update({f"examples/{name}": path for name, path in generated.both(written, EXAMPLES, "*.rs").items()})
         beneath = generated.both(written, f"{RUST}/cvl-sys", *SOURCES)
         beneath["native/x86_64-unknown-linux-gnu/libcvl.a"] = builds.library()
         return [_write(folder, "cvl", own, builds.work, time), _write(folder, "cvl-sys", beneath, builds.work, time)]

@@ -5,7 +5,7 @@ import re
 import proved
 
 # the page that has a row for each way to install, and the one with the first example
-INSTALLING, FIRST = "docs/install.md", "README.md"
+INSTALLING, FIRST = "docs/user/install.md", "README.md"
 
 
 def _text(page):
@@ -25,7 +25,7 @@ def block(page, words):
 
 
 def command(words):
-    """The command between backquotes of docs/install.md, before the part on building from source, that has these words."""
+    """The command between backquotes of docs/user/install.md, before the part on building from source, that has these words."""
     commands = re.findall(r"`([^`\n]+)`", _text(INSTALLING).partition("\n## From source")[0])
     return _only([found for found in commands if words in found], INSTALLING, words)
 

@@ -16,8 +16,8 @@ PRINTED = "y = [5 0 18]\n"
 LONGEST = 10
 SCRIPTS = "share/doc/cvl/examples/scripts"
 EXAMPLE = "sparse_product.cvl row_lengths.txt columns.txt entries.txt x.txt"
-IN_C, IN_FORTRAN = "examples/c/sparse_product.c", "bindings/fortran/examples/sparse_product.f90"
-IN_PYTHON, IN_RUST = "bindings/python/examples/sparse_product.py", "bindings/rust/examples/sparse_product.rs"
+IN_C, IN_FORTRAN = "examples/c/sparse_product.c", "examples/fortran/sparse_product.f90"
+IN_PYTHON, IN_RUST = "examples/python/sparse_product.py", "examples/rust/sparse_product.rs"
 PRODUCT, OUTSIDE = "y = 5 0 18\n", "a column outside the vector: fault 10 IndexOutOfRange at "
 CMAKE = """cmake_minimum_required(VERSION 3.13)
 project(product C)
@@ -144,7 +144,7 @@ def in_fortran(root, **variables):
 
 
 def installs(release, root, *names):
-    """Has apt install packages, by the command that docs/install.md shows for the first one."""
+    """Has apt install packages, by the command that docs/user/install.md shows for the first one."""
     root.put(*map(release.deb, names))
     root.run(f"cd /srv && {shown.command(f'apt install ./{release.deb(names[0]).name}')}")
 
@@ -177,7 +177,7 @@ def packages_in_c(release, made):
         in_fortran(root)
 
 
-# what lintian may report, and docs/DECISIONS.md says why
+# what lintian may report, and docs/dev/DECISIONS.md says why
 REPORTED = "initial-upload-closes-no-bugs"
 
 

@@ -60,8 +60,8 @@ class Installs(Whole):
             "share/bash-completion/completions/cvl": "bindings/shell/cvl.bash",
             "share/zsh/site-functions/_cvl": "bindings/shell/_cvl",
             "share/fish/vendor_completions.d/cvl.fish": "bindings/shell/cvl.fish",
-            "share/man/man1/cvl.1": "docs/cvl.1",
-            "share/man/man3/cvl.3": "docs/cvl.3",
+            "share/man/man1/cvl.1": "docs/man/cvl.1",
+            "share/man/man3/cvl.3": "docs/man/cvl.3",
             "include/cvl.f90": "bindings/fortran/cvl.f90",
             **{f"include/{path.name}": f"include/{path.name}" for path in (TOP / "include").glob("*.h")},
         }  # fmt: skip
@@ -322,45 +322,66 @@ class Checked(Stopped):
         self.assertIn("no headers", self.told(self.root, "--python", self.program("lacking", lacks)))
 
 
+# a name of a file or folder: one with a slash that begins as those of the repository, a page, or a command at its top
+FOLDERS = "crates|bindings|docs|examples|include|tests|\\.ci"
+NAMED = re.compile(rf"(?<![\w/.~-])(?:\.{{0,2}}/?(?:{FOLDERS})/[\w./*-]*\w|[\w-]+\.md|\./install|\./cvl(?!-))(?![\w/])")
+LINK = re.compile(r"\[[^\]]*\]\(([^)]*)\)")
+
+# what a page says that names files of the repository throughout
+OF_THE_REPOSITORY = "the files that this page names are in the repository"
+
+
+class Installed:
+    """What pages may name and lead to: files below the folder of pages, and headers."""
+
+    def __init__(self, names):
+        self.names = {"/".join(name.split("/")[:k]) for name in names for k in range(1, name.count("/") + 2)}
+
+    def has(self, name):
+        """Whether a page for users may name this file: from where it stands, from the folder of all pages, or a header."""
+        beside = os.path.normpath(f"{pages.DOC}/{pages.USER}/{name}")
+        return not {beside, os.path.normpath(f"{pages.DOC}/{name}"), name}.isdisjoint(self.names)
+
+    def without(self, text):
+        """The names and the links in a text of what is not there. A paragraph may name what it says to be in the repository, or a page all."""
+        targets = [target.split("#")[0] for target in LINK.findall(text) if not target.startswith(("#", "http"))]
+        whole = OF_THE_REPOSITORY in text.lower()
+        said = [part for part in re.split(r"\n\n(?!    )", text) if not whole and not re.search(r"\b(?:repository|checkout)\b", part)]
+        found = [name for name in targets if name] + NAMED.findall(LINK.sub("", "\n\n".join(said)))
+        return [name for name in found if not self.has(name)]
+
+
 class Pages(Tree):
     """What the installed pages and headers name is installed."""
 
     def setUp(self):
         super().setUp()
-        pages.write(self.top, written())
-        self.files = pages.files(self.top, written())
+        self.files = pages.files()
         headers = {f"include/{path.name}": path for path in (TOP / "include").glob("*.h")}
-        # the last one is there where --mpi puts it
-        drawn = {"include/cvl.f90": "bindings/fortran/cvl.f90", "include/cvl_mpi.h": "bindings/mpi/cvl_mpi.h"}
+        # the last two are there if --mpi puts them
+        drawn = {"include/cvl.f90": "bindings/fortran/cvl.f90", "include/cvl_mpi.h": "bindings/mpi/cvl_mpi.h", "include/cvl_mpi.f90": "bindings/fortran/cvl_mpi.f90"}
         self.headers = {**headers, **{name: written() / path for name, path in drawn.items()}}
         self.crates = {str(path): path for path in (TOP / "bindings/rust").glob("**/README.md")}
-        self.manual = {"share/man/man1/cvl.1": TOP / "docs/cvl.1", "share/man/man3/cvl.3": written() / "docs/cvl.3"}
-        self.installed = pages.Installed({*self.files, *self.headers})
+        self.manual = {"share/man/man1/cvl.1": TOP / "docs/man/cvl.1", "share/man/man3/cvl.3": written() / "docs/man/cvl.3"}
+        self.installed = Installed({*self.files, *self.headers})
 
     def test_each_name_is_there(self):
         for name, path in {**self.files, **self.headers, **self.manual, **self.crates}.items():
             if name.endswith((".md", ".h", ".f90", ".1", ".3")):
                 self.assertEqual(self.installed.without(path.read_text()), [], name)
 
-    def test_a_name_that_is_not_there_is_told(self):
-        told = ("see `crates/cvl_c`", "[page](no_page.md)", "run ./install", "(docs/no_page.md)", "* examples/c/run does")
-        for text in (*told, "    pip install ./bindings/python"):
+    def test_a_name_that_is_not_there_is_reported(self):
+        wrong = ("see `crates/cvl_c`", "[page](no_page.md)", "run ./install", "(docs/user/no_page.md)", "* examples/c/run does", "[dev](../dev/DECISIONS.md)")
+        for text in (*wrong, "    pip install ./bindings/python", "In a checkout\n\nRun ./install", "In a checkout [a page](../dev/look-back.md)"):
             self.assertTrue(self.installed.without(text), text)
-        for text in ("`docs/calls.md`", "[calls](calls.md#index)", "examples/c/quicksort.c", "[above](#above)", "include/cvl.h"):
+        right = ("`docs/user/calls.md`", "[calls](calls.md#index)", "examples/c/quicksort.c", "[above](#above)", "include/cvl.h", "[it](../../examples/c/quicksort.c)")
+        for text in (*right, "In a checkout run ./install", "In a checkout\n\n    ./install"):
             self.assertEqual(self.installed.without(text), [], text)
 
-    def test_a_paragraph_of_the_repository_is_left_out_with_its_code(self):
-        text = "# Page\n\nKept.\n\nRun `./install`\n\n    ./install\n\nwhich prints\n\n    x\n\nKept too.\n\n"
-        text += "## Empty\n\nSee `crates/cvl_c`.\n\n## Last\n\nEnd."
-        self.assertEqual(pages.page(text, self.installed), "# Page\n\nKept.\n\nKept too.\n\n## Last\n\nEnd.\n")
-
-    def test_the_pages_are_whole(self):
-        sources = generated.both(written(), "docs", "*.md")
-        for name in pages.PAGES:
-            before, after = (path.read_text() for path in (sources[f"{name}.md"], self.top / f"{name}.md"))
-            self.assertGreater(len(after), 0.6 * len(before), name)
-            self.assertEqual(after.split("\n")[0], before.split("\n")[0])
-            self.assertEqual(after.count("!["), before.count("!["), f"the pictures of {name}")
+    def test_the_pages_are_those_of_the_repository(self):
+        for path in (TOP / pages.USER).rglob("*"):
+            if path.is_file():
+                self.assertEqual(self.files[f"{pages.DOC}/{path.relative_to(TOP)}"], path)
 
     def test_what_an_example_includes_is_there(self):
         sources = {name: path.read_text() for name, path in self.files.items() if name.endswith((".c", ".cpp", ".h"))}
@@ -368,20 +389,9 @@ class Pages(Tree):
             for included in re.findall(r'^#include "(.*)"$', text, re.M):
                 self.assertTrue(f"{os.path.dirname(name)}/{included}" in sources or f"include/{included}" in self.headers, f"{name}: {included}")
 
-    def test_no_page_names_one_that_is_not_there(self):
-        titles = {pages.title(path.name) for path in (TOP / "docs").glob("*.md") if path.stem not in pages.PAGES}
-        self.assertIn("Installing", titles)
-        for name in pages.PAGES:
-            lines = [line for line in (self.top / f"{name}.md").read_text().split("\n") if not line.startswith("#")]
-            self.assertEqual([title for title in titles if title in "\n".join(lines)], [], name)
-
-    def test_a_link_to_a_page_that_is_not_there(self):
-        text = "# Page\n\nIt [starts workers](look-back.md#a-crew-of-ones-own).\n\n[How workers scan without waiting](look-back.md) says how.\n"
-        self.assertEqual(pages.page(text, self.installed), "# Page\n\nIt starts workers.\n")
-
     def test_what_help_names_is_there(self):
         told = (TOP / "crates/test_runs/src/programs.rt").read_text()
-        named = re.findall(r"docs/\w+\.md", re.search(r'const HELP: &str = "(.*?)";', told, re.S).group(1))
+        named = re.findall(r"docs/\w+/\w+\.md", re.search(r'const HELP: &str = "(.*?)";', told, re.S).group(1))
         self.assertTrue(named)
         for name in named:
             self.assertIn(f"{pages.DOC}/{name}", self.files)

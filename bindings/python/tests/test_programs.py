@@ -16,7 +16,7 @@ import numpy
 
 import cvl
 
-sys.path.insert(0, str(pathlib.Path(__file__).resolve().parent.parent / "examples"))
+sys.path.insert(0, str(pathlib.Path(__file__).resolve().parents[3] / "examples/python"))
 
 from breadth_first import breadth_first
 from connected_parts import connected_parts

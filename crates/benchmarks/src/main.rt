@@ -1,7 +1,7 @@
 //! Measures the library. It does so where its first argument is the word `measure`, and else it does nothing. The second
 //! argument names what is measured: `text`, `elementwise`, `scans`, `permutes`, `packs` or `recipes`, and all of them where
-//! there is none. The third is the number of workers, which is 4 where there is none. `docs/performance/measure` puts plain
-//! loops in C++ beside the calls, `docs/performance/loops.cpp`, which print the same lines.
+//! there is none. The third is the number of workers, which is 4 where there is none. `docs/dev/performance/measure` puts plain
+//! loops in C++ beside the calls, `docs/dev/performance/loops.cpp`, which print the same lines.
 #![tactic(auto)]
 
 use cvl_base::Config;

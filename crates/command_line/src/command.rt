@@ -28,7 +28,7 @@ const AFTER_HELP: &str = "Exit status:
   2  the command line was refused
   3  a file, memory or a write failed
 
-Each call is described in docs/calls.md, and scripts, inputs and faults in docs/script.md.";
+Each call is described in docs/user/calls.md, and scripts, inputs and faults in docs/user/script.md.";
 
 /// An option `--NAME N` with a default.
 fn number_option<'a>(

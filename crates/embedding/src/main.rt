@@ -1,4 +1,4 @@
-//! The examples of `docs/embedding.md`: calls of the library from code of one's own.
+//! The examples of `docs/dev/embedding.md`: calls of the library from code of one's own.
 #![tactic(auto)]
 
 mod gates;

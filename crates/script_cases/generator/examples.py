@@ -1,4 +1,4 @@
-"""Scripts of docs/examples.md on random inputs, with what plain loops give."""
+"""Scripts of docs/user/examples.md on random inputs, with what plain loops give."""
 
 from calls import GREATEST, LEAST
 from cases import number_lines, tiles

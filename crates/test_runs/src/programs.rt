@@ -67,7 +67,7 @@ Exit status:
   2  the command line was refused
   3  a file, memory or a write failed
 
-Each call is described in docs/calls.md, and scripts, inputs and faults in docs/script.md.
+Each call is described in docs/user/calls.md, and scripts, inputs and faults in docs/user/script.md.
 ";
 
 /// What the scan of the numbers writes.
