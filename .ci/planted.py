@@ -11,6 +11,8 @@ EDITS = {
     "examples.check_runs": [("README.md", "\n    y = [5 0 18]", "\n    y = [5 0 19]")],
     "examples.check_code": [("docs/dev/embedding.md", "pub fn sums<", "pub fn totals<")],
     "examples.check_embedding": [("docs/dev/embedding.md", "sums: Ok([4, 2, 8", "sums: Ok([4, 2, 9")],
+    "examples.check_inputs": [("crates/script_cases/data/tutorial.cases", "\n10 20 30 40\n== script", "\n10 20 30\n== script")],
+    "examples.check_session": [("docs/user/tutorial.md", "$ echo 3 1 7 0 >", "$ echo 3 1 7 >")],
     "calls.check_names": [(CALLS, "### div_wuz mod_wuz", "### div_wuz rem_wuz")],
     "calls.check_plain_reading": [("crates/script_cases/generator/calls.py", '"cpy_wuz":', '"copy_wuz":')],
     "calls.check_index": [(CALLS, "| [`div_wuz` `mod_wuz`]", "| [`div_wuz`]")],
@@ -38,6 +40,7 @@ EDITS = {
     "paths.check_named_pages": [("README.md", "", "\nSee `no-such-page.md`.\n")],
     "docs/dev/performance/draw": [("docs/user/performance.svg", "</svg>", "<!-- another --></svg>")],
     "docs/dev/pictures/draw": [("docs/user/pictures/pack.svg", "</svg>", "<!-- another --></svg>")],
+    "docs/dev/notebook/write": [("docs/user/tutorial.ipynb", "as a notebook", "as a book")],
     "bindings/generate": [("include/cvl.h", "", "/* another */\n")],
     # one of its files is made instead of all, which takes half a minute
     "crates/script_cases/generate": [

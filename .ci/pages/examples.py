@@ -5,11 +5,11 @@ import re
 from pages.texts import CASES, TOP, blocks_of, held, indented_behind, lines_of, text_of
 
 # pages whose examples are the cases of a file
-PAGES_OF_CASES = {"calls": "reference", "segments": "segments", "mistakes": "mistakes"}
+PAGES_OF_CASES = {"calls": "reference", "segments": "segments", "mistakes": "mistakes", "tutorial": "tutorial"}
 
 PAGES_WITH_RUNS = ("README.md", "docs/user/examples.md")
 
-PAGES_WITH_CODE = ("docs/dev/embedding.md", "docs/dev/look-back.md", "docs/user/segments.md")
+PAGES_WITH_CODE = ("README.md", "docs/dev/embedding.md", "docs/dev/look-back.md", "docs/user/segments.md")
 
 EMBEDDING = "crates/embedding"
 
@@ -56,7 +56,7 @@ def examples_of(page):
 
 
 def check_examples():
-    """The examples of docs/user/calls.md, docs/user/segments.md and docs/user/mistakes.md are the cases of their files."""
+    """The examples of docs/user/calls.md, segments.md, mistakes.md and tutorial.md are the cases of their files."""
     for name, cases in PAGES_OF_CASES.items():
         page, file = f"docs/user/{name}.md", f"{CASES}/{cases}.cases"
         wanted = [line.replace("== case ", "== case ### ", 1) if line.startswith("== case ") else line for line in cases_of(file)]
@@ -64,9 +64,9 @@ def check_examples():
 
 
 def runs_of(page):
-    """Each run of a page: the words of its line `cvl ..`, what the page says that it prints, and the block before it, if one is."""
+    """Each run of a page: the words of its line `cvl ..`, what the page says that it prints, and the script before it, if one is."""
     command, waits, printed, block = "", "", [], []
-    blocks = {number + 1: (len(lines), lines) for _, number, lines in blocks_of(page)}
+    blocks = {number + 1: (len(lines), [] if language else lines) for language, number, lines in blocks_of(page)}
     skipped = 0
     for number, line in enumerate([*page, ""]):
         if number in blocks:
@@ -135,3 +135,44 @@ def check_embedding():
     yield from held("docs/dev/embedding.md", f"{EMBEDDING}/stdout", indented_behind(page, "## What it prints"), lines_of(f"{EMBEDDING}/stdout"))
     shown, wanted = ([line.strip() for line in lines if line.strip().startswith("embedding: ")] for lines in (page, lines_of("crates.txt")))
     yield from held("docs/dev/embedding.md", "crates.txt", shown, wanted)
+
+
+def cases_with_inputs(file):
+    """Each case of a file: its name, the lines of its script, and those of its inputs that stand in the file, by their numbers."""
+    name, script, inputs, part = "", [], {}, None
+    for line in [*lines_of(file), "== case "]:
+        if line.startswith("== case "):
+            if script:
+                yield name, script, inputs
+            name, script, inputs, part = line.removeprefix("== case "), [], {}, None
+        elif line.startswith("== "):
+            words = line.split()
+            part = None
+            if words[1] == "script":
+                part = script
+            elif words[1] == "input":
+                inputs[len(inputs) + 1] = None if words[2:] else (part := [])
+        elif part is not None:
+            part.append(line)
+
+
+def check_inputs():
+    """A comment after `input` or `nested` in an example says what that input of its case holds."""
+    for cases in PAGES_OF_CASES.values():
+        file = f"{CASES}/{cases}.cases"
+        for name, script, inputs in cases_with_inputs(file):
+            for line in script:
+                said = re.search(r"= (?:input|nested) ([0-9]+) +# ([-0-9\[\] ]+)$", line)
+                if said and inputs.get(int(said[1])) is not None:
+                    yield from held(f"{file}: {name}: {line}", "its input", said[2].split(), " ".join(inputs[int(said[1])]).split())
+
+
+def check_session():
+    """The session in the shell on docs/user/tutorial.md makes the inputs of the first case, and prints its text."""
+    page, file = "docs/user/tutorial.md", f"{CASES}/tutorial.cases"
+    _, _, inputs = next(cases_with_inputs(file))
+    session = next(block for language, _, block in blocks_of(lines_of(page)) if language == "console")
+    made = [words[1] for line in session if (words := re.fullmatch(r"\$ echo (.*) > \w+\.txt", line))]
+    yield from held(page, file, made, [" ".join(lines) for lines in inputs.values()])
+    text = next(block for number, block in enumerate(cases_of(file)) if cases_of(file)[number - 1] == "== text")
+    yield from held(page, file, [line for line in session if not line.startswith("$ ")], [text])
