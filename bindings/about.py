@@ -3,6 +3,14 @@ have no row."""
 
 from table import MOST_ELEMENTS, MOST_OF_TEXT, MOST_STACK
 
+# what is proved of the library from other languages, in the same words on all pages
+FROM_C = (
+    "From C, Fortran, Python and Rust, what each exported function of the library does on the thread that calls is proved: "
+    "it gives the value or the first fault of its definition, and at a fault leaves your arrays as they were. The C by hand "
+    "over these functions is not proved, but tested: it checks lengths and overlaps, cuts a long call into parts, and runs "
+    "the parts on threads. So a call on several threads is tested and not proved."
+)
+
 ABOUT = (
     "cvl.h: the vector calls of CVL, the C Vector Library, on a caller's own memory.",
     "Link with -lcvl, an archive and a shared object; docs/user/programs.md shows how. C99 to C23, and C++.",

@@ -1,9 +1,14 @@
 """The table of wrong bodies in docs/user/proved.md: what refuses each one is there, and each must-fail edit stands in the table."""
 
 import re
+import sys
 
 from pages.source import cells_of
 from pages.texts import CASES, TOP, lines_of, text_of
+
+sys.path.append(str(TOP / "bindings"))
+
+import about
 
 PAGE, HEADING = "docs/user/proved.md", "## What shows each promise"
 
@@ -76,3 +81,14 @@ def check_edits():
     for edit in sorted(str(path.relative_to(TOP)) for path in TOP.glob("crates/*/must-fail/*.edit")):
         if edit not in named:
             yield f"{PAGE} does not name {edit} below {HEADING}"
+
+
+# the pages that say what is proved of the library from other languages; the manual takes the words from the same place
+PAGES_FROM_C = ("README.md", *(f"docs/user/{name}.md" for name in ("programs", "python", "rust", "fortran")))
+
+
+def check_from_c():
+    """What is proved of the library from C, and what is not, stands on each of these pages in the same words."""
+    for page in PAGES_FROM_C:
+        if about.FROM_C not in text_of(page):
+            yield f"{page} has not what bindings/about.py says is proved from C"
