@@ -143,6 +143,7 @@ SECTIONS = (
             Entry(
                 ("sel_pez", "sel_peb"), "select permute of each segment",
                 "The select permute of each segment. Its result has as many elements as the segment has true flags.",
+                costs=("select permute, segments of 1,000",),
             ),
             Entry(
                 ("def_puz", "def_pub"), "default permute: a permute into a copy of defaults",
@@ -152,6 +153,7 @@ SECTIONS = (
             Entry(
                 ("def_pez", "def_peb"), "default permute of each segment",
                 "The default permute of each segment of the source into the same segment of the defaults.",
+                costs=("default permute, segments of 1,000",),
             ),
         ),
     ),
@@ -181,7 +183,7 @@ SECTIONS = (
                 ("len_luz", "len_lub"), "the number of elements", "The number of elements.", takes="a (elements)", gives="an integer", faults="none.",
             ),
             Entry(("cnt_lub",), "the number of true flags", "The number of true flags.", costs=("count",)),
-            Entry(("cnt_leb",), "the number of true flags of each segment", "The number of true flags of each segment."),
+            Entry(("cnt_leb",), "the number of true flags of each segment", "The number of true flags of each segment.", costs=("count, segments of 1,000",)),
             Entry(
                 ("pck_luz", "pck_lub"), "pack: the elements whose flag is true", "The values whose flag is T, in their order.",
                 ("pack", "The elements whose flag is true move up"), ("pack, half kept",),
@@ -200,7 +202,7 @@ SECTIONS = (
         "Copies and numbers with a stride", "",
         (
             Entry(("dis_vuz", "dis_vub"), "distribute: copies of one element", "Copies of the value.", costs=("distribute",)),
-            Entry(("dis_vez", "dis_veb"), "copies of one element for each segment", "Copies of each value, one for each place of its segment."),
+            Entry(("dis_vez", "dis_veb"), "copies of one element for each segment", "Copies of each value, one for each place of its segment.", costs=("distribute, segments of 1,000",)),
             Entry(("ind_luz",), "numbers with a stride", "Place k has `init + k*stride`, wrapped.", costs=("index",)),
             Entry(
                 ("ind_lez",), "numbers with a stride in each segment",

@@ -43,8 +43,8 @@ class Entry:
 
     @property
     def name(self):
-        """The name of its page: that of its first family, or of its first call where it has no row."""
-        return self.rows[0].family.name if self.rows else self.calls[0]
+        """The name of its page."""
+        return self.calls[0]
 
     @property
     def title(self):
