@@ -41,7 +41,6 @@ EDITS = {
     "paths.check_named_pages": [("README.md", "", "\nSee `no-such-page.md`.\n")],
     "docs/dev/performance/draw": [("docs/user/performance.svg", "</svg>", "<!-- another --></svg>")],
     "docs/dev/pictures/draw": [("docs/user/pictures/pack.svg", "</svg>", "<!-- another --></svg>")],
-    "docs/dev/notebook/write": [("docs/user/tutorial.ipynb", "as a notebook", "as a book")],
     "bindings/generate": [("include/cvl.h", "", "/* another */\n")],
     # one of its files is made instead of all, which takes half a minute
     "crates/script_cases/generate": [

@@ -1,9 +1,5 @@
-#!/usr/bin/env python3
-"""Writes the notebook of the tutorial, docs/user/tutorial.ipynb: the text of docs/user/tutorial.md, a cell for each of its examples in
-Python, and the cells of costs.py, which plot what calls cost beside numpy.
-
-    docs/dev/notebook/write          writes it
-    docs/dev/notebook/write --check  says whether it is what this writes, with the status 1 if it is not
+"""The tutorial as a notebook: the text of docs/user/tutorial.md, a cell for each of its examples in Python, and the cells of
+notebook_costs.py, which plot what calls cost beside numpy.
 
 An example that raises is marked, so that a run goes on after it. What each example gives stands in the cell's metadata, as `wanted`;
 tests/languages/test_notebook runs the cells and compares.
@@ -13,15 +9,13 @@ import doctest
 import json
 import pathlib
 import re
-import sys
 
 HERE = pathlib.Path(__file__).resolve().parent
-USER = HERE.parent.parent / "user"
-PAGE, NOTEBOOK, COSTS = USER / "tutorial.md", USER / "tutorial.ipynb", HERE / "costs.py"
+PAGE, COSTS = HERE.parent.parent / "docs/user/tutorial.md", HERE / "notebook_costs.py"
 
-# links to other pages lead to where these stand beside the notebook
-OWN_LINK = "The same hour as a notebook is [tutorial.ipynb](tutorial.ipynb), with plots of what the calls cost."
-HERE_LINK = "This is the page [tutorial.md](tutorial.md) as a notebook. Run a cell by shift and return; plots of what the calls cost follow at its end."
+# the page says where the notebook is, and the notebook where the page is
+OF_NOTEBOOK = "The same hour is a notebook, `tutorial.ipynb`, with plots of what the calls cost: `./install` puts it beside this page."
+OF_PAGE = "This is the page [tutorial.md](tutorial.md) as a notebook. Run a cell by shift and return; plots of what the calls cost follow at its end."
 
 
 def source_of(text):
@@ -53,7 +47,7 @@ def cells_of_block(block):
 
 def cells_of_page(page):
     """The text between the examples of a page, and the cells of these."""
-    parts = re.split(r"^```python\n(.*?)^```\n", page.replace(OWN_LINK, HERE_LINK), flags=re.M | re.S)
+    parts = re.split(r"^```python\n(.*?)^```\n", page.replace(OF_NOTEBOOK, OF_PAGE), flags=re.M | re.S)
     for k, part in enumerate(parts):
         if k % 2 == 1:
             yield from cells_of_block(part)
@@ -78,19 +72,6 @@ def notebook():
     return {"cells": cells, "metadata": {"kernelspec": kernel, "language_info": {"name": "python"}}, "nbformat": 4, "nbformat_minor": 5}
 
 
-def main(words):
-    text = json.dumps(notebook(), indent=1, ensure_ascii=False, sort_keys=True) + "\n"
-    if words == ["--check"]:
-        if not NOTEBOOK.is_file() or NOTEBOOK.read_text() != text:
-            print("docs/user/tutorial.ipynb is not what docs/dev/notebook/write makes of docs/user/tutorial.md")
-            return 1
-        return 0
-    if words:
-        print(__doc__)
-        return 2
-    NOTEBOOK.write_text(text)
-    return 0
-
-
-if __name__ == "__main__":
-    sys.exit(main(sys.argv[1:]))
+def text():
+    """The notebook's file."""
+    return json.dumps(notebook(), indent=1, ensure_ascii=False, sort_keys=True) + "\n"
