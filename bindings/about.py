@@ -7,8 +7,8 @@ from table import MOST_ELEMENTS, MOST_OF_TEXT, MOST_STACK
 FROM_C = (
     "From C, Fortran, Python and Rust, what each exported function of the library does on the thread that calls is proved: "
     "it gives the value or the first fault of its definition, and at a fault leaves your arrays as they were. The C by hand "
-    "over these functions is not proved, but tested: it checks lengths and overlaps, cuts a long call into parts, and runs "
-    "the parts on threads. So a call on several threads is tested and not proved."
+    "over these functions checks lengths and overlaps, cuts a long call into parts, and runs the parts on threads. It is tested, and "
+    "another tool proves some of its functions, but no proof covers all of it. So a call on several threads is tested and not proved."
 )
 
 ABOUT = (
