@@ -30,10 +30,8 @@ ABOUT = (
     "vector is as it was. Arrays that are only read may overlap. An array of 0 elements overlaps nothing, and its pointer may be null.",
     "A boolean is a byte, and any byte but 0 is true, as in C. That is so for each array of booleans that a function reads, and for a boolean by value; "
     "an array of another type of bytes may be passed by a cast, since no function reads it as bool. Booleans that are results are 0 and 1. Packs, "
-    "permutes, combining permutes, also in the room that they join with, first senders, gathers of segments, appends, merges, searches for a true flag, scans, texts, and "
-    "replaces "
-    "and distributes in segments read booleans "
-    "where they lie if each is 0 or 1, and else take memory for a copy, one byte an element. All other functions read any bytes where they lie.",
+    "permutes, combining permutes, also in the room that they join with, first senders, gathers of segments, appends, merges, transposes, searches for a true flag, "
+    "scans, texts, and replaces and distributes in segments read booleans where they lie if each is 0 or 1, and else take memory for a copy, one byte an element. All other functions read any bytes where they lie.",
     "What a caller owes, and what it costs where it isn't so:",
     "  - A pointer leads to as many elements as is said, aligned for their type, which may be read and in a room written. Else the call may crash, or "
     "read or write other memory.",
@@ -103,8 +101,7 @@ THREADS = (
     "process, a long call runs on them: from 262144 elements on, where it reads a text from 131072 bytes on, and where it writes one from 32768 elements "
     "on. A shorter call runs on the thread that calls, and so does a call that reads one element, reads a nested text or one behind another, scans after "
     "a carry, adds up exactly, makes a range of a permute or of first senders, combines or counts without segments, sorts, gathers or appends segments, "
-    "merges, or looks for the first true flag. "
-    "What a call answers and writes is the same by any number of threads. By "
+    "merges without segments, transposes, or looks for the first true flag. What a call answers and writes is the same by any number of threads. By "
     "several it may take memory for a copy of its room; where there is none, it runs on the thread that calls.",
     "One call at a time has the threads. Another one meanwhile runs on the thread that calls it, and so does a call that comes "
     "while cvl_set_threads waits or is at work: no call waits for another, or for a number to be set. A call in parts on a pool "

@@ -18,7 +18,8 @@ import call_table
 #
 #   role    "reads", an array; "lengths", those of segments; "value", "place" or "count", one number; "room", an array that is written;
 #           "single", one value that is written; "told", a number that is told beside the room
-#   kind    of an array: "ints", "flags", "text", "marks", "sums" (64 bits each); of one value: "int", "flag", "sum" (64 bits) or "size"
+#   kind    of an array: "ints", "flags", "bytes" (numbers from 0 to 255), "text", "marks", "sums" (64 bits each); of one value: "int", "flag", "sum"
+#           (64 bits) or "size"
 #   extent  how many elements an array has, and what lengths add up to: "n", "m"; "segments", one for each segment; "count", the operand;
 #           "both", n and m together; "trues" and "falses", how many flags are true or false; "total", what the lengths add up to; "room", what the caller says; "offsets", one more than
 #           segments
@@ -185,6 +186,12 @@ OF_FAMILIES = {
         "The faults by the lengths come first, as at the other calls on segments, and then 7 LengthMismatch, without a place, where arrays are not as long as "
         "is said.",
     ),
+    "transposes, and integers of a byte": (
+        "No script calls these. A transpose moves a matrix block by block, so that each element is read while what lies beside it is in cache; a back permute "
+        "would read one here and one there. It runs on the thread that calls. Integers of a byte take a quarter of the memory, as the bytes of a text do: "
+        "widen them before calls on integers, and narrow what fits. The bytes of a signed type are the same bytes: subtract 256 from the integers above 127 "
+        "once they are widened, and add 256 to the negative ones before they are narrowed.",
+    ),
     "texts": (
         "A text is bytes, with no zero at its end. A caller may not know how long a result is: it stands at the front of its room, and count is its "
         "length; the rest of the room is as it was. Where the room is too short it is as it was, the status is 7 LengthMismatch, without a place, and "
@@ -241,6 +248,11 @@ def flags(name, extent="n"):
 def copied(name, extent="n"):
     """Flags that are copied where a byte is neither 0 nor 1."""
     return Operand(name, "reads", "flags", extent, True)
+
+
+def numbers(name, extent="n"):
+    """Integers of a byte."""
+    return Operand(name, "reads", "bytes", extent, False)
 
 
 def text(name, extent="n"):
@@ -378,6 +390,13 @@ SUMS_OF_SENT = Fault(
     (7,), "7 LengthMismatch where source and index are not equally long, or the lengths do not add up to them, or the result lengths to out", False)
 BAD_SLICE = Fault((10,), "10 IndexOutOfRange at the first segment whose start is below 0, or whose end is behind that of the source", False)
 SUMS_OF_BOTH = Fault((7,), "7 LengthMismatch where the lengths do not add up to a, or the other lengths to b", False)
+SUMS_OF_SIDES = Fault(
+    (7,), "7 LengthMismatch where the lengths do not add up to flags, the true lengths to when_true or the false lengths to when_false", False)
+MISCOUNT = Fault(
+    (7,), "7 LengthMismatch at the first segment that has not as many true flags as when_true has elements there, or not as many false ones as when_false",
+    False)
+NO_MATRIX = Fault((7,), "7 LengthMismatch where rows times columns is not n", False)
+NO_BYTE = Fault((18,), "18 Overflow at the first integer below 0 or above 255", False)
 NO_SIDES = Fault((7,), "7 LengthMismatch where when_true has not as many elements as there are true flags, or when_false as there are false ones", False)
 OVERFLOW_AT_PLACE = Fault((18,), "18 Overflow at the first place whose sum does not fit 32 bits", False)
 OVERFLOW_AT_0 = Fault((18,), "18 Overflow at 0 where it does not fit 32 bits", False)
@@ -721,6 +740,28 @@ FAMILIES = (
             "flags": {"flags": "false true true", "when_true": "true false", "when_false": "true", "out": "true true false"},
         }[kind],
     ),
+    *twins(
+        ("seg_merge_by_flags_int", "seg_merge_by_flags_bool"), "slices and merges",
+        lambda kind: (
+            copied("flags"), items(kind, "when_true", "trues"), items(kind, "when_false", "falses"), lengths(), lengths("true_lengths", "trues"),
+            lengths("false_lengths", "falses"), room(kind),
+        ),
+        "At each place of each segment the next element of the same segment of when_true where the flag is true, and of when_false where it is false: the "
+        "inverse of two packs of segments.",
+        limit=None, faults=(SUMS_OF_SIDES, MISCOUNT), cut=("segments", "n"),
+        shape="flags and out have n elements in segments with the lengths; when_true and when_false are in as many segments with the true lengths and the "
+        "false lengths.",
+        example=lambda kind: {
+            "ints": {
+                "flags": "true false false true true", "when_true": "1 2 3", "when_false": "7 8", "lengths": "2 0 3", "true_lengths": "1 0 2",
+                "false_lengths": "1 0 1", "out": "1 7 8 2 3",
+            },
+            "flags": {
+                "flags": "false true true", "when_true": "true false", "when_false": "true", "lengths": "2 1", "true_lengths": "1 1",
+                "false_lengths": "1 0", "out": "true true false",
+            },
+        }[kind],
+    ),
     family(
         "first_true", "slices and merges", (copied("flags"), single("int")), "The place of the first true flag, or -1 where none is true.",
         example={"flags": "false false true true", "out": "2"},
@@ -735,6 +776,25 @@ FAMILIES = (
         "seg_exact_sums", "slices and merges", (ints("a"), lengths(), room("sums", "segments")),
         "The sum of each segment in 64 bits, where it always fits.", limit=None, faults=(SUM_OF_N,), shape="a has n elements, out one for each segment.",
         example={"a": "2147483647 1 5", "lengths": "2 0 1", "out": "2147483648 0 5"},
+    ),
+    # ---- transposes, and integers of a byte ----
+    *twins(
+        ("transpose_int", "transpose_bool"), "transposes, and integers of a byte",
+        lambda kind: (items(kind, "source"), value("rows", "size"), value("columns", "size"), room(kind)),
+        "The transpose of a matrix whose rows lie one behind another: element r of row c of the result is element c of row r.",
+        faults=(TOO_LONG, NO_MATRIX), shape="source and out have n elements.",
+        example=lambda kind: {
+            "ints": {"source": "1 2 3 4 5 6", "rows": "2", "columns": "3", "out": "1 4 2 5 3 6"},
+            "flags": {"source": "true false false true true true", "rows": "3", "columns": "2", "out": "true false true false true true"},
+        }[kind],
+    ),
+    family(
+        "ints_from_bytes", "transposes, and integers of a byte", (numbers("bytes"), room("ints")), "Each byte as an integer from 0 to 255.",
+        cut=("places", "n"), shape="bytes and out have n elements.", example={"bytes": "67 86 255", "out": "67 86 255"},
+    ),
+    family(
+        "bytes_from_ints", "transposes, and integers of a byte", (ints("a"), room("bytes")), "Each integer as a byte.",
+        faults=(TOO_LONG, NO_BYTE), cut=("places", "n"), shape=SHAPE_ONE, example={"a": "67 86 255", "out": "67 86 255"},
     ),
     # ---- texts ----
     family(

@@ -28,9 +28,9 @@
  * A boolean is a byte, and any byte but 0 is true, as in C. That is so for each array of booleans that a function reads, and
  * for a boolean by value; an array of another type of bytes may be passed by a cast, since no function reads it as bool.
  * Booleans that are results are 0 and 1. Packs, permutes, combining permutes, also in the room that they join with, first
- * senders, gathers of segments, appends, merges, searches for a true flag, scans, texts, and replaces and distributes in
- * segments read booleans where they lie if each is 0 or 1, and else take memory for a copy, one byte an element. All other
- * functions read any bytes where they lie.
+ * senders, gathers of segments, appends, merges, transposes, searches for a true flag, scans, texts, and replaces and
+ * distributes in segments read booleans where they lie if each is 0 or 1, and else take memory for a copy, one byte an element.
+ * All other functions read any bytes where they lie.
  *
  * What a caller owes, and what it costs where it isn't so:
  *
@@ -177,9 +177,9 @@ const char *cvl_fault_name(uint32_t number);
  * are more, for the whole process, a long call runs on them: from 262144 elements on, where it reads a text from 131072 bytes
  * on, and where it writes one from 32768 elements on. A shorter call runs on the thread that calls, and so does a call that
  * reads one element, reads a nested text or one behind another, scans after a carry, adds up exactly, makes a range of a
- * permute or of first senders, combines or counts without segments, sorts, gathers or appends segments, merges, or looks for
- * the first true flag. What a call answers and writes is the same by any number of threads. By several it may take memory for a
- * copy of its room; where there is none, it runs on the thread that calls.
+ * permute or of first senders, combines or counts without segments, sorts, gathers or appends segments, merges without
+ * segments, transposes, or looks for the first true flag. What a call answers and writes is the same by any number of threads.
+ * By several it may take memory for a copy of its room; where there is none, it runs on the thread that calls.
  *
  * One call at a time has the threads. Another one meanwhile runs on the thread that calls it, and so does a call that comes
  * while cvl_set_threads waits or is at work: no call waits for another, or for a number to be set. A call in parts on a pool of
@@ -702,6 +702,32 @@ CVL_CHECKED CvlStatus cvl_merge_by_flags_bool(const bool *flags, size_t flags_le
     const bool *when_false, size_t when_false_len, bool *out, size_t out_len);
 
 /*
+ * cvl_seg_merge_by_flags_int: At each place of each segment the next element of the same segment of when_true where the flag is
+ * true, and of when_false where it is false: the inverse of two packs of segments.
+ * Faults: 7 LengthMismatch where the lengths do not add up to flags, the true lengths to when_true or the false lengths to
+ * when_false; 7 LengthMismatch at the first segment that has not as many true flags as when_true has elements there, or not as
+ * many false ones as when_false.
+ * flags = true false false true true, when_true = 1 2 3, when_false = 7 8, lengths = 2 0 3, true_lengths = 1 0 2, false_lengths
+ * = 1 0 1: out = 1 7 8 2 3
+ */
+CVL_CHECKED CvlStatus cvl_seg_merge_by_flags_int(const bool *flags, size_t flags_len, const int32_t *when_true,
+    size_t when_true_len, const int32_t *when_false, size_t when_false_len, CvlLengths lengths, CvlLengths true_lengths,
+    CvlLengths false_lengths, int32_t *out, size_t out_len);
+
+/*
+ * cvl_seg_merge_by_flags_bool: At each place of each segment the next element of the same segment of when_true where the flag
+ * is true, and of when_false where it is false: the inverse of two packs of segments.
+ * Faults: 7 LengthMismatch where the lengths do not add up to flags, the true lengths to when_true or the false lengths to
+ * when_false; 7 LengthMismatch at the first segment that has not as many true flags as when_true has elements there, or not as
+ * many false ones as when_false.
+ * flags = false true true, when_true = true false, when_false = true, lengths = 2 1, true_lengths = 1 1, false_lengths = 1 0:
+ * out = true true false
+ */
+CVL_CHECKED CvlStatus cvl_seg_merge_by_flags_bool(const bool *flags, size_t flags_len, const bool *when_true,
+    size_t when_true_len, const bool *when_false, size_t when_false_len, CvlLengths lengths, CvlLengths true_lengths,
+    CvlLengths false_lengths, bool *out, size_t out_len);
+
+/*
  * cvl_first_true: The place of the first true flag, or -1 where none is true.
  * Faults: 13 TooLong.
  * flags = false false true true: out = 2
@@ -722,6 +748,48 @@ CVL_CHECKED CvlStatus cvl_seg_first_true(const bool *flags, size_t flags_len, Cv
  * a = 2147483647 1 5, lengths = 2 0 1: out = 2147483648 0 5
  */
 CVL_CHECKED CvlStatus cvl_seg_exact_sums(const int32_t *a, size_t a_len, CvlLengths lengths, int64_t *out, size_t out_len);
+
+/* ---- transposes, and integers of a byte: families ---- */
+
+/*
+ * No script calls these. A transpose moves a matrix block by block, so that each element is read while what lies beside it is
+ * in cache; a back permute would read one here and one there. It runs on the thread that calls. Integers of a byte take a
+ * quarter of the memory, as the bytes of a text do: widen them before calls on integers, and narrow what fits. The bytes of a
+ * signed type are the same bytes: subtract 256 from the integers above 127 once they are widened, and add 256 to the negative
+ * ones before they are narrowed.
+ */
+
+/*
+ * cvl_transpose_int: The transpose of a matrix whose rows lie one behind another: element r of row c of the result is element c
+ * of row r.
+ * Faults: 13 TooLong; 7 LengthMismatch where rows times columns is not n.
+ * source = 1 2 3 4 5 6, rows = 2, columns = 3: out = 1 4 2 5 3 6
+ */
+CVL_CHECKED CvlStatus cvl_transpose_int(const int32_t *source, size_t source_len, size_t rows, size_t columns, int32_t *out,
+    size_t out_len);
+
+/*
+ * cvl_transpose_bool: The transpose of a matrix whose rows lie one behind another: element r of row c of the result is element
+ * c of row r.
+ * Faults: 13 TooLong; 7 LengthMismatch where rows times columns is not n.
+ * source = true false false true true true, rows = 3, columns = 2: out = true false true false true true
+ */
+CVL_CHECKED CvlStatus cvl_transpose_bool(const bool *source, size_t source_len, size_t rows, size_t columns, bool *out,
+    size_t out_len);
+
+/*
+ * cvl_ints_from_bytes: Each byte as an integer from 0 to 255.
+ * Faults: 13 TooLong.
+ * bytes = 67 86 255: out = 67 86 255
+ */
+CVL_CHECKED CvlStatus cvl_ints_from_bytes(const uint8_t *bytes, size_t bytes_len, int32_t *out, size_t out_len);
+
+/*
+ * cvl_bytes_from_ints: Each integer as a byte.
+ * Faults: 13 TooLong; 18 Overflow at the first integer below 0 or above 255.
+ * a = 67 86 255: out = 67 86 255
+ */
+CVL_CHECKED CvlStatus cvl_bytes_from_ints(const int32_t *a, size_t a_len, uint8_t *out, size_t out_len);
 
 /* ---- texts: families ---- */
 
@@ -2176,6 +2244,22 @@ CVL_CHECKED CvlStatus cvl_segments_rank(const int32_t *keys, size_t keys_len, co
 /* The keys of each segment in ascending order. */
 CVL_CHECKED CvlStatus cvl_segments_sort(const int32_t *keys, size_t keys_len, const CvlSegments *segments, int32_t *out,
     size_t out_len);
+
+/*
+ * At each place of each segment the next element of the same segment of when_true where the flag is true, and of when_false
+ * where it is false: the inverse of two packs of segments.
+ */
+CVL_CHECKED CvlStatus cvl_segments_merge_by_flags_int(const bool *flags, size_t flags_len, const int32_t *when_true,
+    size_t when_true_len, const int32_t *when_false, size_t when_false_len, const CvlSegments *segments,
+    const CvlSegments *true_segments, const CvlSegments *false_segments, int32_t *out, size_t out_len);
+
+/*
+ * At each place of each segment the next element of the same segment of when_true where the flag is true, and of when_false
+ * where it is false: the inverse of two packs of segments.
+ */
+CVL_CHECKED CvlStatus cvl_segments_merge_by_flags_bool(const bool *flags, size_t flags_len, const bool *when_true,
+    size_t when_true_len, const bool *when_false, size_t when_false_len, const CvlSegments *segments,
+    const CvlSegments *true_segments, const CvlSegments *false_segments, bool *out, size_t out_len);
 
 /* For each segment the place of its first true flag, counted from the start of the segment, or -1 where none is true. */
 CVL_CHECKED CvlStatus cvl_segments_first_true(const bool *flags, size_t flags_len, const CvlSegments *segments, int32_t *out,

@@ -366,6 +366,23 @@ CVL_CHECKED CvlStatus cvl_seg_rank_on(const CvlPool *pool, const int32_t *keys, 
 CVL_CHECKED CvlStatus cvl_seg_sort_on(const CvlPool *pool, const int32_t *keys, size_t keys_len, CvlLengths lengths,
     int32_t *out, size_t out_len);
 
+/* cvl_seg_merge_by_flags_int in parts: cut between segments. */
+CVL_CHECKED CvlStatus cvl_seg_merge_by_flags_int_on(const CvlPool *pool, const bool *flags, size_t flags_len,
+    const int32_t *when_true, size_t when_true_len, const int32_t *when_false, size_t when_false_len, CvlLengths lengths,
+    CvlLengths true_lengths, CvlLengths false_lengths, int32_t *out, size_t out_len);
+
+/* cvl_seg_merge_by_flags_bool in parts: cut between segments. */
+CVL_CHECKED CvlStatus cvl_seg_merge_by_flags_bool_on(const CvlPool *pool, const bool *flags, size_t flags_len,
+    const bool *when_true, size_t when_true_len, const bool *when_false, size_t when_false_len, CvlLengths lengths,
+    CvlLengths true_lengths, CvlLengths false_lengths, bool *out, size_t out_len);
+
+/* cvl_ints_from_bytes in parts: cut at places. */
+CVL_CHECKED CvlStatus cvl_ints_from_bytes_on(const CvlPool *pool, const uint8_t *bytes, size_t bytes_len, int32_t *out,
+    size_t out_len);
+
+/* cvl_bytes_from_ints in parts: cut at places. */
+CVL_CHECKED CvlStatus cvl_bytes_from_ints_on(const CvlPool *pool, const int32_t *a, size_t a_len, uint8_t *out, size_t out_len);
+
 /* cvl_read_ints in parts: cut at white space. */
 CVL_CHECKED CvlStatus cvl_read_ints_on(const CvlPool *pool, const char *text, size_t text_len, int32_t *out, size_t out_len,
     size_t *count);

@@ -111,12 +111,20 @@ static CvlStatus appended_told(const CvlRow *row, const CvlSlot *s) {
     return room == a + b ? cvl_done() : cvl_status(CVL_LENGTH_MISMATCH, -1);
 }
 
-/* The fault of a room, or of vectors, whose length elements say. */
+/* The fault of rows and columns that have not as many elements as there are. */
+static CvlStatus matrix_told(const CvlRow *row, const CvlSlot *s) {
+    const size_t elements = slot_of(row, s, CVL_AS_A)->number, rows = slot_of(row, s, CVL_AS_ROWS)->number, columns = slot_of(row, s, CVL_AS_COLUMNS)->number;
+    const bool are_all = rows == 0 || columns == 0 ? elements == 0 : elements % rows == 0 && elements / rows == columns;
+    return are_all ? cvl_done() : cvl_status(CVL_LENGTH_MISMATCH, -1);
+}
+
+/* The fault of a room, or of vectors, whose length elements say, or of the shape of a matrix. */
 /*@ requires is_call(row, s);
     assigns told; */
 static CvlStatus room_told(const CvlRow *row, const CvlSlot *s) {
     if (row->is & CVL_MERGES) return sides_told(row, s);
     if (row->is & CVL_APPENDS) return appended_told(row, s);
+    if (row->is & CVL_TURNS) return matrix_told(row, s);
     const size_t room = slot_of(row, s, CVL_AS_OUT)->number;
     size_t needed;
     if (!(row->is & (CVL_BY_TRUES | CVL_WRITES_TEXT))) return cvl_done();

@@ -312,7 +312,8 @@ CVL_WALKS CvlStatus cvl_call(const CvlRow *row, uint32_t op, const CvlSlot *s) {
 /* ---- lengths that come by a descriptor ---- */
 
 CVL_WALKS bool cvl_is_cut_by(const CvlRow *row, size_t k) {
-    return row->operand[k].as == CVL_AS_LENGTHS || row->operand[k].as == CVL_AS_OTHER_LENGTHS;
+    const unsigned char as = row->operand[k].as;
+    return as == CVL_AS_LENGTHS || as == CVL_AS_OTHER_LENGTHS || as == CVL_AS_THIRD_LENGTHS;
 }
 
 /* Whether what is written shares memory with no descriptor. */

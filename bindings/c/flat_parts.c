@@ -16,7 +16,8 @@ static CvlSlot number_of_part(const CvlWork *w, const CvlOperand *o, size_t k) {
 
 /* Where part k begins by some boundaries. */
 /*@ logic integer begins{L}(CvlWork *w, integer by, integer k) =
-      by == CVL_BY_FROM ? w->from[k] : by == CVL_BY_FIRST ? w->first[k] : by == CVL_BY_START ? w->start[k] : w->other[k]; */
+      by == CVL_BY_FROM ? w->from[k] : by == CVL_BY_FIRST ? w->first[k] : by == CVL_BY_START ? w->start[k] :
+      by == CVL_BY_THIRD ? w->third[k] : w->other[k]; */
 /*@ requires \valid_read(w);
     assigns \nothing;
     ensures \valid_read(\result + (0 .. CVL_MOST_PARTS));
@@ -26,6 +27,7 @@ const size_t *cvl_boundaries(const CvlWork *w, CvlBy by) {
     case CVL_BY_FROM: return w->from;
     case CVL_BY_FIRST: return w->first;
     case CVL_BY_START: return w->start;
+    case CVL_BY_THIRD: return w->third;
     default: return w->other;
     }
 }

@@ -24,6 +24,7 @@ struct CvlWork {
     size_t first[CVL_MOST_PARTS + 1]; /* the first segment that starts in each part, and how many segments there are */
     size_t start[CVL_MOST_PARTS + 1]; /* where that segment starts */
     size_t other[CVL_MOST_PARTS + 1]; /* where it starts in a second vector, or where a part's result stands */
+    size_t third[CVL_MOST_PARTS + 1]; /* where it starts in a third one */
     CvlItem sums[CVL_MOST_PARTS];     /* what each part joins to, or, of one with segments, its last, cut segment */
     CvlItem heads[CVL_MOST_PARTS];    /* what those elements of each part join to that belong to a segment of an earlier part */
     CvlItem before[CVL_MOST_PARTS];   /* what stands before each part */

@@ -16,8 +16,8 @@ typedef struct CvlSlot {
 /* What an operand is to a call. */
 typedef enum CvlAs {
     CVL_AS_A, CVL_AS_B, CVL_AS_FLAGS, CVL_AS_INDEX,              /* arrays that are read */
-    CVL_AS_LENGTHS, CVL_AS_OTHER_LENGTHS, CVL_AS_OFFSETS,        /* lengths that the call is cut by, others, and offsets of rows */
-    CVL_AS_VALUE, CVL_AS_STRIDE, CVL_AS_PLACE, CVL_AS_COUNT, CVL_AS_LOWEST, /* numbers */
+    CVL_AS_LENGTHS, CVL_AS_OTHER_LENGTHS, CVL_AS_THIRD_LENGTHS, CVL_AS_OFFSETS, /* lengths that the call is cut by, others, and offsets of rows */
+    CVL_AS_VALUE, CVL_AS_STRIDE, CVL_AS_PLACE, CVL_AS_COUNT, CVL_AS_LOWEST, CVL_AS_ROWS, CVL_AS_COLUMNS, /* numbers */
     CVL_AS_OUT, CVL_AS_MARKS, CVL_AS_TOLD, CVL_AS_OTHER_OUT, CVL_AS_OTHER_TOLD, /* what is written */
     CVL_ROLES
 } CvlAs;
@@ -31,7 +31,7 @@ typedef enum CvlRelation {
 } CvlRelation;
 
 /* Where the parts of an operand begin: the boundaries in CvlWork of this name; or each part has the whole. */
-typedef enum CvlBy { CVL_BY_NONE, CVL_BY_FROM, CVL_BY_FIRST, CVL_BY_START, CVL_BY_OTHER } CvlBy;
+typedef enum CvlBy { CVL_BY_NONE, CVL_BY_FROM, CVL_BY_FIRST, CVL_BY_START, CVL_BY_OTHER, CVL_BY_THIRD } CvlBy;
 
 /* How a call uses an operand. */
 enum {
@@ -67,7 +67,8 @@ enum {
     CVL_ONE_VALUE = 256,  /* one element of the room is another one */
     CVL_TOGETHER = 512,   /* two operands may be the room at once */
     CVL_MERGES = 1024,    /* A has an element for each true flag, and B one for each false one */
-    CVL_APPENDS = 2048    /* the room is as long as A and B together */
+    CVL_APPENDS = 2048,   /* the room is as long as A and B together */
+    CVL_TURNS = 4096      /* the elements are those of so many rows and columns */
 };
 
 typedef struct CvlRow CvlRow;

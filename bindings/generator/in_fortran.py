@@ -12,11 +12,12 @@ WIDTH = 128
 # Families of integers and of booleans, flat and on segments, have one name in Fortran, which the kinds and ranks of arguments
 # tell apart.
 OF_KINDS = {"int2": "binary", "bool2": "binary", "int1": "unary", "bool1": "unary"}
-UNMERGED = ("int_from_bool", "bool_from_int")
+UNMERGED = ("int_from_bool", "bool_from_int", "ints_from_bytes", "bytes_from_ints")
 
 # The types of what is taken, and of a single value that is written.
 TYPES = {
-    "ints": "integer(c_int32_t)", "flags": "logical(c_bool)", "text": "character(*)", "marks": "integer(c_int32_t)", "sums": "integer(c_int64_t)",
+    "ints": "integer(c_int32_t)", "flags": "logical(c_bool)", "bytes": "integer(c_int8_t)", "text": "character(*)", "marks": "integer(c_int32_t)",
+    "sums": "integer(c_int64_t)",
     "int": "integer(c_int32_t)", "flag": "logical(c_bool)", "sum": "integer(c_int64_t)", "size": "integer(c_size_t)",
 }  # fmt: skip
 
@@ -237,13 +238,13 @@ HEAD = f"""! cvl: the vector calls of CVL, over arrays of integer(c_int32_t) and
 ! or 64.
 module cvl
     use, intrinsic :: iso_c_binding, only: &
-        c_bool, c_char, c_f_pointer, c_int, c_int32_t, c_int64_t, c_loc, c_null_ptr, c_ptr, c_size_t
+        c_bool, c_char, c_f_pointer, c_int, c_int8_t, c_int32_t, c_int64_t, c_loc, c_null_ptr, c_ptr, c_size_t
     use, intrinsic :: iso_fortran_env, only: error_unit
     implicit none
     private
 
     ! the kinds of what calls take
-    public :: c_bool, c_int32_t, c_int64_t, c_size_t
+    public :: c_bool, c_int8_t, c_int32_t, c_int64_t, c_size_t
 """
 
 KINDS = """
@@ -261,7 +262,7 @@ KINDS = """
 
     ! The address of an array.
     interface at
-        module procedure at_ints, at_flags, at_sums
+        module procedure at_ints, at_flags, at_bytes, at_sums
     end interface at
 """
 
@@ -363,6 +364,14 @@ TAIL = """
         if (size(array) > 0) address = c_loc(array)
     end function at_flags
 
+    function at_bytes(array) result(address)
+        integer(c_int8_t), intent(in), target, contiguous :: array(:)
+        type(c_ptr) :: address
+
+        address = c_null_ptr
+        if (size(array) > 0) address = c_loc(array)
+    end function at_bytes
+
     function at_sums(array) result(address)
         integer(c_int64_t), intent(in), target, contiguous :: array(:)
         type(c_ptr) :: address
@@ -447,7 +456,7 @@ TRIED_HEAD = f"""! Each subroutine on the operands of an example, by the name of
 
 def _held(operand):
     """Which part of an operand holds it."""
-    if operand.kind in ("text", "flags", "flag", "sums"):
+    if operand.kind in ("text", "flags", "flag", "bytes", "sums"):
         return operand.kind
     if rows.is_array(operand) or operand.role == "lengths":
         return "ints"

@@ -42,7 +42,7 @@ module cvl_mpi
     end type lengths_of
 
     interface at
-        module procedure at_ints, at_flags
+        module procedure at_ints, at_flags, at_bytes
     end interface at
 
     public :: cvl_ranks_new, cvl_ranks_free, cvl_rank_segments_new, cvl_rank_segments_free, cvl_rank_segments_starts
@@ -125,6 +125,14 @@ PROCEDURES = """
         found = c_null_ptr
         if (size(a) > 0) found = c_loc(a(1))
     end function at_flags
+
+    function at_bytes(a) result(found)
+        integer(c_int8_t), intent(in), target, contiguous :: a(:)
+        type(c_ptr) :: found
+
+        found = c_null_ptr
+        if (size(a) > 0) found = c_loc(a(1))
+    end function at_bytes
 
     ! Gives a status to the program, or stops it at a fault.
     subroutine tell(name, answer, status)
@@ -237,7 +245,10 @@ PROCEDURES = """
     end subroutine cvl_route_sparse_product
 """
 
-KINDS = {"ints": "integer(c_int32_t)", "flags": "logical(c_bool)", "int": "integer(c_int32_t)", "flag": "logical(c_bool)", "size": "integer(c_size_t)"}
+KINDS = {
+    "ints": "integer(c_int32_t)", "flags": "logical(c_bool)", "bytes": "integer(c_int8_t)", "int": "integer(c_int32_t)", "flag": "logical(c_bool)",
+    "size": "integer(c_size_t)",
+}  # fmt: skip
 
 
 def _is_held(row, operand):

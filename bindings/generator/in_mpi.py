@@ -216,7 +216,7 @@ def calls_file():
 
 # ---- the rows of the differential test ----
 
-KINDS = {"ints": "INTS", "flags": "FLAGS", "text": "TEXT", "int": "INTS", "flag": "FLAGS", "size": "SIZES", "sum": "SIZES"}
+KINDS = {"ints": "INTS", "flags": "FLAGS", "bytes": "BYTES", "text": "TEXT", "int": "INTS", "flag": "FLAGS", "size": "SIZES", "sum": "SIZES"}
 
 
 def tried_argument(row, argument, over):

@@ -10,7 +10,7 @@ import table
 from packages import name_of
 
 WIDTH = 118
-NUMPY = {"ints": "numpy.int32", "flags": "bool", "marks": "numpy.uint32", "sums": "numpy.int64"}
+NUMPY = {"ints": "numpy.int32", "flags": "bool", "bytes": "numpy.uint8", "marks": "numpy.uint32", "sums": "numpy.int64"}
 
 # Examples of families that have none in the table.
 EXAMPLES = {
@@ -180,13 +180,13 @@ def _names(call):
 # ---- the compiled table ----
 
 KINDS = {
-    ("reads", "ints"): "INTS", ("reads", "flags"): "FLAGS", ("reads", "text"): "TEXT", ("lengths", "ints"): "LENGTHS",
+    ("reads", "ints"): "INTS", ("reads", "flags"): "FLAGS", ("reads", "bytes"): "BYTES", ("reads", "text"): "TEXT", ("lengths", "ints"): "LENGTHS",
     ("operator", "size"): "OPERATOR", ("value", "int"): "INT", ("value", "flag"): "FLAG", ("value", "sum"): "SUM",
     ("value", "size"): "SIZE", ("place", "int"): "WIDE", ("count", "int"): "WIDE", ("room", "ints"): "ROOM_INTS",
     ("room", "flags"): "ROOM_FLAGS", ("room", "marks"): "ROOM_MARKS",
 }  # fmt: skip
-EXTENTS = ("n", "m", "both", "segments", "count", "trues", "total", "offsets")
-TYPES = {"ints": "int32_t", "flags": "bool", "text": "char", "marks": "uint32_t", "sums": "int64_t"}
+EXTENTS = ("n", "m", "both", "segments", "count", "trues", "falses", "total", "offsets")
+TYPES = {"ints": "int32_t", "flags": "bool", "bytes": "uint8_t", "text": "char", "marks": "uint32_t", "sums": "int64_t"}
 SINGLES = {"int": "&frame->single.number", "flag": "(bool *)&frame->single.flag", "sum": "&frame->single.sum"}
 
 ROWS_HEAD = f"""/*
@@ -430,20 +430,21 @@ from typing import SupportsIndex, Tuple, TypeVar, Union, overload
 
 import numpy
 
-from cvl._kinds import FlagArray, Flags, IntArray, Ints, Marks, SumArray, Sums, Text
+from cvl._kinds import ByteArray, Bytes, FlagArray, Flags, IntArray, Ints, Marks, SumArray, Sums, Text
 from cvl.segments import Segments
 
 _Ints = TypeVar("_Ints", bound=Ints)
 _Flags = TypeVar("_Flags", bound=Flags)
+_Bytes = TypeVar("_Bytes", bound=Bytes)
 _Sums = TypeVar("_Sums", bound=Sums)
 '''
 TAKEN = {
-    "ints": "Ints", "flags": "Flags", "text": "Text", "marks": "Marks", "int": "SupportsIndex", "sum": "SupportsIndex",
+    "ints": "Ints", "flags": "Flags", "bytes": "Bytes", "text": "Text", "marks": "Marks", "int": "SupportsIndex", "sum": "SupportsIndex",
     "size": "SupportsIndex", "flag": "Union[bool, numpy.bool_]",
 }  # fmt: skip
 SPREAD = {"ints": "Union[Ints, SupportsIndex]", "flags": "Union[Flags, bool, numpy.bool_]"}
-GIVEN = {"ints": "IntArray", "flags": "FlagArray", "sums": "SumArray", "int": "int", "flag": "bool", "sum": "int"}
-ROOMS = {"ints": "_Ints", "flags": "_Flags", "sums": "_Sums"}
+GIVEN = {"ints": "IntArray", "flags": "FlagArray", "bytes": "ByteArray", "sums": "SumArray", "int": "int", "flag": "bool", "sum": "int"}
+ROOMS = {"ints": "_Ints", "flags": "_Flags", "bytes": "_Bytes", "sums": "_Sums"}
 DIRECT_GIVEN = {"WRITTEN": "int", "TEXT": "str", "READ_NESTED": "Tuple[IntArray, Segments]"}
 
 

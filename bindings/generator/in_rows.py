@@ -10,10 +10,10 @@ from in_c import indented, kept, parameters, wrapped
 NAMED = {"index": "INDEX", "columns": "INDEX", "flags": "FLAGS", "offsets": "OFFSETS"}
 
 # What a number is to a call, by its name or else by its role.
-NUMBERS = {"stride": "STRIDE", "lowest": "LOWEST"}
+NUMBERS = {"stride": "STRIDE", "lowest": "LOWEST", "rows": "ROWS", "columns": "COLUMNS"}
 
 SIZES = {
-    "ints": "sizeof(int32_t)", "flags": "sizeof(bool)", "text": "sizeof(char)", "marks": "sizeof(uint32_t)", "sums": "sizeof(int64_t)", "int": "sizeof(int32_t)",
+    "ints": "sizeof(int32_t)", "flags": "sizeof(bool)", "bytes": "sizeof(uint8_t)", "text": "sizeof(char)", "marks": "sizeof(uint32_t)", "sums": "sizeof(int64_t)", "int": "sizeof(int32_t)",
     "flag": "sizeof(bool)", "sum": "sizeof(int64_t)", "size": "sizeof(size_t)",
 }
 
@@ -58,7 +58,7 @@ class Family:
             return NAMED.get(operand.name) or ("A" if operand is others[0] else "B")
         if operand.role == "lengths":
             first = operand.extent == self.extent or self.cut in (None, "lengths") and k == self.lengths[0] or len(self.lengths) == 1
-            return "LENGTHS" if first else "OTHER_LENGTHS"
+            return "LENGTHS" if first else "THIRD_LENGTHS" if k in self.lengths[2:] else "OTHER_LENGTHS"
         if operand.role in ("room", "single"):
             return "MARKS" if operand.kind == "marks" else "OUT" if k == self.out else "OTHER_OUT"
         if operand.role == "told":
@@ -115,6 +115,8 @@ class Family:
             return "FIRST"
         if operand.extent == self.extent:
             return "START"
+        if operand.extent == "falses":
+            return "THIRD"
         return "OTHER" if operand.extent == "trues" or any(self.operands[j].extent == operand.extent for j in self.lengths) else "NONE"
 
     def marks(self, k):
@@ -194,8 +196,8 @@ class Family:
             "COUNTED": any(o.role == "count" for o in self.operands), "BY_TRUES": by_elements and self.room.kind != "text",
             "WRITES_TEXT": by_elements and self.room.kind == "text", "FRONT": by_elements and self.room.extent == "room",
             "OF_BOOLS": self.of_bools, "ONE_VALUE": self.cut == "replace",
-            "TOGETHER": any(len(names) > 1 for names in self.family.in_place), "MERGES": any(o.extent == "falses" for o in self.operands),
-            "APPENDS": any(o.extent == "both" for o in self.operands),
+            "TOGETHER": any(len(names) > 1 for names in self.family.in_place), "MERGES": not self.lengths and any(o.extent == "falses" for o in self.operands),
+            "APPENDS": any(o.extent == "both" for o in self.operands), "TURNS": any(o.name == "rows" for o in self.operands),
         }
         return [word for word, is_so in said.items() if is_so]
 
@@ -249,7 +251,7 @@ def export_argument(found, k, is_room=False):
         return {"int": f"(int32_t)s[{k}].number", "flag": f"s[{k}].number != 0", "sum": f"(int64_t)s[{k}].number", "size": f"s[{k}].number"}[operand.kind]
     if operand.role in ("single", "told"):
         return f"({rows.NUMBERS[operand.kind]}*)s[{k}].at"
-    kind = {"ints": "int32_t *", "flags": "bool *", "text": "bool *", "marks": "uint32_t *", "sums": "int64_t *"}[operand.kind]
+    kind = {"ints": "int32_t *", "flags": "bool *", "bytes": "bool *", "text": "bool *", "marks": "uint32_t *", "sums": "int64_t *"}[operand.kind]
     cast = f"({kind})" if operand.role == "room" or is_room else ""
     return f"{cast}s[{k}].at, s[{k}].number"
 

@@ -19,10 +19,10 @@ HEAD = """//! {about}
 """
 
 TAKEN = {
-    "ints": "&[i32]", "flags": "&[bool]", "text": "impl AsRef<[u8]>", "int": "i32", "flag": "bool", "sum": "i64", "size": "usize",
+    "ints": "&[i32]", "flags": "&[bool]", "bytes": "&[u8]", "text": "impl AsRef<[u8]>", "int": "i32", "flag": "bool", "sum": "i64", "size": "usize",
 }
-GIVEN = {"ints": "Vec<i32>", "flags": "Vec<bool>", "text": "String", "sums": "Vec<i64>", "int": "i32", "flag": "bool", "sum": "i64"}
-ROOMS = {"ints": "&mut [i32]", "flags": "&mut [bool]", "text": "&mut [u8]", "marks": "&mut [u32]", "sums": "&mut [i64]"}
+GIVEN = {"ints": "Vec<i32>", "flags": "Vec<bool>", "bytes": "Vec<u8>", "text": "String", "sums": "Vec<i64>", "int": "i32", "flag": "bool", "sum": "i64"}
+ROOMS = {"ints": "&mut [i32]", "flags": "&mut [bool]", "bytes": "&mut [u8]", "text": "&mut [u8]", "marks": "&mut [u32]", "sums": "&mut [i64]"}
 
 # How many places are enough for a result of which nobody knows the length before. In a text that is written an integer has up to
 # 11 bytes and a blank, a boolean one and a blank, a list two brackets and a blank, and all together two brackets.

@@ -12,7 +12,7 @@ import table
 WIDTH = 126
 BY_HAND = pathlib.Path(__file__).resolve().parents[1] / "rust/cvl-sys/src/by_hand.rs"
 
-OF_ONE = {"int32_t": "i32", "bool": "bool", "size_t": "usize", "int64_t": "i64", "uint32_t": "u32", "char": "u8"}
+OF_ONE = {"int32_t": "i32", "bool": "bool", "size_t": "usize", "int64_t": "i64", "uint32_t": "u32", "uint8_t": "u8", "char": "u8"}
 
 
 def type_of(argument):

@@ -11,16 +11,16 @@ from in_c import constant, held, on_segments, segments_name
 READ = {
     ("ints", "n"): "INTS", ("ints", "m"): "INTS", ("ints", "segments"): "SEGMENT_INTS", ("ints", "offsets"): "OFFSETS",
     ("flags", "n"): "FLAGS", ("flags", "m"): "FLAGS", ("flags", "segments"): "SEGMENT_FLAGS", ("text", "n"): "TEXT",
-    ("ints", "trues"): "TRUE_INTS", ("ints", "falses"): "FALSE_INTS", ("flags", "trues"): "TRUE_FLAGS", ("flags", "falses"): "FALSE_FLAGS",
+    ("bytes", "n"): "BYTES", ("ints", "trues"): "TRUE_INTS", ("ints", "falses"): "FALSE_INTS", ("flags", "trues"): "TRUE_FLAGS", ("flags", "falses"): "FALSE_FLAGS",
 }  # fmt: skip
 WRITTEN = {
     ("ints", "n"): "ROOM_FOR_INTS", ("ints", "segments"): "ROOM_FOR_SEGMENT_INTS", ("ints", "trues"): "ROOM_FOR_TRUE_INTS",
     ("flags", "n"): "ROOM_FOR_FLAGS", ("flags", "segments"): "ROOM_FOR_SEGMENT_FLAGS", ("flags", "trues"): "ROOM_FOR_TRUE_FLAGS",
     ("sums", "segments"): "ROOM_FOR_SEGMENT_SUMS", ("ints", "both"): "ROOM_FOR_BOTH_INTS", ("flags", "both"): "ROOM_FOR_BOTH_FLAGS",
-    ("text", "n"): "ROOM_FOR_TEXT", ("marks", "n"): "ROOM_FOR_MARKS", ("marks", "trues"): "ROOM_FOR_TRUE_MARKS",
+    ("bytes", "n"): "ROOM_FOR_BYTES", ("text", "n"): "ROOM_FOR_TEXT", ("marks", "n"): "ROOM_FOR_MARKS", ("marks", "trues"): "ROOM_FOR_TRUE_MARKS",
 }  # fmt: skip
 SINGLE = {"int": "ONE_INT", "flag": "ONE_FLAG", "sum": "ONE_SUM", "size": "ONE_COUNT"}
-VALUES = {"init": "5", "stride": "3", "lowest": "0"}
+VALUES = {"init": "5", "stride": "3", "lowest": "0", "rows": "matrix_rows()", "columns": "n / matrix_rows()"}
 OF_KINDS = {"int": "5", "flag": "true", "sum": "5", "size": "2"}
 PLACES = ("FIRST", "SECOND", "THIRD", "FOURTH", "FIFTH")
 
@@ -55,7 +55,7 @@ def _index(row, operand):
 
 def _holds(row, operand):
     """What an array of a call holds; nothing of an operand that is no array."""
-    if operand.name == "columns":
+    if operand.name == "columns" and operand.role == "reads":
         return "INDEX"
     if operand.name == "starts":
         return "STARTS"
@@ -65,7 +65,7 @@ def _holds(row, operand):
         nested = operand.kind == "text" and len(row.rooms) > 1
         return "NESTED_TEXT" if nested else READ[operand.kind, operand.extent]
     if operand.role == "lengths":
-        return "LENGTHS"
+        return {"true_lengths": "TRUE_LENGTHS", "false_lengths": "FALSE_LENGTHS"}.get(operand.name, "LENGTHS")
     if operand.role == "room":
         return WRITTEN[operand.kind, "both" if operand.extent == "both" else _extent(row, operand)]
     return SINGLE[operand.kind] if operand.role in ("single", "told") else None
@@ -109,7 +109,7 @@ def _in_place(row, named):
 
 def _row(row, name, arguments, pool="", descriptor=False):
     arrays = {operand.name: _holds(row, operand) for operand in row.operands if _holds(row, operand)}
-    holds = ["DESCRIPTOR" if descriptor and found == "LENGTHS" else found for found in arrays.values()]
+    holds = [found.replace("LENGTHS", "DESCRIPTOR") if descriptor else found for found in arrays.values()]
     places = {found: k for k, found in enumerate(arrays)}
     words = ", ".join([*([pool] if pool else []), *(_given(row, argument, places) for argument in arguments)])
     return f"ROW({name}, {_listed(holds)}, {_in_place(row, arrays)}, ({words}))"
@@ -160,12 +160,12 @@ ROLES = {
     "reads": "READS", "lengths": "CUTS", "value": "VALUE", "place": "PLACE", "count": "COPIES", "room": "WRITES", "single": "WRITES_ONE",
     "told": "WRITES_COUNT",
 }  # fmt: skip
-KINDS = {"ints": "INT", "flags": "FLAG", "text": "BYTE", "marks": "WORD", "sums": "SUM", "int": "INT", "flag": "FLAG", "sum": "SUM", "size": "SIZE"}
+KINDS = {"ints": "INT", "flags": "FLAG", "bytes": "SMALL", "text": "BYTE", "marks": "WORD", "sums": "SUM", "int": "INT", "flag": "FLAG", "sum": "SUM", "size": "SIZE"}
 EXTENTS = {
-    "n": "OF_N", "m": "OF_M", "both": "OF_BOTH", "segments": "OF_SEGMENTS", "count": "OF_COPIES", "trues": "OF_TRUES", "falses": "OF_FALSES", "total": "OF_TOTAL", "room": "OF_ROOM",
-    "range": "OF_RANGE", "marks": "OF_MARKS", "lengths_room": "OF_ROOM", "offsets": "OF_OFFSETS", None: "ALONE",
+    "n": "OF_N", "m": "OF_M", "both": "OF_BOTH", "segments": "OF_SEGMENTS", "count": "OF_COPIES", "trues": "OF_TRUES", "falses": "OF_FALSES",
+    "total": "OF_TOTAL", "room": "OF_ROOM", "range": "OF_RANGE", "marks": "OF_MARKS", "lengths_room": "OF_ROOM", "offsets": "OF_OFFSETS", None: "ALONE",
 }  # fmt: skip
-TYPES = {"INT": "int32_t", "FLAG": "bool", "BYTE": "char", "WORD": "uint32_t", "SUM": "int64_t", "SIZE": "size_t"}
+TYPES = {"INT": "int32_t", "FLAG": "bool", "SMALL": "uint8_t", "BYTE": "char", "WORD": "uint32_t", "SUM": "int64_t", "SIZE": "size_t"}
 
 
 def _model(name):

@@ -14,7 +14,7 @@ NOTE = "Written by the generator of the repository from its table of calls; edit
 # then is that of the extent `size`.
 Argument = collections.namedtuple("Argument", "name type operand size")
 
-ARRAYS = {"ints": "int32_t *", "flags": "bool *", "text": "char *", "marks": "uint32_t *", "sums": "int64_t *"}
+ARRAYS = {"ints": "int32_t *", "flags": "bool *", "bytes": "uint8_t *", "text": "char *", "marks": "uint32_t *", "sums": "int64_t *"}
 NUMBERS = {"int": "int32_t ", "flag": "bool ", "sum": "int64_t ", "size": "size_t "}
 
 # How a number of elements is called where a call's arrays share it.
@@ -179,8 +179,11 @@ def call_differences(calls):
             yield f"{name} has the operator {row.operator}, which is none of {row.family.name}"
 
 
-READ_AS = {"ints": ("&[i32]",), "flags": ("&[u8]", "&[bool]"), "text": ("&[u8]",)}
-WRITTEN_AS = {"ints": ("&mut [i32]",), "flags": ("&mut [u8]", "&mut [bool]"), "text": ("&mut [u8]",), "marks": ("&mut [u32]",), "sums": ("&mut [i64]",)}
+READ_AS = {"ints": ("&[i32]",), "flags": ("&[u8]", "&[bool]"), "bytes": ("&[u8]",), "text": ("&[u8]",)}
+WRITTEN_AS = {
+    "ints": ("&mut [i32]",), "flags": ("&mut [u8]", "&mut [bool]"), "bytes": ("&mut [u8]",), "text": ("&mut [u8]",), "marks": ("&mut [u32]",),
+    "sums": ("&mut [i64]",),
+}  # fmt: skip
 ONE_AS = {"int": "i32", "flag": "bool", "sum": "i64", "size": "usize"}
 
 

@@ -24,23 +24,26 @@ static CvlLengths lengths_at(const void *lengths) {
     return found;
 }
 
+/* How many rows a matrix of all elements has. */
+static size_t matrix_rows(void) { return n > 0 && n % 500 == 0 ? 500 : n > 0 && n % 2 == 0 ? 2 : 1; }
+
 /* Three parts of the thread that calls, where a build for tests cuts so few elements. */
 static CvlPool pool;
 
 /*
  * What an array of a call holds. An index names places of the whole vector, or of the element's own segment; one of trues names a place
  * for each true flag, and is -1 where the flag is false. What is of segments has an element for each of them, and starts are places from which
- * on so many elements as the segment has are there. What is of true or false flags has an element for each of these, and a
- * room for both one for each of two vectors.
+ * on so many elements as the segment has are there. What is of true or false flags has an element for each of these, and lengths of them are
+ * how many a segment has; a room for both has an element for each of two vectors.
  */
 typedef enum Holds {
     NO_MORE,
     INTS, FLAGS, INDEX, INDEX_IN_SEGMENTS, INDEX_OF_TRUES, INDEX_OF_TRUES_IN_SEGMENTS, SEGMENT_INTS, SEGMENT_FLAGS, SEGMENT_PLACES, STARTS,
-    TRUE_INTS, FALSE_INTS, TRUE_FLAGS, FALSE_FLAGS,
-    LENGTHS, OFFSETS, DESCRIPTOR, TEXT, NESTED_TEXT,
+    TRUE_INTS, FALSE_INTS, TRUE_FLAGS, FALSE_FLAGS, BYTES,
+    LENGTHS, TRUE_LENGTHS, FALSE_LENGTHS, OFFSETS, DESCRIPTOR, TRUE_DESCRIPTOR, FALSE_DESCRIPTOR, TEXT, NESTED_TEXT,
     /* what is written */
     ROOM_FOR_INTS, ROOM_FOR_FLAGS, ROOM_FOR_BOTH_INTS, ROOM_FOR_BOTH_FLAGS, ROOM_FOR_TRUE_INTS, ROOM_FOR_TRUE_FLAGS, ROOM_FOR_SEGMENT_INTS, ROOM_FOR_SEGMENT_FLAGS,
-    ROOM_FOR_SEGMENT_SUMS,
+    ROOM_FOR_SEGMENT_SUMS, ROOM_FOR_BYTES,
     ROOM_FOR_OFFSETS, ROOM_FOR_MARKS, ROOM_FOR_TRUE_MARKS, ROOM_FOR_TEXT, ONE_INT, ONE_FLAG, ONE_SUM, ONE_COUNT, NEW_DESCRIPTOR
 } Holds;
 
@@ -85,10 +88,10 @@ static Array array_of(Holds holds) {
     switch (holds) {
     case INTS: case INDEX: case INDEX_IN_SEGMENTS: case INDEX_OF_TRUES: case INDEX_OF_TRUES_IN_SEGMENTS: case ROOM_FOR_INTS:
         return (Array){of_int, n};
-    case FLAGS: case ROOM_FOR_FLAGS: return (Array){1, n};
+    case FLAGS: case ROOM_FOR_FLAGS: case BYTES: case ROOM_FOR_BYTES: return (Array){1, n};
     case ROOM_FOR_BOTH_INTS: return (Array){of_int, 2 * n};
     case ROOM_FOR_BOTH_FLAGS: return (Array){1, 2 * n};
-    case LENGTHS: case SEGMENT_INTS: case SEGMENT_PLACES: case STARTS: case ROOM_FOR_SEGMENT_INTS: return (Array){of_int, segments};
+    case LENGTHS: case TRUE_LENGTHS: case FALSE_LENGTHS: case SEGMENT_INTS: case SEGMENT_PLACES: case STARTS: case ROOM_FOR_SEGMENT_INTS: return (Array){of_int, segments};
     case SEGMENT_FLAGS: case ROOM_FOR_SEGMENT_FLAGS: return (Array){1, segments};
     case OFFSETS: case ROOM_FOR_OFFSETS: return (Array){of_int, segments + 1};
     case TRUE_INTS: case ROOM_FOR_TRUE_INTS: return (Array){of_int, trues};
@@ -104,7 +107,7 @@ static Array array_of(Holds holds) {
     case ROOM_FOR_SEGMENT_SUMS: return (Array){sizeof(int64_t), segments};
     case ONE_SUM: return (Array){sizeof(int64_t), 1};
     case ONE_COUNT: return (Array){sizeof(size_t), 1};
-    case DESCRIPTOR: case NEW_DESCRIPTOR: return (Array){sizeof(CvlSegments), 1};
+    case DESCRIPTOR: case TRUE_DESCRIPTOR: case FALSE_DESCRIPTOR: case NEW_DESCRIPTOR: return (Array){sizeof(CvlSegments), 1};
     case NO_MORE: break;
     }
     abort();
@@ -121,6 +124,7 @@ static size_t array_count(const Row *row) {
 static inline bool is_room(Holds holds) { return holds >= ROOM_FOR_INTS; }
 static inline bool is_index(Holds holds) { return holds >= INDEX && holds <= INDEX_OF_TRUES_IN_SEGMENTS; }
 static inline bool is_flags(Holds holds) { return holds == FLAGS || holds == SEGMENT_FLAGS || holds == TRUE_FLAGS || holds == FALSE_FLAGS; }
+static inline bool is_descriptor(Holds holds) { return holds >= DESCRIPTOR && holds <= FALSE_DESCRIPTOR; }
 static inline bool is_read_text(Holds holds) { return holds == TEXT || holds == NESTED_TEXT; }
 static inline bool is_text(Holds holds) { return is_read_text(holds) || holds == ROOM_FOR_TEXT; }
 

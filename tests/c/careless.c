@@ -67,11 +67,19 @@ static int32_t index_at(Holds holds, size_t k) {
     }
 }
 
-/* A descriptor of the segments of a call. */
-static CvlSegments described(void) {
-    static int32_t lengths[3];
-    const CvlSegments descriptor = {lengths, segments, true};
-    for (size_t s = 0; s < segments; s++) lengths[s] = length_at(s);
+/* How many elements the flags of a segment keep, or leave. */
+static int32_t flags_length_at(size_t s, bool are_true) {
+    const size_t start = s * (n / 3), trues = trues_from(start, start + (size_t)length_at(s));
+    return are_true ? (int32_t)trues : length_at(s) - (int32_t)trues;
+}
+
+/* A descriptor of the segments of a call, of all elements or of those that flags keep or leave. */
+static CvlSegments described(Holds holds) {
+    static int32_t lengths[3][3];
+    const CvlSegments descriptor = {lengths[holds - DESCRIPTOR], segments, true};
+    for (size_t s = 0; s < segments; s++) {
+        lengths[holds - DESCRIPTOR][s] = holds == DESCRIPTOR ? length_at(s) : flags_length_at(s, holds == TRUE_DESCRIPTOR);
+    }
     return descriptor;
 }
 
@@ -83,10 +91,10 @@ static void fill(Holds holds, unsigned char *at, bool any) {
         memset(at, holds == NEW_DESCRIPTOR ? 0 : UNTOUCHED, array.size * array.count);
         return;
     }
-    if (holds == DESCRIPTOR) {
+    if (is_descriptor(holds)) {
         /* field by field over zeros, since the bytes between the fields are compared too */
         CvlSegments *descriptor = (CvlSegments *)(void *)at;
-        const CvlSegments made = described();
+        const CvlSegments made = described(holds);
         memset(at, 0, sizeof made);
         descriptor->lengths = made.lengths;
         descriptor->segments = made.segments;
@@ -99,6 +107,8 @@ static void fill(Holds holds, unsigned char *at, bool any) {
         case TRUE_FLAGS: case FALSE_FLAGS: at[k] = any ? any_byte() : k % 2; break;
         case FLAGS: case SEGMENT_FLAGS: at[k] = any ? any_byte() : flag_at(k); break;
         case LENGTHS: ints[k] = length_at(k); break;
+        case TRUE_LENGTHS: case FALSE_LENGTHS: ints[k] = flags_length_at(k, holds == TRUE_LENGTHS); break;
+        case BYTES: at[k] = (unsigned char)next_random(); break;
         case OFFSETS: ints[k] = k == 0 ? 0 : ints[k - 1] + length_at(k - 1); break;
         case SEGMENT_PLACES: ints[k] = 0; break;
         case STARTS: ints[k] = (int32_t)n - length_at(k); break;

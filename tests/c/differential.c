@@ -308,6 +308,33 @@ static void fill_starts(const Row *row, Given *g) {
     }
 }
 
+/* Lengths of what flags keep and leave of each segment; then sometimes others, which add up to as much or not. */
+static void fill_sides(const Row *row, Given *g) {
+    int32_t *const sides[2] = {(int32_t *)g->at[4], (int32_t *)g->at[5]};
+    const int32_t *lengths = (const int32_t *)g->at[3];
+    size_t start = 0;
+    for (size_t s = 0; s < g->len[3]; s++) {
+        if (lengths[s] < 0 || start + (size_t)lengths[s] > MOST_PLACES) return;
+        const size_t trues = trues_of(row, g, 0, start, start + (size_t)lengths[s]);
+        sides[0][s] = (int32_t)trues, sides[1][s] = lengths[s] - (int32_t)trues;
+        start += (size_t)lengths[s];
+    }
+    if (g->len[3] == 0 || !chance(4)) return;
+    int32_t *const side = sides[below(2)];
+    side[below(g->len[3])]++;
+    if (chance(2)) side[below(g->len[3])]--;
+}
+
+/* So many rows and columns as there are elements for; then sometimes others. */
+static void fill_matrix(Given *g) {
+    const size_t elements = g->len[0], some = 1 + below(5), many = elements % some == 0 ? some : 1;
+    if (chance(5)) return;
+    g->number[1] = (int64_t)(elements == 0 && chance(2) ? below(9) : many);
+    g->number[2] = (int64_t)(elements == 0 && g->number[1] == 0 ? below(9) : elements / many);
+    /* of a product beyond 64 bits as many are left as there are elements */
+    if (chance(20)) g->number[1] = (int64_t)1 << 33, g->number[2] = (int64_t)1 << (elements == 0 ? 31 : 33);
+}
+
 /* Columns of which each is a place of the vector; then sometimes with some that are not. */
 static void fill_columns(Given *g) {
     int32_t *columns = (int32_t *)g->at[1];
@@ -358,6 +385,9 @@ static void fill(const Row *row, Given *g, size_t k, size_t n, size_t m) {
     if (role_of(row, k) != READS) return;
     for (size_t j = 0; j < g->len[k] && kind_of(row, k) == INT; j++) ints[j] = small ? (int32_t)below(19) - 9 : any_int();
     for (size_t j = 0; j < g->len[k] && kind_of(row, k) == FLAG; j++) bytes[j] = chance(2) ? 0 : plain || chance(2) ? 1 : (unsigned char)below(256);
+    for (size_t j = 0; j < g->len[k] && kind_of(row, k) == SMALL; j++) bytes[j] = (unsigned char)below(256);
+    for (size_t j = 0; j < g->len[k] && row->model == BYTES_FROM; j++) ints[j] = (int32_t)below(256);
+    for (size_t bad = row->model == BYTES_FROM && chance(3) ? 1 + below(3) : 0; bad > 0 && g->len[k] > 0; bad--) ints[below(g->len[k])] = any_int();
     if (kind_of(row, k) == BYTE) fill_text(row, (char *)g->at[k], g->len[k]);
     if (row->model == FROM_OFFSETS) fill_offsets(ints, g->len[k]);
     if (extent_of(row, k) == OF_OFFSETS && is_by_offsets(row)) fill_row_offsets(ints, g->len[k], n);
@@ -433,8 +463,8 @@ static void make(const Row *row, Given *g) {
     if (marks < count) g->len[marks] = (g->len[marks - 1] + 31) / 32 + (chance(20) ? 1 : 0);
     for (size_t k = 0; k < count; k++) fill(row, g, k, n, m);
     for (size_t k = 0; k < count; k++) {
-        const size_t by = row->model == MERGE_BY_FLAGS ? 0 : 2;
-        if (extent_of(row, k) != OF_TRUES && extent_of(row, k) != OF_FALSES) continue;
+        const size_t by = row->model == MERGE_BY_FLAGS || row->model == SEG_MERGE_BY_FLAGS ? 0 : 2;
+        if (role_of(row, k) == CUTS || (extent_of(row, k) != OF_TRUES && extent_of(row, k) != OF_FALSES)) continue;
         const size_t of_trues = trues_of(row, g, by, 0, g->len[by]);
         g->len[k] = (extent_of(row, k) == OF_TRUES ? of_trues : g->len[by] - of_trues) + (chance(12) ? 1 : 0);
     }
@@ -442,6 +472,8 @@ static void make(const Row *row, Given *g) {
     if (row->model == SEG_EXTRACT || row->model == SEG_REPLACE || row->model == PERMUTE_RANGE || row->model == SELECT_PERMUTE_RANGE) fill_indices(row, g, n, n);
     if (row->model >= FIRST_SENDERS && row->model <= SEG_COUNTS) fill_senders(row, g);
     if (row->model == GATHER_SEGMENTS) fill_starts(row, g);
+    if (row->model == SEG_MERGE_BY_FLAGS) fill_sides(row, g);
+    if (row->model == TRANSPOSE) fill_matrix(g);
     if (row->model >= SPARSE_PRODUCT && row->model <= CHECKED_SPARSE_PRODUCT_BY_OFFSETS) fill_columns(g);
     move_rooms(row, g);
     for (size_t k = 0; k < count; k++) {
@@ -478,7 +510,7 @@ static bool is_refused(CvlStatus status) {
 static bool may_be_behind(const Row *row, CvlStatus expected) {
     const bool reads = row->model == READ || row->model == READ_AFTER || row->model == SEG_READ;
     return expected.number == CVL_DONE || (expected.number >= CVL_DIVIDE_BY_ZERO && expected.number <= CVL_INDEX_REPEATED) ||
-        expected.number == CVL_OVERFLOW || expected.number == CVL_BAD_INPUT || (reads && expected.number == CVL_LENGTH_MISMATCH);
+        expected.number == CVL_OVERFLOW || expected.number == CVL_BAD_INPUT || (expected.number == CVL_LENGTH_MISMATCH && (reads || expected.place >= 0));
 }
 
 static void choose_pool(void) {

@@ -72,7 +72,8 @@ static void hold_indices(int32_t *numbers, bool cut_up, bool by_flags) {
 /* Holds array j. The last flags of a call say which elements take part; those before it are elements. */
 static void hold(const Row *row, size_t j) {
     const Holds holds = row->arrays[j];
-    const size_t others = is_read_text(holds) ? n : array_of(holds).count; /* a text is as long as its numbers make it */
+    /* a text is as long as its numbers make it, and a descriptor as its lengths */
+    const size_t others = is_read_text(holds) ? n : is_descriptor(holds) ? segments : array_of(holds).count;
     const size_t count = others > n ? n : others;
     bool takes_part = true;
     for (size_t k = j + 1; k < array_count(row); k++) takes_part = takes_part && row->arrays[k] != FLAGS;
@@ -81,8 +82,11 @@ static void hold(const Row *row, size_t j) {
         case FLAGS: held[j][k] = takes_part ? flag_at(k) : k % 5 < 2; break;
         case SEGMENT_FLAGS: case TRUE_FLAGS: case FALSE_FLAGS: held[j][k] = k % 4 < 3; break;
         case LENGTHS: held[j][k] = lengths[k]; break;
+        case BYTES: held[j][k] = (int32_t)(k * 7907 % 256); break;
         case OFFSETS: held[j][k] = (int32_t)starts[k]; break;
         case SEGMENT_PLACES: held[j][k] = (int32_t)(k % (size_t)lengths[k]); break;
+        case TRUE_LENGTHS: case TRUE_DESCRIPTOR: held[j][k] = (int32_t)trues_in(starts[k], starts[k + 1]); break;
+        case FALSE_LENGTHS: case FALSE_DESCRIPTOR: held[j][k] = lengths[k] - (int32_t)trues_in(starts[k], starts[k + 1]); break;
         case STARTS: held[j][k] = (int32_t)(k * 7907 % (n - (size_t)lengths[k] + 1)); break;
         default: held[j][k] = (int32_t)((k * 7907 + j) % 31 + 1); /* none divides by 0, shifts too far or adds up to too much */
         }
@@ -367,6 +371,13 @@ static size_t merge(const char *call) {
     return n;
 }
 
+static size_t transpose(const char *call) {
+    const size_t rows_made = matrix_rows(), columns = n / rows_made;
+    (void)call;
+    for (size_t k = 0; k < n; k++) wanted[k % columns * rows_made + k / columns] = held[0][k];
+    return n;
+}
+
 static size_t find_true(const char *call) {
     for (size_t g = 0; g < groups(by_segments(call)); g++) {
         const size_t start = from(by_segments(call), g), end = to(by_segments(call), g);
@@ -411,7 +422,7 @@ static const struct Reading {
     {"pck", "f", count_trues}, {"cnt", "l", count_trues}, {"ext", "v", extract}, {"rep", "v", replace}, {"dis", "v", distribute},
     {"ind", "l", number}, {"fst", "l", send_first}, {"fsr", "l", send_first_flagged}, {"cmb", "l", combine},
     {"nmd", "l", count_named}, {"ord", "l", order}, {"rnk", "l", order}, {"srt", "l", order}, {"gth", "l", gather_slices}, {"app", "l", append},
-    {"mrg", "l", merge}, {"ftr", "l", find_true}, {"mke", "f", total}, {"off", "f", tell_offsets},
+    {"mrg", "l", merge}, {"trn", "l", transpose}, {"ftr", "l", find_true}, {"mke", "f", total}, {"off", "f", tell_offsets},
     {"len", "f", tell_lengths}, {"num", "f", tell_numbers}, {"prd", "r", multiply}, {"", "w", place_by_place}, {"", "s", scan},
     {"", "r", reduce},
 };
@@ -440,6 +451,7 @@ static const char *const calls_of_exports[][2] = {
     {"combine_permute_bool", "cmb_lub"}, {"counts", "nmd_luz"}, {"order", "ord_luz"}, {"rank", "rnk_luz"}, {"sort", "srt_luz"},
     {"gather_segments_int", "gth_lez"}, {"gather_segments_bool", "gth_leb"}, {"append_segments_int", "app_lez"}, {"append_segments_bool", "app_leb"},
     {"merge_by_flags_int", "mrg_luz"}, {"merge_by_flags_bool", "mrg_lub"}, {"first_true", "ftr_luz"}, {"exact_sums", "tot_ruz"},
+    {"transpose_int", "trn_luz"}, {"transpose_bool", "trn_lub"}, {"ints_from_bytes", "cpy_wuz"}, {"bytes_from_ints", "cpy_wuz"},
     {"int_scan_after", "add_suz"}, {"bool_scan_after", "xor_sub"},
     {"checked_scan_after", "tot_suz"}, {"exact_sum", "tot_ruz"}, {"read_ints", "cpy_wuz"},
     {"read_ints_after", "cpy_wuz"}, {"write_ints", "cpy_wuz"}, {"write_bools", "cpy_wub"}, {"new", "mke_fov"},
@@ -483,13 +495,15 @@ static int byte_before(const Row *row, Holds holds, bool odd) {
 static void put(const Row *row, size_t j, bool odd) {
     const Holds holds = row->arrays[j];
     const Array array = array_of(holds);
-    const CvlSegments descriptor = {lengths, segments, true};
+    const CvlSegments descriptor = {holds == DESCRIPTOR ? lengths : held[j], segments, true};
     if (is_room(holds)) {
         memset(memory[j], byte_before(row, holds, odd), bytes_of(holds));
-    } else if (holds == DESCRIPTOR) {
+    } else if (is_descriptor(holds)) {
         memcpy(memory[j], &descriptor, sizeof descriptor);
     } else if (is_read_text(holds)) {
         memcpy(memory[j], holds == TEXT ? text + 1 : text, text_length);
+    } else if (holds == BYTES) {
+        for (size_t k = 0; k < array.count; k++) memory[j][k] = (unsigned char)held[j][k];
     } else if (array.size == 1) {
         for (size_t k = 0; k < array.count; k++) memory[j][k] = (unsigned char)(!held[j][k] ? 0 : odd ? k % 255 + 1 : 1);
     } else {

@@ -146,7 +146,10 @@ static void fill(const Row *row, void **p) {
     static _Alignas(16) unsigned char memory[MOST_ARRAYS][1024];
     static int32_t lengths[3] = {2, 2, 2};
     static CvlSegments descriptor;
+    static int32_t none[3];
+    static CvlSegments of_none;
     descriptor.lengths = lengths, descriptor.segments = 3, descriptor.some = true;
+    of_none = descriptor, of_none.lengths = none;
     n = 6, segments = 3, trues = 6, text_length = 7, text_room = 200;
     for (size_t k = 0; k < array_count(row); k++) {
         int32_t *ints = (int32_t *)(void *)memory[k];
@@ -161,8 +164,9 @@ static void fill(const Row *row, void **p) {
             if (holds == OFFSETS && place <= 3) ints[place] = 2 * place;
         }
         if (is_flags(holds)) memset(memory[k], 1, 6);
-        if (holds == LENGTHS) p[k] = lengths;
-        if (holds == DESCRIPTOR) p[k] = &descriptor;
+        if (holds == LENGTHS || holds == TRUE_LENGTHS) p[k] = lengths;
+        if (holds == DESCRIPTOR || holds == TRUE_DESCRIPTOR) p[k] = &descriptor;
+        if (holds == FALSE_DESCRIPTOR) p[k] = &of_none;
         if (holds == TEXT) memcpy(memory[k], "3 1 4 1", 7);
         if (holds == NESTED_TEXT) memcpy(memory[k], "[[3 1]]", 7);
     }

@@ -1066,6 +1066,90 @@ static void exact_sums(void) {
     if (memcmp(found, sums, sizeof sums) != 0) fail("cvl_seg_exact_sums", "other sums");
 }
 
+static void merges_of_segments(void) {
+    const bool *f = B(true, false, false, true, true), *g = B(true, false, true), *h = B(true, false);
+    const int32_t *a = I(1, 2, 3), *b = I(7, 8), *lengths = I(2, 0, 3), *of_a = I(1, 0, 2), *of_b = I(1, 0, 1), *negative = I(3, -1, 3);
+    INTS(cvl_seg_merge_by_flags_int(f, 5, a, 3, b, 2, S(lengths, 3), S(of_a, 3), S(of_b, 3), ints, 5), 1, 7, 8, 2, 3);
+    INTS(cvl_seg_merge_by_flags_int(B(false, true), 2, a, 1, b, 1, S(I(1, 1), 2), S(I(0, 1), 2), S(I(1, 0), 2), ints, 2), 7, 1);
+    INTS_OF_COPIES(1, cvl_seg_merge_by_flags_int(O(2, 0, 0, 9, 1), 5, a, 3, b, 2, S(lengths, 3), S(of_a, 3), S(of_b, 3), ints, 5), 1, 7, 8, 2, 3);
+    FAULT(cvl_seg_merge_by_flags_int(NULL, 0, NULL, 0, NULL, 0, S(NULL, 0), S(NULL, 0), S(NULL, 0), NULL, 0), CVL_DONE, -1);
+    BOOLS(cvl_seg_merge_by_flags_bool(f, 5, g, 3, h, 2, S(lengths, 3), S(of_a, 3), S(of_b, 3), bools, 5), true, true, false, false, true);
+    BOOLS_OF_COPIES(3, cvl_seg_merge_by_flags_bool(O(2, 0, 0, 9, 1), 5, O(5, 0, 1), 3, O(7, 0), 2, S(lengths, 3), S(of_a, 3), S(of_b, 3), bools, 5),
+        true, true, false, false, true);
+    FAULT(cvl_seg_merge_by_flags_int(f, 5, a, 3, b, 2, S(lengths, 3), S(I(2, 0, 1), 3), S(I(0, 0, 2), 3), ints, 5), CVL_LENGTH_MISMATCH, 0);
+    FAULT(cvl_seg_merge_by_flags_int(f, 5, a, 3, b, 2, S(lengths, 3), S(I(1, 1, 1), 3), S(of_b, 3), ints, 5), CVL_LENGTH_MISMATCH, 1);
+    FAULT(cvl_seg_merge_by_flags_int(f, 5, a, 3, b, 3, S(lengths, 3), S(of_a, 3), S(I(1, 0, 2), 3), ints, 5), CVL_LENGTH_MISMATCH, 2);
+    FAULT(cvl_seg_merge_by_flags_int(f, 5, a, 3, b, 2, S(lengths, 3), S(I(2, 0, 1), 3), S(I(0, 0, 2), 3), ints, 4), CVL_LENGTH_MISMATCH, -1);
+    FAULT(cvl_seg_merge_by_flags_int(f, 4, a, 3, b, 2, S(lengths, 3), S(of_a, 3), S(of_b, 3), ints, 4), CVL_LENGTH_MISMATCH, -1);
+    FAULT(cvl_seg_merge_by_flags_int(f, 5, a, 2, b, 2, S(lengths, 3), S(of_a, 3), S(of_b, 3), ints, 5), CVL_LENGTH_MISMATCH, -1);
+    FAULT(cvl_seg_merge_by_flags_int(f, 5, a, 3, b, 1, S(lengths, 3), S(of_a, 3), S(of_b, 3), ints, 5), CVL_LENGTH_MISMATCH, -1);
+    FAULT(cvl_seg_merge_by_flags_int(f, 5, a, 3, b, 2, S(lengths, 3), S(I(1, 2), 2), S(of_b, 3), ints, 5), CVL_LENGTH_MISMATCH, -1);
+    FAULT(cvl_seg_merge_by_flags_int(f, 5, a, 3, b, 2, S(lengths, 3), S(of_a, 3), S(I(1, 1), 2), ints, 5), CVL_LENGTH_MISMATCH, -1);
+    FAULT(cvl_seg_merge_by_flags_int(f, 5, a, 3, b, 2, S(negative, 3), S(I(-1, 0, 0), 3), S(of_b, 3), ints, 5), CVL_NEGATIVE_LENGTH, 1);
+    FAULT(cvl_seg_merge_by_flags_int(f, 5, a, 3, b, 2, S(lengths, 3), S(I(4, 0, -1), 3), S(I(-1, 0, 0), 3), ints, 5), CVL_NEGATIVE_LENGTH, 2);
+    FAULT(cvl_seg_merge_by_flags_int(f, 5, a, 3, b, 2, S(lengths, 3), S(of_a, 3), S(I(INT32_MAX, 1, 0), 3), ints, 5), CVL_TOO_LONG, -1);
+    FAULT(cvl_seg_merge_by_flags_bool(O(2, 0, 0, 9, 1), 5, g, 3, h, 2, S(lengths, 3), S(I(2, 0, 1), 3), S(I(0, 0, 2), 3), bools, 5), CVL_LENGTH_MISMATCH, 0);
+}
+
+static void transposes(void) {
+    const size_t many = (size_t)CVL_MOST_ELEMENTS + 1, half = (size_t)1 << 32;
+    const int32_t *a = I(1, 2, 3, 4, 5, 6);
+    const bool *f = B(true, false, false, true, true, true);
+    INTS(cvl_transpose_int(a, 6, 2, 3, ints, 6), 1, 4, 2, 5, 3, 6);
+    INTS(cvl_transpose_int(a, 6, 3, 2, ints, 6), 1, 3, 5, 2, 4, 6);
+    INTS(cvl_transpose_int(a, 6, 6, 1, ints, 6), 1, 2, 3, 4, 5, 6);
+    INTS(cvl_transpose_int(a, 6, 1, 6, ints, 6), 1, 2, 3, 4, 5, 6);
+    FAULT(cvl_transpose_int(NULL, 0, 0, 7, NULL, 0), CVL_DONE, -1);
+    FAULT(cvl_transpose_int(NULL, 0, SIZE_MAX, 0, NULL, 0), CVL_DONE, -1);
+    BOOLS(cvl_transpose_bool(f, 6, 3, 2, bools, 6), true, false, true, false, true, true);
+    BOOLS_OF_COPIES(1, cvl_transpose_bool(O(7, 0, 0, 9, 1, 255), 6, 3, 2, bools, 6), true, false, true, false, true, true);
+    FAULT(cvl_transpose_int(a, 6, 2, 2, ints, 6), CVL_LENGTH_MISMATCH, -1);
+    FAULT(cvl_transpose_int(a, 6, 0, 3, ints, 6), CVL_LENGTH_MISMATCH, -1);
+    FAULT(cvl_transpose_int(a, 6, 2, 3, ints, 5), CVL_LENGTH_MISMATCH, -1);
+    FAULT(cvl_transpose_int(NULL, 0, half, half, NULL, 0), CVL_LENGTH_MISMATCH, -1);
+    FAULT(cvl_transpose_bool(O(7, 0, 0, 9, 1, 255), 6, 3, 3, bools, 6), CVL_LENGTH_MISMATCH, -1);
+    FAULT(cvl_transpose_bool(O(7, 0, 0, 9, 1, 255), 6, 3, 2, bools, 5), CVL_LENGTH_MISMATCH, -1);
+    FAULT(cvl_transpose_int(too_many_ints, many, many, 1, ints, 6), CVL_TOO_LONG, -1);
+}
+
+/* More than a block of rows and of columns, which neither divides. */
+static void transposes_of_blocks(void) {
+    enum { MANY = 67, COLUMNS = 45 };
+    static int32_t source[MANY * COLUMNS], out[MANY * COLUMNS];
+    for (int32_t k = 0; k < MANY * COLUMNS; k++) source[k] = k;
+    FAULT(cvl_transpose_int(source, MANY * COLUMNS, MANY, COLUMNS, out, MANY * COLUMNS), CVL_DONE, -1);
+    for (int32_t k = 0; k < MANY * COLUMNS; k++) {
+        if (out[k] != k % MANY * COLUMNS + k / MANY) fail("cvl_transpose_int of blocks", "another integer");
+    }
+}
+
+/* Integers narrowed into the room for bytes, which is as before behind them, and at a fault as a whole. */
+static void narrows(const int32_t *a, size_t n, size_t room, CvlStatus wanted, const uint8_t *right) {
+    const char *const call = "cvl_bytes_from_ints";
+    reset();
+    tells(call, cvl_bytes_from_ints(a, n, (uint8_t *)bytes, room), wanted.number, wanted.place);
+    if (wanted.number == CVL_DONE && n > 0 && memcmp(bytes, right, n) != 0) fail(call, "other bytes");
+    leaves_bytes(call, wanted.number == CVL_DONE ? n : 0);
+}
+
+static void bytes_and_integers(void) {
+    const size_t many = (size_t)CVL_MOST_ELEMENTS + 1;
+    const uint8_t some[] = {0, 67, 127, 128, 255};
+    const CvlStatus all = {CVL_DONE, -1}, first = {CVL_OVERFLOW, 0}, second = {CVL_OVERFLOW, 1};
+    INTS(cvl_ints_from_bytes(some, 5, ints, 5), 0, 67, 127, 128, 255);
+    FAULT(cvl_ints_from_bytes(NULL, 0, NULL, 0), CVL_DONE, -1);
+    FAULT(cvl_ints_from_bytes(some, 5, ints, 4), CVL_LENGTH_MISMATCH, -1);
+    FAULT(cvl_ints_from_bytes((const uint8_t *)too_many_bools, many, ints, 4), CVL_TOO_LONG, -1);
+    narrows(I(0, 67, 127, 128, 255), 5, 5, all, some);
+    narrows(NULL, 0, 0, all, NULL);
+    narrows(I(1, 256, -1), 3, 3, second, NULL);
+    narrows(I(1, -1, 256), 3, 3, second, NULL);
+    narrows(I(INT32_MIN, 1), 2, 2, first, NULL);
+    narrows(I(256, 1, 2), 3, 3, first, NULL);
+    narrows(I(1, 2, 3), 3, 2, (CvlStatus){CVL_LENGTH_MISMATCH, -1}, NULL);
+    narrows(too_many_ints, many, 2, (CvlStatus){CVL_TOO_LONG, -1}, NULL);
+}
+
 static void first_trues(void) {
     const bool *f = B(false, true, false, false, true);
     const int32_t *lengths = I(2, 1, 0, 2);
@@ -1805,6 +1889,10 @@ int main(void) {
     slices();
     appends();
     merges();
+    merges_of_segments();
+    transposes();
+    transposes_of_blocks();
+    bytes_and_integers();
     exact_sums();
     first_trues();
     texts();

@@ -16,7 +16,7 @@
 enum { MOST_RANKS = 16, MOST_OPERANDS = 7 };
 
 typedef enum Role { READS, LENGTHS, VALUE, PLACE, COUNT_OF, ROOM_OF, SINGLE, TOLD } Role;
-typedef enum Kind { INTS, FLAGS, TEXT, SIZES } Kind;
+typedef enum Kind { INTS, FLAGS, BYTES, TEXT, SIZES } Kind;
 typedef enum Extent { ONE, N, M, SEGMENTS, TOTAL, COUNT, TRUES, ROOM, OFFSETS, EXTENTS } Extent;
 
 typedef struct Slot {
@@ -257,9 +257,10 @@ static void fill_index(Case *c, int k) {
 
 static void fill(Case *c, int k) {
     const TriedOperand *o = &c->tried->operand[k];
-    const int style = (int)below(3), unclean = one_in(4);
+    const int style = (int)below(3), unclean = one_in(4), narrows = strcmp(c->tried->name, "bytes_from_ints") == 0;
     for (size_t j = 0; j < c->whole[k].number; j++) {
-        if (o->kind == INTS) ((int32_t *)c->whole[k].at)[j] = number(style);
+        if (o->kind == INTS) ((int32_t *)c->whole[k].at)[j] = narrows && !one_in(9) ? (int32_t)below(256) : number(style);
+        else if (o->kind == BYTES) ((uint8_t *)c->whole[k].at)[j] = (uint8_t)below(256);
         else ((uint8_t *)c->whole[k].at)[j] = (uint8_t)(one_in(2) ? 0 : unclean ? 1 + below(255) : 1);
     }
 }

@@ -9,6 +9,7 @@ module examples
         character(16) :: role, name, kind
         integer(c_int32_t), allocatable :: ints(:)
         logical(c_bool), allocatable :: flags(:)
+        integer(c_int8_t), allocatable :: bytes(:)
         integer(c_int64_t), allocatable :: sums(:)
         character(:), allocatable :: text
         integer(c_int32_t) :: int = 0
@@ -33,6 +34,7 @@ contains
 
         one%ints = int(numbers, c_int32_t)
         one%flags = logical(numbers /= 0, c_bool)
+        one%bytes = int(numbers - merge(256_c_int64_t, 0_c_int64_t, numbers > 127), c_int8_t)
         one%sums = numbers
         one%text = repeat(" ", size(numbers))
         do k = 1, size(numbers)
@@ -83,6 +85,7 @@ contains
         before = one
         before%ints = ieor(one%ints, 1_c_int32_t)
         before%flags = .not. one%flags
+        before%bytes = ieor(one%bytes, 1_c_int8_t)
         before%sums = ieor(one%sums, 1_c_int64_t)
         before%text = repeat("?", len(one%text))
         before%int = ieor(one%int, 1_c_int32_t)
@@ -98,6 +101,8 @@ contains
         select case (wanted%kind)
         case ("ints", "marks")
             agree = all(found%ints == wanted%ints)
+        case ("bytes")
+            agree = all(found%bytes == wanted%bytes)
         case ("sums")
             agree = all(found%sums == wanted%sums)
         case ("flags")

@@ -9,9 +9,11 @@ from numpy.typing import NDArray
 
 IntArray = NDArray[numpy.int32]
 FlagArray = NDArray[numpy.bool_]
+ByteArray = NDArray[numpy.uint8]
 SumArray = NDArray[numpy.int64]
 Ints = Union[IntArray, array[int], memoryview]
 Flags = Union[FlagArray, memoryview]
+Bytes = Union[ByteArray, bytes, bytearray, memoryview, mmap]
 Sums = Union[SumArray, array[int], memoryview]
 Marks = Union[NDArray[numpy.uint32], array[int], memoryview]
 Text = Union[str, bytes, bytearray, memoryview, mmap]

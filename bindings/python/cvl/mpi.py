@@ -27,7 +27,7 @@ from mpi4py import MPI
 from cvl.fault import Fault
 from cvl.over_ranks import CALLS, NAMES
 
-KINDS = {"ints": numpy.dtype(numpy.int32), "flags": numpy.dtype(numpy.bool_)}
+KINDS = {"ints": numpy.dtype(numpy.int32), "flags": numpy.dtype(numpy.bool_), "bytes": numpy.dtype(numpy.uint8)}
 VALUES = {"int": ctypes.c_int32, "flag": ctypes.c_bool, "size": ctypes.c_size_t, "sum": ctypes.c_int64}
 
 
@@ -66,7 +66,7 @@ def _call(name: str, *words: Any) -> None:
 
 
 def _array(given: Any, kind: str, name: str) -> Any:
-    """An array of integers of 32 bits or of booleans in one dimension, side by side."""
+    """An array of a kind in one dimension, side by side."""
     if not isinstance(given, numpy.ndarray) or given.dtype != KINDS[kind] or given.ndim != 1:
         raise TypeError(f"{name} is no array of {KINDS[kind]} in one dimension")
     return numpy.ascontiguousarray(given)

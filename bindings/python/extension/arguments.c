@@ -96,6 +96,7 @@ int cvl_take(PyObject *object, const Operand *operand, int spreads, Given *given
     switch (operand->kind) {
     case KIND_INTS:
     case KIND_FLAGS:
+    case KIND_BYTES:
         if (spreads && cvl_is_number(object)) return take_spread(object, operand, given);
         return cvl_take_array(object, operand, given);
     case KIND_TEXT: return take_text(object, operand, given);
@@ -108,6 +109,7 @@ int cvl_take(PyObject *object, const Operand *operand, int spreads, Given *given
     case KIND_SIZE: return take_number(object, name, 0, INT64_MAX, "a number of elements", given);
     case KIND_ROOM_INTS:
     case KIND_ROOM_FLAGS:
+    case KIND_ROOM_BYTES:
     case KIND_ROOM_SUMS:
     case KIND_ROOM_MARKS: return cvl_take_array(object, operand, given);
     }

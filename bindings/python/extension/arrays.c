@@ -3,6 +3,7 @@
 
 Element cvl_ints = {NPY_INT32, "int32", "numpy.int32", NULL};
 Element cvl_flags = {NPY_BOOL, "bool", "bool", NULL};
+Element cvl_bytes = {NPY_UINT8, "uint8", "numpy.uint8", NULL};
 Element cvl_marks = {NPY_UINT32, "uint32", "numpy.uint32", NULL};
 Element cvl_sums = {NPY_INT64, "int64", "numpy.int64", NULL};
 
@@ -11,10 +12,12 @@ enum { TO_READ = NPY_ARRAY_C_CONTIGUOUS | NPY_ARRAY_ALIGNED, TO_WRITE = TO_READ 
 const Need cvl_needs[] = {
     [KIND_INTS] = {&cvl_ints, TO_READ},
     [KIND_FLAGS] = {&cvl_flags, TO_READ},
+    [KIND_BYTES] = {&cvl_bytes, TO_READ},
     [KIND_LENGTHS] = {&cvl_ints, TO_READ},
     [KIND_TEXT] = {NULL, NPY_ARRAY_C_CONTIGUOUS},
     [KIND_ROOM_INTS] = {&cvl_ints, TO_WRITE},
     [KIND_ROOM_FLAGS] = {&cvl_flags, TO_WRITE},
+    [KIND_ROOM_BYTES] = {&cvl_bytes, TO_WRITE},
     [KIND_ROOM_MARKS] = {&cvl_marks, TO_WRITE},
     [KIND_ROOM_SUMS] = {&cvl_sums, TO_WRITE},
 };
@@ -22,7 +25,7 @@ const Need cvl_needs[] = {
 static PyObject *masked_array;
 
 int cvl_learn_kinds(void) {
-    Element *const elements[] = {&cvl_ints, &cvl_flags, &cvl_marks, &cvl_sums};
+    Element *const elements[] = {&cvl_ints, &cvl_flags, &cvl_bytes, &cvl_marks, &cvl_sums};
     for (size_t k = 0; k < sizeof elements / sizeof *elements; k++) {
         elements[k]->descr = PyArray_DescrFromType(elements[k]->number);
         if (elements[k]->descr == NULL) return -1;
@@ -124,7 +127,8 @@ static int has_flags(PyArrayObject *array, int flags) { return (PyArray_FLAGS(ar
 static void refuse_read(PyArrayObject *array, const char *name, const Element *element) {
     if (!has_elements(array, element)) {
         PyErr_Format(PyExc_TypeError, element == &cvl_flags ? "%s has elements of %S, and has to have %s; write %s != 0"
-                : "%s has elements of %S, and has to have %s; write cvl.as_ints(%s)",
+                : element == &cvl_ints ? "%s has elements of %S, and has to have %s; write cvl.as_ints(%s)"
+                : "%s has elements of %S, and has to have %s; bytes of another kind are %s.view(numpy.uint8)",
             name, PyArray_DESCR(array), element->name, name);
     } else if (PyArray_NDIM(array) != 1) {
         PyErr_Format(PyExc_TypeError, "%s has %d dimensions, and has to have one; write numpy.ravel(%s)", name,

@@ -6,7 +6,7 @@
 static PyObject *out_keyword;
 
 static const Operand out_ints = {"out", KIND_ROOM_INTS, EXTENT_NONE, NULL}, out_flags = {"out", KIND_ROOM_FLAGS, EXTENT_NONE, NULL},
-    out_sums = {"out", KIND_ROOM_SUMS, EXTENT_NONE, NULL},
+    out_bytes = {"out", KIND_ROOM_BYTES, EXTENT_NONE, NULL}, out_sums = {"out", KIND_ROOM_SUMS, EXTENT_NONE, NULL},
     over_ints = {"out", KIND_ROOM_INTS, EXTENT_M, NULL}, over_flags = {"out", KIND_ROOM_FLAGS, EXTENT_M, NULL};
 
 int cvl_keywords_ready(void) {
@@ -31,6 +31,7 @@ static const Operand *out_of(const Family *family) {
     switch (family->gives) {
     case GIVES_FLAGS:
     case GIVES_FRONT_FLAGS: return &out_flags;
+    case GIVES_BYTES: return &out_bytes;
     case GIVES_SUMS: return &out_sums;
     case GIVES_OVER_INTS: return &over_ints;
     case GIVES_OVER_FLAGS: return &over_flags;
@@ -278,6 +279,7 @@ static PyObject *result(Frame *frame, PyObject **bound, PyObject *out) {
     switch (frame->row->family->gives) {
     case GIVES_INTS:
     case GIVES_FLAGS:
+    case GIVES_BYTES:
     case GIVES_SUMS:
     case GIVES_OVER_INTS:
     case GIVES_OVER_FLAGS: return array_result(frame, out);

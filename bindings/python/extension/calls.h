@@ -42,6 +42,7 @@ enum { MOST_OPERANDS = 6 };
 typedef enum Kind {
     KIND_INTS, /* arrays that are read */
     KIND_FLAGS,
+    KIND_BYTES, /* numbers from 0 to 255 */
     KIND_TEXT,
     KIND_LENGTHS,
     KIND_INT, /* one value: of 32 bits, a boolean, an operator, a place or a count, of 64 bits, and one that is not below 0 */
@@ -52,17 +53,30 @@ typedef enum Kind {
     KIND_SIZE,
     KIND_ROOM_INTS, /* arrays that are written, beside the result */
     KIND_ROOM_FLAGS,
+    KIND_ROOM_BYTES,
     KIND_ROOM_SUMS,
     KIND_ROOM_MARKS
 } Kind;
 
 /* How many elements an array has, and what lengths add up to; offsets are one more than segments, and both are n and m. Arrays of one extent are equally long. */
-typedef enum Extent { EXTENT_NONE, EXTENT_N, EXTENT_M, EXTENT_BOTH, EXTENT_SEGMENTS, EXTENT_COUNT, EXTENT_TRUES, EXTENT_TOTAL, EXTENT_OFFSETS } Extent;
+typedef enum Extent {
+    EXTENT_NONE,
+    EXTENT_N,
+    EXTENT_M,
+    EXTENT_BOTH,
+    EXTENT_SEGMENTS,
+    EXTENT_COUNT,
+    EXTENT_TRUES,
+    EXTENT_FALSES,
+    EXTENT_TOTAL,
+    EXTENT_OFFSETS
+} Extent;
 
 /* What a call gives. */
 typedef enum Gives {
     GIVES_INTS, /* an array, which may stand in the caller's room */
     GIVES_FLAGS,
+    GIVES_BYTES,
     GIVES_SUMS,
     GIVES_OVER_INTS, /* the caller's room, which holds what stands before */
     GIVES_OVER_FLAGS,
@@ -116,7 +130,7 @@ typedef struct Element {
     PyArray_Descr *descr;
 } Element;
 
-extern Element cvl_ints, cvl_flags, cvl_marks, cvl_sums;
+extern Element cvl_ints, cvl_flags, cvl_bytes, cvl_marks, cvl_sums;
 
 /* What an array needs that is taken for an operand: the kind of its elements, or none if it is a text, which has any of one byte;
    and flags of numpy, of which one value needs none. */

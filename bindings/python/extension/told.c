@@ -1,7 +1,7 @@
 /* What is told where a call has no value. */
 #include "calls.h"
 
-static int is_array(const Operand *operand) { return operand->kind == KIND_INTS || operand->kind == KIND_FLAGS; }
+static int is_array(const Operand *operand) { return operand->kind == KIND_INTS || operand->kind == KIND_FLAGS || operand->kind == KIND_BYTES; }
 
 /* ---- how long arguments are ---- */
 
@@ -198,8 +198,15 @@ static PyObject *value_at_fault(const Frame *frame, CvlStatus status) {
 }
 
 static size_t bytes_of(const Given *given, Kind kind) {
-    if (kind == KIND_ROOM_SUMS) return given->count * sizeof(int64_t);
-    return given->count * (kind == KIND_FLAGS || kind == KIND_ROOM_FLAGS || kind == KIND_TEXT ? sizeof(bool) : sizeof(int32_t));
+    switch (kind) {
+    case KIND_FLAGS:
+    case KIND_ROOM_FLAGS:
+    case KIND_BYTES:
+    case KIND_ROOM_BYTES:
+    case KIND_TEXT: return given->count;
+    case KIND_ROOM_SUMS: return given->count * sizeof(int64_t);
+    default: return given->count * sizeof(int32_t);
+    }
 }
 
 /* Whether an argument shares memory with the room: all of it, which some calls allow, or a part. */

@@ -37,6 +37,12 @@ impl Numbers for Vec<bool> {
     }
 }
 
+impl Numbers for Vec<u8> {
+    fn numbers(self) -> Vec<i64> {
+        self.into_iter().map(i64::from).collect()
+    }
+}
+
 impl Numbers for Vec<i64> {
     fn numbers(self) -> Vec<i64> {
         self
@@ -129,6 +135,10 @@ impl Given {
         &self.texts[self.example.place(name)]
     }
 
+    fn bytes(&self, name: &str) -> &[u8] {
+        self.text(name)
+    }
+
     fn number(&self, name: &str) -> i64 {
         self.example.operand(name).numbers[0]
     }
@@ -147,6 +157,7 @@ impl Given {
 pub struct Room {
     ints: Vec<i32>,
     flags: Vec<bool>,
+    bytes: Vec<u8>,
     text: Vec<u8>,
     marks: Vec<u32>,
     sums: Vec<i64>,
@@ -157,6 +168,7 @@ impl Room {
         match kind {
             "ints" => self.ints = numbers.map(|number| number as i32).collect(),
             "flags" => self.flags = numbers.map(|number| number != 0).collect(),
+            "bytes" => self.bytes = numbers.map(|number| number as u8).collect(),
             "text" => self.text = numbers.map(|number| number as u8).collect(),
             "sums" => self.sums = numbers.collect(),
             _ => self.marks = numbers.map(|number| number as u32).collect(),

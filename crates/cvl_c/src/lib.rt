@@ -5,6 +5,7 @@
 //! What they share stands in `c_calls`.
 #![tactic(auto)]
 
+mod byte_numbers;
 mod checked_sums;
 mod combines;
 mod descriptors;
@@ -13,6 +14,7 @@ mod flags;
 mod flags_in_place;
 mod flat_permutes;
 mod in_place;
+mod merges;
 mod nested_texts;
 mod packs;
 mod parts;
@@ -27,3 +29,4 @@ mod slices;
 mod sorts;
 mod text_exports;
 mod tiles;
+mod transposes;

@@ -1,10 +1,9 @@
-//! Slices and segments one behind another, merges by flags, and values of segments that no operator joins.
+//! Slices and segments one behind another, and values of segments that no operator joins.
 
 ghost use Rattle.std.specs.Prelude.{Ok, length};
 ghost use Rattle.c_calls.specs.Calls.{by_segments, in_limit};
 ghost use Rattle.c_calls.specs.Told.{Told, in_room};
 ghost use Rattle.cvl_base.specs.Exact.{total_of};
-ghost use Rattle.flag_merges.specs.Merges.{merge_of};
 ghost use Rattle.segment_slices.specs.Pairs.{append_segments_of};
 ghost use Rattle.segment_slices.specs.Slices.{gather_segments_of};
 ghost use Rattle.segment_values.specs.Values.{each_of, first_true_of};
@@ -12,7 +11,6 @@ ghost use Rattle.segment_values.specs.Values.{each_of, first_true_of};
 use c_calls::checks::{check_limit, segments};
 use c_calls::or_tell;
 use c_calls::status::{CvlStatus, told_one, told_over};
-use flag_merges::merge_by_flags_over;
 use segment_slices::{append_segments_over, gather_segments_over};
 use segment_values::{first_true, seg_exact_sums_over, seg_first_true_over};
 
@@ -80,36 +78,6 @@ pub extern "C" fn cvl_proved_append_segments_bool(
     let d = or_tell!(segments(lengths));
     let other = or_tell!(segments(other_lengths));
     told_over::<bool>(append_segments_over(a, &d, b, &other, out))
-}
-
-/// The next integer of one vector where the flag is true, and of the other where it is false.
-#[unsafe(no_mangle)]
-pub extern "C" fn cvl_proved_merge_by_flags_int(
-    flags: &[bool],
-    when_true: &[i32],
-    when_false: &[i32],
-    out: &mut [i32],
-) -> CvlStatus
-    ensures { Told (in_room (length out.old) (in_limit flags.now (merge_of flags.now when_true.now when_false.now)))
-        result out.old out.new }
-{
-    or_tell!(check_limit(flags));
-    told_over::<i32>(merge_by_flags_over(flags, when_true, when_false, out))
-}
-
-/// The next boolean of one vector where the flag is true, and of the other where it is false.
-#[unsafe(no_mangle)]
-pub extern "C" fn cvl_proved_merge_by_flags_bool(
-    flags: &[bool],
-    when_true: &[bool],
-    when_false: &[bool],
-    out: &mut [bool],
-) -> CvlStatus
-    ensures { Told (in_room (length out.old) (in_limit flags.now (merge_of flags.now when_true.now when_false.now)))
-        result out.old out.new }
-{
-    or_tell!(check_limit(flags));
-    told_over::<bool>(merge_by_flags_over(flags, when_true, when_false, out))
 }
 
 /// The place of the first true flag, or -1.

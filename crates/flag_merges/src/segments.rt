@@ -55,7 +55,6 @@ fn check_segments<T>(
     when_false: &[T],
     false_d: &SegLengths,
 ) -> Result<(), Fault>
-    requires few { length flags.now ≤ most_places }
     ensures meaning { MatchResult result (λ _. seg_merge_of flags.now d.now when_true.now true_d.now when_false.now false_d.now
         ≡ Ok (merged flags.now when_true.now when_false.now))
         (λ f. seg_merge_of flags.now d.now when_true.now true_d.now when_false.now false_d.now ≡ Err f) }
@@ -76,7 +75,7 @@ fn check_segments<T>(
 /// `LengthMismatch`, without a place, if segments do not add up to their vector, or if the vectors have not as many segments as
 /// the flags; at the number of the first segment that has not as many true flags as the first vector has elements there, or
 /// not as many false ones as the second; and without a place if the room has not as many places as there are flags. At a fault
-/// the room is as it was. There are at most 2,147,483,647 flags.
+/// the room is as it was.
 pub fn seg_merge_by_flags_over<T: Copy>(
     flags: &[bool],
     d: &SegLengths,
@@ -86,7 +85,6 @@ pub fn seg_merge_by_flags_over<T: Copy>(
     false_d: &SegLengths,
     out: &mut [T],
 ) -> Result<(), Fault>
-    requires few { length flags.now ≤ most_places }
     ensures { Overwrites (in_room (length out.old)
         (seg_merge_of flags.now d.now when_true.now true_d.now when_false.now false_d.now)) result out.old out.new }
 {

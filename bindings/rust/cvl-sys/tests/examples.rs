@@ -24,7 +24,7 @@ const DONE: CvlStatus = CvlStatus {
 fn stored(operand: &Operand, numbers: &[i64]) -> Vec<Cell<u64>> {
     let bytes = numbers.iter().flat_map(|&number| match operand.kind {
         "ints" | "int" => (number as i32).to_ne_bytes().to_vec(),
-        "flags" | "flag" | "text" => vec![number as u8],
+        "flags" | "flag" | "bytes" | "text" => vec![number as u8],
         "marks" => (number as u32).to_ne_bytes().to_vec(),
         "size" => (number as usize).to_ne_bytes().to_vec(),
         "sum" | "sums" => number.to_ne_bytes().to_vec(),

@@ -1,0 +1,83 @@
+//! Merges by flags, of whole vectors and of each segment.
+
+ghost use Rattle.std.specs.Prelude.{length};
+ghost use Rattle.c_calls.specs.Calls.{by_segments, in_limit};
+ghost use Rattle.c_calls.specs.Told.{Told, in_room};
+ghost use Rattle.flag_merges.specs.Merges.{merge_of, seg_merge_of};
+
+use c_calls::checks::{check_limit, segments};
+use c_calls::or_tell;
+use c_calls::status::{CvlStatus, told_over};
+use flag_merges::{merge_by_flags_over, seg_merge_by_flags_over};
+
+/// The next integer of one vector where the flag is true, and of the other where it is false.
+#[unsafe(no_mangle)]
+pub extern "C" fn cvl_proved_merge_by_flags_int(
+    flags: &[bool],
+    when_true: &[i32],
+    when_false: &[i32],
+    out: &mut [i32],
+) -> CvlStatus
+    ensures { Told (in_room (length out.old) (in_limit flags.now (merge_of flags.now when_true.now when_false.now)))
+        result out.old out.new }
+{
+    or_tell!(check_limit(flags));
+    told_over::<i32>(merge_by_flags_over(flags, when_true, when_false, out))
+}
+
+/// The next boolean of one vector where the flag is true, and of the other where it is false.
+#[unsafe(no_mangle)]
+pub extern "C" fn cvl_proved_merge_by_flags_bool(
+    flags: &[bool],
+    when_true: &[bool],
+    when_false: &[bool],
+    out: &mut [bool],
+) -> CvlStatus
+    ensures { Told (in_room (length out.old) (in_limit flags.now (merge_of flags.now when_true.now when_false.now)))
+        result out.old out.new }
+{
+    or_tell!(check_limit(flags));
+    told_over::<bool>(merge_by_flags_over(flags, when_true, when_false, out))
+}
+
+/// The merge of each segment by the flags of the segment, of integers.
+#[unsafe(no_mangle)]
+pub extern "C" fn cvl_proved_seg_merge_by_flags_int(
+    flags: &[bool],
+    when_true: &[i32],
+    when_false: &[i32],
+    lengths: &[i32],
+    true_lengths: &[i32],
+    false_lengths: &[i32],
+    out: &mut [i32],
+) -> CvlStatus
+    ensures { Told (in_room (length out.old) (by_segments lengths.now (λ d. by_segments true_lengths.now
+        (λ e. by_segments false_lengths.now (λ g. seg_merge_of flags.now d when_true.now e when_false.now g)))))
+        result out.old out.new }
+{
+    let d = or_tell!(segments(lengths));
+    let true_d = or_tell!(segments(true_lengths));
+    let false_d = or_tell!(segments(false_lengths));
+    told_over::<i32>(seg_merge_by_flags_over(flags, &d, when_true, &true_d, when_false, &false_d, out))
+}
+
+/// The merge of each segment by the flags of the segment, of booleans.
+#[unsafe(no_mangle)]
+pub extern "C" fn cvl_proved_seg_merge_by_flags_bool(
+    flags: &[bool],
+    when_true: &[bool],
+    when_false: &[bool],
+    lengths: &[i32],
+    true_lengths: &[i32],
+    false_lengths: &[i32],
+    out: &mut [bool],
+) -> CvlStatus
+    ensures { Told (in_room (length out.old) (by_segments lengths.now (λ d. by_segments true_lengths.now
+        (λ e. by_segments false_lengths.now (λ g. seg_merge_of flags.now d when_true.now e when_false.now g)))))
+        result out.old out.new }
+{
+    let d = or_tell!(segments(lengths));
+    let true_d = or_tell!(segments(true_lengths));
+    let false_d = or_tell!(segments(false_lengths));
+    told_over::<bool>(seg_merge_by_flags_over(flags, &d, when_true, &true_d, when_false, &false_d, out))
+}

@@ -1,0 +1,41 @@
+//! Transposes of matrices whose rows lie one behind another.
+
+ghost use Rattle.std.specs.Prelude.{length};
+ghost use Rattle.c_calls.specs.Calls.{in_limit};
+ghost use Rattle.c_calls.specs.Told.{Told, in_room};
+ghost use Rattle.transposes.specs.Transposes.{transpose_of};
+
+use c_calls::checks::check_limit;
+use c_calls::or_tell;
+use c_calls::status::{CvlStatus, told_over};
+use transposes::transpose_over;
+
+/// The transpose of a matrix of integers whose rows lie one behind another.
+#[unsafe(no_mangle)]
+pub extern "C" fn cvl_proved_transpose_int(
+    source: &[i32],
+    rows: usize,
+    columns: usize,
+    out: &mut [i32],
+) -> CvlStatus
+    ensures { Told (in_room (length out.old) (in_limit source.now (transpose_of rows columns source.now)))
+        result out.old out.new }
+{
+    or_tell!(check_limit(source));
+    told_over::<i32>(transpose_over(source, rows, columns, out))
+}
+
+/// The transpose of a matrix of booleans whose rows lie one behind another.
+#[unsafe(no_mangle)]
+pub extern "C" fn cvl_proved_transpose_bool(
+    source: &[bool],
+    rows: usize,
+    columns: usize,
+    out: &mut [bool],
+) -> CvlStatus
+    ensures { Told (in_room (length out.old) (in_limit source.now (transpose_of rows columns source.now)))
+        result out.old out.new }
+{
+    or_tell!(check_limit(source));
+    told_over::<bool>(transpose_over(source, rows, columns, out))
+}
