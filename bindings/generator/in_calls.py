@@ -1,5 +1,6 @@
 """What is written of the calls of scripts on a page: `docs/user/calls.md`."""
 
+import entries
 import reference
 
 HEAD = """# The calls
@@ -46,6 +47,12 @@ def said(entry):
     return "\n".join(f"- {line}" for line in [*lines, f"Faults: {entry.faults}"])
 
 
+def also(entry, found, leads_to):
+    """The calls of other entries that a reader may want instead, each with a link to its entry."""
+    homes = {name: other for _, _, section in found for other in section for name in other.calls}
+    return ", ".join(f"[`{name}`]({leads_to(homes[name])})" for name in entries.ALSO.get(entry.name, "").split())
+
+
 def example(entry):
     script, text = entry.example
     return f"```\n{script}\n```\n\nwrites\n\n```\n{text}\n```"
@@ -55,8 +62,14 @@ def picture(entry):
     return [f"![{entry.said.picture[1]}](pictures/{entry.said.picture[0]}.svg)"] if entry.said and entry.said.picture else []
 
 
-def _entry(entry):
-    return "\n\n".join([f"### {entry.heading}", said(entry), example(entry), *picture(entry)])
+def _leads_to(entry):
+    return f"#{anchor(entry)}"
+
+
+def _entry(entry, found):
+    others = also(entry, found, _leads_to)
+    lines = "\n".join([said(entry), *([f"- See also: {others}."] if others else [])])
+    return "\n\n".join([f"### {entry.heading}", lines, example(entry), *picture(entry)])
 
 
 def _beside():
@@ -68,6 +81,6 @@ def _beside():
 def page():
     """`docs/user/calls.md`."""
     found = reference.of_scripts()
-    sections = ["\n\n".join([f"## {title}", *([intro] if intro else []), *map(_entry, entries)]) for title, intro, entries in found]
-    parts = [HEAD, "## Index", index(found, lambda entry: f"#{anchor(entry)}"), READING, *sections, BESIDE, _beside()]
+    sections = ["\n\n".join([f"## {title}", *([intro] if intro else []), *(_entry(entry, found) for entry in section)]) for title, intro, section in found]
+    parts = [HEAD, "## Index", index(found, _leads_to), READING, *sections, BESIDE, _beside()]
     return "\n\n".join(parts) + "\n"

@@ -139,6 +139,11 @@ def _of_families(entry):
     return ["## The family in C", said, *own, *([" ".join(others)] if others else [])]
 
 
+def _see_also(entry):
+    found = in_calls.also(entry, reference.of_scripts(), lambda other: f"{other.name}.md")
+    return [f"See also: {found}."] if found else []
+
+
 def entry_page(entry):
     """The page of an entry."""
     title = _capital(entry.title)
@@ -151,7 +156,7 @@ def entry_page(entry):
         f"# {title}", " ".join(f"{{call}}`{name}`" for name in entry.calls), said, *pictures, _signatures(signatures.of_entry(entry)),
         "## Lengths and faults", *what, *lengths, *_faults(entry), *_examples(entry), *_costs(entry), "## Calls", *calls, *_of_families(entry),
     ]
-    return "\n\n".join(parts) + "\n"
+    return "\n\n".join([*parts, *_see_also(entry)]) + "\n"
 
 
 def _toctree(names, caption=""):

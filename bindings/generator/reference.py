@@ -208,6 +208,9 @@ def differences():
     for row in rows.CALLS:
         if names.count(row.name) != 1:
             yield f"{row.name} stands in {names.count(row.name)} entries of bindings/entries.py"
+    for name in (word for first, others in entries.ALSO.items() for word in (first, *others.split())):
+        if name not in names:
+            yield f"bindings/entries.py leads to {name}, which has no entry"
     for name in names:
         if name not in {row.name for row in rows.CALLS} | rows.OF_SCRIPTS | rows.OF_LENGTHS:
             yield f"{name} of bindings/entries.py is no call"
