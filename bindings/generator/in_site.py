@@ -153,7 +153,7 @@ def entry_page(entry):
     what = [f"**Takes:** {entry.takes}. **Gives:** {entry.gives}."] if entry.said else []
     pictures = [text.replace("](pictures/", "](../pictures/") for text in in_calls.picture(entry)]
     parts = [
-        f"# {title}", " ".join(f"{{call}}`{name}`" for name in entry.calls), said, *pictures, _signatures(signatures.of_entry(entry)),
+        f"# {title}", _names(entry), said, *pictures, _signatures(signatures.of_entry(entry)),
         "## Lengths and faults", *what, *lengths, *_faults(entry), *_examples(entry), *_costs(entry), "## Calls", *calls, *_of_families(entry),
     ]
     return "\n\n".join([*parts, *_see_also(entry)]) + "\n"
@@ -175,8 +175,19 @@ def _intro(said):
     return ["\n\n".join(found)]
 
 
+def _names(entry):
+    """Its calls, each with a link."""
+    return " ".join(f"{{call}}`{name}`" for name in entry.calls)
+
+
+def _index(found):
+    """A table of entries: their calls, and what these give."""
+    lines = [f"| {_names(entry)} | {entry.title} |" for _, _, section in found for entry in section]
+    return "\n".join(["| Calls | What they give |", "|---|---|", *lines])
+
+
 def section_page(title, said, found):
-    return "\n\n".join([f"# {title}", *_intro(said), in_calls.index([(title, "", found)], lambda entry: f"{entry.name}.md"), _toctree([entry.name for entry in found])]) + "\n"
+    return "\n\n".join([f"# {title}", *_intro(said), _index([(title, "", found)]), _toctree([entry.name for entry in found])]) + "\n"
 
 
 # ---- what all calls from C share ----
@@ -233,8 +244,8 @@ def index_page():
     parts = [
         head[0], "Look up any call: how you write it in each language, what it takes and gives, its faults, an example, and its cost beside a loop. "
         "To find a call by its name in numpy, Thrust or CVL, use the [glossary](glossary.md); the search finds each call by its name.",
-        "## Index", in_calls.index(scripts, lambda entry: f"{FOLDER}/{entry.name}.md"), "## Beside the calls of scripts",
-        "C, Fortran, Python and Rust have more functions:", in_calls.index(beside, lambda entry: f"{FOLDER}/{entry.name}.md"),
+        "## Index", _index(scripts), "## Beside the calls of scripts",
+        "C, Fortran, Python and Rust have more functions:", _index(beside),
         "C has in addition [what all calls share](calls/all-calls.md), [threads](calls/threads.md) and [descriptors](calls/descriptors-in-c.md).",
         in_calls.READING.replace("`script.md`", "[Scripts](script.md)"),
         _toctree([*(f"{FOLDER}/{slug(title)}" for title, _, _ in (*scripts, *beside)), *shared]),

@@ -22,13 +22,13 @@ def base(places, work, written, made):
         f"{libdir}/{archive.FULL}": work / archive.FULL,
         "include/cvl.f90": written / "bindings/fortran/cvl.f90",
         "share/man/man1/cvl.1": TOP / "docs/man/cvl.1",
-        "share/man/man3/cvl.3": written / "docs/man/cvl.3",
         "share/doc/cvl/docs/user/tutorial.ipynb": written / "docs/user/tutorial.ipynb",
         "share/bash-completion/completions/cvl": TOP / "bindings/shell/cvl.bash",
         "share/zsh/site-functions/_cvl": TOP / "bindings/shell/_cvl",
         "share/fish/vendor_completions.d/cvl.fish": TOP / "bindings/shell/cvl.fish",
         **made,
         **{f"include/{name}": path for name, path in headers.items()},
+        **{f"share/man/man3/{name}": path for name, path in generated.both(written, "docs/man", "*.3").items()},
         **{f"share/cvl/rust/{name}": path for name, path in crates.items()},
     }
     return found, {f"{libdir}/{archive.SONAME}": archive.FULL, f"{libdir}/{archive.LINKED}": archive.SONAME}

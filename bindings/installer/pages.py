@@ -1,9 +1,15 @@
 """The pages as they are installed: those for users as they stand in the repository, with the examples beside them, in the folders of
 the repository, so that links lead to the same files in both. The scripts alone stand elsewhere: here with the cases of the tests."""
 
+import sys
+
 import proved
 
 TOP = proved.TOP
+sys.path.append(str(TOP / "docs/site"))
+
+import making
+
 DOC, USER = "share/doc/cvl", "docs/user"
 
 # the examples: the folder of the repository, where it is installed, and its files
@@ -22,6 +28,17 @@ def _below(folder, place, *patterns):
     """The files of a folder of the repository that have such names, each with where it goes."""
     found = {path for pattern in patterns for path in (TOP / folder).glob(pattern) if path.is_file()}
     return {f"{DOC}/{place}/{path.relative_to(TOP / folder)}": path for path in sorted(found)}
+
+
+def site(folder):
+    """Makes the pages in HTML in a folder, and returns where each file goes. Where they cannot be made it says so, and there are none."""
+    if not making.maker():
+        print(f"no pages in HTML: {making.NEEDED} is not here", flush=True)
+    elif not making.build(folder):
+        print("no pages in HTML: Sphinx could not make them", flush=True)
+    else:
+        return {f"{DOC}/html/{path.relative_to(folder)}": path for path in sorted(folder.rglob("*")) if path.is_file()}
+    return {}
 
 
 def files():

@@ -42,7 +42,7 @@ class Installs(Whole):
             self.assertEqual({path.name for path in there.iterdir()} - {self.module}, wanted)
             self.assertTrue({"calls.py", "calls.rs"} & wanted)
         self.assertTrue((site / self.module).is_file() and (site.parent / "cvl-1.0.0.dist-info/METADATA").is_file())
-        for name in ("bin/cvl", "include/cvl.h", "include/cvl.f90", "share/man/man3/cvl.3", "share/doc/cvl/LICENSE"):
+        for name in ("bin/cvl", "include/cvl.h", "include/cvl.f90", "share/man/man3/cvl_add_rez.3", "share/doc/cvl/html/index.html", "share/doc/cvl/LICENSE"):
             self.assertIn(name, self.found())
         install.main([str(self.root), "--uninstall"])
         self.assertEqual(self.found(), [])
@@ -61,7 +61,7 @@ class Installs(Whole):
             "share/zsh/site-functions/_cvl": "bindings/shell/_cvl",
             "share/fish/vendor_completions.d/cvl.fish": "bindings/shell/cvl.fish",
             "share/man/man1/cvl.1": "docs/man/cvl.1",
-            "share/man/man3/cvl.3": "docs/man/cvl.3",
+            **{f"share/man/man3/{path.name}": f"docs/man/{path.name}" for path in (written() / "docs/man").glob("*.3")},
             "include/cvl.f90": "bindings/fortran/cvl.f90",
             **{f"include/{path.name}": f"include/{path.name}" for path in (TOP / "include").glob("*.h")},
         }  # fmt: skip
@@ -331,6 +331,10 @@ LINK = re.compile(r"\[[^\]]*\]\(([^)]*)\)")
 OF_THE_REPOSITORY = "the files that this page names are in the repository"
 
 
+# what a release has beside what it installs
+OF_RELEASES = {"PROVED.md"}
+
+
 class Installed:
     """What pages may name and lead to: files below the folder of pages, and headers."""
 
@@ -343,12 +347,13 @@ class Installed:
         return not {beside, os.path.normpath(f"{pages.DOC}/{name}"), name}.isdisjoint(self.names)
 
     def without(self, text):
-        """The names and the links in a text of what is not there. A paragraph may name what it says to be in the repository, or a page all."""
+        """The names and the links in a text of what is not there. A paragraph, with the code or table below it, may name
+        what it says to be in the repository, and a page may say that of all."""
         targets = [target.split("#")[0] for target in LINK.findall(text) if not target.startswith(("#", "http"))]
         whole = OF_THE_REPOSITORY in text.lower()
-        said = [part for part in re.split(r"\n\n(?!    )", text) if not whole and not re.search(r"\b(?:repository|checkout)\b", part)]
+        said = [part for part in re.split(r"\n\n(?!    |\|)", text) if not whole and not re.search(r"\b(?:repository|checkout)\b", part)]
         found = [name for name in targets if name] + NAMED.findall(LINK.sub("", "\n\n".join(said)))
-        return [name for name in found if not self.has(name)]
+        return [name for name in found if not self.has(name) and name not in OF_RELEASES]
 
 
 class Pages(Tree):
@@ -362,7 +367,7 @@ class Pages(Tree):
         drawn = {"include/cvl.f90": "bindings/fortran/cvl.f90", "include/cvl_mpi.h": "bindings/mpi/cvl_mpi.h", "include/cvl_mpi.f90": "bindings/fortran/cvl_mpi.f90"}
         self.headers = {**headers, **{name: written() / path for name, path in drawn.items()}}
         self.crates = {str(path): path for path in (TOP / "bindings/rust").glob("**/README.md")}
-        self.manual = {"share/man/man1/cvl.1": TOP / "docs/man/cvl.1", "share/man/man3/cvl.3": written() / "docs/man/cvl.3"}
+        self.manual = {"share/man/man1/cvl.1": TOP / "docs/man/cvl.1", **{f"share/man/man3/{path.name}": path for path in (written() / "docs/man").glob("*.3")}}
         self.installed = Installed({*self.files, *self.headers})
 
     def test_each_name_is_there(self):

@@ -16,7 +16,7 @@ TOP = pathlib.Path(__file__).resolve().parents[2]
 sys.path.insert(0, str(TOP / "bindings"))
 
 import generated
-from installer import building, checks, package, prefixes
+from installer import building, checks, package, pages, prefixes
 from trees import Tree
 
 
@@ -51,10 +51,16 @@ class Whole(Tree):
         with mock.patch.object(building.Build, "run", lambda build, work: self.build(work)), \
                 mock.patch.object(generated, "below", lambda folder: written()), \
                 mock.patch.object(checks, "command", lambda *given: None), \
-                mock.patch.object(checks, "compiler", lambda *given: None), \
+                mock.patch.object(checks, "compiler", lambda *given: None), mock.patch.object(pages, "site", self.site), \
                 mock.patch.object(checks, "python", lambda name: self.python), mock.patch.object(package, "_run", self.built), \
                 mock.patch.dict(os.environ, {"DESTDIR": str(destination)}), mock.patch("builtins.print"):  # fmt: skip
             install.main([str(word) for word in given])
+
+    def site(self, folder):
+        """The pages in HTML, of which there is one."""
+        folder.mkdir()
+        (folder / "index.html").write_text("pages")
+        return {f"{pages.DOC}/html/index.html": folder / "index.html"}
 
     def built(self, python, *words):
         """The package as its builder puts it into a folder, with a text in the place of the compiled module."""
