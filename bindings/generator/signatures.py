@@ -37,7 +37,7 @@ def _function_of_python(row):
 
 def of_python(row):
     call = _function_of_python(row)
-    gives = {"ints": "array of int32", "flags": "array of bool", "sums": "array of int64", "int": "int", "flag": "bool", "sum": "int"}
+    gives = {**{kind: f"array of {name.removeprefix('numpy.')}" for kind, name in in_python.NUMPY.items()}, "int": "int", "flag": "bool", "sum": "int"}
     direct = {"WRITTEN": "int", "TEXT": "str", "READ_NESTED": "array of int32, Segments"}.get(getattr(call, "gives", None))
     given = direct or ("Segments" if call.gives_segments else gives[call.result.kind])
     return f"cvl.{call.name}({', '.join(in_python._names(call))})  # gives {given}"
