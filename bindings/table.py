@@ -90,14 +90,14 @@ MOST_STACK = 32768
 
 # The faults that calls share.
 TOO_LONG = Fault((13,), "13 TooLong", False)
-SUM_OF_N = Fault((7,), "7 LengthMismatch where the lengths do not add up to n", False)
-NO_ROOM = Fault((7,), "7 LengthMismatch where there is not room", True)
-SUM_OR_NO_ROOM = Fault((7,), "7 LengthMismatch where the lengths do not add up to n, with *count as it was, and where there is not room", True)
-BAD_PLACE = Fault((10,), "10 IndexOutOfRange at 0 where the index is below 0, or n or more", False)
+SUM_OF_N = Fault((7,), "7 LengthMismatch if the lengths do not add up to n", False)
+NO_ROOM = Fault((7,), "7 LengthMismatch if out is too short", True)
+SUM_OR_NO_ROOM = Fault((7,), "7 LengthMismatch if the lengths do not add up to n, with *count as it was, and if out is too short", True)
+BAD_PLACE = Fault((10,), "10 IndexOutOfRange at 0 if the index is below 0, or n or more", False)
 BAD_PLACES = Fault((10,), "10 IndexOutOfRange at the segment", False)
 BAD_COUNT = (
-    Fault((12,), "12 NegativeLength, without a place, where count is below 0", False),
-    Fault((13,), f"13 TooLong where it is above {MOST_ELEMENTS}", False),
+    Fault((12,), "12 NegativeLength, without a place, if count is below 0", False),
+    Fault((13,), f"13 TooLong if it is above {MOST_ELEMENTS}", False),
 )
 
 # What each operator does, and its fault.
@@ -158,79 +158,78 @@ VERSION = "1.0.0"
 # What stands before the functions of a section: of families, and of calls.
 OF_FAMILIES = {
     "combining permutes": (
-        "No script calls these. A combining permute sends each element to the place that its index names and joins it with what stands there, so that one "
-        "call adds up by key, or finds the least of each group; several elements that go to one place are joined in their order. out holds what stands "
-        "before, and then the result, so that a call on a few elements of a large table touches no other place. To begin anew, fill out with what changes "
-        "nothing, as 0 for CVL_ADD and INT32_MAX for CVL_MIN. Booleans in out that are neither 0 nor 1 become 1.",
-        "Where there are lengths an index counts from the start of its segment of out. The faults by the lengths come first, those of `lengths` before "
+        "No script calls these. A combining permute sends each element to the place that its index names and joins it with what is there: one call adds up "
+        "by key, or finds the least of each group. Elements that go to one place are joined in their order. out holds the values before and then the result, "
+        "so a call on a few elements of a large table touches no other place. To start anew, fill out with what changes nothing, such as 0 for CVL_ADD and "
+        "INT32_MAX for CVL_MIN. Booleans in out that are neither 0 nor 1 become 1.",
+        "With lengths, an index counts from the start of its segment of out. The faults by the lengths come first, those of `lengths` before "
         "those of `result_lengths`; there are as many of the one as of the other, else 7 LengthMismatch.",
     ),
     "first senders": (
-        "No script calls these. Of several places that name one place of the result the least wins, whatever the number of threads, and no values are "
-        "combined: so a search by breadth, a sort or the removal of duplicates finds its winners. A back permute by the senders that are not -1 gives "
+        "No script calls these. If several places name one place of the result, the least wins, for any number of threads, and no values are "
+        "combined: this finds the winners of a breadth-first search, a sort or a removal of duplicates. A back permute by the senders that are not -1 gives "
         "one element for each place that is named.",
-        "Where there are lengths an index counts from the start of its segment of the result, and a sender from the start of its own segment. The faults "
+        "With lengths, an index counts from the start of its segment of the result, and a sender from the start of its own segment. The faults "
         "by the lengths come first, those of `lengths` before those of `result_lengths`; there are as many of the one as of the other, else 7 "
         "LengthMismatch.",
     ),
     "orders, ranks and sorts": (
-        "No script calls these. Keys are signed integers, and equal ones keep the order of their places, so that each call has one answer. An order and a "
-        "rank are inverse permutations; by either of them other vectors follow their keys. CVL_NOT of the keys before a call, and of a sort after it, "
-        "gives the descending order, in which equal keys still keep the order of their places. The room of a sort may be the keys themselves.",
-        "These calls run on the thread that calls. An order and a rank take up to 16 bytes a key while they run, a sort up to 4, by segments of the keys of "
-        "the longest one, and all of them up to 8192 bytes more. If these are refused, the status is 100 NoResources, and the room is as it was.",
+        "No script calls these. Keys are signed integers, and equal ones keep the order of their places (a stable sort). An order and a rank are inverse "
+        "permutations; by either of them other vectors follow their keys. For descending order use CVL_NOT on the keys before a call, and on the result of "
+        "a sort; equal keys still keep their order. A sort may be in place.",
+        "These calls run on the calling thread. An order and a rank take up to 16 bytes a key while they run, a sort up to 4 (by segments, for the keys of "
+        "the longest one), and all up to 8192 bytes more. If that is refused, the status is 100 NoResources.",
     ),
     "slices and merges": (
-        "No script calls these. They move runs of elements where a back permute would move one after another, or give one value of each segment that no "
-        "operator joins. None asks for memory but for booleans that are neither 0 nor 1, and each runs on the thread that calls.",
-        "The faults by the lengths come first, as at the other calls on segments, and then 7 LengthMismatch, without a place, where arrays are not as long as "
-        "is said.",
+        "No script calls these. They move runs of elements while a back permute moves single elements, or give one value of each segment that no "
+        "operator joins. None asks for memory, but for booleans that are neither 0 nor 1, and each runs on the calling thread.",
+        "The faults by the lengths come first, as at the other calls on segments, then 7 LengthMismatch, without a place, if the lengths of "
+        "arrays do not fit.",
     ),
     "transposes, and integers of a byte": (
-        "No script calls these. A transpose moves a matrix block by block, so that each element is read while what lies beside it is in cache; a back permute "
-        "would read one here and one there. It runs on the thread that calls. Integers of a byte take a quarter of the memory, as the bytes of a text do: "
+        "No script calls these. A transpose moves a matrix block by block, so it reads neighbours while they are in cache, which a back permute "
+        "does not. It runs on the calling thread. Integers of a byte take a quarter of the memory, as the bytes of a text do: "
         "widen them before calls on integers, and narrow what fits. The bytes of a signed type are the same bytes: subtract 256 from the integers above 127 "
         "once they are widened, and add 256 to the negative ones before they are narrowed.",
     ),
     "texts": (
-        "A text is bytes, with no zero at its end. A caller may not know how long a result is: it stands at the front of its room, and count is its "
-        "length; the rest of the room is as it was. Where the room is too short it is as it was, the status is 7 LengthMismatch, without a place, and "
-        "count is the length that is needed, so that a call with a room of no elements asks for it. After any other fault, or without memory, the "
-        "count too is as it was. Of a text that is read the room is asked last, since the text alone says how long the result is.",
+        "A text is bytes, with no zero at its end. You may not know how long a result is: it is at the front of your buffer, count is its length, and the "
+        "rest stays as it was. If the buffer is too short, it stays as it was, the status is 7 LengthMismatch, without a place, and count is the length that "
+        "you need; pass a buffer of no elements to ask. After any other fault the count stays as it was, too. For a text that is read the buffer is checked "
+        "last, since only the text says how long the result is.",
     ),
     "scans in parts, by threads of the caller's": (
-        "Threads of the caller's own scan one vector together in three steps, with a barrier of the caller's between them:",
+        "Your own threads scan one vector together in three steps, with a barrier of yours between them:",
         "  1. each thread reduces its tiles: cvl_int_reduce(op, a + from, to - from, &sums[t]), for tile t from place `from` to `to`;",
         "  2. one thread scans the sums: cvl_int_scan(op, sums, tiles, before, tiles);",
         "  3. each thread scans its tiles: cvl_int_scan_after(op, before[t], a + from, to - from, out + from, to - from).",
-        "Then out is what cvl_int_scan gives of the whole. The tiles may have any lengths, 0 too, and any thread may take any tile of a step. "
+        "Then out is the cvl_int_scan of the whole. Tiles may have any length, also 0, and any thread may take any tile of a step. "
         "examples/c/threads.c does this with POSIX threads.",
     ),
     "sparse products": (
         "A sparse matrix comes by its rows: how many entries each row has, and the column and the value of each entry, row after row. Each row is one "
-        "walk, so that no vector stands between, as it does where cvl_bck_puz, cvl_mul_wuz and cvl_add_rez are called in turn. Faults by the lengths come "
-        "first, as at the calls on segments. Rows may come by their offsets, too, as those of a matrix of compressed rows do: one more than rows, row r has "
-        "the entries from the one at offset r to the one before offset r + 1. For many products of one matrix cvl_segments_from_offsets writes the lengths "
-        "once.",
+        "pass, so no vector is written in between, as by cvl_bck_puz, cvl_mul_wuz and cvl_add_rez in turn. Faults by the lengths come "
+        "first, as at the calls on segments. Rows may also come by their offsets, as in a matrix of compressed rows (CSR): one more than rows; row r has the "
+        "entries from offset r to before offset r + 1. For many products of one matrix make the lengths once, by cvl_segments_from_offsets.",
     ),
     "calls in parts": (
-        "A caller with threads or machines of its own makes a call in parts, each a range of the vector. Most calls need nothing more than "
-        "themselves for that, and the functions here are what a part needs where the whole does not. docs/user/parallel.md tells for each call how it is "
-        "cut, what its parts tell one another and what gives the whole; cvl_parallel.h does it for threads.",
+        "If you have threads or machines of your own, make a call in parts, each a range of the vector. Most calls need only themselves for that; "
+        "these functions are what else a part needs. docs/user/parallel.md says for each call how to cut it, what its parts pass on, and how to join the "
+        "results; cvl_parallel.h does it for threads.",
     ),
 }
 OF_CALLS = {
     "segments": (
-        "Segments come as their lengths, one for each segment, empty ones too. Each call on segments has these faults first, by the lengths: 13 "
-        f"TooLong, without a place, where there are more than {MOST_ELEMENTS}; 12 NegativeLength at the first that is below 0; 13 TooLong, without a "
-        f"place, where they add up to more than {MOST_ELEMENTS}.",
+        "Segments come as their lengths, one for each segment, which may be 0. Each call on segments first has these faults, by the lengths: 13 "
+        f"TooLong, without a place, if there are more than {MOST_ELEMENTS}; 12 NegativeLength at the first that is below 0; 13 TooLong, without a "
+        f"place, if they add up to more than {MOST_ELEMENTS}.",
     ),
     "permutes": (
-        "In a simple, a select and a default permute the index of a place tells where its element goes, and no two may go to one place. 13 TooLong "
-        f"stands where the index has more than {MOST_ELEMENTS} elements, and comes first.",
+        "In a simple, a select and a default permute the index of a place says where its element goes, and no two may go to one place. 13 TooLong, "
+        f"if the index has more than {MOST_ELEMENTS} elements, comes first.",
     ),
     "permutes of segments": (
-        "The faults by the lengths come first, as at the other calls on segments; where there are two arrays of lengths, those of `lengths` before "
+        "The faults by the lengths come first, as at the other calls on segments; with two arrays of lengths those of `lengths` before "
         "those of the other. There are as many of the one as of the other, else 7 LengthMismatch. Indices count from the start of their segment.",
     ),
 }
@@ -361,57 +360,57 @@ def first_to_last(names):
 
 SHAPE_ONE = "a and out have n elements."
 SHAPE_TWO = "a, b and out have n elements."
-PACKED = "out has room for so many; room for n is always enough. *count is how many they are, also where there is not room for them."
+PACKED = "out needs room for so many; n is always enough. *count is how many they are, also if out is too short."
 BAD_INDEX = Fault(
-    (10, 11), "at the first bad index 10 IndexOutOfRange where it is below 0, or n or more, else 11 IndexRepeated where an earlier one is the same", False)
+    (10, 11), "at the first bad index 10 IndexOutOfRange if it is below 0, or n or more, else 11 IndexRepeated if an earlier one is the same", False)
 BAD_SELECTED = Fault(
     (10, 11),
-    "at the first bad index 10 IndexOutOfRange where it is below 0, or the number of true flags or more, else 11 IndexRepeated where an "
+    "at the first bad index 10 IndexOutOfRange if it is below 0, or the number of true flags or more, else 11 IndexRepeated if an "
     "earlier one is the same",
     False,
 )
 BAD_DEFAULTED = Fault(
-    (10, 11), "at the first bad index 10 IndexOutOfRange where it is below 0, or m or more, else 11 IndexRepeated where an earlier one is the same", False)
+    (10, 11), "at the first bad index 10 IndexOutOfRange if it is below 0, or m or more, else 11 IndexRepeated if an earlier one is the same", False)
 BAD_BACK = Fault((10,), "10 IndexOutOfRange at the first index below 0, or n or more", False)
-REPEATED = "else 11 IndexRepeated where an earlier one of its segment is the same"
-BAD_IN_SEGMENT = Fault((10, 11), f"at the first bad index 10 IndexOutOfRange where it is no place of its segment, {REPEATED}", False)
-BAD_IN_RESULT = Fault((10, 11), f"at the first bad index 10 IndexOutOfRange where it is no place of its segment of the result, {REPEATED}", False)
-BAD_IN_DEFAULTS = Fault((10, 11), f"at the first bad index 10 IndexOutOfRange where it is no place of its segment of the defaults, {REPEATED}", False)
+REPEATED = "else 11 IndexRepeated if an earlier one of its segment is the same"
+BAD_IN_SEGMENT = Fault((10, 11), f"at the first bad index 10 IndexOutOfRange if it is no place of its segment, {REPEATED}", False)
+BAD_IN_RESULT = Fault((10, 11), f"at the first bad index 10 IndexOutOfRange if it is no place of its segment of the result, {REPEATED}", False)
+BAD_IN_DEFAULTS = Fault((10, 11), f"at the first bad index 10 IndexOutOfRange if it is no place of its segment of the defaults, {REPEATED}", False)
 BAD_IN_SOURCE = Fault((10,), "10 IndexOutOfRange at the first index that is no place of its segment of the source", False)
-SUMS_OF_DEFAULTS = Fault((7,), "7 LengthMismatch where the lengths do not add up to n or the default lengths to m", False)
-SUMS_OF_INDEX = Fault((7,), "7 LengthMismatch where the lengths do not add up to n or the index lengths to m", False)
-FLAGS_DIFFER = Fault((7,), "7 LengthMismatch where index and flags are not equally long", False)
+SUMS_OF_DEFAULTS = Fault((7,), "7 LengthMismatch if the lengths do not add up to n or the default lengths to m", False)
+SUMS_OF_INDEX = Fault((7,), "7 LengthMismatch if the lengths do not add up to n or the index lengths to m", False)
+FLAGS_DIFFER = Fault((7,), "7 LengthMismatch if index and flags differ in length", False)
 BAD_NAMED = Fault((10,), "10 IndexOutOfRange at the first index that is no place of the result", False)
-SUMS_OF_RESULT = Fault((7,), "7 LengthMismatch where the lengths do not add up to the index, or the result lengths to out", False)
+SUMS_OF_RESULT = Fault((7,), "7 LengthMismatch if the lengths do not add up to the index, or the result lengths to out", False)
 BAD_NAMED_IN_SEGMENT = Fault((10,), "10 IndexOutOfRange at the first index that is no place of its segment of the result", False)
-LONG_ROOM = Fault((13,), "13 TooLong, also where out is", False)
-NOT_AS_MANY = Fault((7,), "7 LengthMismatch where source and index are not equally long", False)
+LONG_ROOM = Fault((13,), "13 TooLong, also if out is too long", False)
+NOT_AS_MANY = Fault((7,), "7 LengthMismatch if source and index differ in length", False)
 SUMS_OF_SENT = Fault(
-    (7,), "7 LengthMismatch where source and index are not equally long, or the lengths do not add up to them, or the result lengths to out", False)
+    (7,), "7 LengthMismatch if source and index differ in length, or the lengths do not add up to them, or the result lengths to out", False)
 BAD_SLICE = Fault((10,), "10 IndexOutOfRange at the first segment whose start is below 0, or whose end is behind that of the source", False)
-SUMS_OF_BOTH = Fault((7,), "7 LengthMismatch where the lengths do not add up to a, or the other lengths to b", False)
+SUMS_OF_BOTH = Fault((7,), "7 LengthMismatch if the lengths do not add up to a, or the other lengths to b", False)
 SUMS_OF_SIDES = Fault(
-    (7,), "7 LengthMismatch where the lengths do not add up to flags, the true lengths to when_true or the false lengths to when_false", False)
+    (7,), "7 LengthMismatch if the lengths do not add up to flags, the true lengths to when_true or the false lengths to when_false", False)
 MISCOUNT = Fault(
     (7,), "7 LengthMismatch at the first segment that has not as many true flags as when_true has elements there, or not as many false ones as when_false",
     False)
-NO_MATRIX = Fault((7,), "7 LengthMismatch where rows times columns is not n", False)
+NO_MATRIX = Fault((7,), "7 LengthMismatch if rows times columns is not n", False)
 NO_BYTE = Fault((18,), "18 Overflow at the first integer below 0 or above 255", False)
-NO_SIDES = Fault((7,), "7 LengthMismatch where when_true has not as many elements as there are true flags, or when_false as there are false ones", False)
+NO_SIDES = Fault((7,), "7 LengthMismatch if when_true does not have one element for each true flag, or when_false for each false one", False)
 OVERFLOW_AT_PLACE = Fault((18,), "18 Overflow at the first place whose sum does not fit 32 bits", False)
-OVERFLOW_AT_0 = Fault((18,), "18 Overflow at 0 where it does not fit 32 bits", False)
+OVERFLOW_AT_0 = Fault((18,), "18 Overflow at 0 if it does not fit 32 bits", False)
 BAD_COLUMN = Fault((10,), "10 IndexOutOfRange at the first column below 0, or m or more", False)
-SUM_OF_ENTRIES = Fault((7,), "7 LengthMismatch where columns and values are not equally many, or the lengths do not add up to n", False)
-TOO_MANY = Fault((13,), f"13 TooLong, also where there are more than {MOST_ELEMENTS + 1} offsets", False)
+SUM_OF_ENTRIES = Fault((7,), "7 LengthMismatch if columns and values differ in length, or the lengths do not add up to n", False)
+TOO_MANY = Fault((13,), f"13 TooLong, also if there are more than {MOST_ELEMENTS + 1} offsets", False)
 BAD_OFFSETS = Fault(
-    (7, 12), "7 LengthMismatch where there is no offset or the first is not 0, else 12 NegativeLength at the first row whose offset is above the next one",
+    (7, 12), "7 LengthMismatch if there is no offset or the first is not 0, else 12 NegativeLength at the first row whose offset is above the next one",
     False)
-LAST_OFFSET = Fault((7,), "7 LengthMismatch where columns and values are not equally many, or the last offset is not n", False)
+LAST_OFFSET = Fault((7,), "7 LengthMismatch if columns and values differ in length, or the last offset is not n", False)
 OVERFLOW_AT_ROW = Fault((18,), "18 Overflow at the first row whose sum does not fit 32 bits", False)
 OVERFLOW_AT_SEGMENT = Fault((18,), "18 Overflow at the first segment whose sum does not fit 32 bits", False)
 RANGE_FAULTS = (
-    Fault((13,), f"13 TooLong, by the index, and where the range ends behind place {MOST_ELEMENTS}", False),
-    Fault((7,), "7 LengthMismatch, where source and index are not equally long, or marks_len is not (out_len + 31) / 32. At a fault all rooms are as they were", False),
+    Fault((13,), f"13 TooLong, by the index, and if the range ends behind place {MOST_ELEMENTS}", False),
+    Fault((7,), "7 LengthMismatch if source and index differ in length, or marks_len is not (out_len + 31) / 32. After a fault all buffers are as they were", False),
 )
 
 FAMILIES = (
@@ -434,7 +433,7 @@ FAMILIES = (
     *twins(
         ("select_int", "select_bool"), "place by place",
         lambda kind: (flags("flags"), any_items(kind, "a"), any_items(kind, "b"), room(kind)),
-        "At each place the element of a where the flag is true, else that of b.", in_place=(("a",), ("b",)), cut=("places", "n"),
+        "At each place the element of a if the flag is true, else that of b.", in_place=(("a",), ("b",)), cut=("places", "n"),
         shape="flags, a, b and out have n elements.",
     ),
     # ---- scans and reduces ----
@@ -565,7 +564,7 @@ FAMILIES = (
         lambda kind: (items(kind, "source"), ints("index"), copied("flags"), room(kind, "trues")),
         "Each element of the source whose flag is true at its index.", faults=(TOO_LONG, BAD_SELECTED), asks=True, cut=("ranges", "trues"),
         shape="source, index and flags have n elements; out has m, the number of true flags, else 7 LengthMismatch. An index whose flag is "
-        "false is not looked at.",
+        "false is ignored.",
     ),
     *twins(
         ("default_permute_int", "default_permute_bool"), "permutes",
@@ -590,7 +589,7 @@ FAMILIES = (
         "Each element of the source whose flag is true at its index in its segment of the result.", faults=(TOO_LONG, SUM_OF_N, BAD_IN_RESULT),
         asks=True, cut=("segments", "n"),
         shape="source, index and flags have n elements; out has m, the number of true flags, else 7 LengthMismatch. An index whose flag is "
-        "false is not looked at.",
+        "false is ignored.",
     ),
     *twins(
         ("seg_default_permute_int", "seg_default_permute_bool"), "permutes of segments",
@@ -609,19 +608,19 @@ FAMILIES = (
     # ---- first senders ----
     family(
         "first_senders", "first senders", (ints("index"), room("ints", "m")),
-        "For each place of the result the least place whose index names it, or -1 where none does. The result may have any number of places.",
+        "For each place of the result the least place whose index names it, or -1 if none does. The result may have any number of places.",
         faults=(TOO_LONG, BAD_NAMED), cut=("senders", "m"), example={"index": "2 0 2 3", "out": "1 -1 0 3"},
     ),
     family(
         "select_first_senders", "first senders", (ints("index"), copied("flags"), room("ints", "m")),
-        "For each place of the result the least place whose flag is true and whose index names it, or -1 where none does. An index whose flag is false is "
-        "not looked at. The result may have any number of places.",
+        "For each place of the result the least place whose flag is true and whose index names it, or -1 if none does. An index whose flag is false is "
+        "ignored. The result may have any number of places.",
         faults=(TOO_LONG, FLAGS_DIFFER, BAD_NAMED), cut=("senders", "m"),
         example={"index": "2 0 2 9", "flags": "false true true false", "out": "1 -1 2"},
     ),
     family(
         "seg_first_senders", "first senders", (ints("index"), lengths(), lengths("result_lengths", "m"), room("ints", "m")),
-        "For each place of each segment of the result the least place of the same segment of the index that names it, or -1 where none does.",
+        "For each place of each segment of the result the least place of the same segment of the index that names it, or -1 if none does.",
         faults=(TOO_LONG, SUMS_OF_RESULT, BAD_NAMED_IN_SEGMENT), cut=("segments", "n"),
         example={"index": "1 1 0 3 0", "lengths": "2 0 3", "result_lengths": "2 1 4", "out": "-1 0 -1 0 -1 -1 1"},
     ),
@@ -629,7 +628,7 @@ FAMILIES = (
         "seg_select_first_senders", "first senders",
         (ints("index"), copied("flags"), lengths(), lengths("result_lengths", "m"), room("ints", "m")),
         "For each place of each segment of the result the least place of the same segment of the index whose flag is true and whose index names it, or -1 "
-        "where none does. An index whose flag is false is not looked at.",
+        "if none does. An index whose flag is false is ignored.",
         faults=(TOO_LONG, FLAGS_DIFFER, SUMS_OF_RESULT, BAD_NAMED_IN_SEGMENT), cut=("segments", "n"),
         example={
             "index": "1 1 9 3 0", "flags": "false true false true true", "lengths": "2 0 3", "result_lengths": "2 1 4", "out": "-1 1 -1 2 -1 -1 1",
@@ -733,7 +732,7 @@ FAMILIES = (
     *twins(
         ("merge_by_flags_int", "merge_by_flags_bool"), "slices and merges",
         lambda kind: (copied("flags"), items(kind, "when_true", "trues"), items(kind, "when_false", "falses"), room(kind)),
-        "At each place the next element of when_true where the flag is true, and of when_false where it is false: the inverse of two packs.",
+        "At each place the next element of when_true if the flag is true, and of when_false if it is false: the inverse of two packs.",
         faults=(TOO_LONG, NO_SIDES), shape="flags and out have n elements, when_true as many as there are true flags, and when_false the others.",
         example=lambda kind: {
             "ints": {"flags": "true false false true", "when_true": "1 2", "when_false": "7 8", "out": "1 7 8 2"},
@@ -746,7 +745,7 @@ FAMILIES = (
             copied("flags"), items(kind, "when_true", "trues"), items(kind, "when_false", "falses"), lengths(), lengths("true_lengths", "trues"),
             lengths("false_lengths", "falses"), room(kind),
         ),
-        "At each place of each segment the next element of the same segment of when_true where the flag is true, and of when_false where it is false: the "
+        "At each place of each segment the next element of the same segment of when_true if the flag is true, and of when_false if it is false: the "
         "inverse of two packs of segments.",
         limit=None, faults=(SUMS_OF_SIDES, MISCOUNT), cut=("segments", "n"),
         shape="flags and out have n elements in segments with the lengths; when_true and when_false are in as many segments with the true lengths and the "
@@ -763,18 +762,18 @@ FAMILIES = (
         }[kind],
     ),
     family(
-        "first_true", "slices and merges", (copied("flags"), single("int")), "The place of the first true flag, or -1 where none is true.",
+        "first_true", "slices and merges", (copied("flags"), single("int")), "The place of the first true flag, or -1 if none is true.",
         example={"flags": "false false true true", "out": "2"},
     ),
     family(
         "seg_first_true", "slices and merges", (copied("flags"), lengths(), room("ints", "segments")),
-        "For each segment the place of its first true flag, counted from the start of the segment, or -1 where none is true.",
+        "For each segment the place of its first true flag, counted from the start of the segment, or -1 if none is true.",
         limit=None, faults=(SUM_OF_N,), shape="flags has n elements, out one for each segment.",
         example={"flags": "false true false false true", "lengths": "2 1 0 2", "out": "1 -1 -1 1"},
     ),
     family(
         "seg_exact_sums", "slices and merges", (ints("a"), lengths(), room("sums", "segments")),
-        "The sum of each segment in 64 bits, where it always fits.", limit=None, faults=(SUM_OF_N,), shape="a has n elements, out one for each segment.",
+        "The sum of each segment in 64 bits, which always fits.", limit=None, faults=(SUM_OF_N,), shape="a has n elements, out one for each segment.",
         example={"a": "2147483647 1 5", "lengths": "2 0 1", "out": "2147483648 0 5"},
     ),
     # ---- transposes, and integers of a byte ----
@@ -803,7 +802,7 @@ FAMILIES = (
         "and at least one digit, inside 32 bits. A text of white space alone has none.",
         limit=None,
         faults=(
-            Fault((13,), f"13 TooLong, without a place, where there are more than {MOST_OF_TEXT} words between white space, whatever they are", False),
+            Fault((13,), f"13 TooLong, without a place, if there are more than {MOST_OF_TEXT} words between white space, whatever they are", False),
             Fault((15,), "else 15 BadInput at the first word that is no such integer", False),
         ),
         asks=True, cut=("read", "n"), example={"text": '"5 -1\\n007 -0"', "out": "5 -1 7 0", "count": "4"},
@@ -820,19 +819,19 @@ FAMILIES = (
     ),
     family(
         "seg_read_ints", "texts", (text("text"), room("ints", "room"), told(), room("ints", "lengths_room", "lengths"), told("segments")),
-        'The integers and the lengths of the lists of a nested text: "[", any number of lists, "]", where a list is "[", integers as in '
-        'cvl_read_ints, "]". Each of the two results has a room and a count of its own; where one room is too short both are as they were, and '
-        "both counts are the lengths that are needed.",
+        'The integers and the lengths of the lists of a nested text: "[", any number of lists, "]"; a list is "[", integers as in '
+        'cvl_read_ints, "]". Each of the two results has a room and a count of its own; if one is too short, both stay as they were, and '
+        "both counts are the lengths that you need.",
         limit=None,
         faults=(
             Fault(
                 (13,),
-                f"13 TooLong, without a place, where there are more than {MOST_OF_TEXT} words other than brackets or more than {MOST_OF_TEXT + 1} "
+                f"13 TooLong, without a place, if there are more than {MOST_OF_TEXT} words other than brackets or more than {MOST_OF_TEXT + 1} "
                 '"[", whatever they are',
                 False,
             ),
             Fault(
-                (15,), "else 15 BadInput at the first word or bracket that cannot stand where it does, or, where the text ends too early, at the number of "
+                (15,), "else 15 BadInput at the first word or bracket that cannot stand there, or, if the text ends too early, at the number of "
                 "its words and brackets", False),
         ),
         asks=True, cut=("whole", None),
@@ -843,7 +842,7 @@ FAMILIES = (
         "The text of a vector of integers that is cut into segments: the texts of the segments, a space between each two, in brackets.",
         limit=None, faults=(
             Fault((13, 12), "by the lengths those of each call on segments, 13 TooLong, 12 NegativeLength, 13 TooLong", False),
-            Fault((7,), "7 LengthMismatch where the lengths do not add up to the vector's", False),
+            Fault((7,), "7 LengthMismatch if the lengths do not add up to the vector's", False),
         ),
         asks=True, cut=("seg_write", "n"), example={"a": "5 1 7", "lengths": "0 2 1", "out": '"[[] [5 1] [7]]"', "count": "14"},
     ),
@@ -861,24 +860,24 @@ FAMILIES = (
     # ---- calls in parts ----
     family(
         "exact_sum", "calls in parts", (ints("a"), single("sum")),
-        "The sum of the integers in 64 bits, where it always fits: what a part of a checked sum tells to the next.",
+        "The sum of the integers in 64 bits, which always fits: what a part of a checked sum passes on.",
         example={"a": "2147483647 1", "out": "2147483648"},
     ),
     family(
         "checked_scan_after", "calls in parts", (value("before", "sum"), ints("a"), room("ints")),
         "For each integer `before` and those in front of it, added up: a part of cvl_checked_scan after the exact sum of the parts in front of it. "
-        "Where the part does not begin at place 0, neither does the place of a fault.",
+        "The place of a fault counts from the start of the part.",
         faults=(TOO_LONG, OVERFLOW_AT_PLACE), example={"before": "10", "a": "3 1 4", "out": "10 13 14"},
     ),
     family(
         "permute_int_range", "calls in parts",
         (ints("source"), ints("index"), value("lowest", "size"), room("ints", "range"), room("marks", "marks", "marks"), told("written")),
         "One range of the result of smp_puz, its out_len places from place `lowest` on: each element whose index is one of them is written there, the last "
-        "where there are several, and the place is marked by a bit. marks are (out_len + 31) / 32 words: bit b of word w, of the value 1 << b, is set where "
+        "if there are several, and a bit marks the place. marks are (out_len + 31) / 32 words: bit b of word w, of the value 1 << b, is set if "
         "place 32 * w + b of the range is written, and the bits behind the last place are not. It does not matter what they hold before; written is how many "
-        "bits are set. Each part has another range, its own marks, and all of source and index. Where all parts together wrote index_len places, the ranges, "
-        "one after another, are the permute. Else an index is out of range or repeated: cvl_permute_int tells which. A place that nothing is sent to stays as "
-        "it was, so that over ranges that hold the defaults before the parts are def_puz.",
+        "bits are set. Each part has another range, its own marks, and all of source and index. If all parts together wrote index_len places, the ranges, "
+        "one after another, are the permute. Else an index is out of range or repeated: cvl_permute_int reports which. A place to which nothing is sent stays "
+        "as it was, so over ranges that hold the defaults the parts are def_puz.",
         faults=RANGE_FAULTS, example={"source": "5 6 7", "index": "2 0 1", "lowest": "1", "out_len": "2", "out": "7 5", "marks": "3", "written": "2"},
     ),
     family(
@@ -894,9 +893,9 @@ FAMILIES = (
             ints("source"), ints("index"), copied("flags"), value("lowest", "size"), room("ints", "range"), room("marks", "marks", "marks"),
             told("written"),
         ),
-        "One range of the result of sel_puz, the same way: the elements alone go anywhere whose flag is true. Where the result has as many places as there "
+        "One range of the result of sel_puz, the same way: only elements whose flag is true go anywhere. If the result has as many places as there "
         "are true flags, and all parts together wrote as many, the ranges are the permute.",
-        faults=(Fault((13, 7), "those of cvl_permute_int_range; 7 LengthMismatch also where index and flags are not equally long", False),),
+        faults=(Fault((13, 7), "those of cvl_permute_int_range; 7 LengthMismatch also if index and flags differ in length", False),),
         example={
             "source": "5 6 7", "index": "1 9 0", "flags": "true false true", "lowest": "0", "out_len": "1", "out": "7", "marks": "1", "written": "1",
         },
@@ -916,16 +915,16 @@ FAMILIES = (
     family(
         "first_senders_range", "calls in parts", (ints("index"), value("lowest", "size"), room("ints", "range"), told("named")),
         "One range of the first senders, its out_len places from place `lowest` on: for each the least place whose index names it, or -1. named is how "
-        "many indices name a place of the range. Each part has another range and all of index. Where all parts together named index_len, the ranges, one "
-        "after another, are the first senders. Else an index is out of range: cvl_first_senders tells which.",
-        faults=(Fault((13,), f"13 TooLong, by the index, and where the range ends behind place {MOST_ELEMENTS}", False),),
+        "many indices name a place of the range. Each part has another range and all of index. If all parts together named index_len, the ranges, one "
+        "after another, are the first senders. Else an index is out of range: cvl_first_senders reports which.",
+        faults=(Fault((13,), f"13 TooLong, by the index, and if the range ends behind place {MOST_ELEMENTS}", False),),
         example={"index": "2 0 2 3", "lowest": "1", "out_len": "2", "out": "-1 0", "named": "2"},
     ),
     family(
         "select_first_senders_range", "calls in parts",
         (ints("index"), copied("flags"), value("lowest", "size"), room("ints", "range"), told("named")),
-        "The same among the places whose flag is true: where all parts together named as many as flags are true, the ranges are the first senders.",
-        faults=(Fault((13, 7), "those of cvl_first_senders_range; 7 LengthMismatch where index and flags are not equally long", False),),
+        "The same among the places whose flag is true: if all parts together named as many as flags are true, the ranges are the first senders.",
+        faults=(Fault((13, 7), "those of cvl_first_senders_range; 7 LengthMismatch if index and flags differ in length", False),),
         example={"index": "2 0 2 9", "flags": "false true true false", "lowest": "1", "out_len": "2", "out": "-1 2", "named": "1"},
     ),
     family(
@@ -934,10 +933,10 @@ FAMILIES = (
         "that a fault's place is that in the whole text.",
         limit=None,
         faults=(
-            Fault((13,), f"13 TooLong, without a place, where `before` is more than {MOST_ELEMENTS}, or the piece itself has more than {MOST_OF_TEXT} words", False),
+            Fault((13,), f"13 TooLong, without a place, if `before` is more than {MOST_ELEMENTS}, or the piece itself has more than {MOST_OF_TEXT} words", False),
             Fault(
-                (15,), "else 15 BadInput at the first word of the piece that is no integer. That all pieces together have at most "
-                f"{MOST_ELEMENTS} words is the caller's to see", False),
+                (15,), "else 15 BadInput at the first word of the piece that is no integer. You must check that all pieces together have at most "
+                f"{MOST_ELEMENTS} words", False),
         ),
         asks=True, example={"before": "3", "text": '"9 10"', "out": "9 10", "count": "2"},
     ),
@@ -1034,28 +1033,28 @@ CALLS = (
     Call("cpy_wub", "place by place", "bool1", "CPY", "Each boolean copied.", {"a": "true false", "out": "true false"}),
     Call(
         "grt_wuz", "place by place", "compare", "GRT",
-        "True where a is greater.",
+        "True if a is greater.",
         {"a": "1 2 3", "b": "2 2 2", "out": "false false true"},
     ),
-    Call("les_wuz", "place by place", "compare", "LES", "True where a is less.", {"a": "1 2 3", "b": "2 2 2", "out": "true false false"}),
+    Call("les_wuz", "place by place", "compare", "LES", "True if a is less.", {"a": "1 2 3", "b": "2 2 2", "out": "true false false"}),
     Call(
         "geq_wuz", "place by place", "compare", "GEQ",
-        "True where a is greater, or they are equal.",
+        "True if a is greater, or they are equal.",
         {"a": "1 2 3", "b": "2 2 2", "out": "false true true"},
     ),
     Call(
         "leq_wuz", "place by place", "compare", "LEQ",
-        "True where a is less, or they are equal.",
+        "True if a is less, or they are equal.",
         {"a": "1 2 3", "b": "2 2 2", "out": "true true false"},
     ),
     Call(
         "eql_wuz", "place by place", "compare", "EQL",
-        "True where they are equal.",
+        "True if they are equal.",
         {"a": "1 2 3", "b": "2 2 2", "out": "false true false"},
     ),
     Call(
         "neq_wuz", "place by place", "compare", "NEQ",
-        "True where they are not equal.",
+        "True if they are not equal.",
         {"a": "1 2 3", "b": "2 2 2", "out": "true false true"},
     ),
     Call(
@@ -1075,115 +1074,115 @@ CALLS = (
     ),
     Call(
         "sel_wuz", "place by place", "select_int", None,
-        "The element of a where the flag is true, else that of b.",
+        "The element of a if the flag is true, else that of b.",
         {"flags": "true false false", "a": "5 0 5", "b": "1 1 1", "out": "5 1 1"},
     ),
     Call(
         "sel_wub", "place by place", "select_bool", None,
-        "The element of a where the flag is true, else that of b.",
+        "The element of a if the flag is true, else that of b.",
         {"flags": "true false", "a": "true true", "b": "false false", "out": "true false"},
     ),
     Call("int_wub", "place by place", "int_from_bool", None, "1 for true and 0 for false.", {"a": "false true true", "out": "0 1 1"}),
-    Call("boo_wuz", "place by place", "bool_from_int", None, "True where the integer is not 0.", {"a": "0 -3 7", "out": "false true true"}),
+    Call("boo_wuz", "place by place", "bool_from_int", None, "True if the integer is not 0.", {"a": "0 -3 7", "out": "false true true"}),
     # ---- scans and reduces ----
     Call(
         "add_suz", "scans and reduces", "int_scan", "ADD",
-        "For each integer those before it, summed, wrapped; 0 at place 0.",
+        "For each integer the sum of those before it, wrapped; 0 at place 0.",
         {"a": "3 1 4", "out": "0 3 4"},
     ),
     Call(
         "add_ruz", "scans and reduces", "int_reduce", "ADD",
-        "The n integers, summed, wrapped; 0 where there are none.",
+        "The sum of the n integers, wrapped; 0 if there are none.",
         {"a": "3 1 4", "out": "8"},
     ),
     Call(
         "mul_suz", "scans and reduces", "int_scan", "MUL",
-        "For each integer those before it, multiplied, wrapped; 1 at place 0.",
+        "For each integer the product of those before it, wrapped; 1 at place 0.",
         {"a": "3 1 4", "out": "1 3 3"},
     ),
     Call(
         "mul_ruz", "scans and reduces", "int_reduce", "MUL",
-        "The n integers, multiplied, wrapped; 1 where there are none.",
+        "The product of the n integers, wrapped; 1 if there are none.",
         {"a": "3 1 4", "out": "12"},
     ),
     Call(
         "min_suz", "scans and reduces", "int_scan", "MIN",
-        "For each integer those before it, the least of them; 2147483647 at place 0.",
+        "For each integer the least of those before it; 2147483647 at place 0.",
         {"a": "3 1 4", "out": "2147483647 3 1"},
     ),
     Call(
         "min_ruz", "scans and reduces", "int_reduce", "MIN",
-        "The n integers, the least of them; 2147483647 where there are none.",
+        "The least of the n integers; 2147483647 if there are none.",
         {"a": "3 1 4", "out": "1"},
     ),
     Call(
         "max_suz", "scans and reduces", "int_scan", "MAX",
-        "For each integer those before it, the greatest of them; -2147483648 at place 0.",
+        "For each integer the greatest of those before it; -2147483648 at place 0.",
         {"a": "3 1 4", "out": "-2147483648 3 3"},
     ),
     Call(
         "max_ruz", "scans and reduces", "int_reduce", "MAX",
-        "The n integers, the greatest of them; -2147483648 where there are none.",
+        "The greatest of the n integers; -2147483648 if there are none.",
         {"a": "3 1 4", "out": "4"},
     ),
     Call(
         "and_suz", "scans and reduces", "int_scan", "AND",
-        "For each integer those before it, and, bit by bit; -1 at place 0.",
+        "For each integer those before it joined by and, bit by bit; -1 at place 0.",
         {"a": "3 1 4", "out": "-1 3 1"},
     ),
     Call(
         "and_ruz", "scans and reduces", "int_reduce", "AND",
-        "The n integers, and, bit by bit; -1 where there are none.",
+        "The n integers joined by and, bit by bit; -1 if there are none.",
         {"a": "3 1 4", "out": "0"},
     ),
     Call(
         "ior_suz", "scans and reduces", "int_scan", "IOR",
-        "For each integer those before it, or, bit by bit; 0 at place 0.",
+        "For each integer those before it joined by or, bit by bit; 0 at place 0.",
         {"a": "3 1 4", "out": "0 3 3"},
     ),
     Call(
         "ior_ruz", "scans and reduces", "int_reduce", "IOR",
-        "The n integers, or, bit by bit; 0 where there are none.",
+        "The n integers joined by or, bit by bit; 0 if there are none.",
         {"a": "3 1 4", "out": "7"},
     ),
     Call(
         "xor_suz", "scans and reduces", "int_scan", "XOR",
-        "For each integer those before it, exclusive or, bit by bit; 0 at place 0.",
+        "For each integer those before it joined by exclusive or, bit by bit; 0 at place 0.",
         {"a": "3 1 4", "out": "0 3 2"},
     ),
     Call(
         "xor_ruz", "scans and reduces", "int_reduce", "XOR",
-        "The n integers, exclusive or, bit by bit; 0 where there are none.",
+        "The n integers joined by exclusive or, bit by bit; 0 if there are none.",
         {"a": "3 1 4", "out": "6"},
     ),
     Call(
         "and_sub", "scans and reduces", "bool_scan", "AND",
-        "For each boolean, of those before it, whether all are true; true at place 0.",
+        "For each boolean whether all those before it are true; true at place 0.",
         {"a": "true false true", "out": "true true false"},
     ),
     Call(
         "and_rub", "scans and reduces", "bool_reduce", "AND",
-        "Of the n booleans, whether all are true; true where there are none.",
+        "Whether all n booleans are true; true if there are none.",
         {"a": "true false true", "out": "false"},
     ),
     Call(
         "ior_sub", "scans and reduces", "bool_scan", "IOR",
-        "For each boolean, of those before it, whether any is true; false at place 0.",
+        "For each boolean whether any of those before it is true; false at place 0.",
         {"a": "true false true", "out": "false true true"},
     ),
     Call(
         "ior_rub", "scans and reduces", "bool_reduce", "IOR",
-        "Of the n booleans, whether any is true; false where there are none.",
+        "Whether any of the n booleans is true; false if there are none.",
         {"a": "true false true", "out": "true"},
     ),
     Call(
         "xor_sub", "scans and reduces", "bool_scan", "XOR",
-        "For each boolean, of those before it, whether an odd number is true; false at place 0.",
+        "For each boolean whether an odd number of those before it is true; false at place 0.",
         {"a": "true false true", "out": "false true true"},
     ),
     Call(
         "xor_rub", "scans and reduces", "bool_reduce", "XOR",
-        "Of the n booleans, whether an odd number is true; false where there are none.",
+        "Whether an odd number of the n booleans is true; false if there are none.",
         {"a": "true false true", "out": "false"},
     ),
     # ---- sums that never wrap ----
@@ -1288,102 +1287,102 @@ CALLS = (
     # ---- scans and reduces of segments ----
     Call(
         "add_sez", "scans and reduces of segments", "seg_int_scan", "ADD",
-        "For each integer those before it in its segment, summed, wrapped; 0 where a segment starts.",
+        "For each integer the sum of those before it in its segment, wrapped; 0 at the start of a segment.",
         {"a": "3 1 4 1 5", "lengths": "2 0 3", "out": "0 3 0 4 5"},
     ),
     Call(
         "add_rez", "scans and reduces of segments", "seg_int_reduce", "ADD",
-        "The integers of each segment, summed, wrapped; 0 where it is empty.",
+        "The sum of the integers of each segment, wrapped; 0 if it is empty.",
         {"a": "3 1 4 1 5", "lengths": "2 0 3", "out": "4 0 10"},
     ),
     Call(
         "mul_sez", "scans and reduces of segments", "seg_int_scan", "MUL",
-        "For each integer those before it in its segment, multiplied, wrapped; 1 where a segment starts.",
+        "For each integer the product of those before it in its segment, wrapped; 1 at the start of a segment.",
         {"a": "3 1 4 1 5", "lengths": "2 0 3", "out": "1 3 1 4 4"},
     ),
     Call(
         "mul_rez", "scans and reduces of segments", "seg_int_reduce", "MUL",
-        "The integers of each segment, multiplied, wrapped; 1 where it is empty.",
+        "The product of the integers of each segment, wrapped; 1 if it is empty.",
         {"a": "3 1 4 1 5", "lengths": "2 0 3", "out": "3 1 20"},
     ),
     Call(
         "min_sez", "scans and reduces of segments", "seg_int_scan", "MIN",
-        "For each integer those before it in its segment, the least of them; 2147483647 where a segment starts.",
+        "For each integer the least of those before it in its segment; 2147483647 at the start of a segment.",
         {"a": "3 1 4 1 5", "lengths": "2 0 3", "out": "2147483647 3 2147483647 4 1"},
     ),
     Call(
         "min_rez", "scans and reduces of segments", "seg_int_reduce", "MIN",
-        "The integers of each segment, the least of them; 2147483647 where it is empty.",
+        "The least of the integers of each segment; 2147483647 if it is empty.",
         {"a": "3 1 4 1 5", "lengths": "2 0 3", "out": "1 2147483647 1"},
     ),
     Call(
         "max_sez", "scans and reduces of segments", "seg_int_scan", "MAX",
-        "For each integer those before it in its segment, the greatest of them; -2147483648 where a segment starts.",
+        "For each integer the greatest of those before it in its segment; -2147483648 at the start of a segment.",
         {"a": "3 1 4 1 5", "lengths": "2 0 3", "out": "-2147483648 3 -2147483648 4 4"},
     ),
     Call(
         "max_rez", "scans and reduces of segments", "seg_int_reduce", "MAX",
-        "The integers of each segment, the greatest of them; -2147483648 where it is empty.",
+        "The greatest of the integers of each segment; -2147483648 if it is empty.",
         {"a": "3 1 4 1 5", "lengths": "2 0 3", "out": "3 -2147483648 5"},
     ),
     Call(
         "and_sez", "scans and reduces of segments", "seg_int_scan", "AND",
-        "For each integer those before it in its segment, and, bit by bit; -1 where a segment starts.",
+        "For each integer those before it in its segment joined by and, bit by bit; -1 at the start of a segment.",
         {"a": "3 1 4 1 5", "lengths": "2 0 3", "out": "-1 3 -1 4 0"},
     ),
     Call(
         "and_rez", "scans and reduces of segments", "seg_int_reduce", "AND",
-        "The integers of each segment, and, bit by bit; -1 where it is empty.",
+        "The integers of each segment joined by and, bit by bit; -1 if it is empty.",
         {"a": "3 1 4 1 5", "lengths": "2 0 3", "out": "1 -1 0"},
     ),
     Call(
         "ior_sez", "scans and reduces of segments", "seg_int_scan", "IOR",
-        "For each integer those before it in its segment, or, bit by bit; 0 where a segment starts.",
+        "For each integer those before it in its segment joined by or, bit by bit; 0 at the start of a segment.",
         {"a": "3 1 4 1 5", "lengths": "2 0 3", "out": "0 3 0 4 5"},
     ),
     Call(
         "ior_rez", "scans and reduces of segments", "seg_int_reduce", "IOR",
-        "The integers of each segment, or, bit by bit; 0 where it is empty.",
+        "The integers of each segment joined by or, bit by bit; 0 if it is empty.",
         {"a": "3 1 4 1 5", "lengths": "2 0 3", "out": "3 0 5"},
     ),
     Call(
         "xor_sez", "scans and reduces of segments", "seg_int_scan", "XOR",
-        "For each integer those before it in its segment, exclusive or, bit by bit; 0 where a segment starts.",
+        "For each integer those before it in its segment joined by exclusive or, bit by bit; 0 at the start of a segment.",
         {"a": "3 1 4 1 5", "lengths": "2 0 3", "out": "0 3 0 4 5"},
     ),
     Call(
         "xor_rez", "scans and reduces of segments", "seg_int_reduce", "XOR",
-        "The integers of each segment, exclusive or, bit by bit; 0 where it is empty.",
+        "The integers of each segment joined by exclusive or, bit by bit; 0 if it is empty.",
         {"a": "3 1 4 1 5", "lengths": "2 0 3", "out": "2 0 0"},
     ),
     Call(
         "and_seb", "scans and reduces of segments", "seg_bool_scan", "AND",
-        "For each boolean, of those before it in its segment, whether all are true; true where a segment starts.",
+        "For each boolean whether all those before it in its segment are true; true at the start of a segment.",
         {"a": "true false true false true", "lengths": "2 0 3", "out": "true true true true false"},
     ),
     Call(
         "and_reb", "scans and reduces of segments", "seg_bool_reduce", "AND",
-        "Of the booleans of each segment, whether all are true; true where it is empty.",
+        "Whether all the booleans of each segment are true; true if it is empty.",
         {"a": "true false true false true", "lengths": "2 0 3", "out": "false true false"},
     ),
     Call(
         "ior_seb", "scans and reduces of segments", "seg_bool_scan", "IOR",
-        "For each boolean, of those before it in its segment, whether any is true; false where a segment starts.",
+        "For each boolean whether any of those before it in its segment is true; false at the start of a segment.",
         {"a": "true false true false true", "lengths": "2 0 3", "out": "false true false true true"},
     ),
     Call(
         "ior_reb", "scans and reduces of segments", "seg_bool_reduce", "IOR",
-        "Of the booleans of each segment, whether any is true; false where it is empty.",
+        "Whether any of the booleans of each segment is true; false if it is empty.",
         {"a": "true false true false true", "lengths": "2 0 3", "out": "true false true"},
     ),
     Call(
         "xor_seb", "scans and reduces of segments", "seg_bool_scan", "XOR",
-        "For each boolean, of those before it in its segment, whether an odd number is true; false where a segment starts.",
+        "For each boolean whether an odd number of those before it in its segment is true; false at the start of a segment.",
         {"a": "true false true false true", "lengths": "2 0 3", "out": "false true false true true"},
     ),
     Call(
         "xor_reb", "scans and reduces of segments", "seg_bool_reduce", "XOR",
-        "Of the booleans of each segment, whether an odd number is true; false where it is empty.",
+        "Whether an odd number of the booleans of each segment is true; false if it is empty.",
         {"a": "true false true false true", "lengths": "2 0 3", "out": "true false false"},
     ),
     # ---- packs and counts of segments ----
@@ -1399,12 +1398,12 @@ CALLS = (
     ),
     Call(
         "pck_lez", "packs and counts of segments", "seg_pack_int", None,
-        "The values of each segment whose flag is true, in their order, one segment after another; pck_fov tells the lengths of these segments.",
+        "The values of each segment whose flag is true, in their order, one segment after another; pck_fov gives the lengths of these segments.",
         {"values": "1 2 3 4 5", "flags": "false true true false true", "lengths": "2 0 3", "out": "2 3 5", "count": "3"},
     ),
     Call(
         "pck_leb", "packs and counts of segments", "seg_pack_bool", None,
-        "The values of each segment whose flag is true, in their order, one segment after another; pck_fov tells the lengths of these segments.",
+        "The values of each segment whose flag is true, in their order, one segment after another; pck_fov gives the lengths of these segments.",
         {"values": "true false true", "flags": "false true true", "lengths": "1 2", "out": "false true", "count": "2"},
     ),
     Call(

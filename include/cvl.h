@@ -1,75 +1,73 @@
 /*
- * cvl.h: the vector calls of CVL, the C Vector Library, on a caller's own memory.
+ * cvl.h: the vector calls of CVL, the C Vector Library, on your own memory.
  *
  * Written by the generator of the repository from its table of calls; edit the table and not this file.
  *
  * Link with -lcvl, an archive and a shared object; docs/user/programs.md shows how. C99 to C23, and C++.
  *
- * Every call answers a CvlStatus: number 0 where all is done, the number of a fault, with its place or -1, 100 where memory ran
- * out, 101 where there is no descriptor, or 102 where arrays overlap. Where all is done the result is in the caller's room, the
- * last array, value or values given. Else the room is as it was.
+ * Every call returns a CvlStatus: number 0 if it is done, else the number of the first fault, with its place or -1. 100 means
+ * that memory ran out, 101 that there is no descriptor, 102 that arrays overlap. The result is in your buffer, the last array,
+ * value or values that you pass. After a fault your buffers are as they were.
  *
- * Arrays come in the order of the call's operands. A number of elements stands right behind the last array that has so many,
- * and in the functions of families behind each array. The lengths of segments are one argument, a CvlLengths. The room is the
- * last array, and behind it stand at most its number of elements and what is told. A place and a count that a caller gives are
- * an int64_t, so that one outside of 32 bits is told as any other that is out of range.
+ * Arrays come in the order of the call's operands. The number of elements follows the last array that has so many; the
+ * functions of families take one behind each array. Lengths of segments are one argument, a CvlLengths. Behind the buffer come
+ * at most its number of elements and a count. Places and counts are int64_t, so that one outside of 32 bits is reported like
+ * any other that is out of range.
  *
- * A function whose last argument is a count tells how many elements there are. They are at the front of the room, and the rest
- * of the room is as it was. Where the room is too short, it is as it was, the status is 7 LengthMismatch, and the count is how
- * many elements there have to be room for; a first call with room for none asks for that. At any other fault the count is as it
- * was too.
+ * If the last argument is a count, the call stores how many elements the result has. They are at the front of your buffer, and
+ * the rest stays as it was. If the buffer is too short, the status is 7 LengthMismatch and the count is the length that you
+ * need; pass a buffer of no elements to ask. After any other fault the count stays as it was.
  *
- * A room is whatever a function writes, counts and single values too. A room that shares memory with another argument is told:
- * the status is 102 Overlap, without a place, and nothing is written. One overlap is none, a call in place: a vector that a
- * function reads may be its room, from the first to the last element, where the line "In place" of a call says so, and in its
- * family. The answer is the same then, and at a fault the vector is as it was. Arrays that are only read may overlap. An array
- * of 0 elements overlaps nothing, and its pointer may be null.
+ * Buffers are all that a function writes, counts and single values too. If one shares memory with another argument, the status
+ * is 102 Overlap, without a place, and nothing is written. You may make a call in place if its line "In place" says so: then an
+ * array that it reads is also its buffer, from the first to the last element. The result is the same, and after a fault the
+ * array is as it was. Arrays that are only read may overlap. An array of 0 elements overlaps nothing, and its pointer may be
+ * null.
  *
- * A boolean is a byte, and any byte but 0 is true, as in C. That is so for each array of booleans that a function reads, and
- * for a boolean by value; an array of another type of bytes may be passed by a cast, since no function reads it as bool.
- * Booleans that are results are 0 and 1. Packs, permutes, combining permutes, also in the room that they join with, first
- * senders, gathers of segments, appends, merges, transposes, searches for a true flag, scans, texts, and replaces and
- * distributes in segments read booleans where they lie if each is 0 or 1, and else take memory for a copy, one byte an element.
- * All other functions read any bytes where they lie.
+ * A boolean is a byte; any byte but 0 is true, as in C. You may pass an array of another type of bytes by a cast, since no
+ * function reads it as bool. Results are 0 and 1. If an array has other bytes, these calls copy it, one byte an element: packs,
+ * permutes, combining permutes (also the buffer that they join with), first senders, gathers of segments, appends, merges,
+ * transposes, searches for a true flag, scans, texts, and replaces and distributes in segments. All others read any bytes where
+ * they lie.
  *
- * What a caller owes, and what it costs where it isn't so:
+ * What you owe, and what happens if you break it:
  *
- *   - A pointer leads to as many elements as is said, aligned for their type, which may be read and in a room written. Else the
- *     call may crash, or read or write other memory.
- *   - While a call is at work no other thread writes its arrays, or reads its rooms. Else the results are any, and the call may
- *     crash or write other memory.
- *   - The thread that calls has CVL_MOST_STACK bytes of its stack left, 32 KiB. Else the call may crash, or write other memory.
- *   - A handler of a signal that interrupts a call returns: it leaves the call by no longjmp, siglongjmp, exception or
- *     pthread_exit. Else threads of the library go on to read and write what the call had, also on the stack that is left, and
+ *   - A pointer leads to as many elements as you say, aligned for their type, which may be read and, in a buffer, written. Else
+ *     the call may crash, or read or write other memory.
+ *   - While a call runs, no other thread writes its arrays or reads its buffers. Else the results are arbitrary, and the call
+ *     may crash or write other memory.
+ *   - The calling thread has CVL_MOST_STACK bytes of its stack left, 32 KiB. Else the call may crash, or write other memory.
+ *   - A signal handler that interrupts a call returns: it does not leave the call by longjmp, siglongjmp, an exception or
+ *     pthread_exit. Else threads of the library keep reading and writing the call's memory, also on the stack that is left, and
  *     cvl_set_threads may wait for ever.
- *   - The program has one malloc, realloc and free. Else memory is given back to an allocator that it isn't from.
- *   - The lengths of a descriptor live as long as calls take it. Else the call may crash or read other memory.
+ *   - The program has one malloc, realloc and free. Else memory is freed by an allocator that it is not from.
+ *   - The lengths of a descriptor live as long as calls use it. Else the call may crash or read other memory.
  *
- * All else is checked, from C and from every language that calls by name: whatever lengths, indices, operators and rooms are
- * given, a call ends with a status. It runs on the thread that calls, and a long one on threads of the library too, where the
- * program asked for some; several threads may call at once.
+ * Everything else is checked, in every language: whatever lengths, indices, operators and buffers you pass, a call returns a
+ * status. It runs on the calling thread; a long one also runs on threads of the library if you asked for some. Several threads
+ * may call at once.
  *
- * Where several faults are there, the first of these is told; places count from 0:
+ * If there are several faults, the first of this list is reported; places count from 0:
  *
- *   - 102 Overlap; where there is no descriptor, 101 NoDescriptor, before overlaps of other arguments than it;
- *   - 2 UnknownCall, without a place, where a number is that of no operator of the family;
- *   - 13 TooLong, without a place, where the vector that a call goes by has more than 2147483647 elements: its first vector,
- *     the flags of a pack, or the index of a permute, of first senders or of counts; the room of a flat combining permute or of
- *     counts, too; the starts of a gather of segments; on segments after the lengths. Another call on segments asks no vector:
- *     there are at most 2147483647 lengths, which add up to at most as much, and a longer vector has not as many elements as
- *     they add up to, which is 7. A vector that is too long is not read;
+ *   - 102 Overlap; without a descriptor 101 NoDescriptor, before overlaps of other arguments;
+ *   - 2 UnknownCall, without a place, if the number is no operator of the family;
+ *   - 13 TooLong, without a place, if the vector that sets the length of the call has more than 2147483647 elements: its first
+ *     vector, the flags of a pack, or the index of a permute, of first senders or of counts; also the buffer of a flat
+ *     combining permute or of counts, and the starts of a gather of segments; on segments after the lengths. Other calls on
+ *     segments check only the lengths, of which there are at most as many, with at most that total; a longer vector is 7
+ *     LengthMismatch. A vector that is too long is not read;
  *   - 13, 12 and 13 again by the lengths of segments;
- *   - 7 LengthMismatch, without a place, where vectors that belong together are not equally long, and then where a room is not
- *     as long as the result, or shorter where a count is told;
+ *   - 7 LengthMismatch, without a place, if vectors that belong together differ in length; then if a buffer is not as long as
+ *     the result, or shorter if there is a count;
  *   - 100 NoResources;
- *   - the faults of elements, in the order of the comment. Of a text that is read a room that is too short comes last.
+ *   - the faults of elements, in the order of the function's comment. A buffer that is too short for a text that is read comes
+ *     last.
  *
- * Other vectors may be longer than 2147483647 elements where they need not be as long as another: the source of a back permute,
- * the defaults of a permute, the result of first senders, the source of a gather of segments, and the vectors of which one
- * element is taken or replaced.
+ * These vectors may be longer than 2147483647 elements: the source of a back permute, the defaults of a permute, the result of
+ * first senders, the source of a gather of segments, and the vectors of which one element is taken or replaced.
  *
- * Each call of the table has its name with the prefix cvl_, as cvl_add_wuz. Where CVL_SHORT_NAMES is defined before this header
- * is included it has the name without it too.
+ * Each call of a script has its name with the prefix cvl_, such as cvl_add_wuz. If you define CVL_SHORT_NAMES before you
+ * include this header, it also has the name without it.
  */
 #ifndef CVL_H
 #define CVL_H
@@ -82,15 +80,15 @@
 extern "C" {
 #endif
 
-/* The version of this header; cvl_version() tells that of the library. docs/user/versions.md says what may change at which number. */
+/* The version of this header; cvl_version() returns that of the library. docs/user/versions.md says what may change at which number. */
 #define CVL_VERSION "1.0.0"
 #define CVL_VERSION_MAJOR 1
 #define CVL_VERSION_MINOR 0
 #define CVL_VERSION_PATCH 0
 
 /*
- * CVL_CHECKED: a status that is not looked at is warned of. CVL_NONNULL: a pointer to a single value, which may never be null.
- * CVL_RESTRICT: a room that may overlap no argument.
+ * CVL_CHECKED: the compiler warns if you ignore the status. CVL_NONNULL: a pointer to a single value, which may never be null.
+ * CVL_RESTRICT: a buffer that may overlap no argument.
  */
 #if defined(__GNUC__)
 #define CVL_CHECKED __attribute__((warn_unused_result))
@@ -102,9 +100,9 @@ extern "C" {
 #define CVL_RESTRICT
 #endif
 
-/* What a call answers. */
+/* What a call returns. */
 typedef struct CvlStatus {
-    uint32_t number; /* 0 where all is done, the number of a fault, or 100 or more */
+    uint32_t number; /* 0 if the call is done, the number of a fault, or 100 or more */
     int64_t place;   /* the place of the fault, counted from 0, or -1 */
 } CvlStatus;
 
@@ -127,8 +125,8 @@ enum {
 };
 
 /*
- * The most elements of a vector, and the greatest total of a descriptor: the greatest integer of 32 bits. And the most of a vector whose
- * text is read or written at once, since longer texts come in pieces. And the most bytes of its stack that a thread needs for a call.
+ * The most elements of a vector, and the greatest total of a descriptor: the greatest integer of 32 bits. The most elements whose text
+ * one call reads or writes. The most bytes of its stack that a thread needs for a call.
  */
 enum { CVL_MOST_ELEMENTS = 2147483647, CVL_MOST_OF_TEXT = 4194304, CVL_MOST_STACK = 32768 };
 
@@ -164,58 +162,56 @@ enum {
 
 /* ---- the version, and the names of faults ---- */
 
-/* The version of the library, as CVL_VERSION has that of the header. */
+/* The version of the library; CVL_VERSION is that of the header. */
 const char *cvl_version(void);
 
-/* The name of the number of a status, as "DivideByZero"; "Unknown" where it is no such number. */
+/* The name of a status, such as "DivideByZero"; "Unknown" if no status has that number. */
 const char *cvl_fault_name(uint32_t number);
 
 /* ---- threads ---- */
 
 /*
- * At the start there is one thread, the one that calls. Where cvl_set_threads or the variable CVL_NUM_THREADS says that there
- * are more, for the whole process, a long call runs on them: from 262144 elements on, where it reads a text from 131072 bytes
- * on, and where it writes one from 32768 elements on. A shorter call runs on the thread that calls, and so does a call that
- * reads one element, reads a nested text or one behind another, scans after a carry, adds up exactly, makes a range of a
- * permute or of first senders, combines or counts without segments, sorts, gathers or appends segments, merges without
- * segments, transposes, or looks for the first true flag. What a call answers and writes is the same by any number of threads.
- * By several it may take memory for a copy of its room; where there is none, it runs on the thread that calls.
+ * A program starts with one thread for calls, the one that calls. If cvl_set_threads or the variable CVL_NUM_THREADS asks for
+ * more, for the whole process, long calls run on them: from 262144 elements on, from 131072 bytes of a text that is read, and
+ * from 32768 elements whose text is written. These calls stay on the calling thread: those that read one element, read a nested
+ * text or a text behind another, scan after a carry, add up exactly, make a range of a permute or of first senders, combine or
+ * count without segments, sort, gather or append segments, merge without segments, transpose, or look for the first true flag.
+ * Results and faults are the same for any number of threads. On several a call may copy its buffer; if there is no memory for
+ * that, it runs on the calling thread.
  *
- * One call at a time has the threads. Another one meanwhile runs on the thread that calls it, and so does a call that comes
- * while cvl_set_threads waits or is at work: no call waits for another, or for a number to be set. A call in parts on a pool of
- * the caller's, of cvl_parallel.h, takes the threads of that pool alone.
+ * One call at a time has the threads. Another call meanwhile runs on its own thread, and so does one during cvl_set_threads: no
+ * call waits for another, or for that function. A call in parts on a pool of yours (cvl_parallel.h) uses only the threads of
+ * that pool.
  *
- * Between calls the threads sleep. One that waits for a second without work ends, and the next long call starts it again, with
- * the processors and the priority of the thread that calls; if it can't be started then, the call runs on those that there are.
- * So they keep no process alive that its own threads have left.
+ * Between calls the threads sleep. One that has no work for a second ends, and the next long call starts it again, with the
+ * processors and the priority of its own thread; if that fails, the call runs on the threads that there are. So they never keep
+ * a process alive.
  *
- * The threads block the signals that are sent to a process, so that handlers run on the program's own threads. They do not
- * block those that a thread gets for what it does, SIGSEGV, SIGBUS, SIGFPE, SIGILL, SIGTRAP and SIGSYS: if a program guards the
- * pages of its arrays, its handler runs on the thread that touches one. A handler calls nothing of the library, and leaves no
- * call but by its return. A thread that is cancelled ends its call first.
+ * The threads block signals that are sent to the process, so your handlers run on your own threads. They do not block SIGSEGV,
+ * SIGBUS, SIGFPE, SIGILL, SIGTRAP and SIGSYS: if you guard the pages of an array, your handler runs on the thread that touches
+ * one. A handler must not call the library, and must return. A thread that is cancelled finishes its call first.
  *
- * The child of a fork has none of the threads, also if the fork came in the middle of a call by another thread, and may set a
- * number of its own. It is known by its number, and by a handler of pthread_atfork, since the first process of a namespace may
- * have its parent's number; after _Fork or clone, which run no handlers, by its number alone.
+ * The child of a fork has none of the threads, even if it was forked in the middle of a call, and may set a number of its own.
+ * The library recognizes a child by its process number and by a handler of pthread_atfork, since the first process of a
+ * namespace may have its parent's number; after _Fork or clone, which run no handlers, by its number alone.
  *
- * At exit nothing is owed: the threads end with the process. The shared object stays where it is after dlclose, so that they
- * never go on in memory that is gone; cvl_set_threads(1) ends them. An object of one's own that has the archive inside is
- * linked by -z nodelete where it may be unloaded, or calls cvl_set_threads(1) before; a thread that has ended by itself at that
- * very moment, a second after its last work, may then still be about to return.
+ * You owe nothing at exit: the threads end with the process. The shared object stays loaded after dlclose, so that no thread
+ * loses its code; cvl_set_threads(1) ends the threads. If your own shared object contains the archive and may be unloaded, link
+ * it with -z nodelete or call cvl_set_threads(1) first; a thread that was just ending by itself, a second after its last work,
+ * may then still be about to return.
  */
 /*
- * Says how many threads there are for long calls, 1 to 64, with the one that calls. The answer is 0; EINVAL where it is no such
- * number; or the number of an error of POSIX, as EAGAIN, where a thread can't be started; after either there are as many as
- * before. It waits for the call that has the threads, if there is one, and for no call that comes later. Several threads may
- * say a number at once.
+ * Sets how many threads long calls have, 1 to 64, with the one that calls. Returns 0; EINVAL for any other number; or an error
+ * of POSIX, such as EAGAIN, if a thread cannot be started. After an error there are as many as before. It waits for the call
+ * that has the threads, and for no later one. Several threads may call it at once.
  */
 int cvl_set_threads(size_t threads);
 
 /*
- * How many threads there are: what cvl_set_threads said last, before that what CVL_NUM_THREADS says, a number from 1 to 64 in
- * digits alone, and else 1. The variable is read once, by the first call of either function or the first long call; the threads
- * are started by long calls, and if one can't be, the number stays. It waits for nobody. In the child of a fork there is one
- * until it says another number; where nobody had asked before the fork, it begins as any program does.
+ * How many threads there are: what cvl_set_threads set last, else what CVL_NUM_THREADS says, a number from 1 to 64 in digits
+ * alone, else 1. The variable is read once, by the first call of either function or the first long call; long calls start the
+ * threads, and if one cannot be started, the number stays. This function waits for nobody. In the child of a fork the number is
+ * 1 until you set another; if nobody had asked before the fork, the child starts like any program.
  */
 size_t cvl_threads(void);
 
@@ -245,11 +241,11 @@ CVL_CHECKED CvlStatus cvl_int_from_bool(const bool *a, size_t a_len, int32_t *ou
 /* False for 0 and true for all else. */
 CVL_CHECKED CvlStatus cvl_bool_from_int(const int32_t *a, size_t a_len, bool *out, size_t out_len);
 
-/* At each place the element of a where the flag is true, else that of b. */
+/* At each place the element of a if the flag is true, else that of b. */
 CVL_CHECKED CvlStatus cvl_select_int(const bool *flags, size_t flags_len, const int32_t *a, size_t a_len, const int32_t *b,
     size_t b_len, int32_t *out, size_t out_len);
 
-/* At each place the element of a where the flag is true, else that of b. */
+/* At each place the element of a if the flag is true, else that of b. */
 CVL_CHECKED CvlStatus cvl_select_bool(const bool *flags, size_t flags_len, const bool *a, size_t a_len, const bool *b,
     size_t b_len, bool *out, size_t out_len);
 
@@ -458,28 +454,28 @@ CVL_CHECKED CvlStatus cvl_seg_back_permute_bool(const bool *source, size_t sourc
 /* ---- first senders: families ---- */
 
 /*
- * No script calls these. Of several places that name one place of the result the least wins, whatever the number of threads,
- * and no values are combined: so a search by breadth, a sort or the removal of duplicates finds its winners. A back permute by
+ * No script calls these. If several places name one place of the result, the least wins, for any number of threads, and no
+ * values are combined: this finds the winners of a breadth-first search, a sort or a removal of duplicates. A back permute by
  * the senders that are not -1 gives one element for each place that is named.
  *
- * Where there are lengths an index counts from the start of its segment of the result, and a sender from the start of its own
- * segment. The faults by the lengths come first, those of `lengths` before those of `result_lengths`; there are as many of the
- * one as of the other, else 7 LengthMismatch.
+ * With lengths, an index counts from the start of its segment of the result, and a sender from the start of its own segment.
+ * The faults by the lengths come first, those of `lengths` before those of `result_lengths`; there are as many of the one as of
+ * the other, else 7 LengthMismatch.
  */
 
 /*
- * cvl_first_senders: For each place of the result the least place whose index names it, or -1 where none does. The result may
- * have any number of places.
+ * cvl_first_senders: For each place of the result the least place whose index names it, or -1 if none does. The result may have
+ * any number of places.
  * Faults: 13 TooLong; 10 IndexOutOfRange at the first index that is no place of the result.
  * index = 2 0 2 3: out = 1 -1 0 3
  */
 CVL_CHECKED CvlStatus cvl_first_senders(const int32_t *index, size_t index_len, int32_t *out, size_t out_len);
 
 /*
- * cvl_select_first_senders: For each place of the result the least place whose flag is true and whose index names it, or -1
- * where none does. An index whose flag is false is not looked at. The result may have any number of places.
- * Faults: 13 TooLong; 7 LengthMismatch where index and flags are not equally long; 10 IndexOutOfRange at the first index that
- * is no place of the result.
+ * cvl_select_first_senders: For each place of the result the least place whose flag is true and whose index names it, or -1 if
+ * none does. An index whose flag is false is ignored. The result may have any number of places.
+ * Faults: 13 TooLong; 7 LengthMismatch if index and flags differ in length; 10 IndexOutOfRange at the first index that is no
+ * place of the result.
  * index = 2 0 2 9, flags = false true true false: out = 1 -1 2
  */
 CVL_CHECKED CvlStatus cvl_select_first_senders(const int32_t *index, size_t index_len, const bool *flags, size_t flags_len,
@@ -487,8 +483,8 @@ CVL_CHECKED CvlStatus cvl_select_first_senders(const int32_t *index, size_t inde
 
 /*
  * cvl_seg_first_senders: For each place of each segment of the result the least place of the same segment of the index that
- * names it, or -1 where none does.
- * Faults: 13 TooLong; 7 LengthMismatch where the lengths do not add up to the index, or the result lengths to out; 10
+ * names it, or -1 if none does.
+ * Faults: 13 TooLong; 7 LengthMismatch if the lengths do not add up to the index, or the result lengths to out; 10
  * IndexOutOfRange at the first index that is no place of its segment of the result.
  * index = 1 1 0 3 0, lengths = 2 0 3, result_lengths = 2 1 4: out = -1 0 -1 0 -1 -1 1
  */
@@ -497,10 +493,9 @@ CVL_CHECKED CvlStatus cvl_seg_first_senders(const int32_t *index, size_t index_l
 
 /*
  * cvl_seg_select_first_senders: For each place of each segment of the result the least place of the same segment of the index
- * whose flag is true and whose index names it, or -1 where none does. An index whose flag is false is not looked at.
- * Faults: 13 TooLong; 7 LengthMismatch where index and flags are not equally long; 7 LengthMismatch where the lengths do not
- * add up to the index, or the result lengths to out; 10 IndexOutOfRange at the first index that is no place of its segment of
- * the result.
+ * whose flag is true and whose index names it, or -1 if none does. An index whose flag is false is ignored.
+ * Faults: 13 TooLong; 7 LengthMismatch if index and flags differ in length; 7 LengthMismatch if the lengths do not add up to
+ * the index, or the result lengths to out; 10 IndexOutOfRange at the first index that is no place of its segment of the result.
  * index = 1 1 9 3 0, flags = false true false true true, lengths = 2 0 3, result_lengths = 2 1 4: out = -1 1 -1 2 -1 -1 1
  */
 CVL_CHECKED CvlStatus cvl_seg_select_first_senders(const int32_t *index, size_t index_len, const bool *flags, size_t flags_len,
@@ -509,21 +504,21 @@ CVL_CHECKED CvlStatus cvl_seg_select_first_senders(const int32_t *index, size_t 
 /* ---- combining permutes: families ---- */
 
 /*
- * No script calls these. A combining permute sends each element to the place that its index names and joins it with what stands
- * there, so that one call adds up by key, or finds the least of each group; several elements that go to one place are joined in
- * their order. out holds what stands before, and then the result, so that a call on a few elements of a large table touches no
- * other place. To begin anew, fill out with what changes nothing, as 0 for CVL_ADD and INT32_MAX for CVL_MIN. Booleans in out
- * that are neither 0 nor 1 become 1.
+ * No script calls these. A combining permute sends each element to the place that its index names and joins it with what is
+ * there: one call adds up by key, or finds the least of each group. Elements that go to one place are joined in their order.
+ * out holds the values before and then the result, so a call on a few elements of a large table touches no other place. To
+ * start anew, fill out with what changes nothing, such as 0 for CVL_ADD and INT32_MAX for CVL_MIN. Booleans in out that are
+ * neither 0 nor 1 become 1.
  *
- * Where there are lengths an index counts from the start of its segment of out. The faults by the lengths come first, those of
- * `lengths` before those of `result_lengths`; there are as many of the one as of the other, else 7 LengthMismatch.
+ * With lengths, an index counts from the start of its segment of out. The faults by the lengths come first, those of `lengths`
+ * before those of `result_lengths`; there are as many of the one as of the other, else 7 LengthMismatch.
  */
 
 /*
  * cvl_combine_permute_int: At each place of out what stands there, joined by the operator, of CVL_ADD to CVL_XOR, with each
  * integer whose index names the place. out may have any number of places.
- * Faults: 13 TooLong, also where out is; 7 LengthMismatch where source and index are not equally long; 10 IndexOutOfRange at
- * the first index that is no place of the result.
+ * Faults: 13 TooLong, also if out is too long; 7 LengthMismatch if source and index differ in length; 10 IndexOutOfRange at the
+ * first index that is no place of the result.
  * op = CVL_ADD, source = 5 6 7 8, index = 2 0 2 1, out = 100 200 300: out = 106 208 312
  */
 CVL_CHECKED CvlStatus cvl_combine_permute_int(uint32_t op, const int32_t *source, size_t source_len, const int32_t *index,
@@ -532,8 +527,8 @@ CVL_CHECKED CvlStatus cvl_combine_permute_int(uint32_t op, const int32_t *source
 /*
  * cvl_combine_permute_bool: At each place of out what stands there, joined by the operator, of CVL_AND to CVL_XOR, with each
  * boolean whose index names the place. out may have any number of places.
- * Faults: 13 TooLong, also where out is; 7 LengthMismatch where source and index are not equally long; 10 IndexOutOfRange at
- * the first index that is no place of the result.
+ * Faults: 13 TooLong, also if out is too long; 7 LengthMismatch if source and index differ in length; 10 IndexOutOfRange at the
+ * first index that is no place of the result.
  * op = CVL_XOR, source = true true true, index = 2 0 2, out = false false true: out = true false true
  */
 CVL_CHECKED CvlStatus cvl_combine_permute_bool(uint32_t op, const bool *source, size_t source_len, const int32_t *index,
@@ -541,7 +536,7 @@ CVL_CHECKED CvlStatus cvl_combine_permute_bool(uint32_t op, const bool *source, 
 
 /*
  * cvl_counts: For each place of the result how many indices name it. The result may have any number of places.
- * Faults: 13 TooLong, also where out is; 10 IndexOutOfRange at the first index that is no place of the result.
+ * Faults: 13 TooLong, also if out is too long; 10 IndexOutOfRange at the first index that is no place of the result.
  * index = 2 0 2 3: out = 1 0 2 1
  */
 CVL_CHECKED CvlStatus cvl_counts(const int32_t *index, size_t index_len, int32_t *out, size_t out_len);
@@ -549,8 +544,8 @@ CVL_CHECKED CvlStatus cvl_counts(const int32_t *index, size_t index_len, int32_t
 /*
  * cvl_seg_combine_permute_int: At each place of each segment of out what stands there, joined by the operator, of CVL_ADD to
  * CVL_XOR, with each integer of the same segment whose index names the place.
- * Faults: 7 LengthMismatch where source and index are not equally long, or the lengths do not add up to them, or the result
- * lengths to out; 10 IndexOutOfRange at the first index that is no place of its segment of the result.
+ * Faults: 7 LengthMismatch if source and index differ in length, or the lengths do not add up to them, or the result lengths to
+ * out; 10 IndexOutOfRange at the first index that is no place of its segment of the result.
  * op = CVL_MAX, source = 5 6 7 8 9, index = 1 1 0 3 0, lengths = 2 0 3, result_lengths = 2 1 4, out = 0 0 0 0 0 0 10: out = 0 6
  * 0 9 0 0 10
  */
@@ -560,8 +555,8 @@ CVL_CHECKED CvlStatus cvl_seg_combine_permute_int(uint32_t op, const int32_t *so
 /*
  * cvl_seg_combine_permute_bool: At each place of each segment of out what stands there, joined by the operator, of CVL_AND to
  * CVL_XOR, with each boolean of the same segment whose index names the place.
- * Faults: 7 LengthMismatch where source and index are not equally long, or the lengths do not add up to them, or the result
- * lengths to out; 10 IndexOutOfRange at the first index that is no place of its segment of the result.
+ * Faults: 7 LengthMismatch if source and index differ in length, or the lengths do not add up to them, or the result lengths to
+ * out; 10 IndexOutOfRange at the first index that is no place of its segment of the result.
  * op = CVL_IOR, source = true false true, index = 1 0 0, lengths = 2 1, result_lengths = 2 2, out = false false false true: out
  * = false true true true
  */
@@ -570,8 +565,8 @@ CVL_CHECKED CvlStatus cvl_seg_combine_permute_bool(uint32_t op, const bool *sour
 
 /*
  * cvl_seg_counts: For each place of each segment of the result how many indices of the same segment name it.
- * Faults: 7 LengthMismatch where the lengths do not add up to the index, or the result lengths to out; 10 IndexOutOfRange at
- * the first index that is no place of its segment of the result.
+ * Faults: 7 LengthMismatch if the lengths do not add up to the index, or the result lengths to out; 10 IndexOutOfRange at the
+ * first index that is no place of its segment of the result.
  * index = 1 1 0 3 0, lengths = 2 0 3, result_lengths = 2 1 4: out = 0 2 0 2 0 0 1
  */
 CVL_CHECKED CvlStatus cvl_seg_counts(const int32_t *index, size_t index_len, CvlLengths lengths, CvlLengths result_lengths,
@@ -580,14 +575,12 @@ CVL_CHECKED CvlStatus cvl_seg_counts(const int32_t *index, size_t index_len, Cvl
 /* ---- orders, ranks and sorts: families ---- */
 
 /*
- * No script calls these. Keys are signed integers, and equal ones keep the order of their places, so that each call has one
- * answer. An order and a rank are inverse permutations; by either of them other vectors follow their keys. CVL_NOT of the keys
- * before a call, and of a sort after it, gives the descending order, in which equal keys still keep the order of their places.
- * The room of a sort may be the keys themselves.
+ * No script calls these. Keys are signed integers, and equal ones keep the order of their places (a stable sort). An order and
+ * a rank are inverse permutations; by either of them other vectors follow their keys. For descending order use CVL_NOT on the
+ * keys before a call, and on the result of a sort; equal keys still keep their order. A sort may be in place.
  *
- * These calls run on the thread that calls. An order and a rank take up to 16 bytes a key while they run, a sort up to 4, by
- * segments of the keys of the longest one, and all of them up to 8192 bytes more. If these are refused, the status is 100
- * NoResources, and the room is as it was.
+ * These calls run on the calling thread. An order and a rank take up to 16 bytes a key while they run, a sort up to 4 (by
+ * segments, for the keys of the longest one), and all up to 8192 bytes more. If that is refused, the status is 100 NoResources.
  */
 
 /*
@@ -615,21 +608,21 @@ CVL_CHECKED CvlStatus cvl_sort(const int32_t *keys, size_t keys_len, int32_t *ou
 
 /*
  * cvl_seg_order: The order of the keys of each segment, whose places count from the start of the segment.
- * Faults: 13 TooLong; 7 LengthMismatch where the lengths do not add up to n.
+ * Faults: 13 TooLong; 7 LengthMismatch if the lengths do not add up to n.
  * keys = 3 1 9 2 7, lengths = 2 0 3: out = 1 0 1 2 0
  */
 CVL_CHECKED CvlStatus cvl_seg_order(const int32_t *keys, size_t keys_len, CvlLengths lengths, int32_t *out, size_t out_len);
 
 /*
  * cvl_seg_rank: The rank of each key in its segment.
- * Faults: 13 TooLong; 7 LengthMismatch where the lengths do not add up to n.
+ * Faults: 13 TooLong; 7 LengthMismatch if the lengths do not add up to n.
  * keys = 3 1 9 2 7, lengths = 2 0 3: out = 1 0 2 0 1
  */
 CVL_CHECKED CvlStatus cvl_seg_rank(const int32_t *keys, size_t keys_len, CvlLengths lengths, int32_t *out, size_t out_len);
 
 /*
  * cvl_seg_sort: The keys of each segment in ascending order.
- * Faults: 13 TooLong; 7 LengthMismatch where the lengths do not add up to n.
+ * Faults: 13 TooLong; 7 LengthMismatch if the lengths do not add up to n.
  * keys = 3 1 9 2 7, lengths = 2 0 3: out = 1 3 2 7 9
  */
 CVL_CHECKED CvlStatus cvl_seg_sort(const int32_t *keys, size_t keys_len, CvlLengths lengths, int32_t *out, size_t out_len);
@@ -637,12 +630,12 @@ CVL_CHECKED CvlStatus cvl_seg_sort(const int32_t *keys, size_t keys_len, CvlLeng
 /* ---- slices and merges: families ---- */
 
 /*
- * No script calls these. They move runs of elements where a back permute would move one after another, or give one value of
- * each segment that no operator joins. None asks for memory but for booleans that are neither 0 nor 1, and each runs on the
- * thread that calls.
+ * No script calls these. They move runs of elements while a back permute moves single elements, or give one value of each
+ * segment that no operator joins. None asks for memory, but for booleans that are neither 0 nor 1, and each runs on the calling
+ * thread.
  *
- * The faults by the lengths come first, as at the other calls on segments, and then 7 LengthMismatch, without a place, where
- * arrays are not as long as is said.
+ * The faults by the lengths come first, as at the other calls on segments, then 7 LengthMismatch, without a place, if the
+ * lengths of arrays do not fit.
  */
 
 /*
@@ -667,7 +660,7 @@ CVL_CHECKED CvlStatus cvl_gather_segments_bool(const bool *source, size_t source
 
 /*
  * cvl_append_segments_int: The segments of a, each followed by the segment of b that has its number.
- * Faults: 7 LengthMismatch where the lengths do not add up to a, or the other lengths to b.
+ * Faults: 7 LengthMismatch if the lengths do not add up to a, or the other lengths to b.
  * a = 1 2 3, b = 7 8 9, lengths = 2 0 1, other_lengths = 1 2 0: out = 1 2 7 8 9 3
  */
 CVL_CHECKED CvlStatus cvl_append_segments_int(const int32_t *a, size_t a_len, const int32_t *b, size_t b_len,
@@ -675,36 +668,36 @@ CVL_CHECKED CvlStatus cvl_append_segments_int(const int32_t *a, size_t a_len, co
 
 /*
  * cvl_append_segments_bool: The segments of a, each followed by the segment of b that has its number.
- * Faults: 7 LengthMismatch where the lengths do not add up to a, or the other lengths to b.
+ * Faults: 7 LengthMismatch if the lengths do not add up to a, or the other lengths to b.
  * a = true true, b = false, lengths = 1 1, other_lengths = 1 0: out = true false true
  */
 CVL_CHECKED CvlStatus cvl_append_segments_bool(const bool *a, size_t a_len, const bool *b, size_t b_len, CvlLengths lengths,
     CvlLengths other_lengths, bool *out, size_t out_len);
 
 /*
- * cvl_merge_by_flags_int: At each place the next element of when_true where the flag is true, and of when_false where it is
- * false: the inverse of two packs.
- * Faults: 13 TooLong; 7 LengthMismatch where when_true has not as many elements as there are true flags, or when_false as there
- * are false ones.
+ * cvl_merge_by_flags_int: At each place the next element of when_true if the flag is true, and of when_false if it is false:
+ * the inverse of two packs.
+ * Faults: 13 TooLong; 7 LengthMismatch if when_true does not have one element for each true flag, or when_false for each false
+ * one.
  * flags = true false false true, when_true = 1 2, when_false = 7 8: out = 1 7 8 2
  */
 CVL_CHECKED CvlStatus cvl_merge_by_flags_int(const bool *flags, size_t flags_len, const int32_t *when_true,
     size_t when_true_len, const int32_t *when_false, size_t when_false_len, int32_t *out, size_t out_len);
 
 /*
- * cvl_merge_by_flags_bool: At each place the next element of when_true where the flag is true, and of when_false where it is
- * false: the inverse of two packs.
- * Faults: 13 TooLong; 7 LengthMismatch where when_true has not as many elements as there are true flags, or when_false as there
- * are false ones.
+ * cvl_merge_by_flags_bool: At each place the next element of when_true if the flag is true, and of when_false if it is false:
+ * the inverse of two packs.
+ * Faults: 13 TooLong; 7 LengthMismatch if when_true does not have one element for each true flag, or when_false for each false
+ * one.
  * flags = false true true, when_true = true false, when_false = true: out = true true false
  */
 CVL_CHECKED CvlStatus cvl_merge_by_flags_bool(const bool *flags, size_t flags_len, const bool *when_true, size_t when_true_len,
     const bool *when_false, size_t when_false_len, bool *out, size_t out_len);
 
 /*
- * cvl_seg_merge_by_flags_int: At each place of each segment the next element of the same segment of when_true where the flag is
- * true, and of when_false where it is false: the inverse of two packs of segments.
- * Faults: 7 LengthMismatch where the lengths do not add up to flags, the true lengths to when_true or the false lengths to
+ * cvl_seg_merge_by_flags_int: At each place of each segment the next element of the same segment of when_true if the flag is
+ * true, and of when_false if it is false: the inverse of two packs of segments.
+ * Faults: 7 LengthMismatch if the lengths do not add up to flags, the true lengths to when_true or the false lengths to
  * when_false; 7 LengthMismatch at the first segment that has not as many true flags as when_true has elements there, or not as
  * many false ones as when_false.
  * flags = true false false true true, when_true = 1 2 3, when_false = 7 8, lengths = 2 0 3, true_lengths = 1 0 2, false_lengths
@@ -715,9 +708,9 @@ CVL_CHECKED CvlStatus cvl_seg_merge_by_flags_int(const bool *flags, size_t flags
     CvlLengths false_lengths, int32_t *out, size_t out_len);
 
 /*
- * cvl_seg_merge_by_flags_bool: At each place of each segment the next element of the same segment of when_true where the flag
- * is true, and of when_false where it is false: the inverse of two packs of segments.
- * Faults: 7 LengthMismatch where the lengths do not add up to flags, the true lengths to when_true or the false lengths to
+ * cvl_seg_merge_by_flags_bool: At each place of each segment the next element of the same segment of when_true if the flag is
+ * true, and of when_false if it is false: the inverse of two packs of segments.
+ * Faults: 7 LengthMismatch if the lengths do not add up to flags, the true lengths to when_true or the false lengths to
  * when_false; 7 LengthMismatch at the first segment that has not as many true flags as when_true has elements there, or not as
  * many false ones as when_false.
  * flags = false true true, when_true = true false, when_false = true, lengths = 2 1, true_lengths = 1 1, false_lengths = 1 0:
@@ -728,23 +721,23 @@ CVL_CHECKED CvlStatus cvl_seg_merge_by_flags_bool(const bool *flags, size_t flag
     CvlLengths false_lengths, bool *out, size_t out_len);
 
 /*
- * cvl_first_true: The place of the first true flag, or -1 where none is true.
+ * cvl_first_true: The place of the first true flag, or -1 if none is true.
  * Faults: 13 TooLong.
  * flags = false false true true: out = 2
  */
 CVL_CHECKED CvlStatus cvl_first_true(const bool *flags, size_t flags_len, int32_t *out);
 
 /*
- * cvl_seg_first_true: For each segment the place of its first true flag, counted from the start of the segment, or -1 where
- * none is true.
- * Faults: 7 LengthMismatch where the lengths do not add up to n.
+ * cvl_seg_first_true: For each segment the place of its first true flag, counted from the start of the segment, or -1 if none
+ * is true.
+ * Faults: 7 LengthMismatch if the lengths do not add up to n.
  * flags = false true false false true, lengths = 2 1 0 2: out = 1 -1 -1 1
  */
 CVL_CHECKED CvlStatus cvl_seg_first_true(const bool *flags, size_t flags_len, CvlLengths lengths, int32_t *out, size_t out_len);
 
 /*
- * cvl_seg_exact_sums: The sum of each segment in 64 bits, where it always fits.
- * Faults: 7 LengthMismatch where the lengths do not add up to n.
+ * cvl_seg_exact_sums: The sum of each segment in 64 bits, which always fits.
+ * Faults: 7 LengthMismatch if the lengths do not add up to n.
  * a = 2147483647 1 5, lengths = 2 0 1: out = 2147483648 0 5
  */
 CVL_CHECKED CvlStatus cvl_seg_exact_sums(const int32_t *a, size_t a_len, CvlLengths lengths, int64_t *out, size_t out_len);
@@ -752,17 +745,16 @@ CVL_CHECKED CvlStatus cvl_seg_exact_sums(const int32_t *a, size_t a_len, CvlLeng
 /* ---- transposes, and integers of a byte: families ---- */
 
 /*
- * No script calls these. A transpose moves a matrix block by block, so that each element is read while what lies beside it is
- * in cache; a back permute would read one here and one there. It runs on the thread that calls. Integers of a byte take a
- * quarter of the memory, as the bytes of a text do: widen them before calls on integers, and narrow what fits. The bytes of a
- * signed type are the same bytes: subtract 256 from the integers above 127 once they are widened, and add 256 to the negative
- * ones before they are narrowed.
+ * No script calls these. A transpose moves a matrix block by block, so it reads neighbours while they are in cache, which a
+ * back permute does not. It runs on the calling thread. Integers of a byte take a quarter of the memory, as the bytes of a text
+ * do: widen them before calls on integers, and narrow what fits. The bytes of a signed type are the same bytes: subtract 256
+ * from the integers above 127 once they are widened, and add 256 to the negative ones before they are narrowed.
  */
 
 /*
  * cvl_transpose_int: The transpose of a matrix whose rows lie one behind another: element r of row c of the result is element c
  * of row r.
- * Faults: 13 TooLong; 7 LengthMismatch where rows times columns is not n.
+ * Faults: 13 TooLong; 7 LengthMismatch if rows times columns is not n.
  * source = 1 2 3 4 5 6, rows = 2, columns = 3: out = 1 4 2 5 3 6
  */
 CVL_CHECKED CvlStatus cvl_transpose_int(const int32_t *source, size_t source_len, size_t rows, size_t columns, int32_t *out,
@@ -771,7 +763,7 @@ CVL_CHECKED CvlStatus cvl_transpose_int(const int32_t *source, size_t source_len
 /*
  * cvl_transpose_bool: The transpose of a matrix whose rows lie one behind another: element r of row c of the result is element
  * c of row r.
- * Faults: 13 TooLong; 7 LengthMismatch where rows times columns is not n.
+ * Faults: 13 TooLong; 7 LengthMismatch if rows times columns is not n.
  * source = true false false true true true, rows = 3, columns = 2: out = true false true false true true
  */
 CVL_CHECKED CvlStatus cvl_transpose_bool(const bool *source, size_t source_len, size_t rows, size_t columns, bool *out,
@@ -794,17 +786,16 @@ CVL_CHECKED CvlStatus cvl_bytes_from_ints(const int32_t *a, size_t a_len, uint8_
 /* ---- texts: families ---- */
 
 /*
- * A text is bytes, with no zero at its end. A caller may not know how long a result is: it stands at the front of its room, and
- * count is its length; the rest of the room is as it was. Where the room is too short it is as it was, the status is 7
- * LengthMismatch, without a place, and count is the length that is needed, so that a call with a room of no elements asks for
- * it. After any other fault, or without memory, the count too is as it was. Of a text that is read the room is asked last,
- * since the text alone says how long the result is.
+ * A text is bytes, with no zero at its end. You may not know how long a result is: it is at the front of your buffer, count is
+ * its length, and the rest stays as it was. If the buffer is too short, it stays as it was, the status is 7 LengthMismatch,
+ * without a place, and count is the length that you need; pass a buffer of no elements to ask. After any other fault the count
+ * stays as it was, too. For a text that is read the buffer is checked last, since only the text says how long the result is.
  */
 
 /*
  * cvl_read_ints: The integers of a text. They stand between white space (space, tab, line feed, carriage return), and each is
  * an optional minus sign and at least one digit, inside 32 bits. A text of white space alone has none.
- * Faults: 13 TooLong, without a place, where there are more than 4194304 words between white space, whatever they are; else 15
+ * Faults: 13 TooLong, without a place, if there are more than 4194304 words between white space, whatever they are; else 15
  * BadInput at the first word that is no such integer.
  * text = "5 -1\n007 -0": out = 5 -1 7 0, count = 4
  */
@@ -825,12 +816,12 @@ CVL_CHECKED CvlStatus cvl_write_ints(const int32_t *a, size_t a_len, char *out, 
 CVL_CHECKED CvlStatus cvl_write_bools(const bool *a, size_t a_len, char *out, size_t out_len, size_t *count);
 
 /*
- * cvl_seg_read_ints: The integers and the lengths of the lists of a nested text: "[", any number of lists, "]", where a list is
- * "[", integers as in cvl_read_ints, "]". Each of the two results has a room and a count of its own; where one room is too
- * short both are as they were, and both counts are the lengths that are needed.
- * Faults: 13 TooLong, without a place, where there are more than 4194304 words other than brackets or more than 4194305 "[",
- * whatever they are; else 15 BadInput at the first word or bracket that cannot stand where it does, or, where the text ends too
- * early, at the number of its words and brackets.
+ * cvl_seg_read_ints: The integers and the lengths of the lists of a nested text: "[", any number of lists, "]"; a list is "[",
+ * integers as in cvl_read_ints, "]". Each of the two results has a room and a count of its own; if one is too short, both stay
+ * as they were, and both counts are the lengths that you need.
+ * Faults: 13 TooLong, without a place, if there are more than 4194304 words other than brackets or more than 4194305 "[",
+ * whatever they are; else 15 BadInput at the first word or bracket that cannot stand there, or, if the text ends too early, at
+ * the number of its words and brackets.
  * text = "[[1 2] [] [3]]": out = 1 2 3, count = 3, lengths = 2 0 1, segments = 3
  */
 CVL_CHECKED CvlStatus cvl_seg_read_ints(const char *text, size_t text_len, int32_t *out, size_t out_len, size_t *count,
@@ -839,7 +830,7 @@ CVL_CHECKED CvlStatus cvl_seg_read_ints(const char *text, size_t text_len, int32
 /*
  * cvl_seg_write_ints: The text of a vector of integers that is cut into segments: the texts of the segments, a space between
  * each two, in brackets.
- * Faults: by the lengths those of each call on segments, 13 TooLong, 12 NegativeLength, 13 TooLong; 7 LengthMismatch where the
+ * Faults: by the lengths those of each call on segments, 13 TooLong, 12 NegativeLength, 13 TooLong; 7 LengthMismatch if the
  * lengths do not add up to the vector's.
  * a = 5 1 7, lengths = 0 2 1: out = "[[] [5 1] [7]]", count = 14
  */
@@ -856,14 +847,14 @@ CVL_CHECKED CvlStatus cvl_seg_write_bools(const bool *a, size_t a_len, CvlLength
 /* ---- scans in parts, by threads of the caller's: families ---- */
 
 /*
- * Threads of the caller's own scan one vector together in three steps, with a barrier of the caller's between them:
+ * Your own threads scan one vector together in three steps, with a barrier of yours between them:
  *
  *   1. each thread reduces its tiles: cvl_int_reduce(op, a + from, to - from, &sums[t]), for tile t from place `from` to `to`;
  *   2. one thread scans the sums: cvl_int_scan(op, sums, tiles, before, tiles);
  *   3. each thread scans its tiles: cvl_int_scan_after(op, before[t], a + from, to - from, out + from, to - from).
  *
- * Then out is what cvl_int_scan gives of the whole. The tiles may have any lengths, 0 too, and any thread may take any tile of
- * a step. examples/c/threads.c does this with POSIX threads.
+ * Then out is the cvl_int_scan of the whole. Tiles may have any length, also 0, and any thread may take any tile of a step.
+ * examples/c/threads.c does this with POSIX threads.
  */
 
 /* For each integer `before`, joined by the operator, of CVL_ADD to CVL_XOR, with those in front of it. */
@@ -876,13 +867,13 @@ CVL_CHECKED CvlStatus cvl_bool_scan_after(uint32_t op, bool before, const bool *
 /* ---- calls in parts: families ---- */
 
 /*
- * A caller with threads or machines of its own makes a call in parts, each a range of the vector. Most calls need nothing more
- * than themselves for that, and the functions here are what a part needs where the whole does not. docs/user/parallel.md tells
- * for each call how it is cut, what its parts tell one another and what gives the whole; cvl_parallel.h does it for threads.
+ * If you have threads or machines of your own, make a call in parts, each a range of the vector. Most calls need only
+ * themselves for that; these functions are what else a part needs. docs/user/parallel.md says for each call how to cut it, what
+ * its parts pass on, and how to join the results; cvl_parallel.h does it for threads.
  */
 
 /*
- * cvl_exact_sum: The sum of the integers in 64 bits, where it always fits: what a part of a checked sum tells to the next.
+ * cvl_exact_sum: The sum of the integers in 64 bits, which always fits: what a part of a checked sum passes on.
  * Faults: 13 TooLong.
  * a = 2147483647 1: out = 2147483648
  */
@@ -890,7 +881,7 @@ CVL_CHECKED CvlStatus cvl_exact_sum(const int32_t *a, size_t a_len, int64_t *out
 
 /*
  * cvl_checked_scan_after: For each integer `before` and those in front of it, added up: a part of cvl_checked_scan after the
- * exact sum of the parts in front of it. Where the part does not begin at place 0, neither does the place of a fault.
+ * exact sum of the parts in front of it. The place of a fault counts from the start of the part.
  * Faults: 13 TooLong; 18 Overflow at the first place whose sum does not fit 32 bits.
  * before = 10, a = 3 1 4: out = 10 13 14
  */
@@ -898,14 +889,14 @@ CVL_CHECKED CvlStatus cvl_checked_scan_after(int64_t before, const int32_t *a, s
 
 /*
  * cvl_permute_int_range: One range of the result of smp_puz, its out_len places from place `lowest` on: each element whose
- * index is one of them is written there, the last where there are several, and the place is marked by a bit. marks are (out_len
- * + 31) / 32 words: bit b of word w, of the value 1 << b, is set where place 32 * w + b of the range is written, and the bits
- * behind the last place are not. It does not matter what they hold before; written is how many bits are set. Each part has
- * another range, its own marks, and all of source and index. Where all parts together wrote index_len places, the ranges, one
- * after another, are the permute. Else an index is out of range or repeated: cvl_permute_int tells which. A place that nothing
- * is sent to stays as it was, so that over ranges that hold the defaults before the parts are def_puz.
- * Faults: 13 TooLong, by the index, and where the range ends behind place 2147483647; 7 LengthMismatch, where source and index
- * are not equally long, or marks_len is not (out_len + 31) / 32. At a fault all rooms are as they were.
+ * index is one of them is written there, the last if there are several, and a bit marks the place. marks are (out_len + 31) /
+ * 32 words: bit b of word w, of the value 1 << b, is set if place 32 * w + b of the range is written, and the bits behind the
+ * last place are not. It does not matter what they hold before; written is how many bits are set. Each part has another range,
+ * its own marks, and all of source and index. If all parts together wrote index_len places, the ranges, one after another, are
+ * the permute. Else an index is out of range or repeated: cvl_permute_int reports which. A place to which nothing is sent stays
+ * as it was, so over ranges that hold the defaults the parts are def_puz.
+ * Faults: 13 TooLong, by the index, and if the range ends behind place 2147483647; 7 LengthMismatch if source and index differ
+ * in length, or marks_len is not (out_len + 31) / 32. After a fault all buffers are as they were.
  * source = 5 6 7, index = 2 0 1, lowest = 1, out_len = 2: out = 7 5, marks = 3, written = 2
  */
 CVL_CHECKED CvlStatus cvl_permute_int_range(const int32_t *source, size_t source_len, const int32_t *index, size_t index_len,
@@ -919,10 +910,9 @@ CVL_CHECKED CvlStatus cvl_permute_bool_range(const bool *source, size_t source_l
     size_t lowest, bool *out, size_t out_len, uint32_t *marks, size_t marks_len, size_t *written);
 
 /*
- * cvl_select_permute_int_range: One range of the result of sel_puz, the same way: the elements alone go anywhere whose flag is
- * true. Where the result has as many places as there are true flags, and all parts together wrote as many, the ranges are the
- * permute.
- * Faults: those of cvl_permute_int_range; 7 LengthMismatch also where index and flags are not equally long.
+ * cvl_select_permute_int_range: One range of the result of sel_puz, the same way: only elements whose flag is true go anywhere.
+ * If the result has as many places as there are true flags, and all parts together wrote as many, the ranges are the permute.
+ * Faults: those of cvl_permute_int_range; 7 LengthMismatch also if index and flags differ in length.
  * source = 5 6 7, index = 1 9 0, flags = true false true, lowest = 0, out_len = 1: out = 7, marks = 1, written = 1
  */
 CVL_CHECKED CvlStatus cvl_select_permute_int_range(const int32_t *source, size_t source_len, const int32_t *index,
@@ -941,18 +931,18 @@ CVL_CHECKED CvlStatus cvl_select_permute_bool_range(const bool *source, size_t s
 /*
  * cvl_first_senders_range: One range of the first senders, its out_len places from place `lowest` on: for each the least place
  * whose index names it, or -1. named is how many indices name a place of the range. Each part has another range and all of
- * index. Where all parts together named index_len, the ranges, one after another, are the first senders. Else an index is out
- * of range: cvl_first_senders tells which.
- * Faults: 13 TooLong, by the index, and where the range ends behind place 2147483647.
+ * index. If all parts together named index_len, the ranges, one after another, are the first senders. Else an index is out of
+ * range: cvl_first_senders reports which.
+ * Faults: 13 TooLong, by the index, and if the range ends behind place 2147483647.
  * index = 2 0 2 3, lowest = 1, out_len = 2: out = -1 0, named = 2
  */
 CVL_CHECKED CvlStatus cvl_first_senders_range(const int32_t *index, size_t index_len, size_t lowest, int32_t *out,
     size_t out_len, size_t *named);
 
 /*
- * cvl_select_first_senders_range: The same among the places whose flag is true: where all parts together named as many as flags
+ * cvl_select_first_senders_range: The same among the places whose flag is true: if all parts together named as many as flags
  * are true, the ranges are the first senders.
- * Faults: those of cvl_first_senders_range; 7 LengthMismatch where index and flags are not equally long.
+ * Faults: those of cvl_first_senders_range; 7 LengthMismatch if index and flags differ in length.
  * index = 2 0 2 9, flags = false true true false, lowest = 1, out_len = 2: out = -1 2, named = 1
  */
 CVL_CHECKED CvlStatus cvl_select_first_senders_range(const int32_t *index, size_t index_len, const bool *flags,
@@ -961,9 +951,9 @@ CVL_CHECKED CvlStatus cvl_select_first_senders_range(const int32_t *index, size_
 /*
  * cvl_read_ints_after: The integers of one piece of a text that is cut at white space, as cvl_read_ints reads them. `before` is
  * how many words the pieces before it have, so that a fault's place is that in the whole text.
- * Faults: 13 TooLong, without a place, where `before` is more than 2147483647, or the piece itself has more than 4194304 words;
- * else 15 BadInput at the first word of the piece that is no integer. That all pieces together have at most 2147483647 words is
- * the caller's to see.
+ * Faults: 13 TooLong, without a place, if `before` is more than 2147483647, or the piece itself has more than 4194304 words;
+ * else 15 BadInput at the first word of the piece that is no integer. You must check that all pieces together have at most
+ * 2147483647 words.
  * before = 3, text = "9 10": out = 9 10, count = 2
  */
 CVL_CHECKED CvlStatus cvl_read_ints_after(size_t before, const char *text, size_t text_len, int32_t *out, size_t out_len,
@@ -973,16 +963,16 @@ CVL_CHECKED CvlStatus cvl_read_ints_after(size_t before, const char *text, size_
 
 /*
  * A sparse matrix comes by its rows: how many entries each row has, and the column and the value of each entry, row after row.
- * Each row is one walk, so that no vector stands between, as it does where cvl_bck_puz, cvl_mul_wuz and cvl_add_rez are called
- * in turn. Faults by the lengths come first, as at the calls on segments. Rows may come by their offsets, too, as those of a
- * matrix of compressed rows do: one more than rows, row r has the entries from the one at offset r to the one before offset r +
- * 1. For many products of one matrix cvl_segments_from_offsets writes the lengths once.
+ * Each row is one pass, so no vector is written in between, as by cvl_bck_puz, cvl_mul_wuz and cvl_add_rez in turn. Faults by
+ * the lengths come first, as at the calls on segments. Rows may also come by their offsets, as in a matrix of compressed rows
+ * (CSR): one more than rows; row r has the entries from offset r to before offset r + 1. For many products of one matrix make
+ * the lengths once, by cvl_segments_from_offsets.
  */
 
 /*
  * cvl_sparse_product: The product of a sparse matrix in rows with the vector x: for each row the sum, over its entries, of the
  * value times the element of x at the column. Sums and products are wrapped to 32 bits, and a row without entries has 0.
- * Faults: 13 TooLong; 7 LengthMismatch where columns and values are not equally many, or the lengths do not add up to n; 10
+ * Faults: 13 TooLong; 7 LengthMismatch if columns and values differ in length, or the lengths do not add up to n; 10
  * IndexOutOfRange at the first column below 0, or m or more.
  * lengths = 2 0 2, columns = 0 2 1 2, values = 2 1 3 4, x = 1 2 3: out = 5 0 18
  */
@@ -991,7 +981,7 @@ CVL_CHECKED CvlStatus cvl_sparse_product(CvlLengths lengths, const int32_t *colu
 
 /*
  * cvl_checked_sparse_product: The same product, in which no product wraps and no sum: each row is added up in whole numbers.
- * Faults: 13 TooLong; 7 LengthMismatch where columns and values are not equally many, or the lengths do not add up to n; 10
+ * Faults: 13 TooLong; 7 LengthMismatch if columns and values differ in length, or the lengths do not add up to n; 10
  * IndexOutOfRange at the first column below 0, or m or more; 18 Overflow at the first row whose sum does not fit 32 bits.
  * lengths = 2 1, columns = 0 1 0, values = 2147483647 -1 3, x = 2 2147483647: out = 2147483647 6
  */
@@ -1000,9 +990,9 @@ CVL_CHECKED CvlStatus cvl_checked_sparse_product(CvlLengths lengths, const int32
 
 /*
  * cvl_sparse_product_by_offsets: cvl_sparse_product of rows that come by their offsets.
- * Faults: 13 TooLong, also where there are more than 2147483648 offsets; 7 LengthMismatch where there is no offset or the first
- * is not 0, else 12 NegativeLength at the first row whose offset is above the next one; 7 LengthMismatch where columns and
- * values are not equally many, or the last offset is not n; 10 IndexOutOfRange at the first column below 0, or m or more.
+ * Faults: 13 TooLong, also if there are more than 2147483648 offsets; 7 LengthMismatch if there is no offset or the first is
+ * not 0, else 12 NegativeLength at the first row whose offset is above the next one; 7 LengthMismatch if columns and values
+ * differ in length, or the last offset is not n; 10 IndexOutOfRange at the first column below 0, or m or more.
  * offsets = 0 2 2 4, columns = 0 2 1 2, values = 2 1 3 4, x = 1 2 3: out = 5 0 18
  */
 CVL_CHECKED CvlStatus cvl_sparse_product_by_offsets(const int32_t *offsets, size_t offsets_len, const int32_t *columns,
@@ -1010,10 +1000,10 @@ CVL_CHECKED CvlStatus cvl_sparse_product_by_offsets(const int32_t *offsets, size
 
 /*
  * cvl_checked_sparse_product_by_offsets: cvl_checked_sparse_product of rows that come by their offsets.
- * Faults: 13 TooLong, also where there are more than 2147483648 offsets; 7 LengthMismatch where there is no offset or the first
- * is not 0, else 12 NegativeLength at the first row whose offset is above the next one; 7 LengthMismatch where columns and
- * values are not equally many, or the last offset is not n; 10 IndexOutOfRange at the first column below 0, or m or more; 18
- * Overflow at the first row whose sum does not fit 32 bits.
+ * Faults: 13 TooLong, also if there are more than 2147483648 offsets; 7 LengthMismatch if there is no offset or the first is
+ * not 0, else 12 NegativeLength at the first row whose offset is above the next one; 7 LengthMismatch if columns and values
+ * differ in length, or the last offset is not n; 10 IndexOutOfRange at the first column below 0, or m or more; 18 Overflow at
+ * the first row whose sum does not fit 32 bits.
  * offsets = 0 2 3, columns = 0 1 0, values = 2147483647 -1 3, x = 2 2147483647: out = 2147483647 6
  */
 CVL_CHECKED CvlStatus cvl_checked_sparse_product_by_offsets(const int32_t *offsets, size_t offsets_len, const int32_t *columns,
@@ -1024,7 +1014,7 @@ CVL_CHECKED CvlStatus cvl_checked_sparse_product_by_offsets(const int32_t *offse
 /* Whether each byte is 0 or 1. */
 bool cvl_are_flags(const bool *flags, size_t flags_len);
 
-/* Makes each byte that is not 0 a 1. */
+/* Changes each byte that is not 0 to 1. */
 void cvl_make_flags(bool *flags, size_t flags_len);
 
 /* ---- place by place: the calls of the table ---- */
@@ -1158,49 +1148,43 @@ CVL_CHECKED CvlStatus cvl_cpy_wuz(const int32_t *a, int32_t *out, size_t n);
 CVL_CHECKED CvlStatus cvl_cpy_wub(const bool *a, bool *out, size_t n);
 
 /*
- * cvl_grt_wuz: True where a is greater. a, b and out have n elements.
+ * cvl_grt_wuz: True if a is greater. a, b and out have n elements.
  * Faults: 13 TooLong.
- * In place: no, 102 Overlap.
  * a = 1 2 3, b = 2 2 2: out = false false true
  */
 CVL_CHECKED CvlStatus cvl_grt_wuz(const int32_t *a, const int32_t *b, bool *CVL_RESTRICT out, size_t n);
 
 /*
- * cvl_les_wuz: True where a is less. a, b and out have n elements.
+ * cvl_les_wuz: True if a is less. a, b and out have n elements.
  * Faults: 13 TooLong.
- * In place: no, 102 Overlap.
  * a = 1 2 3, b = 2 2 2: out = true false false
  */
 CVL_CHECKED CvlStatus cvl_les_wuz(const int32_t *a, const int32_t *b, bool *CVL_RESTRICT out, size_t n);
 
 /*
- * cvl_geq_wuz: True where a is greater, or they are equal. a, b and out have n elements.
+ * cvl_geq_wuz: True if a is greater, or they are equal. a, b and out have n elements.
  * Faults: 13 TooLong.
- * In place: no, 102 Overlap.
  * a = 1 2 3, b = 2 2 2: out = false true true
  */
 CVL_CHECKED CvlStatus cvl_geq_wuz(const int32_t *a, const int32_t *b, bool *CVL_RESTRICT out, size_t n);
 
 /*
- * cvl_leq_wuz: True where a is less, or they are equal. a, b and out have n elements.
+ * cvl_leq_wuz: True if a is less, or they are equal. a, b and out have n elements.
  * Faults: 13 TooLong.
- * In place: no, 102 Overlap.
  * a = 1 2 3, b = 2 2 2: out = true true false
  */
 CVL_CHECKED CvlStatus cvl_leq_wuz(const int32_t *a, const int32_t *b, bool *CVL_RESTRICT out, size_t n);
 
 /*
- * cvl_eql_wuz: True where they are equal. a, b and out have n elements.
+ * cvl_eql_wuz: True if they are equal. a, b and out have n elements.
  * Faults: 13 TooLong.
- * In place: no, 102 Overlap.
  * a = 1 2 3, b = 2 2 2: out = false true false
  */
 CVL_CHECKED CvlStatus cvl_eql_wuz(const int32_t *a, const int32_t *b, bool *CVL_RESTRICT out, size_t n);
 
 /*
- * cvl_neq_wuz: True where they are not equal. a, b and out have n elements.
+ * cvl_neq_wuz: True if they are not equal. a, b and out have n elements.
  * Faults: 13 TooLong.
- * In place: no, 102 Overlap.
  * a = 1 2 3, b = 2 2 2: out = true false true
  */
 CVL_CHECKED CvlStatus cvl_neq_wuz(const int32_t *a, const int32_t *b, bool *CVL_RESTRICT out, size_t n);
@@ -1230,7 +1214,7 @@ CVL_CHECKED CvlStatus cvl_ior_wub(const bool *a, const bool *b, bool *out, size_
 CVL_CHECKED CvlStatus cvl_xor_wub(const bool *a, const bool *b, bool *out, size_t n);
 
 /*
- * cvl_sel_wuz: The element of a where the flag is true, else that of b. flags, a, b and out have n elements.
+ * cvl_sel_wuz: The element of a if the flag is true, else that of b. flags, a, b and out have n elements.
  * Faults: 13 TooLong.
  * In place: a or b may be out, but not both.
  * flags = true false false, a = 5 0 5, b = 1 1 1: out = 5 1 1
@@ -1238,7 +1222,7 @@ CVL_CHECKED CvlStatus cvl_xor_wub(const bool *a, const bool *b, bool *out, size_
 CVL_CHECKED CvlStatus cvl_sel_wuz(const bool *flags, const int32_t *a, const int32_t *b, int32_t *out, size_t n);
 
 /*
- * cvl_sel_wub: The element of a where the flag is true, else that of b. flags, a, b and out have n elements.
+ * cvl_sel_wub: The element of a if the flag is true, else that of b. flags, a, b and out have n elements.
  * Faults: 13 TooLong.
  * In place: a or b may be out, but not both.
  * flags = true false, a = true true, b = false false: out = true false
@@ -1248,15 +1232,13 @@ CVL_CHECKED CvlStatus cvl_sel_wub(const bool *flags, const bool *a, const bool *
 /*
  * cvl_int_wub: 1 for true and 0 for false. a and out have n elements.
  * Faults: 13 TooLong.
- * In place: no, 102 Overlap.
  * a = false true true: out = 0 1 1
  */
 CVL_CHECKED CvlStatus cvl_int_wub(const bool *a, int32_t *CVL_RESTRICT out, size_t n);
 
 /*
- * cvl_boo_wuz: True where the integer is not 0. a and out have n elements.
+ * cvl_boo_wuz: True if the integer is not 0. a and out have n elements.
  * Faults: 13 TooLong.
- * In place: no, 102 Overlap.
  * a = 0 -3 7: out = false true true
  */
 CVL_CHECKED CvlStatus cvl_boo_wuz(const int32_t *a, bool *CVL_RESTRICT out, size_t n);
@@ -1264,7 +1246,7 @@ CVL_CHECKED CvlStatus cvl_boo_wuz(const int32_t *a, bool *CVL_RESTRICT out, size
 /* ---- scans and reduces: the calls of the table ---- */
 
 /*
- * cvl_add_suz: For each integer those before it, summed, wrapped; 0 at place 0. a and out have n elements.
+ * cvl_add_suz: For each integer the sum of those before it, wrapped; 0 at place 0. a and out have n elements.
  * Faults: 13 TooLong.
  * In place: a may be out.
  * a = 3 1 4: out = 0 3 4
@@ -1272,15 +1254,14 @@ CVL_CHECKED CvlStatus cvl_boo_wuz(const int32_t *a, bool *CVL_RESTRICT out, size
 CVL_CHECKED CvlStatus cvl_add_suz(const int32_t *a, int32_t *out, size_t n);
 
 /*
- * cvl_add_ruz: The n integers, summed, wrapped; 0 where there are none.
+ * cvl_add_ruz: The sum of the n integers, wrapped; 0 if there are none.
  * Faults: 13 TooLong.
- * In place: no, 102 Overlap.
  * a = 3 1 4: *out = 8
  */
 CVL_CHECKED CvlStatus cvl_add_ruz(const int32_t *a, size_t n, int32_t *out) CVL_NONNULL(3);
 
 /*
- * cvl_mul_suz: For each integer those before it, multiplied, wrapped; 1 at place 0. a and out have n elements.
+ * cvl_mul_suz: For each integer the product of those before it, wrapped; 1 at place 0. a and out have n elements.
  * Faults: 13 TooLong.
  * In place: a may be out.
  * a = 3 1 4: out = 1 3 3
@@ -1288,15 +1269,14 @@ CVL_CHECKED CvlStatus cvl_add_ruz(const int32_t *a, size_t n, int32_t *out) CVL_
 CVL_CHECKED CvlStatus cvl_mul_suz(const int32_t *a, int32_t *out, size_t n);
 
 /*
- * cvl_mul_ruz: The n integers, multiplied, wrapped; 1 where there are none.
+ * cvl_mul_ruz: The product of the n integers, wrapped; 1 if there are none.
  * Faults: 13 TooLong.
- * In place: no, 102 Overlap.
  * a = 3 1 4: *out = 12
  */
 CVL_CHECKED CvlStatus cvl_mul_ruz(const int32_t *a, size_t n, int32_t *out) CVL_NONNULL(3);
 
 /*
- * cvl_min_suz: For each integer those before it, the least of them; 2147483647 at place 0. a and out have n elements.
+ * cvl_min_suz: For each integer the least of those before it; 2147483647 at place 0. a and out have n elements.
  * Faults: 13 TooLong.
  * In place: a may be out.
  * a = 3 1 4: out = 2147483647 3 1
@@ -1304,15 +1284,14 @@ CVL_CHECKED CvlStatus cvl_mul_ruz(const int32_t *a, size_t n, int32_t *out) CVL_
 CVL_CHECKED CvlStatus cvl_min_suz(const int32_t *a, int32_t *out, size_t n);
 
 /*
- * cvl_min_ruz: The n integers, the least of them; 2147483647 where there are none.
+ * cvl_min_ruz: The least of the n integers; 2147483647 if there are none.
  * Faults: 13 TooLong.
- * In place: no, 102 Overlap.
  * a = 3 1 4: *out = 1
  */
 CVL_CHECKED CvlStatus cvl_min_ruz(const int32_t *a, size_t n, int32_t *out) CVL_NONNULL(3);
 
 /*
- * cvl_max_suz: For each integer those before it, the greatest of them; -2147483648 at place 0. a and out have n elements.
+ * cvl_max_suz: For each integer the greatest of those before it; -2147483648 at place 0. a and out have n elements.
  * Faults: 13 TooLong.
  * In place: a may be out.
  * a = 3 1 4: out = -2147483648 3 3
@@ -1320,15 +1299,14 @@ CVL_CHECKED CvlStatus cvl_min_ruz(const int32_t *a, size_t n, int32_t *out) CVL_
 CVL_CHECKED CvlStatus cvl_max_suz(const int32_t *a, int32_t *out, size_t n);
 
 /*
- * cvl_max_ruz: The n integers, the greatest of them; -2147483648 where there are none.
+ * cvl_max_ruz: The greatest of the n integers; -2147483648 if there are none.
  * Faults: 13 TooLong.
- * In place: no, 102 Overlap.
  * a = 3 1 4: *out = 4
  */
 CVL_CHECKED CvlStatus cvl_max_ruz(const int32_t *a, size_t n, int32_t *out) CVL_NONNULL(3);
 
 /*
- * cvl_and_suz: For each integer those before it, and, bit by bit; -1 at place 0. a and out have n elements.
+ * cvl_and_suz: For each integer those before it joined by and, bit by bit; -1 at place 0. a and out have n elements.
  * Faults: 13 TooLong.
  * In place: a may be out.
  * a = 3 1 4: out = -1 3 1
@@ -1336,15 +1314,14 @@ CVL_CHECKED CvlStatus cvl_max_ruz(const int32_t *a, size_t n, int32_t *out) CVL_
 CVL_CHECKED CvlStatus cvl_and_suz(const int32_t *a, int32_t *out, size_t n);
 
 /*
- * cvl_and_ruz: The n integers, and, bit by bit; -1 where there are none.
+ * cvl_and_ruz: The n integers joined by and, bit by bit; -1 if there are none.
  * Faults: 13 TooLong.
- * In place: no, 102 Overlap.
  * a = 3 1 4: *out = 0
  */
 CVL_CHECKED CvlStatus cvl_and_ruz(const int32_t *a, size_t n, int32_t *out) CVL_NONNULL(3);
 
 /*
- * cvl_ior_suz: For each integer those before it, or, bit by bit; 0 at place 0. a and out have n elements.
+ * cvl_ior_suz: For each integer those before it joined by or, bit by bit; 0 at place 0. a and out have n elements.
  * Faults: 13 TooLong.
  * In place: a may be out.
  * a = 3 1 4: out = 0 3 3
@@ -1352,15 +1329,14 @@ CVL_CHECKED CvlStatus cvl_and_ruz(const int32_t *a, size_t n, int32_t *out) CVL_
 CVL_CHECKED CvlStatus cvl_ior_suz(const int32_t *a, int32_t *out, size_t n);
 
 /*
- * cvl_ior_ruz: The n integers, or, bit by bit; 0 where there are none.
+ * cvl_ior_ruz: The n integers joined by or, bit by bit; 0 if there are none.
  * Faults: 13 TooLong.
- * In place: no, 102 Overlap.
  * a = 3 1 4: *out = 7
  */
 CVL_CHECKED CvlStatus cvl_ior_ruz(const int32_t *a, size_t n, int32_t *out) CVL_NONNULL(3);
 
 /*
- * cvl_xor_suz: For each integer those before it, exclusive or, bit by bit; 0 at place 0. a and out have n elements.
+ * cvl_xor_suz: For each integer those before it joined by exclusive or, bit by bit; 0 at place 0. a and out have n elements.
  * Faults: 13 TooLong.
  * In place: a may be out.
  * a = 3 1 4: out = 0 3 2
@@ -1368,15 +1344,14 @@ CVL_CHECKED CvlStatus cvl_ior_ruz(const int32_t *a, size_t n, int32_t *out) CVL_
 CVL_CHECKED CvlStatus cvl_xor_suz(const int32_t *a, int32_t *out, size_t n);
 
 /*
- * cvl_xor_ruz: The n integers, exclusive or, bit by bit; 0 where there are none.
+ * cvl_xor_ruz: The n integers joined by exclusive or, bit by bit; 0 if there are none.
  * Faults: 13 TooLong.
- * In place: no, 102 Overlap.
  * a = 3 1 4: *out = 6
  */
 CVL_CHECKED CvlStatus cvl_xor_ruz(const int32_t *a, size_t n, int32_t *out) CVL_NONNULL(3);
 
 /*
- * cvl_and_sub: For each boolean, of those before it, whether all are true; true at place 0. a and out have n elements.
+ * cvl_and_sub: For each boolean whether all those before it are true; true at place 0. a and out have n elements.
  * Faults: 13 TooLong.
  * In place: a may be out.
  * a = true false true: out = true true false
@@ -1384,15 +1359,14 @@ CVL_CHECKED CvlStatus cvl_xor_ruz(const int32_t *a, size_t n, int32_t *out) CVL_
 CVL_CHECKED CvlStatus cvl_and_sub(const bool *a, bool *out, size_t n);
 
 /*
- * cvl_and_rub: Of the n booleans, whether all are true; true where there are none.
+ * cvl_and_rub: Whether all n booleans are true; true if there are none.
  * Faults: 13 TooLong.
- * In place: no, 102 Overlap.
  * a = true false true: *out = false
  */
 CVL_CHECKED CvlStatus cvl_and_rub(const bool *a, size_t n, bool *out) CVL_NONNULL(3);
 
 /*
- * cvl_ior_sub: For each boolean, of those before it, whether any is true; false at place 0. a and out have n elements.
+ * cvl_ior_sub: For each boolean whether any of those before it is true; false at place 0. a and out have n elements.
  * Faults: 13 TooLong.
  * In place: a may be out.
  * a = true false true: out = false true true
@@ -1400,16 +1374,14 @@ CVL_CHECKED CvlStatus cvl_and_rub(const bool *a, size_t n, bool *out) CVL_NONNUL
 CVL_CHECKED CvlStatus cvl_ior_sub(const bool *a, bool *out, size_t n);
 
 /*
- * cvl_ior_rub: Of the n booleans, whether any is true; false where there are none.
+ * cvl_ior_rub: Whether any of the n booleans is true; false if there are none.
  * Faults: 13 TooLong.
- * In place: no, 102 Overlap.
  * a = true false true: *out = true
  */
 CVL_CHECKED CvlStatus cvl_ior_rub(const bool *a, size_t n, bool *out) CVL_NONNULL(3);
 
 /*
- * cvl_xor_sub: For each boolean, of those before it, whether an odd number is true; false at place 0. a and out have n
- * elements.
+ * cvl_xor_sub: For each boolean whether an odd number of those before it is true; false at place 0. a and out have n elements.
  * Faults: 13 TooLong.
  * In place: a may be out.
  * a = true false true: out = false true true
@@ -1417,9 +1389,8 @@ CVL_CHECKED CvlStatus cvl_ior_rub(const bool *a, size_t n, bool *out) CVL_NONNUL
 CVL_CHECKED CvlStatus cvl_xor_sub(const bool *a, bool *out, size_t n);
 
 /*
- * cvl_xor_rub: Of the n booleans, whether an odd number is true; false where there are none.
+ * cvl_xor_rub: Whether an odd number of the n booleans is true; false if there are none.
  * Faults: 13 TooLong.
- * In place: no, 102 Overlap.
  * a = true false true: *out = false
  */
 CVL_CHECKED CvlStatus cvl_xor_rub(const bool *a, size_t n, bool *out) CVL_NONNULL(3);
@@ -1436,8 +1407,7 @@ CVL_CHECKED CvlStatus cvl_tot_suz(const int32_t *a, int32_t *out, size_t n);
 
 /*
  * cvl_tot_ruz: The sum of the n integers.
- * Faults: 13 TooLong; 18 Overflow at 0 where it does not fit 32 bits.
- * In place: no, 102 Overlap.
+ * Faults: 13 TooLong; 18 Overflow at 0 if it does not fit 32 bits.
  * a = 3 1 4: *out = 8
  */
 CVL_CHECKED CvlStatus cvl_tot_ruz(const int32_t *a, size_t n, int32_t *out) CVL_NONNULL(3);
@@ -1447,63 +1417,55 @@ CVL_CHECKED CvlStatus cvl_tot_ruz(const int32_t *a, size_t n, int32_t *out) CVL_
 /*
  * cvl_cnt_lub: The number of true flags, of n.
  * Faults: 13 TooLong.
- * In place: no, 102 Overlap.
  * flags = false true true false true: *out = 3
  */
 CVL_CHECKED CvlStatus cvl_cnt_lub(const bool *flags, size_t n, int32_t *out) CVL_NONNULL(3);
 
 /*
  * cvl_ext_vuz: The element of n at the index.
- * Faults: 10 IndexOutOfRange at 0 where the index is below 0, or n or more.
- * In place: no, 102 Overlap.
+ * Faults: 10 IndexOutOfRange at 0 if the index is below 0, or n or more.
  * vector = 4 5 6, index = 2: *out = 6
  */
 CVL_CHECKED CvlStatus cvl_ext_vuz(const int32_t *vector, size_t n, int64_t index, int32_t *out) CVL_NONNULL(4);
 
 /*
  * cvl_ext_vub: The element of n at the index.
- * Faults: 10 IndexOutOfRange at 0 where the index is below 0, or n or more.
- * In place: no, 102 Overlap.
+ * Faults: 10 IndexOutOfRange at 0 if the index is below 0, or n or more.
  * vector = true true false, index = 0: *out = true
  */
 CVL_CHECKED CvlStatus cvl_ext_vub(const bool *vector, size_t n, int64_t index, bool *out) CVL_NONNULL(4);
 
 /*
  * cvl_rep_vuz: The vector with the value at the index. vector and out have n elements.
- * Faults: 10 IndexOutOfRange at 0 where the index is below 0, or n or more.
- * In place: no, 102 Overlap.
+ * Faults: 10 IndexOutOfRange at 0 if the index is below 0, or n or more.
  * vector = 1 2 3, index = 1, value = 9: out = 1 9 3
  */
 CVL_CHECKED CvlStatus cvl_rep_vuz(const int32_t *vector, int64_t index, int32_t value, int32_t *CVL_RESTRICT out, size_t n);
 
 /*
  * cvl_rep_vub: The vector with the value at the index. vector and out have n elements.
- * Faults: 10 IndexOutOfRange at 0 where the index is below 0, or n or more.
- * In place: no, 102 Overlap.
+ * Faults: 10 IndexOutOfRange at 0 if the index is below 0, or n or more.
  * vector = true true true, index = 2, value = false: out = true true false
  */
 CVL_CHECKED CvlStatus cvl_rep_vub(const bool *vector, int64_t index, bool value, bool *CVL_RESTRICT out, size_t n);
 
 /*
  * cvl_dis_vuz: count copies of the value; out has count elements.
- * Faults: 12 NegativeLength, without a place, where count is below 0; 13 TooLong where it is above 2147483647.
- * In place: no, 102 Overlap.
+ * Faults: 12 NegativeLength, without a place, if count is below 0; 13 TooLong if it is above 2147483647.
  * value = 7, count = 3: out = 7 7 7
  */
 CVL_CHECKED CvlStatus cvl_dis_vuz(int32_t value, int64_t count, int32_t *CVL_RESTRICT out);
 
 /*
  * cvl_dis_vub: count copies of the value; out has count elements.
- * Faults: 12 NegativeLength, without a place, where count is below 0; 13 TooLong where it is above 2147483647.
- * In place: no, 102 Overlap.
+ * Faults: 12 NegativeLength, without a place, if count is below 0; 13 TooLong if it is above 2147483647.
  * value = true, count = 2: out = true true
  */
 CVL_CHECKED CvlStatus cvl_dis_vub(bool value, int64_t count, bool *CVL_RESTRICT out);
 
 /*
  * cvl_ind_luz: The numbers init + k * stride, wrapped, for k from 0 to count - 1; out has count elements.
- * Faults: 12 NegativeLength, without a place, where count is below 0; 13 TooLong where it is above 2147483647.
- * In place: no, 102 Overlap.
+ * Faults: 12 NegativeLength, without a place, if count is below 0; 13 TooLong if it is above 2147483647.
  * init = 10, stride = -2, count = 3: out = 10 8 6
  */
 CVL_CHECKED CvlStatus cvl_ind_luz(int32_t init, int32_t stride, int64_t count, int32_t *CVL_RESTRICT out);
@@ -1511,21 +1473,20 @@ CVL_CHECKED CvlStatus cvl_ind_luz(int32_t init, int32_t stride, int64_t count, i
 /* ---- segments: the calls of the table ---- */
 
 /*
- * Segments come as their lengths, one for each segment, empty ones too. Each call on segments has these faults first, by the
- * lengths: 13 TooLong, without a place, where there are more than 2147483647; 12 NegativeLength at the first that is below 0;
- * 13 TooLong, without a place, where they add up to more than 2147483647.
+ * Segments come as their lengths, one for each segment, which may be 0. Each call on segments first has these faults, by the
+ * lengths: 13 TooLong, without a place, if there are more than 2147483647; 12 NegativeLength at the first that is below 0; 13
+ * TooLong, without a place, if they add up to more than 2147483647.
  */
 
 /*
  * cvl_mke_fov: Whether the numbers are the lengths of segments, and how many elements these have in all.
- * In place: no, 102 Overlap.
  * lengths = 2 0 3: *total = 5
  */
 CVL_CHECKED CvlStatus cvl_mke_fov(CvlLengths lengths, size_t *total) CVL_NONNULL(2);
 
 /*
  * cvl_tot_sez: For each integer the sum of those before it in its segment. a and out have n elements.
- * Faults: 7 LengthMismatch where the lengths do not add up to n; 18 Overflow at the first place whose sum does not fit 32 bits.
+ * Faults: 7 LengthMismatch if the lengths do not add up to n; 18 Overflow at the first place whose sum does not fit 32 bits.
  * In place: a may be out.
  * a = 3 1 4 1 5, lengths = 2 0 3: out = 0 3 0 4 5
  */
@@ -1533,9 +1494,7 @@ CVL_CHECKED CvlStatus cvl_tot_sez(const int32_t *a, CvlLengths lengths, int32_t 
 
 /*
  * cvl_tot_rez: The sum of each segment. a has n elements, out one for each segment.
- * Faults: 7 LengthMismatch where the lengths do not add up to n; 18 Overflow at the first segment whose sum does not fit 32
- * bits.
- * In place: no, 102 Overlap.
+ * Faults: 7 LengthMismatch if the lengths do not add up to n; 18 Overflow at the first segment whose sum does not fit 32 bits.
  * a = 3 1 4 1 5, lengths = 2 0 3: out = 4 0 10
  */
 CVL_CHECKED CvlStatus cvl_tot_rez(const int32_t *a, size_t n, CvlLengths lengths, int32_t *CVL_RESTRICT out);
@@ -1543,8 +1502,7 @@ CVL_CHECKED CvlStatus cvl_tot_rez(const int32_t *a, size_t n, CvlLengths lengths
 /*
  * cvl_ext_vez: The element of each segment at its index, which counts from the segment's start. The vector has n elements,
  * index and out one for each segment.
- * Faults: 7 LengthMismatch where the lengths do not add up to n; 10 IndexOutOfRange at the segment.
- * In place: no, 102 Overlap.
+ * Faults: 7 LengthMismatch if the lengths do not add up to n; 10 IndexOutOfRange at the segment.
  * vector = 1 2 3 4 5, index = 1 2, lengths = 2 3: out = 2 5
  */
 CVL_CHECKED CvlStatus cvl_ext_vez(const int32_t *vector, size_t n, const int32_t *index, CvlLengths lengths,
@@ -1553,8 +1511,7 @@ CVL_CHECKED CvlStatus cvl_ext_vez(const int32_t *vector, size_t n, const int32_t
 /*
  * cvl_ext_veb: The element of each segment at its index, which counts from the segment's start. The vector has n elements,
  * index and out one for each segment.
- * Faults: 7 LengthMismatch where the lengths do not add up to n; 10 IndexOutOfRange at the segment.
- * In place: no, 102 Overlap.
+ * Faults: 7 LengthMismatch if the lengths do not add up to n; 10 IndexOutOfRange at the segment.
  * vector = true true false, index = 0 1, lengths = 1 2: out = true false
  */
 CVL_CHECKED CvlStatus cvl_ext_veb(const bool *vector, size_t n, const int32_t *index, CvlLengths lengths,
@@ -1563,8 +1520,7 @@ CVL_CHECKED CvlStatus cvl_ext_veb(const bool *vector, size_t n, const int32_t *i
 /*
  * cvl_rep_vez: The vector with the value of each segment at its index, which counts from the segment's start. vector and out
  * have n elements, index and values one for each segment.
- * Faults: 7 LengthMismatch where the lengths do not add up to n; 10 IndexOutOfRange at the segment.
- * In place: no, 102 Overlap.
+ * Faults: 7 LengthMismatch if the lengths do not add up to n; 10 IndexOutOfRange at the segment.
  * vector = 1 2 3 4 5, index = 0 1, values = 8 9, lengths = 2 3: out = 8 2 3 9 5
  */
 CVL_CHECKED CvlStatus cvl_rep_vez(const int32_t *vector, const int32_t *index, const int32_t *values, CvlLengths lengths,
@@ -1573,8 +1529,7 @@ CVL_CHECKED CvlStatus cvl_rep_vez(const int32_t *vector, const int32_t *index, c
 /*
  * cvl_rep_veb: The vector with the value of each segment at its index, which counts from the segment's start. vector and out
  * have n elements, index and values one for each segment.
- * Faults: 7 LengthMismatch where the lengths do not add up to n; 10 IndexOutOfRange at the segment.
- * In place: no, 102 Overlap.
+ * Faults: 7 LengthMismatch if the lengths do not add up to n; 10 IndexOutOfRange at the segment.
  * vector = true true false, index = 0 1, values = false true, lengths = 1 2: out = false true true
  */
 CVL_CHECKED CvlStatus cvl_rep_veb(const bool *vector, const int32_t *index, const bool *values, CvlLengths lengths,
@@ -1583,7 +1538,6 @@ CVL_CHECKED CvlStatus cvl_rep_veb(const bool *vector, const int32_t *index, cons
 /*
  * cvl_dis_vez: Copies of each value, as many as its segment has places. There is one value for each segment; out has n
  * elements, the total of the lengths, else 7 LengthMismatch.
- * In place: no, 102 Overlap.
  * values = 7 8 9, lengths = 2 0 3: out = 7 7 9 9 9
  */
 CVL_CHECKED CvlStatus cvl_dis_vez(const int32_t *values, CvlLengths lengths, int32_t *CVL_RESTRICT out, size_t n);
@@ -1591,7 +1545,6 @@ CVL_CHECKED CvlStatus cvl_dis_vez(const int32_t *values, CvlLengths lengths, int
 /*
  * cvl_dis_veb: Copies of each value, as many as its segment has places. There is one value for each segment; out has n
  * elements, the total of the lengths, else 7 LengthMismatch.
- * In place: no, 102 Overlap.
  * values = true false, lengths = 1 2: out = true false false
  */
 CVL_CHECKED CvlStatus cvl_dis_veb(const bool *values, CvlLengths lengths, bool *CVL_RESTRICT out, size_t n);
@@ -1599,7 +1552,6 @@ CVL_CHECKED CvlStatus cvl_dis_veb(const bool *values, CvlLengths lengths, bool *
 /*
  * cvl_ind_lez: The numbers of each segment from its init on, in steps of its stride, wrapped. There are one init and one stride
  * for each segment; out has n elements, the total of the lengths, else 7 LengthMismatch.
- * In place: no, 102 Overlap.
  * inits = 0 5 10, strides = 1 1 -2, lengths = 2 0 3: out = 0 1 10 8 6
  */
 CVL_CHECKED CvlStatus cvl_ind_lez(const int32_t *inits, const int32_t *strides, CvlLengths lengths, int32_t *CVL_RESTRICT out,
@@ -1608,178 +1560,170 @@ CVL_CHECKED CvlStatus cvl_ind_lez(const int32_t *inits, const int32_t *strides, 
 /* ---- scans and reduces of segments: the calls of the table ---- */
 
 /*
- * cvl_add_sez: For each integer those before it in its segment, summed, wrapped; 0 where a segment starts. a and out have n
- * elements.
- * Faults: 7 LengthMismatch where the lengths do not add up to n.
+ * cvl_add_sez: For each integer the sum of those before it in its segment, wrapped; 0 at the start of a segment. a and out have
+ * n elements.
+ * Faults: 7 LengthMismatch if the lengths do not add up to n.
  * In place: a may be out.
  * a = 3 1 4 1 5, lengths = 2 0 3: out = 0 3 0 4 5
  */
 CVL_CHECKED CvlStatus cvl_add_sez(const int32_t *a, CvlLengths lengths, int32_t *out, size_t n);
 
 /*
- * cvl_add_rez: The integers of each segment, summed, wrapped; 0 where it is empty. a has n elements, out one for each segment.
- * Faults: 7 LengthMismatch where the lengths do not add up to n.
- * In place: no, 102 Overlap.
+ * cvl_add_rez: The sum of the integers of each segment, wrapped; 0 if it is empty. a has n elements, out one for each segment.
+ * Faults: 7 LengthMismatch if the lengths do not add up to n.
  * a = 3 1 4 1 5, lengths = 2 0 3: out = 4 0 10
  */
 CVL_CHECKED CvlStatus cvl_add_rez(const int32_t *a, size_t n, CvlLengths lengths, int32_t *CVL_RESTRICT out);
 
 /*
- * cvl_mul_sez: For each integer those before it in its segment, multiplied, wrapped; 1 where a segment starts. a and out have n
- * elements.
- * Faults: 7 LengthMismatch where the lengths do not add up to n.
+ * cvl_mul_sez: For each integer the product of those before it in its segment, wrapped; 1 at the start of a segment. a and out
+ * have n elements.
+ * Faults: 7 LengthMismatch if the lengths do not add up to n.
  * In place: a may be out.
  * a = 3 1 4 1 5, lengths = 2 0 3: out = 1 3 1 4 4
  */
 CVL_CHECKED CvlStatus cvl_mul_sez(const int32_t *a, CvlLengths lengths, int32_t *out, size_t n);
 
 /*
- * cvl_mul_rez: The integers of each segment, multiplied, wrapped; 1 where it is empty. a has n elements, out one for each
+ * cvl_mul_rez: The product of the integers of each segment, wrapped; 1 if it is empty. a has n elements, out one for each
  * segment.
- * Faults: 7 LengthMismatch where the lengths do not add up to n.
- * In place: no, 102 Overlap.
+ * Faults: 7 LengthMismatch if the lengths do not add up to n.
  * a = 3 1 4 1 5, lengths = 2 0 3: out = 3 1 20
  */
 CVL_CHECKED CvlStatus cvl_mul_rez(const int32_t *a, size_t n, CvlLengths lengths, int32_t *CVL_RESTRICT out);
 
 /*
- * cvl_min_sez: For each integer those before it in its segment, the least of them; 2147483647 where a segment starts. a and out
+ * cvl_min_sez: For each integer the least of those before it in its segment; 2147483647 at the start of a segment. a and out
  * have n elements.
- * Faults: 7 LengthMismatch where the lengths do not add up to n.
+ * Faults: 7 LengthMismatch if the lengths do not add up to n.
  * In place: a may be out.
  * a = 3 1 4 1 5, lengths = 2 0 3: out = 2147483647 3 2147483647 4 1
  */
 CVL_CHECKED CvlStatus cvl_min_sez(const int32_t *a, CvlLengths lengths, int32_t *out, size_t n);
 
 /*
- * cvl_min_rez: The integers of each segment, the least of them; 2147483647 where it is empty. a has n elements, out one for
- * each segment.
- * Faults: 7 LengthMismatch where the lengths do not add up to n.
- * In place: no, 102 Overlap.
+ * cvl_min_rez: The least of the integers of each segment; 2147483647 if it is empty. a has n elements, out one for each
+ * segment.
+ * Faults: 7 LengthMismatch if the lengths do not add up to n.
  * a = 3 1 4 1 5, lengths = 2 0 3: out = 1 2147483647 1
  */
 CVL_CHECKED CvlStatus cvl_min_rez(const int32_t *a, size_t n, CvlLengths lengths, int32_t *CVL_RESTRICT out);
 
 /*
- * cvl_max_sez: For each integer those before it in its segment, the greatest of them; -2147483648 where a segment starts. a and
+ * cvl_max_sez: For each integer the greatest of those before it in its segment; -2147483648 at the start of a segment. a and
  * out have n elements.
- * Faults: 7 LengthMismatch where the lengths do not add up to n.
+ * Faults: 7 LengthMismatch if the lengths do not add up to n.
  * In place: a may be out.
  * a = 3 1 4 1 5, lengths = 2 0 3: out = -2147483648 3 -2147483648 4 4
  */
 CVL_CHECKED CvlStatus cvl_max_sez(const int32_t *a, CvlLengths lengths, int32_t *out, size_t n);
 
 /*
- * cvl_max_rez: The integers of each segment, the greatest of them; -2147483648 where it is empty. a has n elements, out one for
- * each segment.
- * Faults: 7 LengthMismatch where the lengths do not add up to n.
- * In place: no, 102 Overlap.
+ * cvl_max_rez: The greatest of the integers of each segment; -2147483648 if it is empty. a has n elements, out one for each
+ * segment.
+ * Faults: 7 LengthMismatch if the lengths do not add up to n.
  * a = 3 1 4 1 5, lengths = 2 0 3: out = 3 -2147483648 5
  */
 CVL_CHECKED CvlStatus cvl_max_rez(const int32_t *a, size_t n, CvlLengths lengths, int32_t *CVL_RESTRICT out);
 
 /*
- * cvl_and_sez: For each integer those before it in its segment, and, bit by bit; -1 where a segment starts. a and out have n
- * elements.
- * Faults: 7 LengthMismatch where the lengths do not add up to n.
+ * cvl_and_sez: For each integer those before it in its segment joined by and, bit by bit; -1 at the start of a segment. a and
+ * out have n elements.
+ * Faults: 7 LengthMismatch if the lengths do not add up to n.
  * In place: a may be out.
  * a = 3 1 4 1 5, lengths = 2 0 3: out = -1 3 -1 4 0
  */
 CVL_CHECKED CvlStatus cvl_and_sez(const int32_t *a, CvlLengths lengths, int32_t *out, size_t n);
 
 /*
- * cvl_and_rez: The integers of each segment, and, bit by bit; -1 where it is empty. a has n elements, out one for each segment.
- * Faults: 7 LengthMismatch where the lengths do not add up to n.
- * In place: no, 102 Overlap.
+ * cvl_and_rez: The integers of each segment joined by and, bit by bit; -1 if it is empty. a has n elements, out one for each
+ * segment.
+ * Faults: 7 LengthMismatch if the lengths do not add up to n.
  * a = 3 1 4 1 5, lengths = 2 0 3: out = 1 -1 0
  */
 CVL_CHECKED CvlStatus cvl_and_rez(const int32_t *a, size_t n, CvlLengths lengths, int32_t *CVL_RESTRICT out);
 
 /*
- * cvl_ior_sez: For each integer those before it in its segment, or, bit by bit; 0 where a segment starts. a and out have n
- * elements.
- * Faults: 7 LengthMismatch where the lengths do not add up to n.
+ * cvl_ior_sez: For each integer those before it in its segment joined by or, bit by bit; 0 at the start of a segment. a and out
+ * have n elements.
+ * Faults: 7 LengthMismatch if the lengths do not add up to n.
  * In place: a may be out.
  * a = 3 1 4 1 5, lengths = 2 0 3: out = 0 3 0 4 5
  */
 CVL_CHECKED CvlStatus cvl_ior_sez(const int32_t *a, CvlLengths lengths, int32_t *out, size_t n);
 
 /*
- * cvl_ior_rez: The integers of each segment, or, bit by bit; 0 where it is empty. a has n elements, out one for each segment.
- * Faults: 7 LengthMismatch where the lengths do not add up to n.
- * In place: no, 102 Overlap.
+ * cvl_ior_rez: The integers of each segment joined by or, bit by bit; 0 if it is empty. a has n elements, out one for each
+ * segment.
+ * Faults: 7 LengthMismatch if the lengths do not add up to n.
  * a = 3 1 4 1 5, lengths = 2 0 3: out = 3 0 5
  */
 CVL_CHECKED CvlStatus cvl_ior_rez(const int32_t *a, size_t n, CvlLengths lengths, int32_t *CVL_RESTRICT out);
 
 /*
- * cvl_xor_sez: For each integer those before it in its segment, exclusive or, bit by bit; 0 where a segment starts. a and out
- * have n elements.
- * Faults: 7 LengthMismatch where the lengths do not add up to n.
+ * cvl_xor_sez: For each integer those before it in its segment joined by exclusive or, bit by bit; 0 at the start of a segment.
+ * a and out have n elements.
+ * Faults: 7 LengthMismatch if the lengths do not add up to n.
  * In place: a may be out.
  * a = 3 1 4 1 5, lengths = 2 0 3: out = 0 3 0 4 5
  */
 CVL_CHECKED CvlStatus cvl_xor_sez(const int32_t *a, CvlLengths lengths, int32_t *out, size_t n);
 
 /*
- * cvl_xor_rez: The integers of each segment, exclusive or, bit by bit; 0 where it is empty. a has n elements, out one for each
- * segment.
- * Faults: 7 LengthMismatch where the lengths do not add up to n.
- * In place: no, 102 Overlap.
+ * cvl_xor_rez: The integers of each segment joined by exclusive or, bit by bit; 0 if it is empty. a has n elements, out one for
+ * each segment.
+ * Faults: 7 LengthMismatch if the lengths do not add up to n.
  * a = 3 1 4 1 5, lengths = 2 0 3: out = 2 0 0
  */
 CVL_CHECKED CvlStatus cvl_xor_rez(const int32_t *a, size_t n, CvlLengths lengths, int32_t *CVL_RESTRICT out);
 
 /*
- * cvl_and_seb: For each boolean, of those before it in its segment, whether all are true; true where a segment starts. a and
- * out have n elements.
- * Faults: 7 LengthMismatch where the lengths do not add up to n.
+ * cvl_and_seb: For each boolean whether all those before it in its segment are true; true at the start of a segment. a and out
+ * have n elements.
+ * Faults: 7 LengthMismatch if the lengths do not add up to n.
  * In place: a may be out.
  * a = true false true false true, lengths = 2 0 3: out = true true true true false
  */
 CVL_CHECKED CvlStatus cvl_and_seb(const bool *a, CvlLengths lengths, bool *out, size_t n);
 
 /*
- * cvl_and_reb: Of the booleans of each segment, whether all are true; true where it is empty. a has n elements, out one for
- * each segment.
- * Faults: 7 LengthMismatch where the lengths do not add up to n.
- * In place: no, 102 Overlap.
+ * cvl_and_reb: Whether all the booleans of each segment are true; true if it is empty. a has n elements, out one for each
+ * segment.
+ * Faults: 7 LengthMismatch if the lengths do not add up to n.
  * a = true false true false true, lengths = 2 0 3: out = false true false
  */
 CVL_CHECKED CvlStatus cvl_and_reb(const bool *a, size_t n, CvlLengths lengths, bool *CVL_RESTRICT out);
 
 /*
- * cvl_ior_seb: For each boolean, of those before it in its segment, whether any is true; false where a segment starts. a and
+ * cvl_ior_seb: For each boolean whether any of those before it in its segment is true; false at the start of a segment. a and
  * out have n elements.
- * Faults: 7 LengthMismatch where the lengths do not add up to n.
+ * Faults: 7 LengthMismatch if the lengths do not add up to n.
  * In place: a may be out.
  * a = true false true false true, lengths = 2 0 3: out = false true false true true
  */
 CVL_CHECKED CvlStatus cvl_ior_seb(const bool *a, CvlLengths lengths, bool *out, size_t n);
 
 /*
- * cvl_ior_reb: Of the booleans of each segment, whether any is true; false where it is empty. a has n elements, out one for
- * each segment.
- * Faults: 7 LengthMismatch where the lengths do not add up to n.
- * In place: no, 102 Overlap.
+ * cvl_ior_reb: Whether any of the booleans of each segment is true; false if it is empty. a has n elements, out one for each
+ * segment.
+ * Faults: 7 LengthMismatch if the lengths do not add up to n.
  * a = true false true false true, lengths = 2 0 3: out = true false true
  */
 CVL_CHECKED CvlStatus cvl_ior_reb(const bool *a, size_t n, CvlLengths lengths, bool *CVL_RESTRICT out);
 
 /*
- * cvl_xor_seb: For each boolean, of those before it in its segment, whether an odd number is true; false where a segment
- * starts. a and out have n elements.
- * Faults: 7 LengthMismatch where the lengths do not add up to n.
+ * cvl_xor_seb: For each boolean whether an odd number of those before it in its segment is true; false at the start of a
+ * segment. a and out have n elements.
+ * Faults: 7 LengthMismatch if the lengths do not add up to n.
  * In place: a may be out.
  * a = true false true false true, lengths = 2 0 3: out = false true false true true
  */
 CVL_CHECKED CvlStatus cvl_xor_seb(const bool *a, CvlLengths lengths, bool *out, size_t n);
 
 /*
- * cvl_xor_reb: Of the booleans of each segment, whether an odd number is true; false where it is empty. a has n elements, out
- * one for each segment.
- * Faults: 7 LengthMismatch where the lengths do not add up to n.
- * In place: no, 102 Overlap.
+ * cvl_xor_reb: Whether an odd number of the booleans of each segment is true; false if it is empty. a has n elements, out one
+ * for each segment.
+ * Faults: 7 LengthMismatch if the lengths do not add up to n.
  * a = true false true false true, lengths = 2 0 3: out = true false false
  */
 CVL_CHECKED CvlStatus cvl_xor_reb(const bool *a, size_t n, CvlLengths lengths, bool *CVL_RESTRICT out);
@@ -1787,42 +1731,38 @@ CVL_CHECKED CvlStatus cvl_xor_reb(const bool *a, size_t n, CvlLengths lengths, b
 /* ---- packs and counts of segments: the calls of the table ---- */
 
 /*
- * cvl_pck_luz: The values whose flag is true, in their order. values and flags have n elements. out has room for so many; room
- * for n is always enough. *count is how many they are, also where there is not room for them.
- * Faults: 13 TooLong; 7 LengthMismatch where there is not room.
- * In place: no, 102 Overlap.
+ * cvl_pck_luz: The values whose flag is true, in their order. values and flags have n elements. out needs room for so many; n
+ * is always enough. *count is how many they are, also if out is too short.
+ * Faults: 13 TooLong; 7 LengthMismatch if out is too short.
  * values = 1 2 3 4 5, flags = false true true false true: out = 2 3 5, *count = 3
  */
 CVL_CHECKED CvlStatus cvl_pck_luz(const int32_t *values, const bool *flags, size_t n, int32_t *CVL_RESTRICT out, size_t room,
     size_t *count) CVL_NONNULL(6);
 
 /*
- * cvl_pck_lub: The values whose flag is true, in their order. values and flags have n elements. out has room for so many; room
- * for n is always enough. *count is how many they are, also where there is not room for them.
- * Faults: 13 TooLong; 7 LengthMismatch where there is not room.
- * In place: no, 102 Overlap.
+ * cvl_pck_lub: The values whose flag is true, in their order. values and flags have n elements. out needs room for so many; n
+ * is always enough. *count is how many they are, also if out is too short.
+ * Faults: 13 TooLong; 7 LengthMismatch if out is too short.
  * values = true false true, flags = false true true: out = false true, *count = 2
  */
 CVL_CHECKED CvlStatus cvl_pck_lub(const bool *values, const bool *flags, size_t n, bool *CVL_RESTRICT out, size_t room,
     size_t *count) CVL_NONNULL(6);
 
 /*
- * cvl_pck_lez: The values of each segment whose flag is true, in their order, one segment after another; pck_fov tells the
- * lengths of these segments. values and flags have n elements. out has room for so many; room for n is always enough. *count is
- * how many they are, also where there is not room for them.
- * Faults: 7 LengthMismatch where the lengths do not add up to n, with *count as it was, and where there is not room.
- * In place: no, 102 Overlap.
+ * cvl_pck_lez: The values of each segment whose flag is true, in their order, one segment after another; pck_fov gives the
+ * lengths of these segments. values and flags have n elements. out needs room for so many; n is always enough. *count is how
+ * many they are, also if out is too short.
+ * Faults: 7 LengthMismatch if the lengths do not add up to n, with *count as it was, and if out is too short.
  * values = 1 2 3 4 5, flags = false true true false true, lengths = 2 0 3: out = 2 3 5, *count = 3
  */
 CVL_CHECKED CvlStatus cvl_pck_lez(const int32_t *values, const bool *flags, size_t n, CvlLengths lengths,
     int32_t *CVL_RESTRICT out, size_t room, size_t *count) CVL_NONNULL(7);
 
 /*
- * cvl_pck_leb: The values of each segment whose flag is true, in their order, one segment after another; pck_fov tells the
- * lengths of these segments. values and flags have n elements. out has room for so many; room for n is always enough. *count is
- * how many they are, also where there is not room for them.
- * Faults: 7 LengthMismatch where the lengths do not add up to n, with *count as it was, and where there is not room.
- * In place: no, 102 Overlap.
+ * cvl_pck_leb: The values of each segment whose flag is true, in their order, one segment after another; pck_fov gives the
+ * lengths of these segments. values and flags have n elements. out needs room for so many; n is always enough. *count is how
+ * many they are, also if out is too short.
+ * Faults: 7 LengthMismatch if the lengths do not add up to n, with *count as it was, and if out is too short.
  * values = true false true, flags = false true true, lengths = 1 2: out = false true, *count = 2
  */
 CVL_CHECKED CvlStatus cvl_pck_leb(const bool *values, const bool *flags, size_t n, CvlLengths lengths, bool *CVL_RESTRICT out,
@@ -1831,16 +1771,14 @@ CVL_CHECKED CvlStatus cvl_pck_leb(const bool *values, const bool *flags, size_t 
 /*
  * cvl_pck_fov: The lengths of the segments of what a pack keeps, or a select permute, 0 for a segment of which nothing is kept.
  * flags has n elements, out one for each segment.
- * Faults: 7 LengthMismatch where the lengths do not add up to n.
- * In place: no, 102 Overlap.
+ * Faults: 7 LengthMismatch if the lengths do not add up to n.
  * flags = false true true false true, lengths = 2 0 3: out = 1 0 2
  */
 CVL_CHECKED CvlStatus cvl_pck_fov(const bool *flags, size_t n, CvlLengths lengths, int32_t *CVL_RESTRICT out);
 
 /*
  * cvl_cnt_leb: The number of true flags of each segment. flags has n elements, out one for each segment.
- * Faults: 7 LengthMismatch where the lengths do not add up to n.
- * In place: no, 102 Overlap.
+ * Faults: 7 LengthMismatch if the lengths do not add up to n.
  * flags = false false true false true, lengths = 2 0 3: out = 0 0 2
  */
 CVL_CHECKED CvlStatus cvl_cnt_leb(const bool *flags, size_t n, CvlLengths lengths, int32_t *CVL_RESTRICT out);
@@ -1848,34 +1786,31 @@ CVL_CHECKED CvlStatus cvl_cnt_leb(const bool *flags, size_t n, CvlLengths length
 /* ---- permutes: the calls of the table ---- */
 
 /*
- * In a simple, a select and a default permute the index of a place tells where its element goes, and no two may go to one
- * place. 13 TooLong stands where the index has more than 2147483647 elements, and comes first.
+ * In a simple, a select and a default permute the index of a place says where its element goes, and no two may go to one place.
+ * 13 TooLong, if the index has more than 2147483647 elements, comes first.
  */
 
 /*
  * cvl_smp_puz: Each element of the source at its index. source, index and out have n elements.
- * Faults: 13 TooLong; at the first bad index 10 IndexOutOfRange where it is below 0, or n or more, else 11 IndexRepeated where
- * an earlier one is the same.
- * In place: no, 102 Overlap.
+ * Faults: 13 TooLong; at the first bad index 10 IndexOutOfRange if it is below 0, or n or more, else 11 IndexRepeated if an
+ * earlier one is the same.
  * source = 10 20 30, index = 2 0 1: out = 20 30 10
  */
 CVL_CHECKED CvlStatus cvl_smp_puz(const int32_t *source, const int32_t *index, int32_t *CVL_RESTRICT out, size_t n);
 
 /*
  * cvl_smp_pub: Each element of the source at its index. source, index and out have n elements.
- * Faults: 13 TooLong; at the first bad index 10 IndexOutOfRange where it is below 0, or n or more, else 11 IndexRepeated where
- * an earlier one is the same.
- * In place: no, 102 Overlap.
+ * Faults: 13 TooLong; at the first bad index 10 IndexOutOfRange if it is below 0, or n or more, else 11 IndexRepeated if an
+ * earlier one is the same.
  * source = true false false, index = 2 0 1: out = false false true
  */
 CVL_CHECKED CvlStatus cvl_smp_pub(const bool *source, const int32_t *index, bool *CVL_RESTRICT out, size_t n);
 
 /*
  * cvl_sel_puz: Each element of the source whose flag is true at its index. source, index and flags have n elements; out has m,
- * the number of true flags, else 7 LengthMismatch. An index whose flag is false is not looked at.
- * Faults: 13 TooLong; at the first bad index 10 IndexOutOfRange where it is below 0, or the number of true flags or more, else
- * 11 IndexRepeated where an earlier one is the same.
- * In place: no, 102 Overlap.
+ * the number of true flags, else 7 LengthMismatch. An index whose flag is false is ignored.
+ * Faults: 13 TooLong; at the first bad index 10 IndexOutOfRange if it is below 0, or the number of true flags or more, else 11
+ * IndexRepeated if an earlier one is the same.
  * source = 1 2 3 4, index = 1 9 0 9, flags = true false true false: out = 3 1
  */
 CVL_CHECKED CvlStatus cvl_sel_puz(const int32_t *source, const int32_t *index, const bool *flags, size_t n,
@@ -1883,10 +1818,9 @@ CVL_CHECKED CvlStatus cvl_sel_puz(const int32_t *source, const int32_t *index, c
 
 /*
  * cvl_sel_pub: Each element of the source whose flag is true at its index. source, index and flags have n elements; out has m,
- * the number of true flags, else 7 LengthMismatch. An index whose flag is false is not looked at.
- * Faults: 13 TooLong; at the first bad index 10 IndexOutOfRange where it is below 0, or the number of true flags or more, else
- * 11 IndexRepeated where an earlier one is the same.
- * In place: no, 102 Overlap.
+ * the number of true flags, else 7 LengthMismatch. An index whose flag is false is ignored.
+ * Faults: 13 TooLong; at the first bad index 10 IndexOutOfRange if it is below 0, or the number of true flags or more, else 11
+ * IndexRepeated if an earlier one is the same.
  * source = true true false true, index = 1 9 0 9, flags = true false true false: out = false true
  */
 CVL_CHECKED CvlStatus cvl_sel_pub(const bool *source, const int32_t *index, const bool *flags, size_t n, bool *CVL_RESTRICT out,
@@ -1895,9 +1829,8 @@ CVL_CHECKED CvlStatus cvl_sel_pub(const bool *source, const int32_t *index, cons
 /*
  * cvl_def_puz: Each element of the source at its index, and at a place to which none goes its default. source and index have n
  * elements, defaults and out m, which may be any number.
- * Faults: 13 TooLong; at the first bad index 10 IndexOutOfRange where it is below 0, or m or more, else 11 IndexRepeated where
- * an earlier one is the same.
- * In place: no, 102 Overlap.
+ * Faults: 13 TooLong; at the first bad index 10 IndexOutOfRange if it is below 0, or m or more, else 11 IndexRepeated if an
+ * earlier one is the same.
  * source = 7 8, index = 3 1, defaults = 0 0 0 0 0: out = 0 8 0 7 0
  */
 CVL_CHECKED CvlStatus cvl_def_puz(const int32_t *source, const int32_t *index, size_t n, const int32_t *defaults,
@@ -1906,9 +1839,8 @@ CVL_CHECKED CvlStatus cvl_def_puz(const int32_t *source, const int32_t *index, s
 /*
  * cvl_def_pub: Each element of the source at its index, and at a place to which none goes its default. source and index have n
  * elements, defaults and out m, which may be any number.
- * Faults: 13 TooLong; at the first bad index 10 IndexOutOfRange where it is below 0, or m or more, else 11 IndexRepeated where
- * an earlier one is the same.
- * In place: no, 102 Overlap.
+ * Faults: 13 TooLong; at the first bad index 10 IndexOutOfRange if it is below 0, or m or more, else 11 IndexRepeated if an
+ * earlier one is the same.
  * source = true false, index = 3 1, defaults = false true true false: out = false false true true
  */
 CVL_CHECKED CvlStatus cvl_def_pub(const bool *source, const int32_t *index, size_t n, const bool *defaults,
@@ -1918,7 +1850,6 @@ CVL_CHECKED CvlStatus cvl_def_pub(const bool *source, const int32_t *index, size
  * cvl_bck_puz: At each place the element of the source at the place's index, which may repeat. The source has n elements, which
  * may be any number; index and out have m.
  * Faults: 13 TooLong; 10 IndexOutOfRange at the first index below 0, or n or more.
- * In place: no, 102 Overlap.
  * source = 10 20 30, index = 2 2 0 0: out = 30 30 10 10
  */
 CVL_CHECKED CvlStatus cvl_bck_puz(const int32_t *source, size_t n, const int32_t *index, int32_t *CVL_RESTRICT out, size_t m);
@@ -1927,7 +1858,6 @@ CVL_CHECKED CvlStatus cvl_bck_puz(const int32_t *source, size_t n, const int32_t
  * cvl_bck_pub: At each place the element of the source at the place's index, which may repeat. The source has n elements, which
  * may be any number; index and out have m.
  * Faults: 13 TooLong; 10 IndexOutOfRange at the first index below 0, or n or more.
- * In place: no, 102 Overlap.
  * source = true false false, index = 2 2 0 0: out = false false true true
  */
 CVL_CHECKED CvlStatus cvl_bck_pub(const bool *source, size_t n, const int32_t *index, bool *CVL_RESTRICT out, size_t m);
@@ -1935,17 +1865,16 @@ CVL_CHECKED CvlStatus cvl_bck_pub(const bool *source, size_t n, const int32_t *i
 /* ---- permutes of segments: the calls of the table ---- */
 
 /*
- * The faults by the lengths come first, as at the other calls on segments; where there are two arrays of lengths, those of
- * `lengths` before those of the other. There are as many of the one as of the other, else 7 LengthMismatch. Indices count from
- * the start of their segment.
+ * The faults by the lengths come first, as at the other calls on segments; with two arrays of lengths those of `lengths` before
+ * those of the other. There are as many of the one as of the other, else 7 LengthMismatch. Indices count from the start of
+ * their segment.
  */
 
 /*
  * cvl_smp_pez: Each element of the source at its index, which counts from the start of its segment. source, index and out have
  * n elements.
- * Faults: 13 TooLong; 7 LengthMismatch where the lengths do not add up to n; at the first bad index 10 IndexOutOfRange where it
- * is no place of its segment, else 11 IndexRepeated where an earlier one of its segment is the same.
- * In place: no, 102 Overlap.
+ * Faults: 13 TooLong; 7 LengthMismatch if the lengths do not add up to n; at the first bad index 10 IndexOutOfRange if it is no
+ * place of its segment, else 11 IndexRepeated if an earlier one of its segment is the same.
  * source = 1 2 3 4 5, index = 1 0 2 0 1, lengths = 2 0 3: out = 2 1 4 5 3
  */
 CVL_CHECKED CvlStatus cvl_smp_pez(const int32_t *source, const int32_t *index, CvlLengths lengths, int32_t *CVL_RESTRICT out,
@@ -1954,9 +1883,8 @@ CVL_CHECKED CvlStatus cvl_smp_pez(const int32_t *source, const int32_t *index, C
 /*
  * cvl_smp_peb: Each element of the source at its index, which counts from the start of its segment. source, index and out have
  * n elements.
- * Faults: 13 TooLong; 7 LengthMismatch where the lengths do not add up to n; at the first bad index 10 IndexOutOfRange where it
- * is no place of its segment, else 11 IndexRepeated where an earlier one of its segment is the same.
- * In place: no, 102 Overlap.
+ * Faults: 13 TooLong; 7 LengthMismatch if the lengths do not add up to n; at the first bad index 10 IndexOutOfRange if it is no
+ * place of its segment, else 11 IndexRepeated if an earlier one of its segment is the same.
  * source = true false false false true, index = 1 0 2 0 1, lengths = 2 0 3: out = false true false true false
  */
 CVL_CHECKED CvlStatus cvl_smp_peb(const bool *source, const int32_t *index, CvlLengths lengths, bool *CVL_RESTRICT out,
@@ -1965,10 +1893,9 @@ CVL_CHECKED CvlStatus cvl_smp_peb(const bool *source, const int32_t *index, CvlL
 /*
  * cvl_sel_pez: Each element of the source whose flag is true at its index in its segment of the result, which is as long as the
  * segment has true flags. source, index and flags have n elements; out has m, the number of true flags, else 7 LengthMismatch.
- * An index whose flag is false is not looked at.
- * Faults: 13 TooLong; 7 LengthMismatch where the lengths do not add up to n; at the first bad index 10 IndexOutOfRange where it
- * is no place of its segment of the result, else 11 IndexRepeated where an earlier one of its segment is the same.
- * In place: no, 102 Overlap.
+ * An index whose flag is false is ignored.
+ * Faults: 13 TooLong; 7 LengthMismatch if the lengths do not add up to n; at the first bad index 10 IndexOutOfRange if it is no
+ * place of its segment of the result, else 11 IndexRepeated if an earlier one of its segment is the same.
  * source = 1 2 3 4 5, index = 9 0 1 9 0, flags = false true true false true, lengths = 2 0 3: out = 2 5 3
  */
 CVL_CHECKED CvlStatus cvl_sel_pez(const int32_t *source, const int32_t *index, const bool *flags, size_t n, CvlLengths lengths,
@@ -1977,10 +1904,9 @@ CVL_CHECKED CvlStatus cvl_sel_pez(const int32_t *source, const int32_t *index, c
 /*
  * cvl_sel_peb: Each element of the source whose flag is true at its index in its segment of the result, which is as long as the
  * segment has true flags. source, index and flags have n elements; out has m, the number of true flags, else 7 LengthMismatch.
- * An index whose flag is false is not looked at.
- * Faults: 13 TooLong; 7 LengthMismatch where the lengths do not add up to n; at the first bad index 10 IndexOutOfRange where it
- * is no place of its segment of the result, else 11 IndexRepeated where an earlier one of its segment is the same.
- * In place: no, 102 Overlap.
+ * An index whose flag is false is ignored.
+ * Faults: 13 TooLong; 7 LengthMismatch if the lengths do not add up to n; at the first bad index 10 IndexOutOfRange if it is no
+ * place of its segment of the result, else 11 IndexRepeated if an earlier one of its segment is the same.
  * source = true false true true false, index = 9 0 1 9 0, flags = false true true false true, lengths = 2 0 3: out = false
  * false true
  */
@@ -1991,10 +1917,9 @@ CVL_CHECKED CvlStatus cvl_sel_peb(const bool *source, const int32_t *index, cons
  * cvl_def_pez: Each element of the source at its index in the same segment of the defaults, and at a place to which none goes
  * its default. source and index have n elements in segments with the lengths; defaults and out have m, in as many segments with
  * the default lengths.
- * Faults: 13 TooLong; 7 LengthMismatch where the lengths do not add up to n or the default lengths to m; at the first bad index
- * 10 IndexOutOfRange where it is no place of its segment of the defaults, else 11 IndexRepeated where an earlier one of its
- * segment is the same.
- * In place: no, 102 Overlap.
+ * Faults: 13 TooLong; 7 LengthMismatch if the lengths do not add up to n or the default lengths to m; at the first bad index 10
+ * IndexOutOfRange if it is no place of its segment of the defaults, else 11 IndexRepeated if an earlier one of its segment is
+ * the same.
  * source = 1 2 3 4 5, index = 2 0 0 1 2, defaults = 0 0 0 9 0 0 0, lengths = 2 0 3, default_lengths = 3 1 3: out = 2 0 1 9 3 4
  * 5
  */
@@ -2005,10 +1930,9 @@ CVL_CHECKED CvlStatus cvl_def_pez(const int32_t *source, const int32_t *index, s
  * cvl_def_peb: Each element of the source at its index in the same segment of the defaults, and at a place to which none goes
  * its default. source and index have n elements in segments with the lengths; defaults and out have m, in as many segments with
  * the default lengths.
- * Faults: 13 TooLong; 7 LengthMismatch where the lengths do not add up to n or the default lengths to m; at the first bad index
- * 10 IndexOutOfRange where it is no place of its segment of the defaults, else 11 IndexRepeated where an earlier one of its
- * segment is the same.
- * In place: no, 102 Overlap.
+ * Faults: 13 TooLong; 7 LengthMismatch if the lengths do not add up to n or the default lengths to m; at the first bad index 10
+ * IndexOutOfRange if it is no place of its segment of the defaults, else 11 IndexRepeated if an earlier one of its segment is
+ * the same.
  * source = true false, index = 1 0, defaults = false false true true, lengths = 1 1, default_lengths = 2 2: out = false true
  * false true
  */
@@ -2018,9 +1942,8 @@ CVL_CHECKED CvlStatus cvl_def_peb(const bool *source, const int32_t *index, size
 /*
  * cvl_bck_pez: At each place the element at the place's index in the same segment of the source; an index may repeat. The
  * source has n elements in segments with the lengths; index and out have m, in as many segments with the index lengths.
- * Faults: 13 TooLong; 7 LengthMismatch where the lengths do not add up to n or the index lengths to m; 10 IndexOutOfRange at
- * the first index that is no place of its segment of the source.
- * In place: no, 102 Overlap.
+ * Faults: 13 TooLong; 7 LengthMismatch if the lengths do not add up to n or the index lengths to m; 10 IndexOutOfRange at the
+ * first index that is no place of its segment of the source.
  * source = 1 2 3 4 5, index = 1 1 1 2, lengths = 2 0 3, index_lengths = 3 0 1: out = 2 2 2 5
  */
 CVL_CHECKED CvlStatus cvl_bck_pez(const int32_t *source, size_t n, const int32_t *index, CvlLengths lengths,
@@ -2029,9 +1952,8 @@ CVL_CHECKED CvlStatus cvl_bck_pez(const int32_t *source, size_t n, const int32_t
 /*
  * cvl_bck_peb: At each place the element at the place's index in the same segment of the source; an index may repeat. The
  * source has n elements in segments with the lengths; index and out have m, in as many segments with the index lengths.
- * Faults: 13 TooLong; 7 LengthMismatch where the lengths do not add up to n or the index lengths to m; 10 IndexOutOfRange at
- * the first index that is no place of its segment of the source.
- * In place: no, 102 Overlap.
+ * Faults: 13 TooLong; 7 LengthMismatch if the lengths do not add up to n or the index lengths to m; 10 IndexOutOfRange at the
+ * first index that is no place of its segment of the source.
  * source = true false false false true, index = 1 1 1 2, lengths = 2 0 3, index_lengths = 3 0 1: out = false false false true
  */
 CVL_CHECKED CvlStatus cvl_bck_peb(const bool *source, size_t n, const int32_t *index, CvlLengths lengths,
@@ -2040,16 +1962,15 @@ CVL_CHECKED CvlStatus cvl_bck_peb(const bool *source, size_t n, const int32_t *i
 /* ---- descriptors: the calls on segments that take one ---- */
 
 /*
- * A descriptor names the lengths of segments and how many there are. It is plain memory: the lengths stay where they are, no
- * call writes them or the descriptor, and nothing of the library's is held. So it may be constant and copied, any number of
- * threads may use it at once, and there is nothing to let go. It starts as CVL_NO_SEGMENTS, and cvl_segments_new makes it.
+ * A descriptor names the lengths of segments and how many there are. It is plain memory that owns nothing: you may copy it and
+ * keep it constant, any number of threads may use it at once, and there is nothing to free. Start with CVL_NO_SEGMENTS;
+ * cvl_segments_new fills it. No call writes the lengths or the descriptor.
  *
- * The functions from cvl_segments_free to cvl_segments_numbers make descriptors and tell of them. Each of the others is the
- * family on segments of its name, cvl_seg_int_scan for cvl_segments_int_scan, with a descriptor in the place of the lengths:
- * the same results and faults, and in place where that may be. Each looks at the lengths before it writes anything, so that
- * lengths that were changed after the descriptor was made are those of the call, and wrong ones are told by a fault; nobody may
- * write them while a call runs. A room may share memory with neither the lengths nor the descriptor. Without a descriptor, at
- * CVL_NO_SEGMENTS or a null pointer, a call answers 101 NoDescriptor, and its room is as it was.
+ * The functions from cvl_segments_free to cvl_segments_numbers make descriptors and read them. Each of the others is the family
+ * on segments of its name, with a descriptor for the lengths: cvl_segments_int_scan is cvl_seg_int_scan, with the same results
+ * and faults, in place if that is. Each checks the lengths before it writes, so it uses lengths that you changed after you made
+ * the descriptor, and reports wrong ones; do not write them during a call. A buffer may overlap neither the lengths nor the
+ * descriptor. With CVL_NO_SEGMENTS or a null pointer a call returns 101 NoDescriptor.
  */
 typedef struct CvlSegments {
     const int32_t *lengths; /* the caller's, which live as long as the descriptor is used */
@@ -2060,24 +1981,23 @@ typedef struct CvlSegments {
 /* What a descriptor starts as: CvlSegments rows = CVL_NO_SEGMENTS. */
 #define CVL_NO_SEGMENTS {NULL, 0, false}
 
-/* Lets go of a descriptor, of which nothing is left then; a null pointer is none. The lengths are the caller's. */
+/* Empties a descriptor; a null pointer is allowed. The lengths stay yours. */
 CvlStatus cvl_segments_free(CvlSegments *segments);
 
 /*
- * Makes the descriptor of segments with these lengths, empty ones too. After a fault of the lengths there is none.
- * Faults: 13 TooLong, without a place, where there are more than 2147483647 lengths; 12 NegativeLength at the first that is
- * below 0; 13 TooLong, without a place, where they add up to more than 2147483647; else 101 NoDescriptor where `segments` is
- * null.
+ * Makes the descriptor of segments with these lengths, which may be 0. After a fault there is none.
+ * Faults: 13 TooLong, without a place, if there are more than 2147483647 lengths; 12 NegativeLength at the first that is below
+ * 0; 13 TooLong, without a place, if the total is more than 2147483647; else 101 NoDescriptor if `segments` is null.
  */
 CVL_CHECKED CvlStatus cvl_segments_new(CvlLengths lengths, CvlSegments *segments);
 
 /*
- * Makes the descriptor of segments that start at these offsets, one more than there are segments: at the last one the last
- * segment ends, as in a matrix of compressed rows. The lengths are written into a room of the caller's, one for each segment,
- * which the descriptor names. After a fault there is none, and the room is as it was.
- * Faults: 13 TooLong, without a place, where there are more than 2147483647 segments; 7 LengthMismatch where there is no offset
- * or the first one is not 0; 12 NegativeLength at the first segment whose end stands before its start; 7 LengthMismatch where
- * the room has not one place for each segment; else 101 NoDescriptor where `segments` is null.
+ * Makes the descriptor of segments that start at these offsets, one more than there are segments; the last segment ends at the
+ * last offset, as in a matrix of compressed rows. The lengths go into your buffer, one for each segment, which the descriptor
+ * names. After a fault there is no descriptor, and the buffer is as it was.
+ * Faults: 13 TooLong, without a place, if there are more than 2147483647 segments; 7 LengthMismatch if there is no offset or
+ * the first is not 0; 12 NegativeLength at the first segment that ends before it starts; 7 LengthMismatch if the buffer does
+ * not have one place for each segment; else 101 NoDescriptor if `segments` is null.
  */
 CVL_CHECKED CvlStatus cvl_segments_from_offsets(const int32_t *offsets, size_t offsets_len, int32_t *lengths, size_t lengths_len,
     CvlSegments *segments);
@@ -2087,13 +2007,13 @@ CVL_CHECKED CvlStatus cvl_segments_total(const CvlSegments *segments, size_t *to
 
 /*
  * Where each segment starts, and last where the last one ends.
- * Faults: those of lengths; 7 LengthMismatch where out has not one place more than there are segments.
+ * Faults: those of lengths; 7 LengthMismatch if out does not have one place more than there are segments.
  */
 CVL_CHECKED CvlStatus cvl_segments_offsets(const CvlSegments *segments, int32_t *out, size_t out_len);
 
 /*
  * At each place the number of its segment, counted from 0.
- * Faults: those of lengths; 7 LengthMismatch where out has not as many places as the segments; 100 NoResources.
+ * Faults: those of lengths; 7 LengthMismatch if out does not have as many places as the segments; 100 NoResources.
  */
 CVL_CHECKED CvlStatus cvl_segments_numbers(const CvlSegments *segments, int32_t *out, size_t out_len);
 
@@ -2200,7 +2120,7 @@ CVL_CHECKED CvlStatus cvl_segments_back_permute_bool(const bool *source, size_t 
     size_t index_len, const CvlSegments *segments, const CvlSegments *index_segments, bool *out, size_t out_len);
 
 /*
- * For each place of each segment of the result the least place of the same segment of the index that names it, or -1 where none
+ * For each place of each segment of the result the least place of the same segment of the index that names it, or -1 if none
  * does.
  */
 CVL_CHECKED CvlStatus cvl_segments_first_senders(const int32_t *index, size_t index_len, const CvlSegments *segments,
@@ -2208,7 +2128,7 @@ CVL_CHECKED CvlStatus cvl_segments_first_senders(const int32_t *index, size_t in
 
 /*
  * For each place of each segment of the result the least place of the same segment of the index whose flag is true and whose
- * index names it, or -1 where none does. An index whose flag is false is not looked at.
+ * index names it, or -1 if none does. An index whose flag is false is ignored.
  */
 CVL_CHECKED CvlStatus cvl_segments_select_first_senders(const int32_t *index, size_t index_len, const bool *flags,
     size_t flags_len, const CvlSegments *segments, const CvlSegments *result_segments, int32_t *out, size_t out_len);
@@ -2246,26 +2166,26 @@ CVL_CHECKED CvlStatus cvl_segments_sort(const int32_t *keys, size_t keys_len, co
     size_t out_len);
 
 /*
- * At each place of each segment the next element of the same segment of when_true where the flag is true, and of when_false
- * where it is false: the inverse of two packs of segments.
+ * At each place of each segment the next element of the same segment of when_true if the flag is true, and of when_false if it
+ * is false: the inverse of two packs of segments.
  */
 CVL_CHECKED CvlStatus cvl_segments_merge_by_flags_int(const bool *flags, size_t flags_len, const int32_t *when_true,
     size_t when_true_len, const int32_t *when_false, size_t when_false_len, const CvlSegments *segments,
     const CvlSegments *true_segments, const CvlSegments *false_segments, int32_t *out, size_t out_len);
 
 /*
- * At each place of each segment the next element of the same segment of when_true where the flag is true, and of when_false
- * where it is false: the inverse of two packs of segments.
+ * At each place of each segment the next element of the same segment of when_true if the flag is true, and of when_false if it
+ * is false: the inverse of two packs of segments.
  */
 CVL_CHECKED CvlStatus cvl_segments_merge_by_flags_bool(const bool *flags, size_t flags_len, const bool *when_true,
     size_t when_true_len, const bool *when_false, size_t when_false_len, const CvlSegments *segments,
     const CvlSegments *true_segments, const CvlSegments *false_segments, bool *out, size_t out_len);
 
-/* For each segment the place of its first true flag, counted from the start of the segment, or -1 where none is true. */
+/* For each segment the place of its first true flag, counted from the start of the segment, or -1 if none is true. */
 CVL_CHECKED CvlStatus cvl_segments_first_true(const bool *flags, size_t flags_len, const CvlSegments *segments, int32_t *out,
     size_t out_len);
 
-/* The sum of each segment in 64 bits, where it always fits. */
+/* The sum of each segment in 64 bits, which always fits. */
 CVL_CHECKED CvlStatus cvl_segments_exact_sums(const int32_t *a, size_t a_len, const CvlSegments *segments, int64_t *out,
     size_t out_len);
 

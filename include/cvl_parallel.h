@@ -1,15 +1,15 @@
 /*
- * cvl_parallel.h: the calls of cvl.h again, each in parts, by threads of the caller's own.
+ * cvl_parallel.h: the calls of cvl.h in parts, on your own threads.
  *
  * Written by the generator of the repository from its table of calls; edit the table and not this file.
  *
- * Each call has a second form, with `_on` after its name and a pool before its arguments: cvl_add_wuz_on(&pool, a, b, out, n) is
- * cvl_add_wuz(a, b, out, n), and cvl_int2_on(&pool, ..) is cvl_int2(..). The status is that of the plain call, with the same place, and
- * so is what stands in its rooms, also after a fault. Long vectors are cut into parts, the pool runs the parts, and what they
- * tell is joined; short ones, whatever a plain call refuses, and calls for which there is no memory in parts run as the plain call on the
- * thread that calls. docs/user/parallel.md tells for each call how it is cut.
+ * Each call has a second form, with `_on` after its name and a pool before its arguments: cvl_add_wuz_on(&pool, a, b, out, n) for
+ * cvl_add_wuz(a, b, out, n), and cvl_int2_on(&pool, ..) for cvl_int2(..). Status, place and buffers are those of the plain call, also after
+ * a fault. The call cuts long vectors into parts, the pool runs them, and the call joins their results. It runs as the plain call on the
+ * calling thread if vectors are short, if the plain call refuses it, or if there is no memory for parts. docs/user/parallel.md says how
+ * each call is cut.
  *
- * There are pools of one thread and of POSIX threads here, and of OpenMP in cvl_openmp.h. Declarations, types and comments alone.
+ * Pools of one thread and of POSIX threads are here, and one of OpenMP is in cvl_openmp.h.
  */
 #ifndef CVL_PARALLEL_H
 #define CVL_PARALLEL_H
@@ -25,54 +25,54 @@ extern "C" {
 /* The most parts of a call. */
 enum { CVL_MOST_PARTS = 64 };
 
-/* One part of the work at hand, by its number. */
+/* Runs one part of the work, by its number. */
 typedef void (*CvlPart)(void *work, size_t part);
 
 /*
- * Who runs the parts of calls. `parts` is into how many a long vector is cut: 0 are one, and more than 64 are 64; a call may have fewer.
- * `run` is called once for each step of a call. What it owes:
+ * What runs the parts of calls. `parts` is into how many a long vector is cut: 0 means 1, more than 64 means 64; a call may use fewer.
+ * A call uses `run` once for each of its steps. `run` must do this:
  *   - it runs part(work, k) once for each k below `parts`, in any order, by any threads, several at once or one after another;
  *   - a thread that runs a part has CVL_MOST_STACK bytes of its stack left;
  *   - it returns when all have returned, and runs none of them later;
- *   - what the thread that called wrote before is seen by the parts, and what the parts wrote is seen after `run` returned; what starts and
- *     waits for threads, or takes and lets go of a lock, does that;
- *   - no exception and no longjmp leaves a part, which throws none, or `run` itself; that of a handler of a signal neither.
- * A part that is run twice does its work once. Where a pool leaves a part out of a step that only reads, as the first one of each call
- * is, the status is 100 NoResources, and the rooms are as they were. One of a step that writes is run by the thread that called, and the
- * call goes on, as if the pool had run it: by then other parts may have written, and no call keeps what stood in its room for that.
+ *   - the parts see what the calling thread wrote before, and after `run` that thread sees what the parts wrote; starting and joining
+ *     threads, or taking and releasing a lock, does that;
+ *   - no exception and no longjmp leaves a part or `run`, not even one of a signal handler; parts throw none.
+ * A part that is run twice does its work once. If a pool leaves out a part of a step that only reads, such as the first of each call, the
+ * status is 100 NoResources, and the buffers are as they were. The calling thread itself runs a part that is left out of a step that writes,
+ * and the call goes on: by then other parts may have written, and no call keeps a copy of its buffer for that.
  */
 typedef struct CvlPool {
     size_t parts;
     void (*run)(void *state, CvlPart part, void *work, size_t parts);
-    void *state; /* what `run` is given */
+    void *state; /* the first argument of `run` */
 } CvlPool;
 
-/* A pool of the thread that calls, which runs so many parts in turn. */
+/* A pool of the calling thread alone, which runs this many parts in turn. */
 CvlPool cvl_pool_alone(size_t parts);
 
 /* POSIX threads that wait for parts. Link with -pthread. */
 typedef struct CvlThreads CvlThreads;
 
 /*
- * Starts threads, so many with the one that calls, 1 to 64, and tells where they are. The answer is 0; EINVAL if it is no such number; or
- * the number of another error of POSIX, as EAGAIN, if a thread can't be started; after either there are none. The threads block the signals
- * that are sent to a process, which go to the program's own threads, and none of those that a thread gets for what it does, as SIGSEGV.
+ * Starts threads, this many with the calling one, 1 to 64, and stores where they are. Returns 0; EINVAL for any other number; or an error of
+ * POSIX, such as EAGAIN, if a thread cannot be started. After an error there are none. The threads block the signals that are sent to the
+ * process, which go to your own threads, and none of those that a thread gets for what it does, such as SIGSEGV.
  *
- * A thread that waits for a second without work ends, so that it keeps no process alive, and the next call that needs it starts it again. If
- * it can't be started then, the call runs on those that there are. The threads are the program's to stop either way.
+ * A thread that has no work for a second ends, so that it keeps no process alive, and the next call that needs it starts it again. If that
+ * fails, the call runs on the threads that there are. Stop the threads in either case.
  */
 int cvl_threads_start(size_t threads, CvlThreads **started);
 
 /*
- * Ends the threads, and waits for them, and for a call that is at work. No call may begin on them then or later. A null pointer is
- * no threads. In the child of a fork, where there are none of them, it returns at once. A thread that is cancelled in it ends them first.
+ * Ends the threads, and waits for them and for a call that is running. No call may start on them then or later. A null pointer is allowed. In
+ * the child of a fork, which has none of them, it returns at once. A thread that is cancelled in it ends them first.
  */
 void cvl_threads_stop(CvlThreads *threads);
 
 /*
- * A pool of the threads, with a part for each; of a null pointer, one of the thread that calls. The thread that calls takes parts too,
- * and a part is taken by whoever is free. While one call is at work another one, by another thread or within a part, runs its
- * parts by its own thread; so does each call in the child of a fork.
+ * A pool of the threads, with a part for each; for a null pointer, one of the calling thread. The calling thread runs parts too, and any
+ * free thread takes the next part. During one call another one, by another thread or within a part, runs its parts on its own thread; so
+ * does each call in the child of a fork.
  */
 CvlPool cvl_pool_posix(CvlThreads *threads);
 

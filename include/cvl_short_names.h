@@ -1,6 +1,6 @@
 /*
  * cvl_short_names.h: each call of the table without its prefix, as add_wuz(a, b, out, n), and in parts, as add_wuz_on(&pool, a, b, out, n).
- * cvl.h includes it where CVL_SHORT_NAMES is defined. A name is that of a call where a bracket follows it, and else the program's own.
+ * cvl.h includes it if CVL_SHORT_NAMES is defined. A name is that of a call if a bracket follows it, else the program's own.
  *
  * Written by the generator of the repository from its table of calls; edit the table and not this file.
  */

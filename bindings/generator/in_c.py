@@ -90,8 +90,8 @@ def comment_of(row):
     faults = rows.fault_text(row)
     if faults:
         lines.append(f"Faults: {faults}")
-    if row.call:
-        lines.append(f"In place: {rows.in_place_words(row.family) or 'no, 102 Overlap.'}")
+    if row.call and row.family.in_place:
+        lines.append(f"In place: {rows.in_place_words(row.family)}")
     return comment(*lines, example_text(row))
 
 
@@ -209,7 +209,7 @@ def short_names():
     lines = [
         "/*",
         " * cvl_short_names.h: each call of the table without its prefix, as add_wuz(a, b, out, n), and in parts, as add_wuz_on(&pool, a, b, out, n).",
-        " * cvl.h includes it where CVL_SHORT_NAMES is defined. A name is that of a call where a bracket follows it, and else the program's own.",
+        " * cvl.h includes it if CVL_SHORT_NAMES is defined. A name is that of a call if a bracket follows it, else the program's own.",
         " *",
         f" * {rows.NOTE}",
         " */",

@@ -305,7 +305,7 @@ TAIL = """
         version = text_of(c_version())
     end function cvl_version
 
-    ! The name of the number of a status, as "DivideByZero"; "Unknown" where it is no such number.
+    ! The name of the number of a status, as "DivideByZero"; "Unknown" if no status has that number.
     function cvl_fault_name(number) result(name)
         integer(c_int32_t), intent(in) :: number
         character(:), allocatable :: name
@@ -313,8 +313,8 @@ TAIL = """
         name = text_of(c_fault_name(number))
     end function cvl_fault_name
 
-    ! Says how many threads there are for long calls, 1 to 64, with the one that calls. error is 0, or the number of an error of
-    ! POSIX, after which there are as many as before; where it is left out an error ends the program.
+    ! Sets how many threads long calls have, 1 to 64, with the one that calls. error is 0, or an error of POSIX, after which there
+    ! are as many as before; without it an error ends the program.
     subroutine cvl_set_threads(threads, error)
         integer, intent(in) :: threads
         integer, intent(out), optional :: error

@@ -15,16 +15,16 @@ import table
 DATE = "2026-11-28"
 
 INTRODUCTION = (
-    "The library has the vector calls of CVL, the C Vector Library, on memory of the caller's: elementwise calls, scans, "
+    "The library has the vector calls of CVL, the C Vector Library, on your own memory: elementwise calls, scans, "
     "reduces, permutes, packs and texts, flat and by segments, on integers of 32 bits and on booleans. Each result, and the "
     "first fault, is exactly what one thread over plain lists of lists would give.",
     about.FROM_C,
 )
 CALLS = ("Each call takes its operands in the order of a script, see cvl(1). Each of these pages has several calls, and the families that make them.",)
 PARTS = (
-    "The header cvl_parallel.h has each call again, with _on behind its name and a pool of threads as its first argument, as "
-    "cvl_add_wuz_on(&pool, a, b, out, n): long vectors are then cut into parts, one for each thread. A pool is one of POSIX "
-    "threads (cvl_threads_start, cvl_pool_posix), of OpenMP (cvl_openmp.h), or the caller's own.",
+    "The header cvl_parallel.h has each call again, with _on after its name and a pool of threads as its first argument, such as "
+    "cvl_add_wuz_on(&pool, a, b, out, n): it cuts long vectors into parts, one for each thread. A pool has POSIX "
+    "threads (cvl_threads_start, cvl_pool_posix), OpenMP (cvl_openmp.h), or your own threads.",
 )
 EXAMPLE = """#include <cvl.h>
 #include <stdio.h>
@@ -223,7 +223,7 @@ def _overview():
         ".SH CALLS IN PARTS", *_first(_paragraphs(PARTS)),
         ".SH OTHER FUNCTIONS", *list(_without_rows([*about.OF_VERSIONS, *about.OF_FLAGS])),
         ".SH RETURN VALUE",
-        "A CvlStatus has the number of what came of the call,", "and the place of a fault, counted from 0, or \\-1.",
+        "A CvlStatus has the number of the outcome,", "and the place of a fault, counted from 0, or \\-1.",
         "The numbers, with their constants and the names that cvl_fault_name gives, are", *_statuses(),
         ".SH EXAMPLES", "The sums of the rows of 3 1, of an empty one, and of 4 1 5:", *_code(EXAMPLE), ".PP", "prints",
         *_code("4 0 10"),

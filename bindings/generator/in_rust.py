@@ -353,7 +353,7 @@ def calls():
     """`bindings/rust/src/calls.rs`."""
     about = (
         "Each call of the table, by its name: over slices, with a new vector for its result; under a name that ends in `_into`,\n"
-        "//! into a room; and under one that ends in `_in`, in the place of an argument, where a call may."
+        "//! into a room; and under one that ends in `_in`, in the place of an argument, if a call may."
     )
     uses = (
         "use alloc::vec::Vec;\n\n"
