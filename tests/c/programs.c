@@ -1,24 +1,29 @@
 /*
- * Holds the programs of the examples against plain loops, on keys and on sparse matrices at random: a radix sort, a quicksort,
- * keys without duplicates, and the transpose of a matrix. It prints what differs, and its status is then 1. `tests/c/run programs`
- * builds and runs it under sanitizers; `tests/c/run program_times` prints how long each takes beside a plain loop.
+ * Holds the programs of the examples against plain loops, on keys, values, sparse matrices and texts at random. It prints what
+ * differs, and its status is then 1. `tests/c/run programs` builds and runs it under sanitizers; `tests/c/run program_times` prints
+ * how long each takes beside a plain loop.
  */
 #define _POSIX_C_SOURCE 200809L
 #include "cvl.h"
+#include "plain_programs.h"
 
 #include <stdio.h>
-#include <stdlib.h>
-#include <string.h>
 #include <time.h>
 
 enum { LONGEST = 400, ROUNDS = 300, WIDTH = 40 };
 
 struct Cut;
-void radix_sort(int32_t *keys, size_t n);
-void quicksort(int32_t *keys, size_t n, void (*show)(const struct Cut *cut));
+void radix_sort(const int32_t *const *columns, size_t width, size_t n, int32_t *rows);
+void quicksort(int32_t *keys, size_t n, size_t shortest, void (*show)(const struct Cut *cut));
 size_t distinct(const int32_t *keys, size_t n, int32_t *out);
+CvlStatus add_up(const int32_t *keys, const int32_t *values, size_t n, Groups *g);
+void sort_groups(const int32_t *keys, const int32_t *values, size_t n, SortedGroups *g);
+size_t number_keys(const int32_t *keys, size_t n, int32_t *numbers);
+Pairs join(const int32_t *left, size_t n, const int32_t *right, size_t m);
 CvlStatus transpose(CvlLengths rows, const int32_t *columns, const int32_t *values, size_t n, size_t width, int32_t *lengths,
                     int32_t *row_of_each, int32_t *transposed);
+Matrix matrix_product(Matrix a, Matrix b);
+Tokens tokens_of(const char *text, size_t n, int32_t *wrong);
 
 static uint64_t state = 1;
 static int failed;
@@ -34,58 +39,7 @@ static void check(const char *what, size_t n, bool is_so) {
     failed = 1;
 }
 
-static int ascending(const void *a, const void *b) {
-    const int32_t x = *(const int32_t *)a, y = *(const int32_t *)b;
-    return (x > y) - (x < y);
-}
-
-/* ---- plain loops ---- */
-
-static size_t keep_first(const int32_t *keys, size_t n, int32_t *out) {
-    size_t some = 0;
-    for (size_t k = 0; k < n; k++) {
-        size_t j = 0;
-        while (j < some && out[j] != keys[k]) j++;
-        if (j == some) out[some++] = keys[k];
-    }
-    return some;
-}
-
-/* The same by a table of places, of which the first free one from a key's hash on is the key's. */
-static size_t keep_first_by_table(const int32_t *keys, size_t n, int32_t *out) {
-    size_t places = 2, some = 0;
-    while (places < 2 * n) places *= 2;
-    int32_t *table = malloc(places * sizeof *table);
-    if (table == NULL) abort();
-    memset(table, -1, places * sizeof *table);
-    for (size_t k = 0; k < n; k++) {
-        size_t place = (size_t)((uint32_t)keys[k] * 2654435769u) & (places - 1);
-        while (table[place] >= 0 && out[table[place]] != keys[k]) place = (place + 1) & (places - 1);
-        if (table[place] >= 0) continue;
-        table[place] = (int32_t)some;
-        out[some++] = keys[k];
-    }
-    free(table);
-    return some;
-}
-
-static void transpose_plainly(const int32_t *row_lengths, size_t rows, const int32_t *columns, const int32_t *values, size_t n,
-                              size_t width, int32_t *lengths, int32_t *row_of_each, int32_t *transposed) {
-    size_t *next = calloc(width + 1, sizeof *next), k = 0;
-    if (next == NULL) abort();
-    memset(lengths, 0, width * sizeof *lengths);
-    for (k = 0; k < n; k++) lengths[columns[k]]++;
-    for (size_t c = 0; c < width; c++) next[c + 1] = next[c] + (size_t)lengths[c];
-    k = 0;
-    for (size_t row = 0; row < rows; row++) {
-        for (int32_t j = 0; j < row_lengths[row]; j++, k++) {
-            const size_t to = next[columns[k]]++;
-            row_of_each[to] = (int32_t)row;
-            transposed[to] = values[k];
-        }
-    }
-    free(next);
-}
+static bool same(const void *a, const void *b, size_t n) { return n == 0 || memcmp(a, b, n * sizeof(int32_t)) == 0; }
 
 /* ---- each program on inputs at random ---- */
 
@@ -106,33 +60,104 @@ static void fill(int32_t *keys, size_t n) {
 }
 
 static void keys_at_random(size_t n) {
-    int32_t keys[LONGEST], sorted[LONGEST], found[LONGEST], wanted[LONGEST];
-    const size_t bytes = n * sizeof *keys;
-    fill(keys, n);
+    int32_t keys[LONGEST], more[LONGEST], sorted[LONGEST], found[LONGEST], wanted[LONGEST];
+    const int32_t *const columns[] = {keys, more, keys};
+    const size_t bytes = n * sizeof *keys, width = below(4);
+    fill(keys, n), fill(more, n);
+    radix_sort(columns, width, n, found);
+    sort_rows_plainly(columns, width, n, wanted);
+    check("radix_sort", n, same(found, wanted, n));
     memcpy(sorted, keys, bytes);
     if (n > 0) qsort(sorted, n, sizeof *sorted, ascending);
     memcpy(found, keys, bytes);
-    radix_sort(found, n);
-    check("radix_sort", n, memcmp(found, sorted, bytes) == 0);
-    memcpy(found, keys, bytes);
-    quicksort(found, n, NULL);
-    check("quicksort", n, memcmp(found, sorted, bytes) == 0);
-    const size_t some = distinct(keys, n, found), all = keep_first(keys, n, wanted);
-    check("distinct", n, some == all && memcmp(found, wanted, some * sizeof *found) == 0);
-    const size_t by_table = keep_first_by_table(keys, n, found);
-    check("distinct, by a table", n, by_table == all && memcmp(found, wanted, all * sizeof *found) == 0);
+    quicksort(found, n, 1 + below(2) * below(40), NULL);
+    check("quicksort", n, same(found, sorted, n));
+    const size_t some = distinct(keys, n, found), all = distinct_plainly(keys, n, wanted);
+    check("distinct", n, some == all && same(found, wanted, some));
+    check("how many numbers keys have", n, number_keys(keys, n, found) == all);
+    for (size_t k = 0; k < n; k++) check("a key's number", n, n < 2 || (keys[k] < keys[n / 2]) == (found[k] < found[n / 2]));
+}
+
+static void groups_at_random(size_t n, size_t many) {
+    int32_t keys[LONGEST], values[LONGEST], rooms[2][5 * WIDTH], sorted[2][3 * LONGEST];
+    int64_t sums[2][LONGEST];
+    Groups g[2];
+    SortedGroups s[2];
+    fill(values, n);
+    for (size_t k = 0; k < n; k++) keys[k] = (int32_t)below(many);
+    for (size_t k = 0; k < 2; k++) {
+        int32_t *const room = rooms[k];
+        g[k] = (Groups){many, room, room + many, room + 2 * many, room + 3 * many, room + 4 * many};
+        for (size_t j = 0; j < many; j++) g[k].counts[j] = g[k].sums[j] = 0, g[k].least[j] = INT32_MAX, g[k].greatest[j] = INT32_MIN;
+        s[k] = (SortedGroups){0, sorted[k], sorted[k] + n, sorted[k] + 2 * n, sums[k]};
+    }
+    for (int batch = 0; batch < 2; batch++) {
+        check("sums of groups are done", n, add_up(keys, values, n, &g[0]).number == CVL_DONE);
+        add_up_plainly(keys, values, n, &g[1]);
+    }
+    check("sums of groups", n, same(rooms[0], rooms[1], 4 * many));
+    fill(keys, n);
+    sort_groups(keys, values, n, &s[0]), sort_groups_plainly(keys, values, n, &s[1]);
+    const size_t all = s[1].many;
+    check("sorted groups", n, s[0].many == all && same(s[0].keys, s[1].keys, all) && same(s[0].counts, s[1].counts, all));
+    check("their medians", n, same(s[0].medians, s[1].medians, all));
+    check("their sums", n, same(sums[0], sums[1], 2 * all));
+    if (n == 0) return;
+    const size_t wrong = below(n);
+    for (size_t k = 0; k < n; k++) keys[k] = (int32_t)below(many);
+    keys[wrong] = below(2) == 0 ? -1 : (int32_t)many;
+    const CvlStatus outside = add_up(keys, values, n, &g[0]);
+    check("a key that is no group", n, outside.number == CVL_INDEX_OUT_OF_RANGE && outside.place == (int64_t)wrong);
+    check("groups after a fault", n, same(rooms[0], rooms[1], 4 * many));
+}
+
+static void join_at_random(size_t n, size_t m) {
+    int32_t left[LONGEST], right[LONGEST];
+    fill(left, n), fill(right, m);
+    const Pairs found = join(left, n, right, m), wanted = join_plainly(left, n, right, m);
+    check("pairs", n, found.n == wanted.n && same(found.left, wanted.left, found.n) && same(found.right, wanted.right, found.n));
+    free(found.left), free(wanted.left), free(wanted.right);
+}
+
+static void text_at_random(size_t n) {
+    static const char bytes[] = "ab_Z09 \t\n\n#.(\x01\x7f\xc3\xa9";
+    char text[LONGEST];
+    int32_t wrong[2];
+    const size_t kinds = below(2) == 0 ? 13 : sizeof bytes;
+    for (size_t k = 0; k < n; k++) text[k] = bytes[below(kinds)];
+    const Tokens found = tokens_of(text, n, &wrong[0]), wanted = tokens_plainly(text, n, &wrong[1]);
+    check("a wrong byte", n, wrong[0] == wrong[1]);
+    check("tokens", n, found.n == wanted.n && same(found.starts, wanted.starts, found.n) && same(found.lengths, wanted.lengths, found.n));
+    check("their classes", n, found.n == wanted.n && same(found.classes, wanted.classes, found.n));
+    free(found.starts), free(wanted.starts), free(wanted.lengths), free(wanted.classes);
+}
+
+/* The entries of a matrix with so many rows and columns, in rooms for rows of up to so many. */
+static Matrix entries_at_random(size_t rows, size_t width, int32_t *lengths, int32_t *columns, int32_t *values) {
+    Matrix a = {lengths, columns, values, rows, 0};
+    for (size_t row = 0; row < rows; row++) {
+        lengths[row] = width == 0 || below(3) == 0 ? 0 : (int32_t)below(LONGEST / WIDTH);
+        a.n += (size_t)lengths[row];
+    }
+    for (size_t k = 0; k < a.n; k++) columns[k] = (int32_t)below(width), values[k] = (int32_t)below(1000) - 500;
+    return a;
+}
+
+static void product_at_random(size_t rows, size_t inner, size_t width) {
+    int32_t lengths[2][WIDTH], columns[2][LONGEST], values[2][LONGEST];
+    const Matrix a = entries_at_random(rows, inner, lengths[0], columns[0], values[0]);
+    const Matrix b = entries_at_random(inner, width, lengths[1], columns[1], values[1]);
+    const Matrix found = matrix_product(a, b), wanted = product_plainly(a, b, width);
+    check("entries of a product", a.n, found.n == wanted.n && same(found.lengths, wanted.lengths, rows));
+    check("a product", a.n, found.n == wanted.n && same(found.columns, wanted.columns, found.n) && same(found.values, wanted.values, found.n));
+    free(found.lengths), free(wanted.lengths), free(wanted.columns), free(wanted.values);
 }
 
 static void matrix_at_random(size_t rows, size_t width) {
     int32_t row_lengths[WIDTH], columns[LONGEST], values[LONGEST];
     int32_t lengths[2][WIDTH], row_of_each[2][LONGEST], transposed[2][LONGEST];
     const CvlLengths given = {row_lengths, rows};
-    size_t n = 0;
-    for (size_t row = 0; row < rows; row++) {
-        row_lengths[row] = width == 0 || below(3) == 0 ? 0 : (int32_t)below(LONGEST / WIDTH);
-        n += (size_t)row_lengths[row];
-    }
-    for (size_t k = 0; k < n; k++) columns[k] = (int32_t)below(width), values[k] = (int32_t)below(1000);
+    const size_t n = entries_at_random(rows, width, row_lengths, columns, values).n;
     const CvlStatus status = transpose(given, columns, values, n, width, lengths[0], row_of_each[0], transposed[0]);
     check("a transpose is done", n, status.number == CVL_DONE);
     transpose_plainly(row_lengths, rows, columns, values, n, width, lengths[1], row_of_each[1], transposed[1]);
@@ -150,22 +175,38 @@ static void matrix_at_random(size_t rows, size_t width) {
 
 /* ---- how long each takes ---- */
 
-enum { KEYS = 1 << 20, ENTRIES = 1 << 22, LINES = 1 << 18 };
+enum { KEYS = 1 << 20, ENTRIES = 1 << 22, LINES = 1 << 18, GROUPS = 1 << 16, FACTORS = 1 << 19, TEXT = 1 << 24 };
 
-static int32_t *keys, *room[3], *row_lengths, *columns;
-
-static int32_t *ints(size_t n) {
-    int32_t *found = calloc(n, sizeof *found);
-    if (found == NULL) abort();
-    return found;
-}
+static int32_t *keys, *values, *numbers, *room[3], *row_lengths, *columns, *few;
+static int64_t *sums;
+static char *text;
+static Groups groups;
+static SortedGroups sorted_groups;
+static Matrix factor;
 
 static void take(void) { memcpy(room[0], keys, KEYS * sizeof *keys); }
-static void by_radix_sort(void) { take(), radix_sort(room[0], KEYS); }
-static void by_quicksort(void) { take(), quicksort(room[0], KEYS, NULL); }
+
+static void sort_rows(void (*sort)(const int32_t *const *, size_t, size_t, int32_t *)) {
+    const int32_t *const both[] = {few, keys};
+    sort(both, 2, KEYS, room[0]);
+}
+
+static void by_radix_sort(void) { sort_rows(radix_sort); }
+static void by_qsort_of_rows(void) { sort_rows(sort_rows_plainly); }
+static void by_quicksort(void) { take(), quicksort(room[0], KEYS, 256, NULL); }
 static void by_qsort(void) { take(), qsort(room[0], KEYS, sizeof *keys, ascending); }
 static void by_distinct(void) { distinct(keys, KEYS, room[0]); }
-static void by_table(void) { keep_first_by_table(keys, KEYS, room[0]); }
+static void by_table(void) { distinct_plainly(keys, KEYS, room[0]); }
+static void by_groups(void) { if (add_up(numbers, values, ENTRIES, &groups).number != CVL_DONE) abort(); }
+static void by_loop_over_groups(void) { add_up_plainly(numbers, values, ENTRIES, &groups); }
+static void by_sorted_groups(void) { sort_groups(keys, values, KEYS, &sorted_groups); }
+static void by_qsort_of_groups(void) { sort_groups_plainly(keys, values, KEYS, &sorted_groups); }
+static void by_join(void) { free(join(keys, KEYS, values, KEYS).left); }
+
+static void by_hash_join(void) {
+    const Pairs pairs = join_plainly(keys, KEYS, values, KEYS);
+    free(pairs.left), free(pairs.right);
+}
 
 static void by_transpose(void) {
     const CvlLengths rows = {row_lengths, LINES};
@@ -173,39 +214,90 @@ static void by_transpose(void) {
 }
 
 static void by_loops(void) { transpose_plainly(row_lengths, LINES, columns, columns, ENTRIES, LINES, room[0], room[1], room[2]); }
+static void by_product(void) { free(matrix_product(factor, factor).lengths); }
 
-/* The least time of some runs, in milliseconds. */
-static double least(void (*run)(void)) {
-    double found = 1e9;
+static void by_rows(void) {
+    const Matrix found = product_plainly(factor, factor, factor.rows);
+    free(found.lengths), free(found.columns), free(found.values);
+}
+
+static void by_tokens(void) {
+    int32_t wrong;
+    free(tokens_of(text, TEXT, &wrong).starts);
+}
+
+static void by_loop_over_text(void) {
+    int32_t wrong;
+    const Tokens t = tokens_plainly(text, TEXT, &wrong);
+    free(t.starts), free(t.lengths), free(t.classes);
+}
+
+/* The time of a run, in milliseconds, where it is less than the least so far. */
+static void keep_least(void (*run)(void), double *least) {
+    struct timespec from, to;
+    clock_gettime(CLOCK_MONOTONIC, &from);
+    run();
+    clock_gettime(CLOCK_MONOTONIC, &to);
+    const double took = (double)(to.tv_sec - from.tv_sec) * 1e3 + (double)(to.tv_nsec - from.tv_nsec) / 1e6;
+    *least = took < *least ? took : *least;
+}
+
+/* The least time of some runs by one thread, by four, and of the loop, in turn. */
+static void measure(const char *name, void (*program)(void), const char *other, void (*loop)(void)) {
+    double alone = 1e9, by_four = 1e9, plain = 1e9;
     for (int k = 0; k < 7; k++) {
-        struct timespec from, to;
-        clock_gettime(CLOCK_MONOTONIC, &from);
-        run();
-        clock_gettime(CLOCK_MONOTONIC, &to);
-        const double took = (double)(to.tv_sec - from.tv_sec) * 1e3 + (double)(to.tv_nsec - from.tv_nsec) / 1e6;
-        found = took < found ? took : found;
+        if (cvl_set_threads(1) != 0) abort();
+        keep_least(program, &alone);
+        if (cvl_set_threads(4) != 0) abort();
+        keep_least(program, &by_four);
+        keep_least(loop, &plain);
     }
+    printf("| %s | %.1f | %.1f | %s, %.1f |\n", name, alone, by_four, other, plain);
+}
+
+static int32_t *numbers_below(size_t n, size_t limit) {
+    int32_t *const found = plain_room(n, sizeof *found);
+    for (size_t k = 0; k < n; k++) found[k] = (int32_t)below(limit);
     return found;
 }
 
-static void measure(const char *name, void (*program)(void), const char *other, void (*loop)(void)) {
-    if (cvl_set_threads(1) != 0) abort();
-    const double alone = least(program);
-    if (cvl_set_threads(4) != 0) abort();
-    printf("| `%s` | %.1f | %.1f | %s, %.1f |\n", name, alone, least(program), other, least(loop));
+/* Lines of words, numbers, signs and comments. */
+static void make_text(void) {
+    static const char *const words[] = {"add", "x", "y1", "sum_of", " = ", "(", ", ", ")\n", " 40", "  # a comment\n", "write ", "\n"};
+    text = plain_room(TEXT, 1);
+    for (size_t k = 0; k < TEXT; k++) {
+        for (const char *word = words[below(12)]; *word != 0 && k < TEXT; word++) text[k++] = *word;
+        k--;
+    }
+}
+
+static void make_all(void) {
+    keys = numbers_below(KEYS, KEYS), values = numbers_below(ENTRIES, KEYS), few = numbers_below(KEYS, 1000);
+    numbers = numbers_below(ENTRIES, GROUPS), columns = numbers_below(ENTRIES, LINES), row_lengths = plain_room(LINES, sizeof *row_lengths);
+    for (size_t k = 0; k < 3; k++) room[k] = plain_room(ENTRIES, sizeof *room[k]);
+    for (size_t k = 0; k < LINES; k++) row_lengths[k] = ENTRIES / LINES;
+    int32_t *const of_groups = plain_room(5 * GROUPS, sizeof *of_groups);
+    groups = (Groups){GROUPS, of_groups, of_groups + GROUPS, of_groups + 2 * GROUPS, of_groups + 3 * GROUPS, of_groups + 4 * GROUPS};
+    sums = plain_room(KEYS, sizeof *sums);
+    sorted_groups = (SortedGroups){0, room[0], room[1], room[2], sums};
+    int32_t *const lengths = plain_room(FACTORS / 8, sizeof *lengths);
+    for (size_t k = 0; k < FACTORS / 8; k++) lengths[k] = 8;
+    factor = (Matrix){lengths, numbers_below(FACTORS, FACTORS / 8), numbers_below(FACTORS, 1000), FACTORS / 8, FACTORS};
+    make_text();
 }
 
 static void measure_all(void) {
-    keys = ints(KEYS), row_lengths = ints(LINES), columns = ints(ENTRIES);
-    for (size_t k = 0; k < 3; k++) room[k] = ints(ENTRIES);
-    for (size_t k = 0; k < KEYS; k++) keys[k] = (int32_t)below(KEYS);
-    for (size_t k = 0; k < LINES; k++) row_lengths[k] = ENTRIES / LINES;
-    for (size_t k = 0; k < ENTRIES; k++) columns[k] = (int32_t)below(LINES);
-    printf("| Program | by one thread | by four | a plain loop |\n|---|---:|---:|---|\n");
-    measure("radix_sort.c", by_radix_sort, "`qsort`", by_qsort);
-    measure("quicksort.c", by_quicksort, "`qsort`", by_qsort);
-    measure("distinct.c", by_distinct, "a table", by_table);
-    measure("sparse_transpose.c", by_transpose, "a count of each column", by_loops);
+    make_all();
+    printf("| Program | one thread | four | a plain loop |\n|---|---:|---:|---|\n");
+    measure("`radix_sort.c`, two columns", by_radix_sort, "`qsort`", by_qsort_of_rows);
+    measure("`quicksort.c`", by_quicksort, "`qsort`", by_qsort);
+    measure("`distinct.c`", by_distinct, "a hash table", by_table);
+    measure("`groups.c`, `add_up`", by_groups, "one loop", by_loop_over_groups);
+    measure("`groups.c`, `sort_groups`", by_sorted_groups, "`qsort`", by_qsort_of_groups);
+    measure("`join.c`", by_join, "a hash table", by_hash_join);
+    measure("`sparse_transpose.c`", by_transpose, "a count of each column", by_loops);
+    measure("`matrix_product.c`", by_product, "a loop over a row of all columns", by_rows);
+    measure("`tokens.c`", by_tokens, "a loop over the bytes", by_loop_over_text);
 }
 
 int main(int words, char **word) {
@@ -213,8 +305,18 @@ int main(int words, char **word) {
         measure_all();
         return EXIT_SUCCESS;
     }
-    for (size_t k = 0; k < ROUNDS; k++) keys_at_random(k < 5 ? k : below(k % 5 == 0 ? LONGEST : 20));
-    for (size_t k = 0; k < ROUNDS; k++) matrix_at_random(k < 3 ? k : below(WIDTH), k < 6 ? k / 3 : below(WIDTH));
-    if (!failed) printf("the programs of the examples on %d inputs as plain loops\n", 2 * ROUNDS);
+    for (size_t k = 0; k < ROUNDS; k++) {
+        const size_t n = k < 5 ? k : below(k % 5 == 0 ? LONGEST : 20);
+        keys_at_random(n);
+        groups_at_random(n, 1 + below(WIDTH));
+        join_at_random(n, k < 9 ? k / 3 : below(LONGEST));
+        text_at_random(n);
+    }
+    for (size_t k = 0; k < ROUNDS; k++) {
+        const size_t rows = k < 3 ? k : below(WIDTH), width = k < 6 ? k / 3 : below(WIDTH);
+        matrix_at_random(rows, width);
+        product_at_random(rows, width, below(WIDTH));
+    }
+    if (!failed) printf("the programs of the examples on %d inputs as plain loops\n", 6 * ROUNDS);
     return failed;
 }
