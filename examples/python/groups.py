@@ -1,6 +1,7 @@
 """Sums of groups: each value has a key, the number of its group, and goes to its group's sum.
 
-How many values a group has, the least and the greatest come the same way. The values may come in batches, in any order.
+How many values a group has, the least and the greatest come the same way. The values may come in batches, in any order. Where a key
+may be any integer, or a group's values are needed side by side, as for a median, the values go in the order of their keys.
 """
 
 import numpy
@@ -25,6 +26,21 @@ class Groups:
         cvl.combine_permute_int(cvl.operators.MAX, values, keys, self.greatest)
 
 
+def sort_groups(keys, values):
+    """The groups of any keys, in ascending order: the key and the count of each, its sum in 64 bits, and its lower median."""
+    order = cvl.order(keys)
+    ascending, places = cvl.bck_puz(keys, order), cvl.ind_luz(0, 1, len(keys))
+    first = numpy.ones(len(keys), bool)
+    first[1:] = cvl.neq_wuz(ascending[1:], ascending[:-1])
+    starts = cvl.pck_luz(places, first)
+    groups = cvl.Segments.from_offsets(numpy.append(starts, len(keys)) if len(keys) else [0])
+    side_by_side = cvl.bck_puz(values, order)
+    sums = cvl.seg_exact_sums(side_by_side, groups)
+    cvl.seg_sort(side_by_side, groups, out=side_by_side)
+    middles = cvl.add_wuz(starts, cvl.rsh_wuz(cvl.sub_wuz(groups.lengths, 1), 1))
+    return cvl.pck_luz(ascending, first), groups.lengths, sums, cvl.bck_puz(side_by_side, middles)
+
+
 def main():
     groups = Groups(4)
     groups.add_up(cvl.as_ints([2, 0, 2, 1]), cvl.as_ints([5, 6, 7, 8]))
@@ -35,6 +51,8 @@ def main():
         groups.add_up(cvl.as_ints([3, 4]), cvl.as_ints([5, 6]))
     except cvl.Fault as fault:
         print("keys 3 4:", fault)
+    for key, count, total, median in zip(*sort_groups(cvl.as_ints([1999, -44, 1999, 1999]), cvl.as_ints([2**31 - 1, 3, 1, 5]))):
+        print(f"key {key}: count {count}, sum {total}, median {median}")
 
 
 if __name__ == "__main__":

@@ -1,7 +1,7 @@
 /*
  * Holds the programs of the examples against plain loops, on keys, values, sparse matrices and texts at random. It prints what
  * differs, and its status is then 1. `tests/c/run programs` builds and runs it under sanitizers; `tests/c/run program_times` prints
- * how long each takes beside a plain loop.
+ * how long each takes beside a plain loop, in milliseconds.
  */
 #define _POSIX_C_SOURCE 200809L
 #include "cvl.h"
@@ -252,7 +252,7 @@ static void measure(const char *name, void (*program)(void), const char *other, 
         keep_least(program, &by_four);
         keep_least(loop, &plain);
     }
-    printf("| %s | %.1f | %.1f | %s, %.1f |\n", name, alone, by_four, other, plain);
+    printf("%s: 1 thread %.1f, 4 threads %.1f, %s %.1f\n", name, alone, by_four, other, plain);
 }
 
 static int32_t *numbers_below(size_t n, size_t limit) {
@@ -288,16 +288,15 @@ static void make_all(void) {
 
 static void measure_all(void) {
     make_all();
-    printf("| Program | one thread | four | a plain loop |\n|---|---:|---:|---|\n");
-    measure("`radix_sort.c`, two columns", by_radix_sort, "`qsort`", by_qsort_of_rows);
-    measure("`quicksort.c`", by_quicksort, "`qsort`", by_qsort);
-    measure("`distinct.c`", by_distinct, "a hash table", by_table);
-    measure("`groups.c`, `add_up`", by_groups, "one loop", by_loop_over_groups);
-    measure("`groups.c`, `sort_groups`", by_sorted_groups, "`qsort`", by_qsort_of_groups);
-    measure("`join.c`", by_join, "a hash table", by_hash_join);
-    measure("`sparse_transpose.c`", by_transpose, "a count of each column", by_loops);
-    measure("`matrix_product.c`", by_product, "a loop over a row of all columns", by_rows);
-    measure("`tokens.c`", by_tokens, "a loop over the bytes", by_loop_over_text);
+    measure("radix_sort.c, two columns", by_radix_sort, "qsort", by_qsort_of_rows);
+    measure("quicksort.c", by_quicksort, "qsort", by_qsort);
+    measure("distinct.c", by_distinct, "a hash table", by_table);
+    measure("groups.c, add_up", by_groups, "one loop", by_loop_over_groups);
+    measure("groups.c, sort_groups", by_sorted_groups, "qsort", by_qsort_of_groups);
+    measure("join.c", by_join, "a hash table", by_hash_join);
+    measure("sparse_transpose.c", by_transpose, "a count of each column", by_loops);
+    measure("matrix_product.c", by_product, "a loop over a row of all columns", by_rows);
+    measure("tokens.c", by_tokens, "a loop over the bytes", by_loop_over_text);
 }
 
 int main(int words, char **word) {

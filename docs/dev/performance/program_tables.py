@@ -1,0 +1,95 @@
+"""The tables of calls that only programs make, and of the programs of the examples, from program_calls.txt, which `measure_program_calls`
+writes; each is empty while there is no such file."""
+
+import pathlib
+import re
+
+FILE = pathlib.Path(__file__).resolve().parent / "program_calls.txt"
+COLUMNS = ("1 thread", "4 threads", "loop", "Thrust", "numpy", "pandas")
+CASE = re.compile(r"(.+), (\d+) elements")
+
+
+def read():
+    """The columns of each case by subject, and the comments on top."""
+    rows, comments, subject = {}, [], ""
+    for line in FILE.read_text().splitlines() if FILE.exists() else ():
+        if re.match(r"# (machine|compiler|Thrust|numpy|pandas|scipy)", line):
+            comments.append(line[2:])
+        elif line.startswith("# "):
+            subject = line[2:].split(", in ")[0]
+        elif not line.endswith("differ"):
+            case, columns = line.split(": ", 2) if line.count(": ") == 1 else line.rsplit(": ", 1)
+            found = (re.fullmatch(r"(.+) ([\d.]+)", column) for column in re.split(r", (?=[^,]* [\d.]+(?:,|$))", columns))
+            rows[subject, case] = {column[1]: float(column[2]) for column in found}
+    return rows, comments
+
+
+ROWS, COMMENTS = read()
+
+
+def digits(number):
+    """Three digits or so."""
+    return f"{number:,.0f}" if number >= 100 else f"{number:.1f}" if number >= 10 else f"{number:.2f}"
+
+
+def table(heads, lines):
+    cells = [heads, ["---"] + ["---:"] * (len(heads) - 1), *lines]
+    return "".join("| " + " | ".join(line) + " |\n" for line in cells)
+
+
+def machine():
+    return "".join(f"- {line}\n" for line in COMMENTS)
+
+
+def of_length(length):
+    """The rows of the calls on so many elements, without the columns that none of them has."""
+    rows = {}
+    for (subject, case), columns in ROWS.items():
+        found = CASE.fullmatch(case)
+        if subject == "calls for programs" and found and int(found[2]) == length:
+            rows[found[1]] = columns
+    return rows, [column for column in COLUMNS if any(column in row for row in rows.values())]
+
+
+def calls():
+    """A table for each length: times, and after those by threads their ratio to the loop."""
+    parts = []
+    for length, unit, name in ((1_000, 1e3, "microseconds"), (4_194_304, 1e6, "milliseconds"), (67_108_864, 1e6, "milliseconds")):
+        rows, columns = of_length(length)
+        if not rows:
+            continue
+        heads, lines = ["Work"], []
+        columns = [column for column in columns if length > 1_000 or column != "4 threads"]
+        for column in columns:
+            heads += [column, "of the loop"] if "thread" in column else [column]
+        for case, row in rows.items():
+            line = [case]
+            for column in columns:
+                line.append(digits(row[column] / unit) if column in row else "")
+                if "thread" in column:
+                    line.append(f"{row[column] / row['loop']:.2f}")
+            lines.append(line)
+        parts.append(f"On {length:,} elements, in {name}:\n\n{table(heads, lines)}")
+    return "\n".join(parts)
+
+
+def programs(subject, heads):
+    """A row for each program: the time by one thread and by four, and of each other way, which it names."""
+    lines = []
+    for (found, case), columns in ROWS.items():
+        if found == subject:
+            name, _, rest = case.partition(",")
+            others = [f"{column} {digits(time)}" for column, time in columns.items() if "thread" not in column]
+            lines.append([f"`{name}`{rest and ','}{rest}", digits(columns["1 thread"]), digits(columns["4 threads"]), "; ".join(others)])
+    return table(heads, lines) if lines else ""
+
+
+def in_c():
+    return programs("programs in C", ["Program", "1 thread", "4 threads", "Plain loop"])
+
+
+def in_python():
+    return programs("programs in Python", ["Program", "1 thread", "4 threads", "Others"])
+
+
+TABLES = {"program_machine": machine, "program_calls": calls, "programs_in_c": in_c, "programs_in_python": in_python}
