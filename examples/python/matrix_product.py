@@ -18,7 +18,7 @@ def matrix_product(rows, columns, values, other_rows, other_columns, other_value
     made_values = cvl.gather_segments_int(other_values, starts, met)
     cvl.mul_wuz(made_values, cvl.dis_vez(values, met), out=made_values)
     order = cvl.seg_order(made_columns, made)
-    made_columns, made_values = cvl.bck_pez(made_columns, order, made), cvl.bck_pez(made_values, order, made)
+    made_columns, made_values = (cvl.bck_pez(part, order, made, made) for part in (made_columns, made_values))
     first = numpy.zeros(made.total, bool)
     first[1:] = cvl.neq_wuz(made_columns[1:], made_columns[:-1])
     first[made.offsets[:-1][cvl.boo_wuz(made.lengths)]] = True

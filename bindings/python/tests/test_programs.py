@@ -81,9 +81,8 @@ def parts_plainly(edges):
 
 def matrix(drawn, many, width):
     """A matrix at random, as a dictionary of each row, and as its rows, columns and values."""
-    rows = [{drawn.randrange(width): drawn.randrange(-9, 9) for _ in range(drawn.choice((0, 1, 3)))} for _ in range(many)]
-    if width == 0:
-        rows = [{} for _ in range(many)]
+    counts = [drawn.choice((0, 1, 3)) if width else 0 for _ in range(many)]
+    rows = [{drawn.randrange(width): drawn.randrange(-9, 9) for _ in range(count)} for count in counts]
     columns, values = [[part for row in rows for part in kind(row)] for kind in (dict.keys, dict.values)]
     return rows, (cvl.Segments([len(row) for row in rows]), cvl.as_ints(columns), cvl.as_ints(values))
 

@@ -13,6 +13,7 @@
 #include <thrust/sequence.h>
 #include <thrust/sort.h>
 #include <thrust/system/tbb/execution_policy.h>
+#include <thrust/transform.h>
 #include <vector>
 
 namespace peers {
@@ -20,12 +21,18 @@ namespace peers {
 static std::unique_ptr<tbb::global_control> limit;
 
 // written by the call before
-static std::vector<int32_t> keys_room, values_room, sums_room;
+static std::vector<uint32_t> keys_room;
+static std::vector<int32_t> values_room, sums_room;
 
-static int32_t *copied(std::vector<int32_t> &room, const int32_t *from, size_t n) {
-    if (room.size() < n) room.resize(n);
-    thrust::copy(thrust::tbb::par, from, from + n, room.data());
-    return room.data();
+// Keys are sorted as unsigned numbers, with their sign flipped: Thrust 3.0 over TBB sorts signed ones as if they were unsigned.
+struct Flipped {
+    __host__ __device__ uint32_t operator()(uint32_t x) const { return x ^ 0x80000000u; }
+};
+
+static uint32_t *flipped_keys(const int32_t *keys, size_t n) {
+    if (keys_room.size() < n) keys_room.resize(n);
+    thrust::transform(thrust::tbb::par, keys, keys + n, keys_room.data(), Flipped());
+    return keys_room.data();
 }
 
 bool are_here() { return true; }
@@ -33,7 +40,7 @@ bool are_here() { return true; }
 void use_threads(int threads) { limit = std::make_unique<tbb::global_control>(tbb::global_control::max_allowed_parallelism, threads); }
 
 void order(const int32_t *keys, size_t n, int32_t *out) {
-    int32_t *const room = copied(keys_room, keys, n);
+    uint32_t *const room = flipped_keys(keys, n);
     thrust::sequence(thrust::tbb::par, out, out + n);
     thrust::stable_sort_by_key(thrust::tbb::par, room, room + n, out);
 }
@@ -46,18 +53,21 @@ void rank(const int32_t *keys, size_t n, int32_t *out) {
 }
 
 void sort(const int32_t *keys, size_t n, int32_t *out) {
-    thrust::copy(thrust::tbb::par, keys, keys + n, out);
-    thrust::sort(thrust::tbb::par, out, out + n);
+    uint32_t *const room = flipped_keys(keys, n);
+    thrust::sort(thrust::tbb::par, room, room + n);
+    thrust::transform(thrust::tbb::par, room, room + n, out, Flipped());
 }
 
 void add_by_key(const int32_t *keys, const int32_t *values, size_t n, int32_t *out, size_t places) {
-    int32_t *const room = copied(keys_room, keys, n), *const side_by_side = copied(values_room, values, n);
+    uint32_t *const room = flipped_keys(keys, n);
+    if (values_room.size() < n) values_room.resize(n);
     if (sums_room.size() < 2 * places) sums_room.resize(2 * places);
-    int32_t *const groups = sums_room.data(), *const sums = groups + places;
+    int32_t *const side_by_side = values_room.data(), *const groups = sums_room.data(), *const sums = groups + places;
+    thrust::copy(thrust::tbb::par, values, values + n, side_by_side);
     thrust::stable_sort_by_key(thrust::tbb::par, room, room + n, side_by_side);
     const auto ends = thrust::reduce_by_key(thrust::tbb::par, room, room + n, side_by_side, groups, sums);
     for (size_t k = 0, many = ends.first - groups; k < many; k++) {
-        int32_t &sum = out[groups[k]];
+        int32_t &sum = out[Flipped()(static_cast<uint32_t>(groups[k]))];
         sum = static_cast<int32_t>(static_cast<uint32_t>(sum) + static_cast<uint32_t>(sums[k]));
     }
 }
