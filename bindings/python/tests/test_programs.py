@@ -260,13 +260,13 @@ def tables_times(rng, n=1 << 22, many=1 << 16):
     few, any_keys, values = (rng.integers(0, limit, n, dtype=numpy.int32) for limit in (many, n, 1000))
     table = pandas.DataFrame({"few": few, "any": any_keys, "value": values})
     said = "4,194,304 values"
-    measured(f"groups.py: sums, {said}, 65,536 groups", lambda: sums_of(few, values, many), ("pandas", lambda: table.groupby("few").value.sum()))
+    measured(f"groups.py, sums of {said} in 65,536 groups", lambda: sums_of(few, values, many), ("pandas", lambda: table.groupby("few").value.sum()))
     everything = ["count", "sum", "min", "max"]
-    measured(f"groups.py: counts, sums and bounds, {said}, 65,536 groups", lambda: Groups(many).add_up(few, values),
+    measured(f"groups.py, counts, sums and bounds of {said} in 65,536 groups", lambda: Groups(many).add_up(few, values),
              ("pandas", lambda: table.groupby("few").value.agg(everything)))
-    measured(f"groups.py: sorted, with medians, {said}, any keys", lambda: sort_groups(any_keys, values),
+    measured(f"groups.py, sums and medians of {said} by any keys", lambda: sort_groups(any_keys, values),
              ("pandas", lambda: table.groupby("any").value.agg(["count", "sum", "median"])))
-    measured(f"dictionary.py: numbers of integers, {said}", lambda: encode(any_keys), ("pandas", lambda: pandas.factorize(any_keys, sort=True)),
+    measured(f"dictionary.py, numbers for {said}", lambda: encode(any_keys), ("pandas", lambda: pandas.factorize(any_keys, sort=True)),
              ("numpy", lambda: numpy.unique(any_keys, return_inverse=True)))
     half = n // 4
     left, right = any_keys[:half] // 4, any_keys[half : 2 * half] // 4
@@ -289,7 +289,7 @@ def matrices_times(rng, many=1 << 16, degree=8):
         return found
 
     measured("matrix_product.py, 65,536 rows with 8 entries each, squared", lambda: matrix_product(rows, columns, values, rows, columns, values),
-             ("scipy, with its columns in order", product), ("scipy", lambda: matrix @ matrix))
+             ("scipy with sorted columns", product), ("scipy", lambda: matrix @ matrix))
 
 
 def texts_times(rng, n=1 << 18):
@@ -300,7 +300,7 @@ def texts_times(rng, n=1 << 18):
     names = classes == 3
     starts, lengths = cvl.pck_luz(starts, names), cvl.pck_luz(lengths, names)
     listed = [text[start : start + length] for start, length in zip(starts.tolist(), lengths.tolist())]
-    measured(f"dictionary.py: numbers of {len(listed):,} words", lambda: encode(*columns_of(text, starts, lengths)),
+    measured(f"dictionary.py, numbers for {len(listed):,} words", lambda: encode(*columns_of(text, starts, lengths)),
              ("a dict", lambda: {word: k for k, word in enumerate(dict.fromkeys(listed))}))
 
 

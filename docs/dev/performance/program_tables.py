@@ -18,9 +18,9 @@ def read():
         elif line.startswith("# "):
             subject = line[2:].split(", in ")[0]
         elif not line.endswith("differ"):
-            case, columns = line.split(": ", 2) if line.count(": ") == 1 else line.rsplit(": ", 1)
-            found = (re.fullmatch(r"(.+) ([\d.]+)", column) for column in re.split(r", (?=[^,]* [\d.]+(?:,|$))", columns))
-            rows[subject, case] = {column[1]: float(column[2]) for column in found}
+            case, columns = line.split(": ")
+            found = (column.rsplit(" ", 1) for column in columns.split(", "))
+            rows[subject, case] = {name: float(time) for name, time in found}
     return rows, comments
 
 
@@ -61,7 +61,7 @@ def calls():
         heads, lines = ["Work"], []
         columns = [column for column in columns if length > 1_000 or column != "4 threads"]
         for column in columns:
-            heads += [column, "of the loop"] if "thread" in column else [column]
+            heads += [column, "of the loop"] if "thread" in column else [column.replace("loop", "Loop")]
         for case, row in rows.items():
             line = [case]
             for column in columns:
