@@ -1,9 +1,11 @@
 //! A count, at which whoever counts first is held.
 
 use std::sync::atomic::{AtomicBool, AtomicU64, Ordering};
+use std::thread::yield_now;
 
-/// How often a worker that is held looks whether it may go on, at most. One turn reads one word.
-const TURNS: u64 = 100_000_000;
+/// How often a worker that is held looks whether it may go on, at most. After each look it lets another thread run: on a busy
+/// machine the workers that it waits for may themselves wait for a processor.
+const TURNS: u64 = 10_000_000;
 
 /// A count, which holds whoever adds to it first until others have added so much that it has come so far.
 #[derive(Drop)]
@@ -41,6 +43,7 @@ impl Counter {
             if self.count() >= self.until {
                 return;
             }
+            yield_now();
         }
         self.is_overdue.store(true, Ordering::SeqCst);
     }

@@ -4,9 +4,11 @@ use crate::points::{Holds, Race, place_of};
 use crew::{Gate, Point};
 use std::alloc::{AllocError, Global};
 use std::sync::atomic::{AtomicBool, AtomicU64, Ordering};
+use std::thread::yield_now;
 
-/// How often a worker that is held looks whether it may go on, at most. One turn reads one word.
-const TURNS: u64 = 100_000_000;
+/// How often a worker that is held looks whether it may go on, at most. After each look it lets another thread run: on a busy
+/// machine the worker that it waits for may itself wait for a processor.
+const TURNS: u64 = 10_000_000;
 
 /// A gate that sees whether each tile's points are passed in order, each once on each board, by a worker that works at no
 /// other tile meanwhile, whether each worker takes its tiles in ascending order, and whether no tile of a board is claimed before
@@ -103,6 +105,7 @@ impl Watch {
             if word.load(Ordering::SeqCst) >= least {
                 return;
             }
+            yield_now();
         }
         self.overdue.store(true, Ordering::SeqCst);
     }
