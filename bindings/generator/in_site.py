@@ -5,6 +5,7 @@ import importlib.machinery
 import importlib.util
 import pathlib
 import re
+import sys
 
 import about
 import in_c
@@ -23,7 +24,9 @@ CLASSES = {"Script": "script", "C": "c", "Python": "python", "Rust": "rust", "Fo
 
 def _measured():
     """The program that writes the tables of performance, as a module."""
-    loader = importlib.machinery.SourceFileLoader("drawn_performance", str(TOP / "docs/dev/performance/draw"))
+    folder = TOP / "docs/dev/performance"
+    sys.path.append(str(folder))  # where its own modules are
+    loader = importlib.machinery.SourceFileLoader("drawn_performance", str(folder / "draw"))
     module = importlib.util.module_from_spec(importlib.util.spec_from_loader(loader.name, loader))
     loader.exec_module(module)
     return module
