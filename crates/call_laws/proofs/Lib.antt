@@ -5,9 +5,11 @@ pub mod Carries
 pub mod CutResults
 pub mod ElementPlaces
 pub mod FirstBadPlaces
+pub mod FirstFound
 pub mod FirstSent
 pub mod InParts
 pub mod LeastFaults
+pub mod OverRanks
 pub mod Owned
 pub mod Packing
 pub mod PlaceByPlace

@@ -12,6 +12,7 @@ pub mod distributes;
 pub mod elementwise;
 pub mod extracts;
 pub mod nests;
+pub mod over_ranks;
 pub mod owners;
 pub mod packs;
 pub mod permuted;

@@ -2,8 +2,8 @@
 
 ghost use Rattle.std.specs.Prelude.{◌≡◌, ℕ, ℤ, pos, Bool, Option, List, find, option_map};
 ghost use Rattle.std.specs.List.{list_any};
-ghost use Rattle.call_laws.specs.Owned.{HasPlace, owned_destinations, owned_pairs};
-ghost use Rattle.cvl_base.specs.Permutes.{is_destination, sent_to};
+ghost use Rattle.call_laws.specs.Owned.{HasPlace, HaveOwners, agreed_fault, owned_destinations, owned_pairs};
+ghost use Rattle.cvl_base.specs.Permutes.{first_fault, is_destination, sent_to, wrongs};
 
 /// The owner of a place finds in what it is sent, in the order of senders, the element that the whole permute sends to the place,
 /// and it finds an index repeated exactly where the whole has it at an earlier place.
@@ -13,4 +13,11 @@ pub fn permute_by_owners<T>()
         ≡ sent_to source destinations d }
     ensures repeated { (owns : Option ℤ → Bool) (earlier : List (Option ℤ)) (d : ℤ) → HasPlace owns d →
         list_any (is_destination d) (owned_destinations owns earlier) ≡ list_any (is_destination d) earlier }
+{}
+
+/// The fault of a permute is, of what senders find out of range and owners find repeated, the one at the least place, if each
+/// place of the result has an owner; there is none where none of them finds any.
+pub fn fault_by_owners()
+    ensures { (owners : List (Option ℤ → Bool)) (m : ℕ) (destinations : List (Option ℤ)) → HaveOwners owners m →
+        first_fault 0 (wrongs m destinations) ≡ agreed_fault owners m destinations }
 {}
