@@ -42,7 +42,7 @@ module cvl_mpi
     end type lengths_of
 
     interface at
-        module procedure at_ints, at_flags, at_bytes
+        module procedure at_ints, at_flags, at_bytes, at_sums
     end interface at
 
     public :: cvl_ranks_new, cvl_ranks_free, cvl_rank_segments_new, cvl_rank_segments_free, cvl_rank_segments_starts
@@ -133,6 +133,14 @@ PROCEDURES = """
         found = c_null_ptr
         if (size(a) > 0) found = c_loc(a(1))
     end function at_bytes
+
+    function at_sums(a) result(found)
+        integer(c_int64_t), intent(in), target, contiguous :: a(:)
+        type(c_ptr) :: found
+
+        found = c_null_ptr
+        if (size(a) > 0) found = c_loc(a(1))
+    end function at_sums
 
     ! Gives a status to the program, or stops it at a fault.
     subroutine tell(name, answer, status)
@@ -246,8 +254,8 @@ PROCEDURES = """
 """
 
 KINDS = {
-    "ints": "integer(c_int32_t)", "flags": "logical(c_bool)", "bytes": "integer(c_int8_t)", "int": "integer(c_int32_t)", "flag": "logical(c_bool)",
-    "size": "integer(c_size_t)",
+    "ints": "integer(c_int32_t)", "flags": "logical(c_bool)", "bytes": "integer(c_int8_t)", "sums": "integer(c_int64_t)", "int": "integer(c_int32_t)",
+    "flag": "logical(c_bool)", "size": "integer(c_size_t)",
 }  # fmt: skip
 
 
@@ -296,7 +304,7 @@ def _declaration(row, operand):
 def _given(row, argument):
     operand = argument.operand
     if operand is None:
-        return str(table.NUMBERS[row.operator])
+        return str(table.NUMBERS[row.operator]) if row.operator else "op"
     if argument.size:
         return f"size({operand.name}, kind=c_size_t)"
     if _is_held(row, operand):
@@ -309,7 +317,8 @@ def _given(row, argument):
 def _procedure(row):
     """A call, which hands its arguments to its family."""
     name, family = f"cvl_{row.name}_mpi", rows.FAMILIES[row.family.name]
-    pairs = [_declaration(row, operand) for operand in row.operands]
+    pairs = [("integer(c_int32_t), intent(in)", "op")] if in_mpi.takes_operator(row) else []
+    pairs += [_declaration(row, operand) for operand in row.operands]
     names = ", ".join(["ranks", *(found.removesuffix("(:)") for _, found in pairs), "status"])
     given = ", ".join(["ranks%at", *(_given(row, argument) for argument in family.arguments)])
     return [

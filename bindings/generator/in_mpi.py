@@ -24,6 +24,22 @@ BY_NAME = {
     "sparse_product": ("product", "each rank asks once for each element of x that its columns name; a row may cross ranks"),
     "checked_sparse_product": ("product", "each rank asks once for each element of x that its columns name; a row may cross ranks"),
     "make_descriptor": ("lengths", "the ranks' totals are added"),
+    "combine_permute": ("combine", "elements go to the ranks of their places, and are joined there in their order"),
+    "seg_combine_permute": ("combine", "elements go to the ranks of their places, and are joined there in their order"),
+    "counts": ("combine", "places go to the ranks that have them, and are counted there"),
+    "seg_counts": ("combine", "places go to the ranks that have them, and are counted there"),
+    "order": ("order", "keys go with their places to the ranks of the sorted vector, which is spread as out is"),
+    "seg_order": ("order", "keys of segments that cross ranks go with their places to the ranks of the sorted segments"),
+    "rank": ("rank", "keys go to the ranks of the sorted vector, and their ranks back"),
+    "seg_rank": ("rank", "keys of segments that cross ranks go to the ranks of the sorted segments, and their ranks back"),
+    "sort": ("sort", "keys go to the ranks of the sorted vector, which is spread as out is"),
+    "seg_sort": ("sort", "keys of segments that cross ranks go to the ranks of the sorted segments"),
+    "gather_segments": ("gather", "each rank asks the owners of the source for the runs of its slices; a start stands where its segment starts"),
+    "append_segments": ("append", "pieces go to the ranks of their places; out may be spread in any way"),
+    "merge_by_flags": ("merge", "when_true and when_false may be spread otherwise than the flags"),
+    "first_true": ("first_true", "the first of the ranks' places"),
+    "seg_first_true": ("seg_first_true", "the pieces of a segment are joined where it starts"),
+    "seg_exact_sums": ("seg_exact_sums", "the pieces of a segment are added where it starts"),
 }
 BY_CUT = {
     "places": ("places", "each rank its own places"),
@@ -47,10 +63,11 @@ BY_CUT = {
 }
 
 # Families whose places an index or a count of 32 bits names, so that the whole is no longer than a vector may be.
-NAMED_WAYS = {"back", "seg_extract", "seg_replace", "permute", "count", "lengths"}
+NAMED_WAYS = {"back", "seg_extract", "seg_replace", "permute", "combine", "count", "lengths", "first_true"}
+NAMED_FAMILIES = {"order", "rank"}
 
 # Families whose result may be spread otherwise than what they read, where it is as long.
-SPREAD_OTHERWISE = {"permute_int", "permute_bool", "seg_permute_int", "seg_permute_bool"}
+SPREAD_OTHERWISE = {"permute_int", "permute_bool", "seg_permute_int", "seg_permute_bool", "order", "sort"}
 
 RANKS = kept("CvlRanks *ranks")
 
@@ -159,7 +176,7 @@ def row_of(number, row):
         said.append(f".faulty = {'1' if found.faulty == [0] else in_rows.bits_of(found.faulty)},")
     marks = {
         "asks": row.family.asks, "held": is_held(row), "checked": any(18 in fault.numbers for fault in row.family.faults),
-        "named": name in NAMED_WAYS or any(o.role == "count" for o in found.operands),
+        "named": name in NAMED_WAYS or found.name in NAMED_FAMILIES or any(o.role == "count" for o in found.operands),
     }
     so = "".join(f", .{mark} = 1" for mark, is_so in marks.items() if is_so)
     lines = [
@@ -216,7 +233,9 @@ def calls_file():
 
 # ---- the rows of the differential test ----
 
-KINDS = {"ints": "INTS", "flags": "FLAGS", "bytes": "BYTES", "text": "TEXT", "int": "INTS", "flag": "FLAGS", "size": "SIZES", "sum": "SIZES"}
+KINDS = {
+    "ints": "INTS", "flags": "FLAGS", "bytes": "BYTES", "text": "TEXT", "int": "INTS", "flag": "FLAGS", "size": "SIZES", "sum": "SUMS", "sums": "SUMS",
+}
 
 
 def tried_argument(row, argument, over):
@@ -244,17 +263,19 @@ def tried_functions(row):
     )
 
 
-def tried_operand(operand):
+def tried_operand(row, operand):
     extent = {None: "ONE", "offsets": "OFFSETS"}.get(operand.extent, (operand.extent or "").upper())
+    if row.name in SPREAD_OTHERWISE and operand.role == "room":
+        extent = "SPREAD"
     kind = "INTS" if operand.role == "lengths" else KINDS[operand.kind]
-    role = {"room": "ROOM_OF", "count": "COUNT_OF"}.get(operand.role, operand.role.upper())
+    role = "OVER_ROOM" if operand.over else {"room": "ROOM_OF", "count": "COUNT_OF"}.get(operand.role, operand.role.upper())
     return f"{{\"{operand.name}\", {role}, {kind}, {extent}}}"
 
 
 def tried_row(row):
     numbers = [o.number for o in in_rows.table.OPERATORS if o.name in row.family.operators]
     operators = in_rows.bits_of(numbers) if row.call is None else "0"
-    operands = ", ".join(map(tried_operand, row.operands))
+    operands = ", ".join(tried_operand(row, operand) for operand in row.operands)
     return f"    {{\"{row.name}\", plain_{row.name}, over_{row.name}, {operators}, {len(row.operands)}, {{{operands}}}}},"
 
 
@@ -269,24 +290,29 @@ def tried_rows():
 
 
 def of_python():
-    """The calls that Python has: those of the table, and the families without operators that have none there."""
+    """The calls that Python and Fortran have: those of the table, and the families that have none there."""
     named = {row.family.name for row in calls()}
-    return [*calls(), *(row for row in families() if row.family.name not in named and not row.family.operators)]
+    return [*calls(), *(row for row in families() if row.family.name not in named)]
+
+
+def takes_operator(row):
+    """Whether the caller says by which operator."""
+    return bool(row.family.operators) and row.call is None
 
 
 def python_row(row):
     """A call by its family, of which each array has its own length, so that no other one is read to its end."""
-    operands = tuple((operand.name, operand.role, operand.kind, operand.extent) for operand in row.operands)
-    number = in_rows.table.NUMBERS[row.operator] if row.operator else None
-    return f'    "{row.name}": ("{row.family.name}", {number}, {operands!r}),'.replace("'", '"')
+    operands = tuple((operand.name, "over" if operand.over else operand.role, operand.kind, operand.extent) for operand in row.operands)
+    number = "op" if takes_operator(row) else in_rows.table.NUMBERS[row.operator] if row.operator else None
+    return f'    "{row.name}": ("{row.family.name}", {number!r}, {operands!r}),'.replace("'", '"')
 
 
 def python_rows():
     """`bindings/python/cvl/over_ranks.py`."""
     names = "".join(f'    {number}: "{name}",\n' for number, name in in_rows.table.STATUSES)
     return "\n".join([
-        '"""The calls over ranks: of each its family, its operator if it has one, and its operands, each with its role, its kind and its extent; and',
-        "the names of what calls answer.",
+        '"""The calls over ranks: of each its family, its operator if it has one, or "op" if the caller says it, and its operands, each with its role,',
+        "its kind and its extent; and the names of what calls answer.",
         "",
         rows.NOTE,
         '"""',

@@ -86,7 +86,8 @@ void cvl_set_aside(CvlCall *c) {
 void cvl_clean(CvlCall *c) {
     for (size_t k = 0; k < c->family->row.operands; k++) {
         const CvlSlot flags = c->s[k];
-        if (c->status.number != CVL_DONE || !(c->family->row.operand[k].is & CVL_COPIED) || cvl_are_flags(flags.at, flags.number)) continue;
+        const bool copied = (c->family->row.operand[k].is & CVL_COPIED) && k != c->family->row.out;
+        if (c->status.number != CVL_DONE || !copied || cvl_are_flags(flags.at, flags.number)) continue;
         c->copies[k] = cvl_take(c, flags.number, sizeof(bool));
         if (c->copies[k] == NULL) return;
         memcpy(c->copies[k], flags.at, flags.number);

@@ -11,8 +11,20 @@ uint64_t cvl_offsets(CvlRanks *ranks, uint64_t number) {
 
 int cvl_owner(const CvlRanks *ranks, uint64_t place) { return cvl_owner_of(ranks->offsets, ranks->size, place); }
 
-size_t cvl_exchange_counts(CvlRanks *ranks) {
+/* Whether counts add up to what an exchange can hold, whose places are of 32 bits. */
+static bool is_held(const int *counts, int size) {
+    uint64_t all = 0;
+    for (int r = 0; r < size; r++) all += (uint64_t)counts[r];
+    return all <= INT32_MAX;
+}
+
+size_t cvl_exchange_counts(CvlCall *c) {
+    CvlRanks *const ranks = c->ranks;
     MPI_Alltoall(ranks->sends, 1, MPI_INT, ranks->receives, 1, MPI_INT, ranks->comm);
+    if (!is_held(ranks->sends, ranks->size) || !is_held(ranks->receives, ranks->size)) {
+        cvl_say(c, cvl_status(CVL_NO_RESOURCES, -1));
+        return 0;
+    }
     cvl_lay_out(ranks->sends, ranks->send_from, ranks->size);
     return cvl_lay_out(ranks->receives, ranks->receive_from, ranks->size);
 }
@@ -24,11 +36,28 @@ void cvl_send(CvlRanks *ranks, const void *from, void *to, size_t size) {
     MPI_Alltoallv(from, ranks->sends, ranks->send_from, type, to, ranks->receives, ranks->receive_from, type, ranks->comm);
 }
 
+void cvl_send_back(CvlRanks *ranks, const void *from, void *to, size_t size) {
+    const MPI_Datatype type = type_of(size);
+    MPI_Alltoallv(from, ranks->receives, ranks->receive_from, type, to, ranks->sends, ranks->send_from, type, ranks->comm);
+}
+
 /* ---- vectors that are spread otherwise ---- */
 
 /* How many elements of the own range each rank has in its range. */
 static void shares(const CvlRanks *ranks, const uint64_t *offsets, uint64_t from, uint64_t to, int *counts) {
     for (int r = 0; r < ranks->size; r++) counts[r] = (int)cvl_common(from, to, offsets[r], offsets[r + 1]);
+}
+
+bool cvl_send_spread(CvlRanks *ranks, const void *a, size_t a_len, void *out, size_t out_len, size_t size) {
+    const uint64_t to_from = (uint64_t)cvl_before(ranks, cvl_fold(CVL_JOIN_COUNTS, 0, 0, (int64_t)out_len, 0)).low;
+    const uint64_t total = cvl_offsets(ranks, a_len), from = ranks->offsets[ranks->rank];
+    shares(ranks, ranks->offsets, to_from, to_from + out_len, ranks->receives);
+    if (cvl_offsets(ranks, out_len) != total) return 0;
+    shares(ranks, ranks->offsets, from, from + a_len, ranks->sends);
+    cvl_lay_out(ranks->sends, ranks->send_from, ranks->size);
+    cvl_lay_out(ranks->receives, ranks->receive_from, ranks->size);
+    cvl_send(ranks, a, out, size);
+    return 1;
 }
 
 static CvlStatus spread(CvlRanks *ranks, const void *a, size_t a_len, void *out, size_t out_len, size_t size) {
@@ -40,16 +69,7 @@ static CvlStatus spread(CvlRanks *ranks, const void *a, size_t a_len, void *out,
     else if (a_len > CVL_MOST_ELEMENTS || out_len > CVL_MOST_ELEMENTS) status = cvl_status(CVL_TOO_LONG, -1);
     status = cvl_agreed(ranks, status, CVL_CALL_SPREAD + (uint32_t)size, a_len, UINT64_MAX, &short_room, &total);
     if (status.number != CVL_DONE) return status;
-    const uint64_t to_from = (uint64_t)cvl_before(ranks, cvl_fold(CVL_JOIN_COUNTS, 0, 0, (int64_t)out_len, 0)).low;
-    if (cvl_offsets(ranks, a_len) != total) return cvl_status(CVL_LENGTH_MISMATCH, -1);
-    const uint64_t from = ranks->offsets[ranks->rank];
-    shares(ranks, ranks->offsets, to_from, to_from + out_len, ranks->receives);
-    if (cvl_offsets(ranks, out_len) != total) return cvl_status(CVL_LENGTH_MISMATCH, -1);
-    shares(ranks, ranks->offsets, from, from + a_len, ranks->sends);
-    cvl_lay_out(ranks->sends, ranks->send_from, ranks->size);
-    cvl_lay_out(ranks->receives, ranks->receive_from, ranks->size);
-    cvl_send(ranks, a, out, size);
-    return status;
+    return cvl_send_spread(ranks, a, a_len, out, out_len, size) ? status : cvl_status(CVL_LENGTH_MISMATCH, -1);
 }
 
 CvlStatus cvl_spread_ints(CvlRanks *ranks, const int32_t *a, size_t a_len, int32_t *out, size_t out_len) {

@@ -36,6 +36,19 @@ static void add_wide(CvlFold first, CvlFold second, CvlFold *joined) {
     joined->low = low & INT64_C(0xffffffff);
 }
 
+/* The place of the first of some among the elements of both. */
+static void join_places(CvlFold first, CvlFold second, CvlFold *joined) {
+    joined->high = first.high + second.high;
+    joined->low = first.low >= 0 ? first.low : second.low < 0 ? -1 : first.high + second.low;
+}
+
+/* Where an automaton of at most eight states ends that begins in each of them, a byte a state: the second text's behind the first's. */
+static int64_t joined_states(uint64_t first, uint64_t second) {
+    uint64_t joined = 0;
+    for (unsigned state = 0; state < 8; state++) joined |= (second >> 8 * (first >> 8 * state & 7) & 0xff) << 8 * state;
+    return (int64_t)joined;
+}
+
 /* Two values; whether a segment starts in one of them is not looked at. An operator that is none of the family joins nothing. */
 static CvlFold joined_values(CvlFold first, CvlFold second) {
     CvlFold joined = first;
@@ -48,6 +61,8 @@ static CvlFold joined_values(CvlFold first, CvlFold second) {
     case CVL_JOIN_EXACT: add_exactly(first, second, &joined); break;
     case CVL_JOIN_WIDE: add_wide(first, second, &joined); break;
     case CVL_JOIN_COUNTS: joined.high += second.high, joined.low += second.low; break;
+    case CVL_JOIN_PLACES: join_places(first, second, &joined); break;
+    case CVL_JOIN_STATES: joined.low = joined_states((uint64_t)first.low, (uint64_t)second.low); break;
     case CVL_JOIN_FIRST: break;
     }
     return status.number == CVL_DONE ? joined : first;
@@ -60,6 +75,8 @@ CvlFold cvl_nothing(CvlJoin join, uint32_t op) {
     CvlStatus status = cvl_done();
     if (join == CVL_JOIN_INTS) status = join_ints(op, NULL, 0, &fold.low);
     if (join == CVL_JOIN_BOOLS) status = join_bools(op, NULL, 0, &fold.low);
+    if (join == CVL_JOIN_PLACES) fold.low = -1;
+    if (join == CVL_JOIN_STATES) fold.low = INT64_C(0x0706050403020100);
     if (status.number != CVL_DONE) fold.low = 0;
     return fold;
 }

@@ -1,7 +1,7 @@
 /*
- * Permutes and first senders over ranks: each element goes to the rank that has its place, in the order of the vector, and that rank
- * makes the plain permute of what it is sent. A place that is named twice is named twice at one rank, so that the first repeated index
- * is the least of those that ranks find; its sender knows where it stands.
+ * Permutes, first senders and combining permutes over ranks: each element goes to the rank that has its place, in the order of the vector,
+ * and that rank makes the plain call of what it is sent. A place that is named twice is named twice at one rank, so that the first repeated
+ * index is the least of those that ranks find; its sender knows where it stands.
  */
 #include "permutes.h"
 
@@ -25,7 +25,7 @@ static bool has(const CvlCall *c, CvlAs as) {
 }
 
 /* Whether all indices go somewhere, so that the result has as many places; or those whose flags are true. */
-static bool is_simple(const CvlCall *c) { return has(c, CVL_AS_A) && !has(c, CVL_AS_B) && !has(c, CVL_AS_FLAGS); }
+static bool is_simple(const CvlCall *c) { return has(c, CVL_AS_A) && !has(c, CVL_AS_B) && !has(c, CVL_AS_FLAGS) && !c->combines; }
 static bool is_select(const CvlCall *c) { return has(c, CVL_AS_A) && has(c, CVL_AS_FLAGS); }
 
 /* The elements that go somewhere, and those that stand where none goes. */
@@ -36,6 +36,12 @@ static const void *defaults_of(const CvlCall *c) {
 }
 
 static size_t element_size(const CvlCall *c) { return has(c, CVL_AS_A) && cvl_has_bools(c) ? sizeof(bool) : sizeof(int32_t); }
+
+/* Whether the places alone say what is done, which is where they are counted. */
+static bool are_places_enough(const CvlCall *c) { return c->combines && !has(c, CVL_AS_A); }
+
+/* Whether an index may be named twice. */
+static bool may_repeat(const CvlCall *c) { return c->combines || !has(c, CVL_AS_A); }
 
 /* Finds the place of each index, and counts for each rank how many it is sent. */
 static void find_places(CvlCall *c, Sending *s) {
@@ -74,6 +80,7 @@ static void fill(CvlCall *c, Sending *s) {
         const int owner = cvl_owner(ranks, (uint64_t)s->places[k]);
         const int to = ranks->send_from[owner]++;
         s->sent_places[to] = (int32_t)((uint64_t)s->places[k] - ranks->offsets[owner]);
+        if (are_places_enough(c)) continue;
         if (is_bool) ((bool *)s->sent)[to] = bools[k];
         else ((int32_t *)s->sent)[to] = senders ? (int32_t)(first + (int64_t)(k - at)) : ints[k];
     }
@@ -104,6 +111,21 @@ static CvlStatus name_senders(CvlCall *c, Sending *s) {
         if (first[k] >= 0) first[k] = ((const int32_t *)s->got)[first[k]];
     }
     return status;
+}
+
+/* Joins what the rank is sent with what stands in its room, or counts it. */
+static CvlStatus combine_received(CvlCall *c, Sending *s) {
+    const CvlSlot out = c->in[CVL_AS_OUT];
+    if (are_places_enough(c)) return cvl_counts(s->got_places, s->received, c->aside, out.number);
+    if (out.number > 0) memcpy(c->aside, out.at, out.number * cvl_room_size(c));
+    if (cvl_has_bools(c)) cvl_make_flags(c->aside, out.number);
+    if (cvl_has_bools(c)) return cvl_combine_permute_bool(c->op, s->got, s->received, s->got_places, s->received, c->aside, out.number);
+    return cvl_combine_permute_int(c->op, s->got, s->received, s->got_places, s->received, c->aside, out.number);
+}
+
+static CvlStatus write_received(CvlCall *c, Sending *s) {
+    if (c->combines) return combine_received(c, s);
+    return has(c, CVL_AS_A) ? place_received(c, s) : name_senders(c, s);
 }
 
 /* ---- the first fault ---- */
@@ -165,6 +187,7 @@ static void take_for_sending(CvlCall *c, Sending *s) {
 }
 
 static void take_for_received(CvlCall *c, Sending *s) {
+    if (c->status.number != CVL_DONE) return;
     s->got_places = cvl_take(c, s->received, sizeof(int32_t));
     s->got = cvl_take(c, s->received, element_size(c));
 }
@@ -178,13 +201,14 @@ static void let_go(Sending *s) {
 static void exchange(CvlCall *c, Sending *s) {
     cvl_offsets(c->ranks, c->in[CVL_AS_OUT].number);
     find_places(c, s);
-    s->received = cvl_exchange_counts(c->ranks);
+    s->received = cvl_exchange_counts(c);
     take_for_received(c, s);
+    if (may_repeat(c) && s->out_of_range >= 0) cvl_say(c, cvl_status(CVL_INDEX_OUT_OF_RANGE, s->out_of_range));
     if (!cvl_agree(c, c->in[CVL_AS_INDEX].number)) return;
     fill(c, s);
     cvl_send(c->ranks, s->sent_places, s->got_places, sizeof(int32_t));
-    cvl_send(c->ranks, s->sent, s->got, element_size(c));
-    const CvlStatus own = has(c, CVL_AS_A) ? place_received(c, s) : name_senders(c, s);
+    if (!are_places_enough(c)) cvl_send(c->ranks, s->sent, s->got, element_size(c));
+    const CvlStatus own = write_received(c, s);
     c->status = own.number == CVL_DONE && s->out_of_range >= 0 ? cvl_status(CVL_INDEX_OUT_OF_RANGE, s->out_of_range) : own;
     if (cvl_agree(c, c->in[CVL_AS_INDEX].number)) return;
     if (c->status.number == CVL_INDEX_OUT_OF_RANGE || c->status.number == CVL_INDEX_REPEATED) find_first(c, s, own);
@@ -195,6 +219,7 @@ CvlStatus cvl_permute_over_ranks(CvlCall *c) {
     memset(&s, 0, sizeof s);
     s.out_of_range = -1;
     const uint64_t room = cvl_offsets(c->ranks, c->in[CVL_AS_OUT].number);
+    if (room > CVL_MOST_ELEMENTS) cvl_say(c, cvl_status(CVL_TOO_LONG, -1));
     cvl_look_at_targets(c);
     look_at_room(c, room);
     cvl_clean(c);
@@ -205,6 +230,12 @@ CvlStatus cvl_permute_over_ranks(CvlCall *c) {
     }
     let_go(&s);
     return c->status;
+}
+
+/* What is sent to a place is joined with what stands there, in the order of the senders; or counted. */
+CvlStatus cvl_combine_over_ranks(CvlCall *c) {
+    c->combines = 1;
+    return cvl_permute_over_ranks(c);
 }
 
 /* A replace is a permute of the values over the vector. */

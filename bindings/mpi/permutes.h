@@ -13,6 +13,9 @@ CVL_HIDDEN void cvl_take_targets(CvlCall *c, CvlTargets *targets);
 /* Finds it: of an index without segments, all of the `places`; of a select, where what it keeps stands. All ranks agree whether it is found. */
 CVL_HIDDEN bool cvl_find_targets(CvlCall *c, CvlTargets *targets, uint64_t places, bool is_select);
 
+/* Of each piece, where the segment of the other descriptor with its number starts in the whole, and how many places that has. All ranks agree. */
+CVL_HIDDEN void cvl_fetch_segments(CvlCall *c, CvlTargets *targets);
+
 /* ---- who asks whom for what: routes.c ---- */
 
 struct CvlRoute {

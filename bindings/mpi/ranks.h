@@ -24,6 +24,8 @@ typedef enum CvlJoin {
     CVL_JOIN_EXACT,  /* added in 64 bits; `high` says that this did not do */
     CVL_JOIN_WIDE,   /* added in 96 bits: high * 2^32 + low */
     CVL_JOIN_COUNTS, /* high and low are two counts, each added */
+    CVL_JOIN_PLACES, /* high is how many elements, and low the place of the first of some among them, or -1 */
+    CVL_JOIN_STATES, /* where an automaton is that begins in each of its states */
     CVL_JOIN_FIRST   /* the first, as where a value stands until the next segment starts */
 } CvlJoin;
 
@@ -93,6 +95,7 @@ struct CvlCall {
     uint64_t total;                  /* how many elements all ranks have, once they agree */
     bool by_segment;                 /* whether an index stands for each segment that starts in the rank */
     bool replaces;                   /* whether values replace elements of a vector: the second array goes into the first */
+    bool combines;                   /* whether what is sent is joined with what stands in the room, or counted */
     bool short_room;                 /* whether this rank's, or, once they agree, a rank's room is too short */
 };
 
@@ -165,12 +168,15 @@ CVL_HIDDEN uint64_t cvl_offsets(CvlRanks *ranks, uint64_t number);
 /* The rank that has a place, by these offsets: the last one whose part begins at it or before. */
 CVL_HIDDEN int cvl_owner(const CvlRanks *ranks, uint64_t place);
 
-/* Tells each rank how many elements it is sent, from ranks->sends; and how many this rank is. */
-CVL_HIDDEN size_t cvl_exchange_counts(CvlRanks *ranks);
+/* Tells each rank how many elements it is sent, from ranks->sends; and how many this rank is. More than an exchange holds are said: 100. */
+CVL_HIDDEN size_t cvl_exchange_counts(CvlCall *c);
 
-/* Sends elements to and fro. */
+/* Sends elements to and fro; and what was received back to where it came from. */
 CVL_HIDDEN void cvl_send(CvlRanks *ranks, const void *from, void *to, size_t size);
+CVL_HIDDEN void cvl_send_back(CvlRanks *ranks, const void *from, void *to, size_t size);
 
+/* The same vector, of which this rank then has so many elements; or whether it has not as many in all. */
+CVL_HIDDEN bool cvl_send_spread(CvlRanks *ranks, const void *a, size_t a_len, void *out, size_t out_len, size_t size);
 
 /*
  * Where the pieces of an index lead: the place at which each piece's segment of the target starts, and how many places that has. Without
@@ -209,8 +215,18 @@ CVL_HIDDEN CvlStatus cvl_seg_copies_over_ranks(CvlCall *c);
 CVL_HIDDEN CvlStatus cvl_seg_numbers_over_ranks(CvlCall *c);
 CVL_HIDDEN CvlStatus cvl_seg_replace_over_ranks(CvlCall *c);
 CVL_HIDDEN CvlStatus cvl_permute_over_ranks(CvlCall *c);
+CVL_HIDDEN CvlStatus cvl_combine_over_ranks(CvlCall *c);
 CVL_HIDDEN CvlStatus cvl_back_over_ranks(CvlCall *c);
 CVL_HIDDEN CvlStatus cvl_seg_extract_over_ranks(CvlCall *c);
+CVL_HIDDEN CvlStatus cvl_sort_over_ranks(CvlCall *c);
+CVL_HIDDEN CvlStatus cvl_order_over_ranks(CvlCall *c);
+CVL_HIDDEN CvlStatus cvl_rank_over_ranks(CvlCall *c);
+CVL_HIDDEN CvlStatus cvl_gather_over_ranks(CvlCall *c);
+CVL_HIDDEN CvlStatus cvl_append_over_ranks(CvlCall *c);
+CVL_HIDDEN CvlStatus cvl_merge_over_ranks(CvlCall *c);
+CVL_HIDDEN CvlStatus cvl_first_true_over_ranks(CvlCall *c);
+CVL_HIDDEN CvlStatus cvl_seg_first_true_over_ranks(CvlCall *c);
+CVL_HIDDEN CvlStatus cvl_seg_exact_sums_over_ranks(CvlCall *c);
 CVL_HIDDEN CvlStatus cvl_product_over_ranks(CvlCall *c);
 CVL_HIDDEN CvlStatus cvl_rows_over_ranks(CvlCall *c);
 

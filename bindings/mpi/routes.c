@@ -105,11 +105,11 @@ bool cvl_make_route(CvlCall *c, CvlRoute *route, const int32_t *places, size_t p
     if (done) {
         cvl_offsets(ranks, source_len);
         by_owner(ranks, asked, route->asks);
-        route->answers = cvl_exchange_counts(ranks);
+        route->answers = cvl_exchange_counts(c);
         memcpy(route->counts, ranks->sends, bytes);
-        route->answered = cvl_take(c, route->answers, sizeof(int32_t));
-        route->sent = cvl_take(c, route->answers, sizeof(int32_t));
-        route->got = cvl_take(c, route->asks, sizeof(int32_t));
+        if (c->status.number == CVL_DONE) route->answered = cvl_take(c, route->answers, sizeof(int32_t));
+        if (c->status.number == CVL_DONE) route->sent = cvl_take(c, route->answers, sizeof(int32_t));
+        if (c->status.number == CVL_DONE) route->got = cvl_take(c, route->asks, sizeof(int32_t));
         done = cvl_agree(c, places_len);
     }
     if (done) cvl_send(ranks, asked, route->answered, sizeof(int32_t));

@@ -1,4 +1,7 @@
-/* shares.h: which rank has a place of a spread vector, even shares, and exact sums and products: arithmetic of calls over ranks, without MPI. */
+/*
+ * shares.h: which rank has a place of a spread vector, even shares, where sorted keys are cut, and exact sums and products: arithmetic of calls over
+ * ranks, without MPI.
+ */
 #ifndef CVL_MPI_SHARES_H
 #define CVL_MPI_SHARES_H
 
@@ -73,6 +76,40 @@ static inline uint64_t cvl_even_start(uint64_t total, uint64_t ranks, uint64_t r
     /*@ assert rank * each <= ranks * each <= total && ranks * each + more == total; */
     /*@ assert rank * each + \min(rank, more) <= total; */
     return rank * each + (rank < more ? rank : more);
+}
+
+/* How many of ascending keys are at most so much. */
+/*@ requires \valid_read(keys + (0 .. n - 1));
+    requires \forall integer j, k; 0 <= j <= k < n ==> keys[j] <= keys[k];
+    assigns \nothing;
+    ensures 0 <= \result <= n;
+    ensures \forall integer k; 0 <= k < \result ==> keys[k] <= most;
+    ensures \forall integer k; \result <= k < n ==> most < keys[k]; */
+static inline size_t cvl_up_to(const int32_t *keys, size_t n, int64_t most) {
+    size_t low = 0, left = n;
+    /*@ loop invariant 0 <= low && low + left <= n;
+        loop invariant \forall integer k; 0 <= k < low ==> keys[k] <= most;
+        loop invariant \forall integer k; low + left <= k < n ==> most < keys[k];
+        loop assigns low, left;
+        loop variant left; */
+    while (left > 0) {
+        const size_t half = left / 2;
+        if (keys[low + half] <= most) {
+            low += half + 1;
+            left -= half + 1;
+        } else {
+            left = half;
+        }
+    }
+    return low;
+}
+
+/* Of keys that equal the one at a cut, how many of a rank's own go before it, where ranks before have some: theirs go first. */
+/*@ assigns \nothing;
+    ensures \result == \max(0, \min(own, wanted - before)); */
+static inline uint64_t cvl_taken(uint64_t wanted, uint64_t before, uint64_t own) {
+    if (wanted <= before) return 0;
+    return wanted - before < own ? wanted - before : own;
 }
 
 /* Whether a sum of two is past 64 bits. */

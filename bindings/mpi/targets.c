@@ -3,7 +3,8 @@
 
 void cvl_look_at_targets(CvlCall *c) {
     if (c->status.number != CVL_DONE || c->segments == NULL) return;
-    const bool longer = c->segments->all > CVL_MOST_ELEMENTS || (c->other != NULL && c->other->all > CVL_MOST_ELEMENTS);
+    const CvlRankSegments *const s = c->segments, *const other = c->other == NULL ? s : c->other;
+    const bool longer = s->all > CVL_MOST_ELEMENTS || s->segments > CVL_MOST_ELEMENTS || other->all > CVL_MOST_ELEMENTS;
     if (longer) cvl_say(c, cvl_status(CVL_TOO_LONG, -1));
     if (c->other != NULL && c->other->segments != c->segments->segments) cvl_say(c, cvl_status(CVL_LENGTH_MISMATCH, -1));
 }
@@ -93,7 +94,7 @@ static CvlStatus fetch_into(CvlRoute *route, const int32_t *told, int64_t *found
     return status;
 }
 
-static void fetch_segments(CvlCall *c, CvlTargets *targets) {
+void cvl_fetch_segments(CvlCall *c, CvlTargets *targets) {
     CvlRoute route = {0};
     Asked a = {0};
     take_asked(c, &a);
@@ -122,7 +123,7 @@ bool cvl_find_targets(CvlCall *c, CvlTargets *targets, uint64_t places, bool is_
     targets->lengths = c->by_segment ? NULL : s->lengths;
     targets->first_place = s->goes_on ? (int64_t)s->head_before : 0;
     if (is_select) kept_segments(c, targets->starts, targets->places);
-    else if (c->other != NULL) fetch_segments(c, targets);
+    else if (c->other != NULL) cvl_fetch_segments(c, targets);
     else own_segments(s, c->by_segment && s->goes_on ? 1 : 0, targets->starts, targets->places);
     return c->status.number == CVL_DONE;
 }

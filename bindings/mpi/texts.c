@@ -1,28 +1,25 @@
 /* Texts over ranks: a file that is read by all, cut at white space, and written by all; and the integers and booleans of such texts. */
-#include "ranks.h"
 #include "shares.h"
+#include "texts.h"
 
-enum { CVL_CHUNK = 1 << 12, CVL_MOST_READ = 1 << 30, CVL_CALL_TEXT = 0xfa00 };
-
-static bool is_white(char byte) { return byte == ' ' || byte == '\t' || byte == '\n' || byte == '\r'; }
+enum { CVL_CHUNK = 1 << 12, CVL_MOST_READ = 1 << 30 };
 
 /* ---- the integers of a text ---- */
 
 static size_t words_in(const char *text, size_t text_len) {
     size_t words = 0;
-    for (size_t k = 0; k < text_len; k++) words += !is_white(text[k]) && (k == 0 || is_white(text[k - 1]));
+    for (size_t k = 0; k < text_len; k++) words += !cvl_is_white(text[k]) && (k == 0 || cvl_is_white(text[k - 1]));
     return words;
 }
 
 /* Where a piece ends that has no more words than are read at once. */
 static size_t piece_end(const char *text, size_t from, size_t text_len) {
     size_t end = text_len - from < CVL_MOST_OF_TEXT ? text_len : from + CVL_MOST_OF_TEXT;
-    while (end < text_len && !is_white(text[end])) end++;
+    while (end < text_len && !cvl_is_white(text[end])) end++;
     return end;
 }
 
-/* Reads a rank's part, after so many words of ranks before, into a room that has one place for each word. */
-static CvlStatus read_pieces(const char *text, size_t text_len, uint64_t before, int32_t *out) {
+CvlStatus cvl_read_pieces(const char *text, size_t text_len, uint64_t before, int32_t *out) {
     size_t at = 0;
     for (size_t from = 0, end = 0; from < text_len; from = end) {
         end = piece_end(text, from, text_len);
@@ -44,7 +41,7 @@ static CvlStatus agree(CvlRanks *ranks, CvlStatus status, uint32_t call, bool *s
 static CvlStatus read_aside(CvlRanks *ranks, const char *text, size_t text_len, size_t words, int32_t *aside) {
     const uint64_t before = (uint64_t)cvl_before(ranks, cvl_fold(CVL_JOIN_COUNTS, 0, 0, (int64_t)words, 0)).low;
     if (aside == NULL) return cvl_status(CVL_NO_RESOURCES, -1);
-    return read_pieces(text, text_len, before, aside);
+    return cvl_read_pieces(text, text_len, before, aside);
 }
 
 CvlStatus cvl_read_ints_mpi(CvlRanks *ranks, const char *text, size_t text_len, int32_t *out, size_t out_len, size_t *count) {
@@ -68,25 +65,19 @@ CvlStatus cvl_read_ints_mpi(CvlRanks *ranks, const char *text, size_t text_len, 
 
 /* ---- the text of a vector ---- */
 
-/* A rank's part of a text: a bracket before the first and behind the last, and a blank between two elements of two ranks. */
-typedef struct Written {
-    char *whole;   /* of the rank's own elements, in brackets */
-    size_t length; /* of that */
-    bool first, last, follows;
-} Written;
+size_t cvl_length_of(const CvlWritten *w) { return w->length - 2 - w->front - w->back + w->first + w->last + w->follows; }
 
-static size_t length_of(const Written *w) { return w->length - 2 + w->first + w->last + w->follows; }
-
-static void put(const Written *w, char *text) {
+void cvl_put_text(const CvlWritten *w, char *text) {
+    const size_t inner = w->length - 2 - w->front - w->back;
     if (w->first) *text++ = '[';
     if (w->follows) *text++ = ' ';
-    memcpy(text, w->whole + 1, w->length - 2);
-    text += w->length - 2;
+    if (inner > 0) memcpy(text, w->whole + 1 + w->front, inner);
+    text += inner;
     if (w->last) *text = ']';
 }
 
 /* The rank's own elements as a text: of integers or of booleans. */
-static CvlStatus write_own(const void *a, size_t a_len, bool are_bools, Written *w) {
+static CvlStatus write_own(const void *a, size_t a_len, bool are_bools, CvlWritten *w) {
     CvlStatus status = are_bools ? cvl_write_bools(a, a_len, NULL, 0, &w->length) : cvl_write_ints(a, a_len, NULL, 0, &w->length);
     if (status.number != CVL_LENGTH_MISMATCH) return status;
     w->whole = malloc(w->length);
@@ -95,19 +86,19 @@ static CvlStatus write_own(const void *a, size_t a_len, bool are_bools, Written 
 }
 
 static CvlStatus write_text(CvlRanks *ranks, const void *a, size_t a_len, bool are_bools, char *text, size_t text_len, size_t *count) {
-    Written w = {NULL, 2, 0, 0, 0};
+    CvlWritten w = {NULL, 2, 0, 0, 0, 0, 0};
     bool short_room = 0;
     if (!cvl_are_ranks(ranks)) return cvl_status(CVL_NO_DESCRIPTOR, -1);
     CvlStatus status = cvl_meet(a, a_len, are_bools ? 1 : sizeof(int32_t), text, text_len, 1) ? cvl_overlap() : write_own(a, a_len, are_bools, &w);
     const int64_t before = cvl_before(ranks, cvl_fold(CVL_JOIN_COUNTS, 0, 0, (int64_t)a_len, 0)).low;
     w.first = ranks->rank == 0, w.last = ranks->rank + 1 == ranks->size, w.follows = before > 0 && a_len > 0;
-    if (status.number == CVL_DONE && length_of(&w) > text_len) {
+    if (status.number == CVL_DONE && cvl_length_of(&w) > text_len) {
         status = cvl_status(CVL_LENGTH_MISMATCH, -1);
         short_room = 1;
     }
     status = agree(ranks, status, are_bools ? 4 : 3, &short_room);
-    if (status.number == CVL_DONE || short_room) *count = length_of(&w);
-    if (status.number == CVL_DONE) put(&w, text);
+    if (status.number == CVL_DONE || short_room) *count = cvl_length_of(&w);
+    if (status.number == CVL_DONE) cvl_put_text(&w, text);
     free(w.whole);
     return status;
 }
@@ -143,7 +134,7 @@ static bool find_cut(MPI_File file, uint64_t size, uint64_t *place) {
         const size_t count = size - from < CVL_CHUNK ? (size_t)(size - from) : CVL_CHUNK;
         if (!read_at(file, from, chunk, count)) return 0;
         for (size_t k = 0; k < count; k++) {
-            if (!is_white(chunk[k])) continue;
+            if (!cvl_is_white(chunk[k])) continue;
             *place = from + k + 1;
             return 1;
         }

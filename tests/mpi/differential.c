@@ -15,9 +15,9 @@
 
 enum { MOST_RANKS = 16, MOST_OPERANDS = 7 };
 
-typedef enum Role { READS, LENGTHS, VALUE, PLACE, COUNT_OF, ROOM_OF, SINGLE, TOLD } Role;
-typedef enum Kind { INTS, FLAGS, BYTES, TEXT, SIZES } Kind;
-typedef enum Extent { ONE, N, M, SEGMENTS, TOTAL, COUNT, TRUES, ROOM, OFFSETS, EXTENTS } Extent;
+typedef enum Role { READS, LENGTHS, VALUE, PLACE, COUNT_OF, ROOM_OF, OVER_ROOM, SINGLE, TOLD } Role; /* OVER_ROOM: what stands there is joined */
+typedef enum Kind { INTS, FLAGS, BYTES, TEXT, SIZES, SUMS } Kind;
+typedef enum Extent { ONE, N, M, BOTH, SEGMENTS, TOTAL, COUNT, TRUES, FALSES, ROOM, SPREAD, OFFSETS, EXTENTS } Extent; /* SPREAD: as N, cut otherwise */
 
 typedef struct Slot {
     void *at;
@@ -89,13 +89,15 @@ typedef struct Case {
     int ranks;
     size_t counts[EXTENTS], cut[EXTENTS][MOST_RANKS + 1];
     Slot whole[MOST_OPERANDS];
+    void *before[MOST_OPERANDS];              /* what stands in a room that is joined */
     Pieces pieces[MOST_OPERANDS][MOST_RANKS]; /* of lengths, for each rank */
     int shorter, shorter_rank;                /* an operand whose last element is left out, or -1, and the rank that has it */
     int64_t negative;                         /* the segment of which a piece is below 0, or -1 */
 } Case;
 
-static size_t size_of(int kind) { return kind == INTS ? sizeof(int32_t) : kind == SIZES ? sizeof(size_t) : 1; }
-static int is_array(int role) { return role == READS || role == ROOM_OF; }
+static size_t size_of(int kind) { return kind == INTS ? sizeof(int32_t) : kind == SIZES ? sizeof(size_t) : kind == SUMS ? sizeof(int64_t) : 1; }
+static int is_room(int role) { return role == ROOM_OF || role == OVER_ROOM; }
+static int is_array(int role) { return role == READS || is_room(role); }
 
 static int operand_named(const Tried *t, const char *name) {
     for (int k = 0; k < t->operands; k++) {
@@ -225,7 +227,8 @@ static void only_true(int32_t *index, const uint8_t *flags, size_t from, size_t 
 static void fill_index(Case *c, int k) {
     const Tried *t = c->tried;
     const int extent = t->operand[k].extent, own = extent == SEGMENTS ? lengths_of(t, N) : lengths_of(t, extent);
-    const int f = operand_named(t, "flags"), senders = strstr(t->name, "senders") != NULL, back = strstr(t->name, "back") != NULL || strncmp(t->name, "bck", 3) == 0;
+    const int f = operand_named(t, "flags"), combines = strstr(t->name, "combine") != NULL || strstr(t->name, "counts") != NULL;
+    const int senders = combines || strstr(t->name, "senders") != NULL, back = strstr(t->name, "back") != NULL || strncmp(t->name, "bck", 3) == 0;
     const int select = f >= 0 && !senders, defaults = operand_named(t, "defaults") >= 0;
     const int other = back ? lengths_of(t, N) : defaults || senders ? lengths_of(t, M) : own;
     int32_t *index = c->whole[k].at;
@@ -250,6 +253,18 @@ static void fill_index(Case *c, int k) {
         else make_indices(index + at, count, places, once);
         if (one_in(6)) plant_faults(index + at, count, select ? trues_of(flags, at, at + count) : places);
         at += count;
+    }
+}
+
+/* Where slices begin: each within the source, or now and then not, or where it ends. */
+static void fill_starts(Case *c, int k) {
+    const int32_t *lengths = c->whole[lengths_of(c->tried, TOTAL)].at;
+    const int64_t source = (int64_t)c->counts[N];
+    int32_t *starts = c->whole[k].at;
+    for (size_t s = 0; s < c->whole[k].number; s++) {
+        const int64_t last = source - lengths[s];
+        starts[s] = last < 0 ? (int32_t)below(c->counts[N] + 1) : (int32_t)below((size_t)last + 1);
+        if (one_in(30)) starts[s] = one_in(2) ? -1 - (int32_t)below(2) : (int32_t)(last + 1);
     }
 }
 
@@ -283,6 +298,8 @@ static void make_counts(Case *c) {
     for (int k = 0; k < t->operands; k++) {
         if (t->operand[k].role == LENGTHS) make_lengths(c, k, c->counts[SEGMENTS]);
     }
+    if (operand_named(t, "starts") >= 0) c->counts[N] += 10;
+    c->counts[SPREAD] = c->counts[N], c->counts[BOTH] = c->counts[N] + c->counts[M];
     for (int e = 1; e < EXTENTS; e++) cut_anywhere(c, e);
     for (int k = 0; k < t->operands; k++) {
         if (t->operand[k].extent == OFFSETS) make_offsets(c, k);
@@ -295,7 +312,8 @@ static void cut_trues(Case *c) {
     const int f = operand_named(c->tried, "flags");
     if (f < 0) return;
     c->counts[TRUES] = c->counts[ROOM] = trues_of(c->whole[f].at, 0, c->whole[f].number);
-    cut_anywhere(c, TRUES);
+    c->counts[FALSES] = c->whole[f].number - c->counts[TRUES];
+    cut_anywhere(c, TRUES), cut_anywhere(c, FALSES);
     for (int r = 0; r <= c->ranks; r++) c->cut[ROOM][r] = trues_of(c->whole[f].at, 0, c->cut[N][r]);
 }
 
@@ -305,17 +323,21 @@ static void make_arrays(Case *c) {
         const TriedOperand *o = &t->operand[k];
         if (o->role == VALUE || o->role == PLACE) c->whole[k].value = o->role == PLACE ? (int64_t)below(c->counts[N] + 1) - one_in(9) : o->kind == INTS ? number(0) : one_in(2);
         if (o->role == COUNT_OF) c->whole[k].value = (int64_t)c->counts[COUNT];
-        if (o->role != READS || o->extent == OFFSETS) continue;
+        if ((o->role != READS && o->role != OVER_ROOM) || o->extent == OFFSETS) continue;
         c->whole[k].number = c->counts[o->extent];
         c->whole[k].at = malloc((c->whole[k].number + 1) * size_of(o->kind));
         fill(c, k);
+        if (strcmp(o->name, "flags") == 0) cut_trues(c);
+        if (o->role != OVER_ROOM) continue;
+        c->before[k] = malloc((c->whole[k].number + 1) * size_of(o->kind));
+        memcpy(c->before[k], c->whole[k].at, c->whole[k].number * size_of(o->kind));
     }
-    cut_trues(c);
     for (int k = 0; k < t->operands; k++) {
+        if (strcmp(t->operand[k].name, "starts") == 0) fill_starts(c, k);
         if (t->operand[k].role == READS && (strcmp(t->operand[k].name, "index") == 0 || strcmp(t->operand[k].name, "columns") == 0)) fill_index(c, k);
     }
     for (int k = 0; k < t->operands; k++) {
-        if (is_array(t->operand[k].role) && t->operand[k].role == ROOM_OF) c->whole[k].number = c->counts[t->operand[k].extent];
+        if (t->operand[k].role == ROOM_OF) c->whole[k].number = c->counts[t->operand[k].extent];
         if (t->operand[k].role == SINGLE || t->operand[k].role == TOLD) c->whole[k].number = 1;
         if (c->whole[k].at != NULL || c->whole[k].number == 0) continue;
         c->whole[k].at = malloc((c->whole[k].number + 1) * size_of(t->operand[k].kind));
@@ -370,7 +392,7 @@ static Case make_case(const Tried *t, int ranks) {
 
 static void free_case(Case *c) {
     for (int k = 0; k < c->tried->operands; k++) {
-        free(c->whole[k].at);
+        free(c->whole[k].at), free(c->before[k]);
         for (int r = 0; r < c->ranks; r++) free(c->pieces[k][r].lengths);
     }
 }
@@ -389,8 +411,9 @@ static void take_array(const Case *c, int k, int rank, Own *own) {
     Slot *s = &own->slots[k];
     own->from[k] = from, s->number = n;
     s->at = malloc((n + 1) * size);
+    const char *whole = o->role == OVER_ROOM ? c->before[k] : c->whole[k].at;
     if (o->role == ROOM_OF) memset(s->at, 0x5a, (n + 1) * size);
-    else if (n > 0) memcpy(s->at, (const char *)c->whole[k].at + from * size, n * size);
+    else if (n > 0) memcpy(s->at, whole + from * size, n * size);
     if (o->extent == OFFSETS) {
         for (size_t r = n; r-- > 0;) ((int32_t *)s->at)[r] -= ((int32_t *)s->at)[0];
     }
@@ -427,7 +450,8 @@ static int my_rank;
 static int is_as_before(const Case *c, const Own *own, int k) {
     const TriedOperand *o = &c->tried->operand[k];
     const uint8_t *bytes = own->slots[k].at;
-    const size_t count = o->role == ROOM_OF ? own->slots[k].number * size_of(o->kind) : size_of(o->kind);
+    const size_t count = is_room(o->role) ? own->slots[k].number * size_of(o->kind) : size_of(o->kind);
+    if (o->role == OVER_ROOM) return count == 0 || memcmp(bytes, (const char *)c->before[k] + own->from[k] * size_of(o->kind), count) == 0;
     for (size_t j = 0; j < count; j++) {
         if (bytes[j] != 0x5a) return 0;
     }
@@ -436,7 +460,7 @@ static int is_as_before(const Case *c, const Own *own, int k) {
 
 static int is_written(const Case *c, int k) {
     const int role = c->tried->operand[k].role;
-    return role == ROOM_OF || role == SINGLE || role == TOLD;
+    return is_room(role) || role == SINGLE || role == TOLD;
 }
 
 /* Whether a rank's room is its part of the whole's, and a count that of the whole, or how many elements the rank keeps. */
@@ -449,14 +473,14 @@ static int is_cut_of(const Case *c, const Own *own, int k, int rank) {
         if (*(size_t *)c->whole[k].at == sentinel) return is_as_before(c, own, k);
         return *(size_t *)own->slots[k].at == c->cut[ROOM][rank + 1] - c->cut[ROOM][rank];
     }
-    if (o->role != ROOM_OF) return memcmp(own->slots[k].at, c->whole[k].at, size) == 0;
+    if (!is_room(o->role)) return memcmp(own->slots[k].at, c->whole[k].at, size) == 0;
     return own->slots[k].number == 0 || memcmp(own->slots[k].at, (const char *)c->whole[k].at + own->from[k] * size, own->slots[k].number * size) == 0;
 }
 
 static int is_right(const Case *c, const Own *own, CvlStatus expected, CvlStatus status, int rank) {
     if (status.number != expected.number || status.place != expected.place) return 0;
     for (int k = 0; k < c->tried->operands; k++) {
-        const int room_at_fault = expected.number != CVL_DONE && c->tried->operand[k].role == ROOM_OF;
+        const int room_at_fault = expected.number != CVL_DONE && is_room(c->tried->operand[k].role);
         if (!is_written(c, k)) continue;
         if (room_at_fault ? !is_as_before(c, own, k) : !is_cut_of(c, own, k, rank)) return 0;
     }
@@ -526,7 +550,7 @@ static void refuse_all(CvlRanks *ranks, const Case *c, CvlStatus expected, int r
         const int same = status.number == expected.number && expected.number != CVL_DONE;
         if (any_hit && !same && status.number != CVL_NO_RESOURCES) fail(c, &own, none, status, seed);
         for (int j = 0; j < c->tried->operands && any_hit; j++) {
-            if (c->tried->operand[j].role == ROOM_OF && !is_as_before(c, &own, j)) fail(c, &own, none, status, seed);
+            if (is_room(c->tried->operand[j].role) && !is_as_before(c, &own, j)) fail(c, &own, none, status, seed);
         }
         refusals += any_hit, more = any_hit;
         free_own(&own);

@@ -2,7 +2,8 @@
  * How many collectives each kind of call over ranks makes, and how many bytes a rank hands in, by MPI's profiling interface. Each rank has
  * 1,000 elements; a permute sends each to a place at random.
  *
- *     mpirun -np 4 messages
+ *     mpirun -np 4 messages            each kind of collective
+ *     mpirun -np 4 messages --sums     all of them: a line is a call, its collectives and its bytes
  */
 #include <mpi.h>
 
@@ -55,16 +56,19 @@ int MPI_Alltoallv(const void *from, const int *numbers, const int *starts, MPI_D
     return PMPI_Alltoallv(from, numbers, starts, type, to, to_numbers, to_starts, to_type, comm);
 }
 
-static int rank, size;
+static int rank, size, summed;
 
 static void begin(void) { memset(calls, 0, sizeof calls), memset(bytes, 0, sizeof bytes); }
 
 static void tell(const char *name, CvlStatus status) {
     if (status.number != CVL_DONE) printf("%s: fault %u\n", name, status.number);
     if (rank == 0) {
+        long all_calls = 0, all_bytes = 0;
+        for (int k = 0; k < KINDS; k++) all_calls += calls[k], all_bytes += bytes[k];
         printf("%-28s", name);
+        if (summed) printf(" %ld %ld", all_calls, all_bytes);
         for (int k = 0; k < KINDS; k++) {
-            if (calls[k]) printf(" %s %ld (%ld)", kinds[k], calls[k], bytes[k]);
+            if (calls[k] && !summed) printf(" %s %ld (%ld)", kinds[k], calls[k], bytes[k]);
         }
         printf("\n");
     }
@@ -72,15 +76,20 @@ static void tell(const char *name, CvlStatus status) {
 }
 
 int main(int words, char **word) {
-    static int32_t a[N], b[N], index[N], out[N], one;
+    static int32_t a[N], b[N], index[N], out[N], twice[2 * N], one;
     static bool flags[N];
-    int32_t lengths[3];
+    static int64_t sums[N];
+    static char text[64];
+    int32_t lengths[6], starts[3];
+    size_t pieces;
+    bool goes_on;
     CvlRanks *ranks;
     CvlRankSegments *segments;
     CvlRoute *route;
     MPI_Init(&words, &word);
     MPI_Comm_rank(MPI_COMM_WORLD, &rank);
     MPI_Comm_size(MPI_COMM_WORLD, &size);
+    summed = words > 1;
     tell("ranks", cvl_ranks_new(MPI_COMM_WORLD, &ranks));
     const int64_t total = (int64_t)N * size;
     for (int64_t k = 0; k < N; k++) {
@@ -89,6 +98,8 @@ int main(int words, char **word) {
     }
     lengths[0] = N / 4, lengths[1] = N / 2, lengths[2] = N / 4;
     size_t kept = 0;
+    /* one list of all ranks */
+    const size_t text_len = (size_t)sprintf(text, "%s 1 2 3 %s", rank == 0 ? "[ [" : "", rank + 1 == size ? "] ]" : "");
     begin();
     tell("segments", cvl_rank_segments_new(ranks, (CvlLengths){lengths, 3}, rank > 0, &segments));
     tell("add_wuz", cvl_add_wuz_mpi(ranks, a, b, out, N));
@@ -111,6 +122,22 @@ int main(int words, char **word) {
     tell("smp_puz", cvl_smp_puz_mpi(ranks, a, index, out, N));
     tell("bck_puz", cvl_bck_puz_mpi(ranks, a, N, index, out, N));
     tell("first_senders", cvl_first_senders_mpi(ranks, index, N, out, N));
+    tell("combine_permute_int", cvl_combine_permute_int_mpi(ranks, CVL_ADD, a, N, index, N, out, N));
+    tell("counts", cvl_counts_mpi(ranks, index, N, out, N));
+    tell("sort", cvl_sort_mpi(ranks, index, N, out, N));
+    tell("order", cvl_order_mpi(ranks, index, N, out, N));
+    tell("rank", cvl_rank_mpi(ranks, index, N, out, N));
+    tell("seg_sort", cvl_seg_sort_mpi(ranks, index, N, segments, out, N));
+    /* slices of the next rank */
+    for (size_t k = 0; k < cvl_rank_segments_starts(segments); k++) starts[k] = (rank + 1) % size * N;
+    tell("gather_segments_int", cvl_gather_segments_int_mpi(ranks, a, N, starts, cvl_rank_segments_starts(segments), segments, out, N));
+    const size_t trues = (N + 2) / 3;
+    tell("merge_by_flags_int", cvl_merge_by_flags_int_mpi(ranks, flags, N, a, trues, b, N - trues, out, N));
+    tell("append_segments_int", cvl_append_segments_int_mpi(ranks, a, N, b, N, segments, segments, twice, 2 * N));
+    tell("first_true", cvl_first_true_mpi(ranks, flags, N, &one));
+    tell("seg_first_true", cvl_seg_first_true_mpi(ranks, flags, N, segments, out, cvl_rank_segments_starts(segments)));
+    tell("seg_exact_sums", cvl_seg_exact_sums_mpi(ranks, b, N, segments, sums, cvl_rank_segments_starts(segments)));
+    tell("seg_read_ints", cvl_seg_read_ints_mpi(ranks, text, text_len, out, N, &kept, lengths + 3, 3, &pieces, &goes_on));
     tell("a route", cvl_route_new(ranks, index, N, N, &route));
     tell("back by a route", cvl_route_back_int(route, a, N, out, N));
     tell("permute by a route", cvl_route_permute_int(route, a, N, out, N));

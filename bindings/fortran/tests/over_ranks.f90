@@ -10,6 +10,7 @@ program over_ranks
     type(cvl_status) :: status
     integer(c_int32_t) :: a(2), out(2), sums(1), index(2), total
     integer(c_int32_t), target :: pieces(2)
+    integer(c_int64_t) :: wide(2)
     integer :: rank, number, ierror
 
     call MPI_Init(ierror)
@@ -43,6 +44,22 @@ program over_ranks
     call cvl_route_new(ranks, index, 2, route)
     call cvl_route_back(route, a, out)
     call check("back by a route", out(1) == -1 .and. out(2) == 3)
+    ! all of -1, then all of 3; and one key that all ranks add to
+    call cvl_sort_mpi(ranks, a, out)
+    call check("a sort", out(1) == merge(-1, 3, 2 * rank < number) .and. out(2) == merge(-1, 3, 2 * rank + 1 < number))
+    index = [number - 1, number - 1]
+    out = 10
+    call cvl_combine_permute_int_mpi(ranks, CVL_ADD, a, index, out)
+    call check("a sum by key", all(out == merge([10, 10 + 2 * number], [10 + 2 * number, 10], mod(number, 2) == 0)) .or. &
+        rank /= (number - 1) / 2)
+    index = [2 * number - 1 - 2 * rank, 2 * number - 2 - 2 * rank]
+    if (rank == 0) then
+        call cvl_seg_exact_sums_mpi(ranks, a, rows, wide)
+        call check("its exact sums", wide(1) == 3)
+    else
+        call cvl_seg_exact_sums_mpi(ranks, a, rows, wide(1:1))
+        call check("its exact sum", wide(1) == merge(-1, 2, rank == number - 1))
+    end if
     if (rank == number - 1) index(2) = 2 * number
     call cvl_smp_puz_mpi(ranks, a, index, out, status)
     call check("a fault", status%number == CVL_INDEX_OUT_OF_RANGE .and. status%place == 2 * number - 1)

@@ -19,7 +19,7 @@ from __future__ import annotations
 
 import ctypes
 import os
-from typing import Any, Dict, List, Optional, Sequence, Tuple
+from typing import Any, Dict, List, Optional, Sequence, Tuple, Union
 
 import numpy
 from mpi4py import MPI
@@ -27,7 +27,12 @@ from mpi4py import MPI
 from cvl.fault import Fault
 from cvl.over_ranks import CALLS, NAMES
 
-KINDS = {"ints": numpy.dtype(numpy.int32), "flags": numpy.dtype(numpy.bool_), "bytes": numpy.dtype(numpy.uint8)}
+KINDS = {
+    "ints": numpy.dtype(numpy.int32),
+    "flags": numpy.dtype(numpy.bool_),
+    "bytes": numpy.dtype(numpy.uint8),
+    "sums": numpy.dtype(numpy.int64),
+}
 VALUES = {"int": ctypes.c_int32, "flag": ctypes.c_bool, "size": ctypes.c_size_t, "sum": ctypes.c_int64}
 
 
@@ -70,6 +75,14 @@ def _array(given: Any, kind: str, name: str) -> Any:
     if not isinstance(given, numpy.ndarray) or given.dtype != KINDS[kind] or given.ndim != 1:
         raise TypeError(f"{name} is no array of {KINDS[kind]} in one dimension")
     return numpy.ascontiguousarray(given)
+
+
+def _room(given: Any, kind: str, name: str) -> Any:
+    """An array that the call writes where it is."""
+    array = _array(given, kind, name)
+    if array is not given or not given.flags.writeable:
+        raise TypeError(f"{name} cannot be written where it is")
+    return given
 
 
 def _at(array: Any) -> ctypes.c_void_p:
@@ -213,7 +226,7 @@ def _words(operands: Sequence[Operand], given: Dict[str, Any], written: Dict[str
         elif role == "lengths":
             held = given[name]
             words.append(held._at if isinstance(held, RankSegments) else _Lengths(_at(held), _size(held)))
-        elif role in ("reads", "room"):
+        elif role in ("reads", "room", "over"):
             array = written[name] if role == "room" else given[name]
             words += [_at(array), _size(array)]
         else:
@@ -225,31 +238,38 @@ def _checked(operand: Operand, value: Any) -> Any:
     name, role, kind, _ = operand
     if role == "reads":
         return _array(value, kind, name)
+    if role == "over":
+        return _room(value, kind, name)
     if role == "lengths" and not isinstance(value, RankSegments):
         return _array(value, "ints", name)
     return value
 
 
-def _method(name: str, family: str, operator: Optional[int], operands: Sequence[Operand]) -> Any:
-    """The method of a call: it takes its operands in their order, and gives its result."""
-    leading = [] if operator is None else [ctypes.c_uint32(operator)]
+def _method(name: str, family: str, operator: Union[int, str, None], operands: Sequence[Operand]) -> Any:
+    """The method of a call: it takes its operands in their order, behind its operator if the caller says it, and gives its result."""
     takes = [operand for operand in operands if operand[1] not in ("room", "single", "told")]
     gives = [operand for operand in operands if operand[1] in ("room", "single", "told")]
+    names = ", ".join([*(["op"] if operator == "op" else []), *(operand[0] for operand in takes)])
 
     def method(self: Ranks, *values: Any, length: Optional[int] = None) -> Any:
-        if len(values) != len(takes):
-            raise TypeError(f"{name} takes {', '.join(operand[0] for operand in takes)}")
+        own = operator == "op"
+        if len(values) != len(takes) + own:
+            raise TypeError(f"{name} takes {names}")
+        leading = [] if operator is None else [ctypes.c_uint32(int(values[0] if own else operator))]
+        values = values[1:] if own else values
         given = {operand[0]: _checked(operand, value) for operand, value in zip(takes, values)}
         written = {
             found: numpy.empty(_length(operands, given, extent, length), KINDS[kind]) if role == "room" else VALUES[kind]()
             for found, role, kind, extent in gives
         }
         _call(f"{family}_mpi", self._at, *leading, *_words(operands, given, written))
+        if not gives:
+            return given[operands[-1][0]]
         result = written[gives[0][0]]
         return result if gives[0][1] == "room" else result.value
 
     method.__name__ = method.__qualname__ = name
-    method.__doc__ = f"cvl.{name} over ranks, of {', '.join(operand[0] for operand in takes)}."
+    method.__doc__ = f"cvl.{name} over ranks, of {names}."
     return method
 
 

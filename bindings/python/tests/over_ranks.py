@@ -5,7 +5,7 @@ import itertools
 import numpy
 from mpi4py import MPI
 
-from cvl import mpi
+from cvl import mpi, operators
 from cvl.fault import Fault
 
 WHOLE = numpy.array([3, 1, -4, 1, 5, 9, -2, 6, 5, 3, 5], dtype=numpy.int32)
@@ -66,6 +66,26 @@ def main():
     same(whole(ranks.spread(own, len(WHOLE) if comm.rank == 0 else 0)), WHOLE)
     senders = ranks.first_senders(numpy.zeros(count, dtype=numpy.int32), length=2 if comm.rank == 0 else 0)
     assert comm.rank or senders.tolist() == [0, -1]
+    order = numpy.argsort(WHOLE, kind="stable")
+    same(whole(ranks.sort(own)), numpy.sort(WHOLE))
+    same(whole(ranks.order(own)), order)
+    same(whole(ranks.rank(own)), numpy.argsort(order))
+    same(whole(ranks.order(own, length=len(WHOLE) if comm.rank == 0 else 0)), order)
+    same(whole(ranks.seg_sort(own, rows)), numpy.concatenate([numpy.sort(WHOLE[a:b]) for a, b in zip(starts, starts[1:])]))
+    keys = (own % 2).astype(numpy.int32)
+    sums = numpy.full(2 if comm.rank == 0 else 0, 100, dtype=numpy.int32)
+    assert ranks.combine_permute_int(operators.ADD, own, keys, sums) is sums
+    assert comm.rank or sums.tolist() == [100 + int(WHOLE[WHOLE % 2 == k].sum()) for k in (0, 1)]
+    assert raised(ranks.combine_permute_int, operators.ADD, own, keys + 1, sums) == (10, 0)
+    assert comm.rank or sums.tolist() == [100 + int(WHOLE[WHOLE % 2 == k].sum()) for k in (0, 1)]
+    counts = ranks.counts(keys, length=2 if comm.rank == 0 else 0)
+    assert comm.rank or counts.tolist() == [int((WHOLE % 2 == k).sum()) for k in (0, 1)]
+    sides = ranks.pck_luz(own, own > 2), ranks.pck_luz(own, own <= 2)
+    same(whole(ranks.merge_by_flags_int(own > 2, *sides)), WHOLE)
+    same(whole(ranks.gather_segments_int(own, numpy.zeros(rows.starts, dtype=numpy.int32), rows)), [3, 1, -4, 3, 1, -4, 1, 5, 3, 1, -4])
+    assert ranks.first_true(own == 9) == 5 and ranks.first_true(own == 7) == -1
+    same(whole(ranks.seg_first_true(own == 5, rows)), [-1, -1, 1, 0])
+    same(whole(ranks.seg_exact_sums(own, rows)), [WHOLE[a:b].sum() for a, b in zip(starts, starts[1:])])
     bad = index.copy()
     if comm.rank == comm.size - 1:
         bad[-1] = len(WHOLE)
