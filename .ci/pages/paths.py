@@ -37,6 +37,8 @@ def check_links():
                     continue
                 if path and not (folder / path).exists():
                     yield f"{page}:{number} {link} is not there"
+                elif page.startswith("docs/user/") and "docs/dev" in str((folder / path).resolve()):
+                    yield f"{page}:{number} leads to {link}, which is not installed"
                 elif heading and f"#{heading}" not in (anchors_of((folder / path).read_text().splitlines()) if path else own):
                     yield f"{page}:{number} no heading {link}"
 
