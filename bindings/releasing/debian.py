@@ -123,8 +123,19 @@ def _control(package, root, depends):
     return {"control": "\n".join(lines) + "\n", "md5sums": sums, **texts.scripts(package.name)}
 
 
+# what lintian finds in the pages in HTML, and why that stays
+SITE = "usr/share/doc/cvl/html/_static"
+OVERRIDDEN = """# the search of these pages is that of the Sphinx that made their index, and they are read from files, without another package
+cvl-doc: embedded-javascript-library please use sphinx [*]
+"""
+
+
 def _described(package, root):
-    """The licence and the changes, which each package has."""
+    """The licence and the changes, which each package has, and what lintian may find."""
+    if (root / SITE).is_dir():
+        overrides = root / "usr/share/lintian/overrides"
+        overrides.mkdir(parents=True)
+        (overrides / package.name).write_text(OVERRIDDEN)
     folder = root / "usr/share/doc" / package.name
     folder.mkdir(parents=True, exist_ok=True)
     (folder / "copyright").write_text(texts.copyright_of())

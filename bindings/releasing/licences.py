@@ -56,4 +56,6 @@ def document(kit, time):
     lines = [*head, *package("cvl", table.VERSION, "MIT"), f"Relationship: SPDXRef-DOCUMENT DESCRIBES {_identity('cvl')}"]
     for part in parts():
         lines += [*package(part.name, kit, part.licence), f"Relationship: {_identity('cvl')} STATIC_LINK {_identity(part.name)}"]
+    # the scripts of the pages in HTML
+    lines += [*package("sphinx", "NOASSERTION", "BSD-2-Clause"), f"Relationship: {_identity('cvl')} CONTAINS {_identity('sphinx')}"]
     return "\n".join([*lines, ""])

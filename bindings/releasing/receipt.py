@@ -6,6 +6,7 @@ import pathlib
 
 import proved
 import table
+from installer import pages
 
 from . import found_right
 
@@ -90,6 +91,7 @@ def text(record, builds, folder, names):
         f"Made of revision `{found_right.revision()}` by the kit `{record.kit}`. `.ci/run` found that revision right; the last line of its proofs was "
         f"`{record.last_line}`" + (f", and it did not try {record.not_tried}." if record.not_tried else ", and everything was tried."), "",
         *_of_objects(builds),
+        f"The pages in HTML were made by {pages.making.maker()[1]}." if pages.making.maker() else "There are no pages in HTML.", "",
         "In a checkout of that revision, with the kit on the path, `./release --check FOLDER` builds this release again and compares each byte.", "",
         "## The theorems", "", _table(("What", "By the contract of", "It says"), THEOREMS), "", "No proof covers:", "",
         *(f"- {said}." for said in UNCOVERED), "",

@@ -22,16 +22,27 @@ def paragraphs(said):
     return found
 
 
+# the licence of what Sphinx puts beside the pages in HTML
+SITE_LICENCE = proved.TOP / "docs/site/theme/cvl/static/LICENSE.sphinx"
+
+
+def _paragraph(text):
+    """Lines as Debian's files of fields have them."""
+    return "\n".join(f" {line}" if line else " ." for line in text.strip().split("\n"))
+
+
 def copyright_of():
     """The licences of all that is inside, as Debian's copyright files have them."""
     whole = (proved.TOP / "LICENSE").read_text()
     holder = re.search(r"Copyright \(c\) (.*)", whole)[1]
-    text = "\n".join(f" {line}" if line else " ." for line in whole.partition("\n\n")[2].strip().split("\n"))
+    text = _paragraph(whole.partition("\n\n")[2])
+    of_site, its_holder, its_text = SITE_LICENCE.read_text().split("\n\n", 2)
     parts = "\n".join(f" {part.name}: {part.licence}" for part in licences.parts())
     return (
         "Format: https://www.debian.org/doc/packaging-manuals/copyright-format/1.0/\nUpstream-Name: Cimorelua\n"
         f"Comment: Compiled into the objects are parts of the Rattle kit:\n{parts}\n\nFiles: *\nCopyright: {holder}\nLicense: MIT\n\n"
-        f"License: MIT\n{text}\n"
+        f"Files: usr/share/doc/cvl/html/_static/*\nComment: {of_site}\nCopyright: {its_holder.removeprefix('Copyright (c) ')}\nLicense: BSD-2-Clause\n\n"
+        f"License: MIT\n{text}\n\nLicense: BSD-2-Clause\n{_paragraph(its_text)}\n"
     )
 
 

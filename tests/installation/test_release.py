@@ -107,7 +107,7 @@ class Parts(unittest.TestCase):
         with mock.patch.object(licences, "parts", lambda: parts):
             text = licences.document("a kit", "2026-01-01T00:00:00Z")
         found = re.findall(r"^SPDXID: (.*)$", text, re.M)
-        self.assertEqual(found, ["SPDXRef-DOCUMENT", "SPDXRef-cvl", "SPDXRef-rattle-atomic-table", "SPDXRef-rattle-std"])
+        self.assertEqual(found, ["SPDXRef-DOCUMENT", "SPDXRef-cvl", "SPDXRef-rattle-atomic-table", "SPDXRef-rattle-std", "SPDXRef-sphinx"])
         related = re.findall(r"^Relationship: (.*)$", text, re.M)
         self.assertEqual(related[:2], ["SPDXRef-DOCUMENT DESCRIBES SPDXRef-cvl", "SPDXRef-cvl STATIC_LINK SPDXRef-rattle-atomic-table"])
 
