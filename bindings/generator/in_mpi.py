@@ -37,6 +37,8 @@ BY_NAME = {
     "gather_segments": ("gather", "each rank asks the owners of the source for the runs of its slices; a start stands where its segment starts"),
     "append_segments": ("append", "pieces go to the ranks of their places; out may be spread in any way"),
     "merge_by_flags": ("merge", "when_true and when_false may be spread otherwise than the flags"),
+    "seg_merge_by_flags": ("seg_merge", "when_true and when_false may be spread otherwise than the flags"),
+    "transpose": ("transpose", "each element moves once; out may be spread otherwise"),
     "first_true": ("first_true", "the first of the ranks' places"),
     "seg_first_true": ("seg_first_true", "the pieces of a segment are joined where it starts"),
     "seg_exact_sums": ("seg_exact_sums", "the pieces of a segment are added where it starts"),
@@ -67,7 +69,7 @@ NAMED_WAYS = {"back", "seg_extract", "seg_replace", "permute", "combine", "count
 NAMED_FAMILIES = {"order", "rank"}
 
 # Families whose result may be spread otherwise than what they read, where it is as long.
-SPREAD_OTHERWISE = {"permute_int", "permute_bool", "seg_permute_int", "seg_permute_bool", "order", "sort"}
+SPREAD_OTHERWISE = {"permute_int", "permute_bool", "seg_permute_int", "seg_permute_bool", "order", "sort", "transpose_int", "transpose_bool"}
 
 RANKS = kept("CvlRanks *ranks")
 

@@ -11,6 +11,15 @@ bool cvl_are_ranks(const CvlRanks *ranks) {
 
 /* ---- what a rank sees by itself, in the order in which a plain call looks ---- */
 
+/* Where a call keeps the descriptor of an operand. */
+static const CvlRankSegments **held_as(CvlCall *c, unsigned char as) {
+    return as == CVL_AS_LENGTHS ? &c->segments : as == CVL_AS_THIRD_LENGTHS ? &c->third : &c->other;
+}
+
+static const CvlRankSegments *held(const CvlCall *c, unsigned char as) {
+    return as == CVL_AS_LENGTHS ? c->segments : as == CVL_AS_THIRD_LENGTHS ? c->third : c->other;
+}
+
 /* Puts the lengths of descriptors into their slots. */
 static void hold(CvlCall *c) {
     const CvlRow *const row = &c->family->row;
@@ -20,8 +29,7 @@ static void hold(CvlCall *c) {
         const bool made = segments != NULL && segments->ranks == c->ranks;
         const CvlSlot lengths = {made ? segments->lengths : NULL, made ? segments->pieces : 0};
         if (!made) cvl_say(c, cvl_status(CVL_NO_DESCRIPTOR, -1));
-        if (row->operand[k].as == CVL_AS_LENGTHS) c->segments = segments;
-        else c->other = segments;
+        *held_as(c, row->operand[k].as) = segments;
         c->s[k] = lengths;
     }
 }
@@ -30,7 +38,7 @@ static void hold(CvlCall *c) {
 static size_t number_of(const CvlCall *c, size_t k) {
     const CvlRow *const row = &c->family->row;
     if (!c->family->held || !cvl_is_cut_by(row, k)) return c->s[k].number;
-    return (row->operand[k].as == CVL_AS_LENGTHS ? c->segments : c->other)->starts;
+    return held(c, row->operand[k].as)->starts;
 }
 
 static bool is_too_long(const CvlCall *c) {
@@ -48,7 +56,7 @@ static bool do_agree(const CvlCall *c) {
         const CvlOperand *const o = &row->operand[k];
         const bool lengths = c->family->held && cvl_is_cut_by(row, k);
         if (!lengths && o->relation == CVL_SAME && c->s[k].number != number_of(c, o->like)) return 0;
-        if (lengths && o->total != k && c->s[o->total].number != (o->as == CVL_AS_LENGTHS ? c->segments : c->other)->total) return 0;
+        if (lengths && o->total != k && c->s[o->total].number != held(c, o->as)->total) return 0;
     }
     return 1;
 }

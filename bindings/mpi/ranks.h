@@ -88,7 +88,7 @@ struct CvlCall {
     uint32_t op;
     CvlSlot s[CVL_MOST_OPERANDS];
     CvlSlot in[CVL_ROLES]; /* the same by what they are to the call */
-    const CvlRankSegments *segments, *other;
+    const CvlRankSegments *segments, *other, *third;
     bool *copies[CVL_MOST_OPERANDS]; /* of flags that are neither 0 nor 1 */
     void *aside;                     /* the room where it may be refused, or nothing */
     CvlStatus status;                /* what this rank has to say */
@@ -224,6 +224,8 @@ CVL_HIDDEN CvlStatus cvl_rank_over_ranks(CvlCall *c);
 CVL_HIDDEN CvlStatus cvl_gather_over_ranks(CvlCall *c);
 CVL_HIDDEN CvlStatus cvl_append_over_ranks(CvlCall *c);
 CVL_HIDDEN CvlStatus cvl_merge_over_ranks(CvlCall *c);
+CVL_HIDDEN CvlStatus cvl_seg_merge_over_ranks(CvlCall *c);
+CVL_HIDDEN CvlStatus cvl_transpose_over_ranks(CvlCall *c);
 CVL_HIDDEN CvlStatus cvl_first_true_over_ranks(CvlCall *c);
 CVL_HIDDEN CvlStatus cvl_seg_first_true_over_ranks(CvlCall *c);
 CVL_HIDDEN CvlStatus cvl_seg_exact_sums_over_ranks(CvlCall *c);

@@ -1,7 +1,4 @@
-/*
- * Slices and merges over ranks: each rank asks the owners of the source for the runs that its slices have there, and gets their elements; the
- * two vectors of a merge are spread as the flags take them.
- */
+/* Slices over ranks: each rank asks the owners of the source for the runs that its slices have there, and gets their elements. */
 #include "runs.h"
 #include "shares.h"
 
@@ -142,34 +139,5 @@ CvlStatus cvl_gather_over_ranks(CvlCall *c) {
         }
     }
     free(s.places), free(s.asked), free(s.from), free(s.got_from), free(s.sent), free(s.got);
-    return c->status;
-}
-
-/* ---- merges ---- */
-
-/* Where flags take from two vectors, these have as many elements as there are true and false flags. */
-static void look_at_sides(CvlCall *c, size_t trues, size_t falses) {
-    const int64_t more = (int64_t)c->in[CVL_AS_A].number - (int64_t)trues, fewer = (int64_t)c->in[CVL_AS_B].number - (int64_t)falses;
-    const CvlFold all = cvl_all(c->ranks, cvl_fold(CVL_JOIN_COUNTS, 0, more, fewer, 0));
-    if (all.high != 0 || all.low != 0) cvl_say(c, cvl_status(CVL_LENGTH_MISMATCH, -1));
-}
-
-/* What the rank's flags take of the two vectors is sent there, and merged by the plain family. */
-CvlStatus cvl_merge_over_ranks(CvlCall *c) {
-    const size_t size = cvl_room_size(c), n = c->in[CVL_AS_FLAGS].number;
-    int32_t count = 0;
-    if (c->status.number == CVL_DONE) cvl_say(c, cvl_count(c->in[CVL_AS_FLAGS].at, n, &count));
-    const size_t trues = (size_t)count, falses = c->status.number == CVL_DONE ? n - trues : 0;
-    look_at_sides(c, trues, falses);
-    cvl_clean(c);
-    void *const when_true = c->status.number == CVL_DONE ? cvl_take(c, trues, size) : NULL;
-    void *const when_false = c->status.number == CVL_DONE ? cvl_take(c, falses, size) : NULL;
-    if (cvl_agree(c, n)) {
-        cvl_send_spread(c->ranks, c->in[CVL_AS_A].at, c->in[CVL_AS_A].number, when_true, trues, size);
-        cvl_send_spread(c->ranks, c->in[CVL_AS_B].at, c->in[CVL_AS_B].number, when_false, falses, size);
-        const CvlSlot slots[] = {c->in[CVL_AS_FLAGS], {when_true, trues}, {when_false, falses}, c->in[CVL_AS_OUT]};
-        cvl_say(c, c->family->row.make(c->op, slots));
-    }
-    free(when_true), free(when_false);
     return c->status;
 }

@@ -6,7 +6,8 @@ void cvl_look_at_targets(CvlCall *c) {
     const CvlRankSegments *const s = c->segments, *const other = c->other == NULL ? s : c->other;
     const bool longer = s->all > CVL_MOST_ELEMENTS || s->segments > CVL_MOST_ELEMENTS || other->all > CVL_MOST_ELEMENTS;
     if (longer) cvl_say(c, cvl_status(CVL_TOO_LONG, -1));
-    if (c->other != NULL && c->other->segments != c->segments->segments) cvl_say(c, cvl_status(CVL_LENGTH_MISMATCH, -1));
+    const bool fewer = c->third != NULL && c->third->segments != c->segments->segments;
+    if (fewer || (c->other != NULL && c->other->segments != c->segments->segments)) cvl_say(c, cvl_status(CVL_LENGTH_MISMATCH, -1));
 }
 
 /* How many pieces of indices the rank has. */

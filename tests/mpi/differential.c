@@ -129,6 +129,12 @@ static void cut_anywhere(Case *c, int extent) {
 
 /* ---- lengths, and the pieces that ranks have of them ---- */
 
+static size_t trues_of(const uint8_t *flags, size_t from, size_t to) {
+    size_t count = 0;
+    for (size_t k = from; k < to; k++) count += flags[k] != 0;
+    return count;
+}
+
 static void make_lengths(Case *c, int k, size_t segments) {
     int32_t *lengths = malloc((segments + 1) * sizeof *lengths);
     size_t total = 0;
@@ -208,12 +214,6 @@ static void plant_faults(int32_t *index, size_t count, size_t places) {
     }
 }
 
-static size_t trues_of(const uint8_t *flags, size_t from, size_t to) {
-    size_t count = 0;
-    for (size_t k = from; k < to; k++) count += flags[k] != 0;
-    return count;
-}
-
 /* Spreads the indices of those places whose flags are true. */
 static void only_true(int32_t *index, const uint8_t *flags, size_t from, size_t to, int once) {
     const size_t trues = trues_of(flags, from, to);
@@ -256,6 +256,27 @@ static void fill_index(Case *c, int k) {
     }
 }
 
+/* The lengths of the two sides of a merge by segments: as many as its flags, or now and then one more in a segment and one less in another. */
+static void count_sides(Case *c) {
+    const Tried *t = c->tried;
+    const int own = lengths_of(t, N), f = operand_named(t, "flags"), sides[] = {lengths_of(t, TRUES), lengths_of(t, FALSES)};
+    for (int side = 0; side < 2 && own >= 0; side++) {
+        const int k = sides[side];
+        if (k < 0) continue;
+        int32_t *lengths = c->whole[k].at;
+        size_t at = 0;
+        for (size_t s = 0; s < c->whole[own].number; s++) {
+            const size_t to = at + (size_t)((int32_t *)c->whole[own].at)[s], trues = trues_of(c->whole[f].at, at, to);
+            lengths[s] = (int32_t)(side == 0 ? trues : to - at - trues);
+            at = to;
+        }
+        const size_t more = below(c->whole[k].number), less = below(c->whole[k].number);
+        if (one_in(5) && c->whole[k].number > 0 && lengths[less] > 0) lengths[less]--, lengths[more]++;
+        for (int r = 0; r < c->ranks; r++) free(c->pieces[k][r].lengths);
+        make_pieces(c, k);
+    }
+}
+
 /* Where slices begin: each within the source, or now and then not, or where it ends. */
 static void fill_starts(Case *c, int k) {
     const int32_t *lengths = c->whole[lengths_of(c->tried, TOTAL)].at;
@@ -290,6 +311,15 @@ static void make_offsets(Case *c, int k) {
     for (int r = 0; r <= c->ranks; r++) c->cut[N][r] = (size_t)offsets[c->cut[SEGMENTS][r]];
 }
 
+/* The rows and columns of a matrix, which now and then are none of it. */
+static void make_matrix(Case *c) {
+    const int rows = operand_named(c->tried, "rows"), columns = operand_named(c->tried, "columns");
+    if (rows < 0 || c->tried->operand[rows].role != VALUE) return;
+    c->whole[rows].value = (int64_t)below(8), c->whole[columns].value = (int64_t)below(8);
+    c->counts[N] = (size_t)(c->whole[rows].value * c->whole[columns].value);
+    if (one_in(8)) c->whole[rows].value++;
+}
+
 static void make_counts(Case *c) {
     const Tried *t = c->tried;
     const size_t most = one_in(6) ? 40 : 9;
@@ -299,6 +329,7 @@ static void make_counts(Case *c) {
         if (t->operand[k].role == LENGTHS) make_lengths(c, k, c->counts[SEGMENTS]);
     }
     if (operand_named(t, "starts") >= 0) c->counts[N] += 10;
+    make_matrix(c);
     c->counts[SPREAD] = c->counts[N], c->counts[BOTH] = c->counts[N] + c->counts[M];
     for (int e = 1; e < EXTENTS; e++) cut_anywhere(c, e);
     for (int k = 0; k < t->operands; k++) {
@@ -314,6 +345,7 @@ static void cut_trues(Case *c) {
     c->counts[TRUES] = c->counts[ROOM] = trues_of(c->whole[f].at, 0, c->whole[f].number);
     c->counts[FALSES] = c->whole[f].number - c->counts[TRUES];
     cut_anywhere(c, TRUES), cut_anywhere(c, FALSES);
+    count_sides(c);
     for (int r = 0; r <= c->ranks; r++) c->cut[ROOM][r] = trues_of(c->whole[f].at, 0, c->cut[N][r]);
 }
 
@@ -321,7 +353,7 @@ static void make_arrays(Case *c) {
     const Tried *t = c->tried;
     for (int k = 0; k < t->operands; k++) {
         const TriedOperand *o = &t->operand[k];
-        if (o->role == VALUE || o->role == PLACE) c->whole[k].value = o->role == PLACE ? (int64_t)below(c->counts[N] + 1) - one_in(9) : o->kind == INTS ? number(0) : one_in(2);
+        if ((o->role == VALUE && o->kind != SIZES) || o->role == PLACE) c->whole[k].value = o->role == PLACE ? (int64_t)below(c->counts[N] + 1) - one_in(9) : o->kind == INTS ? number(0) : one_in(2);
         if (o->role == COUNT_OF) c->whole[k].value = (int64_t)c->counts[COUNT];
         if ((o->role != READS && o->role != OVER_ROOM) || o->extent == OFFSETS) continue;
         c->whole[k].number = c->counts[o->extent];

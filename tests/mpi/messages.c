@@ -134,6 +134,7 @@ int main(int words, char **word) {
     const size_t trues = (N + 2) / 3;
     tell("merge_by_flags_int", cvl_merge_by_flags_int_mpi(ranks, flags, N, a, trues, b, N - trues, out, N));
     tell("append_segments_int", cvl_append_segments_int_mpi(ranks, a, N, b, N, segments, segments, twice, 2 * N));
+    tell("transpose_int", cvl_transpose_int_mpi(ranks, a, N, (size_t)size * 10, N / 10, out, N));
     tell("first_true", cvl_first_true_mpi(ranks, flags, N, &one));
     tell("seg_first_true", cvl_seg_first_true_mpi(ranks, flags, N, segments, out, cvl_rank_segments_starts(segments)));
     tell("seg_exact_sums", cvl_seg_exact_sums_mpi(ranks, b, N, segments, sums, cvl_rank_segments_starts(segments)));
