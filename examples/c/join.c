@@ -1,7 +1,7 @@
 /*
- * A join of two tables by a key: each two rows, one of either table, whose keys are equal. A dictionary gives each key a number, by
- * one order of all keys. In the order of their numbers the right rows are one run for each number, and each left row takes the run
- * of its own.
+ * A join of two tables by a key: each two rows, one of either table, whose keys are equal. Keys that lie close together are numbers of
+ * places already; to others one order of all keys gives numbers. In the order of their numbers the right rows are one run for each
+ * number, and each left row takes the run of its own.
  * `examples/c/run join` builds it over the library and runs it.
  */
 #define CVL_SHORT_NAMES
@@ -30,9 +30,9 @@ static void *room(size_t n, size_t size) {
     return found;
 }
 
-/* Gives each key a number, from 0 on in ascending order, and says how many numbers there are. */
-size_t number_keys(const int32_t *keys, size_t n, int32_t *numbers) {
-    int32_t *order = room(3 * n, sizeof *order), *sorted = order + n, *steps = sorted + n;
+/* The order of the keys, and by it a number for each key, from 0 on in ascending order, and how many numbers there are. */
+size_t number_keys(const int32_t *keys, size_t n, int32_t *order, int32_t *numbers) {
+    int32_t *sorted = room(2 * n, sizeof *sorted), *steps = sorted + n;
     bool *differs = room(n, sizeof *differs);
     must(cvl_order(keys, n, order, n));
     must(bck_puz(keys, n, order, sorted, n));
@@ -42,19 +42,30 @@ size_t number_keys(const int32_t *keys, size_t n, int32_t *numbers) {
     must(add_wuz(sorted, steps, sorted, n));
     must(smp_puz(sorted, order, numbers, n));
     const size_t many = n == 0 ? 0 : (size_t)sorted[n - 1] + 1;
-    free(order), free(differs);
+    free(sorted), free(differs);
     return many;
 }
 
-/* The same of rows whose keys are numbers below `many`, of which each left row takes its pairs in the order of the right ones. */
-Pairs join_numbers(const int32_t *left, size_t n, const int32_t *right, size_t m, size_t many) {
-    int32_t *counts = room(2 * many + m + 3 * n, sizeof *counts), *starts = counts + many, *order = starts + many;
-    int32_t *lengths = order + m, *from = lengths + n, *rows = from + n;
+/* Those of an order that are n or more, less n: the order of what stands behind the first n. */
+static void keep_behind(int32_t *order, size_t all, size_t n) {
+    int32_t *limits = room(2 * all, sizeof *limits), *behind = limits + all;
+    bool *flags = room(all, sizeof *flags);
+    size_t some;
+    must(dis_vuz((int32_t)n, (int64_t)all, limits));
+    must(geq_wuz(order, limits, flags, all));
+    must(pck_luz(order, flags, all, behind, all, &some));
+    must(sub_wuz(behind, limits, order, some));
+    free(limits), free(flags);
+}
+
+/* The pairs of rows whose keys are equal numbers below `many`, in the order of the left rows; `order` is that of the right ones. */
+static Pairs join_numbers(const int32_t *left, size_t n, const int32_t *right, size_t m, size_t many, const int32_t *order) {
+    int32_t *counts = room(2 * many + 3 * n, sizeof *counts), *starts = counts + many;
+    int32_t *lengths = starts + many, *from = lengths + n, *rows = from + n;
     const CvlLengths runs = {lengths, n};
     int64_t total;
     must(cvl_counts(right, m, counts, many));
     must(add_suz(counts, starts, many));
-    must(cvl_order(right, m, order, m));
     must(bck_puz(counts, many, left, lengths, n));
     must(bck_puz(starts, many, left, from, n));
     must(cvl_exact_sum(lengths, n, &total));
@@ -69,11 +80,24 @@ Pairs join_numbers(const int32_t *left, size_t n, const int32_t *right, size_t m
 
 /* All pairs of rows whose keys are equal, in the order of the left rows. */
 Pairs join(const int32_t *left, size_t n, const int32_t *right, size_t m) {
-    int32_t *keys = room(2 * (n + m), sizeof *keys), *numbers = keys + n + m;
+    const size_t all = n + m;
+    int32_t *keys = room(3 * all, sizeof *keys), *numbers = keys + all, *order = numbers + all, least, greatest;
     must(cpy_wuz(left, keys, n));
     must(cpy_wuz(right, keys + n, m));
-    const size_t many = number_keys(keys, n + m, numbers);
-    const Pairs pairs = join_numbers(numbers, n, numbers + n, m, many);
+    must(min_ruz(keys, all, &least));
+    must(max_ruz(keys, all, &greatest));
+    const int64_t span = (int64_t)greatest - least + 1;
+    size_t many;
+    if (all > 0 && span <= 4 * (int64_t)all) {
+        many = (size_t)span;
+        must(dis_vuz(least, (int64_t)all, order));
+        must(sub_wuz(keys, order, numbers, all));
+        must(cvl_order(numbers + n, m, order, m));
+    } else {
+        many = number_keys(keys, all, order, numbers);
+        keep_behind(order, all, n);
+    }
+    const Pairs pairs = join_numbers(numbers, n, numbers + n, m, many, order);
     free(keys);
     return pairs;
 }

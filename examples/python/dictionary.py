@@ -8,10 +8,6 @@ import numpy
 
 import cvl
 
-# which bytes of four stand in a word that has so many of them
-MASKS = cvl.as_ints([0, -(1 << 24), -(1 << 16), -(1 << 8), -1])
-
-
 def in_order(columns):
     """The numbers of the rows in ascending order: by the first column, where it ties by the second, and so on."""
     rows = cvl.order(columns[-1])
@@ -20,9 +16,8 @@ def in_order(columns):
     return rows
 
 
-def encode(*columns):
-    """The number of each row, where equal rows have equal numbers that ascend with them, and the first row of each number."""
-    rows = in_order(columns)
+def number_rows(rows, columns):
+    """The number of each row, by the order of all rows: equal rows have equal numbers, which ascend; and the first row of each."""
     first = numpy.zeros(len(rows), bool)
     for column in columns:
         ascending = cvl.bck_puz(column, rows)
@@ -32,18 +27,23 @@ def encode(*columns):
     return cvl.smp_puz(cvl.add_wuz(cvl.add_suz(steps), steps), rows), cvl.pck_luz(rows, first)
 
 
+def encode(*columns):
+    """The number of each row, and the first row of each number."""
+    return number_rows(in_order(columns), columns)
+
+
 def columns_of(text, starts, lengths):
     """The columns of words of a text: their bytes by fours, with zeros behind the end of a word, and last how many each has."""
     longest = int(cvl.max_ruz(lengths)) if len(lengths) else 0
     padded = numpy.zeros(len(text) + longest + 3, numpy.int32)
     padded[: len(text)] = numpy.frombuffer(text, numpy.uint8)
-    fours = padded[3:].copy()
-    for k in range(3):
-        cvl.ior_wuz(fours, cvl.lsh_wuz(padded[k : len(fours) + k], 24 - 8 * k), out=fours)
     columns = []
     for k in range(0, longest, 4):
-        left = cvl.min_wuz(cvl.max_wuz(cvl.sub_wuz(lengths, k), 0), 4)
-        columns.append(cvl.and_wuz(cvl.bck_puz(fours, cvl.add_wuz(starts, k)), cvl.bck_puz(MASKS, left)))
+        column = numpy.zeros(len(lengths), numpy.int32)
+        for place in range(k, k + 4):
+            bytes_there = cvl.bck_puz(padded, cvl.add_wuz(starts, place))
+            column = cvl.ior_wuz(cvl.lsh_wuz(column, 8), cvl.sel_wuz(cvl.grt_wuz(lengths, place), bytes_there, 0))
+        columns.append(column)
     return [*columns, lengths]
 
 

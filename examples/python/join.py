@@ -3,24 +3,31 @@
 import numpy
 
 import cvl
-from dictionary import encode
+from dictionary import number_rows
 
 
-def join_numbers(left, right, many):
+def join_numbers(left, right, many, right_rows):
     """The left and the right row of each pair, where keys are numbers from 0 to `many`, in the order of the left rows.
 
-    In the order of their keys the right rows are one run for each key, and each left row takes the run of its own.
+    The right rows in the order of their numbers are one run for each number, and each left row takes the run of its own.
     """
     counts = cvl.counts(right, many)
     runs = cvl.Segments(cvl.bck_puz(counts, left))
-    rows = cvl.gather_segments_int(cvl.order(right), cvl.bck_puz(cvl.add_suz(counts), left), runs)
-    return runs.numbers, rows
+    return runs.numbers, cvl.gather_segments_int(right_rows, cvl.bck_puz(cvl.add_suz(counts), left), runs)
 
 
 def join(left, right):
-    """The same by any keys, which a dictionary gives numbers."""
-    numbers, first = encode(numpy.concatenate([left, right]))
-    return join_numbers(numbers[: len(left)], numbers[len(left) :], len(first))
+    """The same by any keys. Those that lie close together are such numbers, but for the least; to others an order of all gives them."""
+    n, keys = len(left), numpy.concatenate([left, right])
+    least, greatest = int(cvl.min_ruz(keys)), int(cvl.max_ruz(keys))
+    if len(keys) and greatest - least < 4 * len(keys):
+        numbers, many = cvl.sub_wuz(keys, least), greatest - least + 1
+        right_rows = cvl.order(numbers[n:])
+    else:
+        rows = cvl.order(keys)
+        numbers, first = number_rows(rows, [keys])
+        many, right_rows = len(first), cvl.sub_wuz(cvl.pck_luz(rows, cvl.geq_wuz(rows, n)), n)
+    return join_numbers(numbers[:n], numbers[n:], many, right_rows)
 
 
 def main():

@@ -5,22 +5,34 @@ use cvl::{Fault, Segments};
 /// The places of each two rows of the left and of the right table whose keys are equal, in the order of the left rows, and for
 /// each of these of the right ones.
 ///
-/// Each key gets a number. In the order of their numbers the right rows are one run for each number, and each left row takes the
-/// run of its own: it becomes a segment with as many pairs.
+/// By one order of all keys each key gets a number. In the order of their numbers the right rows are one run for each number, and
+/// each left row takes the run of its own: it becomes a segment with as many pairs.
 pub fn join(left: &[i32], right: &[i32]) -> Result<(Vec<i32>, Vec<i32>), Fault> {
-    let (numbers, many) = numbered(&[left, right].concat())?;
+    let keys = [left, right].concat();
+    let order = cvl::order(&keys)?;
+    let numbers = numbered(&keys, &order)?;
+    let many = order
+        .last()
+        .map_or(0, |&row| i64::from(numbers[row as usize]) + 1);
+    let n = left.len() as i32;
+    let right_rows: Vec<i32> = order
+        .iter()
+        .filter(|&&row| row >= n)
+        .map(|row| row - n)
+        .collect();
     let (left, right) = numbers.split_at(left.len());
     let counts = cvl::counts(right, many)?;
     let pairs = Segments::new(&cvl::bck_puz(&counts, left)?)?;
     let starts = cvl::bck_puz(&cvl::add_suz(&counts)?, left)?;
-    let rows = cvl::gather_segments_int(&cvl::order(right)?, &starts, &pairs)?;
-    Ok((pairs.numbers()?, rows))
+    Ok((
+        pairs.numbers()?,
+        cvl::gather_segments_int(&right_rows, &starts, &pairs)?,
+    ))
 }
 
-/// A number for each key, from 0 on in ascending order, and how many numbers there are.
-fn numbered(keys: &[i32]) -> Result<(Vec<i32>, i64), Fault> {
-    let order = cvl::order(keys)?;
-    let ascending = cvl::bck_puz(keys, &order)?;
+/// A number for each key, from 0 on in ascending order, by the order of the keys.
+fn numbered(keys: &[i32], order: &[i32]) -> Result<Vec<i32>, Fault> {
+    let ascending = cvl::bck_puz(keys, order)?;
     let mut differs = vec![false; keys.len()];
     if keys.len() > 1 {
         cvl::neq_wuz_into(
@@ -30,9 +42,7 @@ fn numbered(keys: &[i32]) -> Result<(Vec<i32>, i64), Fault> {
         )?;
     }
     let steps = cvl::int_wub(&differs)?;
-    let numbers = cvl::add_wuz(&cvl::add_suz(&steps)?, &steps)?;
-    let many = numbers.last().map_or(0, |&last| i64::from(last) + 1);
-    Ok((cvl::smp_puz(&numbers, &order)?, many))
+    cvl::smp_puz(&cvl::add_wuz(&cvl::add_suz(&steps)?, &steps)?, order)
 }
 
 #[allow(dead_code)]

@@ -18,7 +18,7 @@ void quicksort(int32_t *keys, size_t n, size_t shortest, void (*show)(const stru
 size_t distinct(const int32_t *keys, size_t n, int32_t *out);
 CvlStatus add_up(const int32_t *keys, const int32_t *values, size_t n, Groups *g);
 void sort_groups(const int32_t *keys, const int32_t *values, size_t n, SortedGroups *g);
-size_t number_keys(const int32_t *keys, size_t n, int32_t *numbers);
+size_t number_keys(const int32_t *keys, size_t n, int32_t *order, int32_t *numbers);
 Pairs join(const int32_t *left, size_t n, const int32_t *right, size_t m);
 CvlStatus transpose(CvlLengths rows, const int32_t *columns, const int32_t *values, size_t n, size_t width, int32_t *lengths,
                     int32_t *row_of_each, int32_t *transposed);
@@ -74,7 +74,7 @@ static void keys_at_random(size_t n) {
     check("quicksort", n, same(found, sorted, n));
     const size_t some = distinct(keys, n, found), all = distinct_plainly(keys, n, wanted);
     check("distinct", n, some == all && same(found, wanted, some));
-    check("how many numbers keys have", n, number_keys(keys, n, found) == all);
+    check("how many numbers keys have", n, number_keys(keys, n, sorted, found) == all);
     for (size_t k = 0; k < n; k++) check("a key's number", n, n < 2 || (keys[k] < keys[n / 2]) == (found[k] < found[n / 2]));
 }
 
@@ -121,7 +121,7 @@ static void join_at_random(size_t n, size_t m) {
 
 static void text_at_random(size_t n) {
     static const char bytes[] = "ab_Z09 \t\n\n#.(\x01\x7f\xc3\xa9";
-    char text[LONGEST];
+    char *const text = plain_room(n, 1);
     int32_t wrong[2];
     const size_t kinds = below(2) == 0 ? 13 : sizeof bytes;
     for (size_t k = 0; k < n; k++) text[k] = bytes[below(kinds)];
@@ -129,7 +129,7 @@ static void text_at_random(size_t n) {
     check("a wrong byte", n, wrong[0] == wrong[1]);
     check("tokens", n, found.n == wanted.n && same(found.starts, wanted.starts, found.n) && same(found.lengths, wanted.lengths, found.n));
     check("their classes", n, found.n == wanted.n && same(found.classes, wanted.classes, found.n));
-    free(found.starts), free(wanted.starts), free(wanted.lengths), free(wanted.classes);
+    free(found.starts), free(wanted.starts), free(wanted.lengths), free(wanted.classes), free(text);
 }
 
 /* The entries of a matrix with so many rows and columns, in rooms for rows of up to so many. */
@@ -177,7 +177,7 @@ static void matrix_at_random(size_t rows, size_t width) {
 
 enum { KEYS = 1 << 20, ENTRIES = 1 << 22, LINES = 1 << 18, GROUPS = 1 << 16, FACTORS = 1 << 19, TEXT = 1 << 24 };
 
-static int32_t *keys, *values, *numbers, *room[3], *row_lengths, *columns, *few;
+static int32_t *keys, *values, *numbers, *room[3], *row_lengths, *columns, *few, *spread;
 static int64_t *sums;
 static char *text;
 static Groups groups;
@@ -202,11 +202,15 @@ static void by_loop_over_groups(void) { add_up_plainly(numbers, values, ENTRIES,
 static void by_sorted_groups(void) { sort_groups(keys, values, KEYS, &sorted_groups); }
 static void by_qsort_of_groups(void) { sort_groups_plainly(keys, values, KEYS, &sorted_groups); }
 static void by_join(void) { free(join(keys, KEYS, values, KEYS).left); }
+static void by_join_of_any(void) { free(join(spread, KEYS, spread + KEYS, KEYS).left); }
 
-static void by_hash_join(void) {
-    const Pairs pairs = join_plainly(keys, KEYS, values, KEYS);
+static void join_by_hash(const int32_t *left, const int32_t *right) {
+    const Pairs pairs = join_plainly(left, KEYS, right, KEYS);
     free(pairs.left), free(pairs.right);
 }
+
+static void by_hash_join(void) { join_by_hash(keys, values); }
+static void by_hash_join_of_any(void) { join_by_hash(spread, spread + KEYS); }
 
 static void by_transpose(void) {
     const CvlLengths rows = {row_lengths, LINES};
@@ -273,6 +277,8 @@ static void make_text(void) {
 
 static void make_all(void) {
     keys = numbers_below(KEYS, KEYS), values = numbers_below(ENTRIES, KEYS), few = numbers_below(KEYS, 1000);
+    spread = numbers_below(2 * KEYS, KEYS);
+    for (size_t k = 0; k < 2 * KEYS; k++) spread[k] = (int32_t)((uint32_t)spread[k] * 2654435761u);
     numbers = numbers_below(ENTRIES, GROUPS), columns = numbers_below(ENTRIES, LINES), row_lengths = plain_room(LINES, sizeof *row_lengths);
     for (size_t k = 0; k < 3; k++) room[k] = plain_room(ENTRIES, sizeof *room[k]);
     for (size_t k = 0; k < LINES; k++) row_lengths[k] = ENTRIES / LINES;
@@ -293,7 +299,8 @@ static void measure_all(void) {
     measure("distinct.c", by_distinct, "a hash table", by_table);
     measure("groups.c, add_up", by_groups, "one loop", by_loop_over_groups);
     measure("groups.c, sort_groups", by_sorted_groups, "qsort", by_qsort_of_groups);
-    measure("join.c", by_join, "a hash table", by_hash_join);
+    measure("join.c, keys that lie close together", by_join, "a hash table", by_hash_join);
+    measure("join.c, keys of any size", by_join_of_any, "a hash table", by_hash_join_of_any);
     measure("sparse_transpose.c", by_transpose, "a count of each column", by_loops);
     measure("matrix_product.c", by_product, "a loop over a row of all columns", by_rows);
     measure("tokens.c", by_tokens, "a loop over the bytes", by_loop_over_text);
@@ -316,6 +323,8 @@ int main(int words, char **word) {
         matrix_at_random(rows, width);
         product_at_random(rows, width, below(WIDTH));
     }
-    if (!failed) printf("the programs of the examples on %d inputs as plain loops\n", 6 * ROUNDS);
+    // several pieces
+    for (size_t k = 0; k < 4; k++) text_at_random(1000000 - k);
+    if (!failed) printf("the programs of the examples on %d inputs as plain loops\n", 6 * ROUNDS + 4);
     return failed;
 }

@@ -7,6 +7,7 @@ far as these are there, in milliseconds.
 """
 
 import collections
+import itertools
 import pathlib
 import random
 import re
@@ -156,8 +157,8 @@ class Programs(Limited):
 
     def test_joins(self):
         drawn = random.Random(4)
-        for n, m in ((0, 0), (0, 3), (3, 0), (1, 1), (40, 60), (100, 7)):
-            left, right = ([drawn.randrange(-9, 9) for _ in range(count)] for count in (n, m))
+        for n, m, apart in itertools.product((0, 1, 3, 40), (0, 3, 60), (1, 1 << 27)):
+            left, right = ([drawn.randrange(-9, 9) * apart for _ in range(count)] for count in (n, m))
             found = join(cvl.as_ints(left), cvl.as_ints(right))
             wanted = [(j, k) for j in range(n) for k in range(m) if left[j] == right[k]]
             self.assertEqual([*zip(*(rows.tolist() for rows in found))], wanted)
@@ -269,9 +270,11 @@ def tables_times(rng, n=1 << 22, many=1 << 16):
     measured(f"dictionary.py, numbers for {said}", lambda: encode(any_keys), ("pandas", lambda: pandas.factorize(any_keys, sort=True)),
              ("numpy", lambda: numpy.unique(any_keys, return_inverse=True)))
     half = n // 4
-    left, right = any_keys[:half] // 4, any_keys[half : 2 * half] // 4
-    tables = [pandas.DataFrame({"key": keys, name: numpy.arange(half, dtype=numpy.int32)}) for keys, name in ((left, "left"), (right, "right"))]
-    measured("join.py, 1,048,576 rows on either side", lambda: join(left, right), ("pandas", lambda: tables[0].merge(tables[1], on="key")))
+    for said, factor in (("that lie close together", 1), ("of any size", 2654435761)):
+        keys = ((any_keys[: 2 * half] // 4).astype(numpy.int64) * factor).astype(numpy.uint32).view(numpy.int32)
+        left, right = keys[:half], keys[half:]
+        tables = [pandas.DataFrame({"key": side, name: numpy.arange(half, dtype=numpy.int32)}) for side, name in ((left, "left"), (right, "right"))]
+        measured(f"join.py, 1,048,576 rows on either side, keys {said}", lambda: join(left, right), ("pandas", lambda: tables[0].merge(tables[1], on="key")))
 
 
 def matrices_times(rng, many=1 << 16, degree=8):
@@ -299,9 +302,13 @@ def texts_times(rng, n=1 << 18):
     starts, lengths, classes, _ = tokens_of(text)
     names = classes == 3
     starts, lengths = cvl.pck_luz(starts, names), cvl.pck_luz(lengths, names)
-    listed = [text[start : start + length] for start, length in zip(starts.tolist(), lengths.tolist())]
-    measured(f"dictionary.py, numbers for {len(listed):,} words", lambda: encode(*columns_of(text, starts, lengths)),
-             ("a dict", lambda: {word: k for k, word in enumerate(dict.fromkeys(listed))}))
+
+    def by_dict():
+        numbers = {}
+        slices = (text[start : start + length] for start, length in zip(starts.tolist(), lengths.tolist()))
+        return [numbers.setdefault(word, len(numbers)) for word in slices]
+
+    measured(f"dictionary.py, numbers for {len(starts):,} words", lambda: encode(*columns_of(text, starts, lengths)), ("a dict", by_dict))
 
 
 def times():
