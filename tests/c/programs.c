@@ -267,7 +267,7 @@ static int32_t *numbers_below(size_t n, size_t limit) {
 
 /* Lines of words, numbers, signs and comments. */
 static void make_text(void) {
-    static const char *const words[] = {"add", "x", "y1", "sum_of", " = ", "(", ", ", ")\n", " 40", "  # a comment\n", "write ", "\n"};
+    static const char *const words[] = {"add ", "x ", "y1 ", "sum_of ", "= ", "(", ", ", ")\n", " 40 ", "# a comment\n", "write ", "\n"};
     text = plain_room(TEXT, 1);
     for (size_t k = 0; k < TEXT; k++) {
         for (const char *word = words[below(12)]; *word != 0 && k < TEXT; word++) text[k++] = *word;

@@ -296,7 +296,7 @@ def matrices_times(rng, many=1 << 16, degree=8):
 
 
 def texts_times(rng, n=1 << 18):
-    words = [b"add", b"x", b"y1", b"sum_of", b" = ", b"(", b", ", b")\n", b" 40", b"  # a comment\n", b"write ", b"\n"]
+    words = [b"add ", b"x ", b"y1 ", b"sum_of ", b"= ", b"(", b", ", b")\n", b" 40 ", b"# a comment\n", b"write ", b"\n"]
     text = b"".join(words[k] for k in rng.integers(0, len(words), n * 4))
     measured(f"tokens.py, a text of {len(text):,} bytes", lambda: tokens_of(text), ("re", lambda: [*TOKEN.finditer(text)]))
     starts, lengths, classes, _ = tokens_of(text)
