@@ -5,7 +5,7 @@
 //! What they share stands in `c_calls`.
 #![tactic(auto)]
 
-mod byte_numbers;
+mod byte_widths;
 mod checked_sums;
 mod combines;
 mod descriptors;
@@ -14,6 +14,7 @@ mod flags;
 mod flags_in_place;
 mod flat_permutes;
 mod in_place;
+mod matrices;
 mod merges;
 mod nested_texts;
 mod packs;
@@ -29,4 +30,3 @@ mod slices;
 mod sorts;
 mod text_exports;
 mod tiles;
-mod transposes;

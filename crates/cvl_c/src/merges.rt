@@ -58,7 +58,9 @@ pub extern "C" fn cvl_proved_seg_merge_by_flags_int(
     let d = or_tell!(segments(lengths));
     let true_d = or_tell!(segments(true_lengths));
     let false_d = or_tell!(segments(false_lengths));
-    told_over::<i32>(seg_merge_by_flags_over(flags, &d, when_true, &true_d, when_false, &false_d, out))
+    told_over::<i32>(seg_merge_by_flags_over(
+        flags, &d, when_true, &true_d, when_false, &false_d, out,
+    ))
 }
 
 /// The merge of each segment by the flags of the segment, of booleans.
@@ -79,5 +81,7 @@ pub extern "C" fn cvl_proved_seg_merge_by_flags_bool(
     let d = or_tell!(segments(lengths));
     let true_d = or_tell!(segments(true_lengths));
     let false_d = or_tell!(segments(false_lengths));
-    told_over::<bool>(seg_merge_by_flags_over(flags, &d, when_true, &true_d, when_false, &false_d, out))
+    told_over::<bool>(seg_merge_by_flags_over(
+        flags, &d, when_true, &true_d, when_false, &false_d, out,
+    ))
 }
