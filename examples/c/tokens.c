@@ -94,7 +94,7 @@ static int32_t add_tokens(const char *text, size_t from, size_t n, Rooms *r, Tok
     int32_t classes[BYTES], *const starts = t->starts + t->n, *const lengths = t->lengths + t->n;
     size_t some;
     for (int k = 0; k < BYTES; k++) classes[k] = class_of(k);
-    for (size_t k = 0; k < n; k++) r->bytes[k] = (unsigned char)text[from + k];
+    must(cvl_ints_from_bytes((const uint8_t *)text + from, n, r->bytes, n));
     must(ind_luz((int32_t)from, 1, (int64_t)n + 1, r->places));
     flag_code(from, n, r);
     const int32_t wrong = flag_ends(n, r);

@@ -36,7 +36,7 @@ def columns_of(text, starts, lengths):
     """The columns of words of a text: their bytes by fours, with zeros behind the end of a word, and last how many each has."""
     longest = int(cvl.max_ruz(lengths)) if len(lengths) else 0
     padded = numpy.zeros(len(text) + longest + 3, numpy.int32)
-    padded[: len(text)] = numpy.frombuffer(text, numpy.uint8)
+    padded[: len(text)] = cvl.ints_from_bytes(text)
     columns = []
     for k in range(0, longest, 4):
         column = numpy.zeros(len(lengths), numpy.int32)

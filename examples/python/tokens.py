@@ -36,7 +36,7 @@ def comments_of(characters):
 
 def tokens_of(text):
     """Where each token of some bytes begins, how many bytes it has, and its class; and the first byte that no text has, or -1."""
-    characters = numpy.frombuffer(text, numpy.uint8).astype(numpy.int32)
+    characters = cvl.ints_from_bytes(text)
     n = len(characters)
     code = cvl.not_wub(comments_of(characters))
     shows, goes_on, wrong = (cvl.and_wub(cvl.bck_pub(table, characters), code) for table in (SHOWS, GOES_ON, WRONG))

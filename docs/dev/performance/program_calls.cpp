@@ -189,6 +189,16 @@ static void measure_flags(Ints &out) {
             [&] { out[0] = loops::first_true(none.get(), n); });
 }
 
+// A matrix with as many columns as its rows are, or about; the last elements of the vector may be left out.
+static void measure_transpose(Ints &out) {
+    size_t side = 1;
+    while ((side + 1) * (side + 1) <= n) side++;
+    const Ints source = numbers(side * side, 1);
+    measure("transpose, as many rows as columns", nothing, [&] { return answer_of(out.data(), side * side); },
+            [&] { must(cvl_transpose_int(source.data(), side * side, side, side, out.data(), side * side)); },
+            [&] { loops::transpose(source.data(), side, side, out.data()); });
+}
+
 int main(int words, char **word) {
     if (words != 3) return 2;
     n = std::strtoull(word[1], nullptr, 10), seconds = std::strtod(word[2], nullptr);
@@ -199,4 +209,5 @@ int main(int words, char **word) {
     measure_by_key(out);
     measure_slices(out);
     measure_flags(out);
+    measure_transpose(out);
 }
