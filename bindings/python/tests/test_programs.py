@@ -223,7 +223,7 @@ def measured(name, program, *others):
     """Prints the time of a program by one thread and by four, and what others take, each with its name, in turn."""
     runs = [("1 thread", 1, program), ("4 threads", 4, program), *((other, 4, work) for other, work in others)]
     best = {}
-    for _ in range(5):
+    for _ in range(3):
         for column, threads, work in runs:
             with cvl.threads(threads):
                 best[column] = min(best.get(column, float("inf")), timeit.timeit(work, number=1) * 1000)
