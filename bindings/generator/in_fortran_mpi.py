@@ -16,7 +16,7 @@ HEAD = """! cvl_mpi: the vector calls of CVL over the ranks of MPI, beside the m
 ! range: cvl_rank_segments_new(ranks, lengths, goes_on, segments); the lengths are a target that stays as it is while the descriptor serves.
 ! A call without a status stops the program at a fault.
 module cvl_mpi
-    use, intrinsic :: iso_c_binding, only: c_bool, c_int, c_int32_t, c_int64_t, c_loc, c_null_ptr, c_ptr, c_size_t
+    use, intrinsic :: iso_c_binding, only: c_bool, c_int, c_int8_t, c_int32_t, c_int64_t, c_loc, c_null_ptr, c_ptr, c_size_t
     use, intrinsic :: iso_fortran_env, only: error_unit
     use cvl, only: cvl_status, CVL_DONE
     implicit none

@@ -1,6 +1,6 @@
 /*
  * Calls on a vector that is longer than 2,147,483,647 elements: 2,200,000,000 booleans, spread evenly. Reduces, scans in place, also of a segment that
- * crosses ranks, and packs in place are those of a plain walk; what would have to name a place or a count by 32 bits is told as too long.
+ * crosses ranks, and packs in place are those of a plain walk; a call that needs 32 bits for a place or a count answers 13 TooLong.
  * It takes 2.2 GB, and 1.1 GB more for the room of a pack.
  */
 #include <mpi.h>
