@@ -224,18 +224,16 @@ HEAD = f"""! cvl: the vector calls of CVL, over arrays of integer(c_int32_t) and
 !
 ! Compile it with the program, and link with the library: gfortran cvl.f90 program.f90 -lcvl. Fortran 2008.
 !
-! Each call is a subroutine, as cvl_add_wuz(a, b, out, status). The arrays come in the order of the call's operands, and each
-! knows how long it is. The lengths of segments are an array of integers, one for each segment, empty ones too. The room is an
-! array of the caller's for the result, which is as long as that. Places, indices and the places of faults count from 0, as in
-! all other languages.
+! Each call is a subroutine, such as cvl_add_wuz(a, b, out, status). The arrays come in the order of the call's operands. The
+! lengths of segments are an array of integers, one for each segment, which may be 0. out is your array for the result, as long
+! as that. Places, indices and the places of faults count from 0, as in all other languages.
 !
-! status tells how a call ended: status%number is CVL_DONE, or the number of a fault, status%place its place or -1. At a fault
-! the rooms are as they were. A call without a status stops the program at a fault, and says which one on standard error.
+! After a call status%number is CVL_DONE, or the number of a fault, and status%place its place or -1. After a fault your arrays
+! are as they were. A call without a status stops the program at a fault, and names it on standard error.
 !
-! The families are there by their names and the number of an operator, as cvl_scan(CVL_ADD, a, out) and, with lengths, by
-! segments, as cvl_scan(CVL_ADD, a, lengths, out): of integers and of booleans, by what is given. A room may not be an argument
-! too: a call that may be made in place has a subroutine for that, as cvl_add_suz_in(a). A place and a count may have 32 bits
-! or 64.
+! Families take the number of an operator, such as cvl_scan(CVL_ADD, a, out) and, by segments, cvl_scan(CVL_ADD, a, lengths,
+! out), on integers or booleans. out may not be another argument too: a call that can be made in place has a subroutine for that,
+! such as cvl_add_suz_in(a). A place and a count may have 32 bits or 64.
 module cvl
     use, intrinsic :: iso_c_binding, only: &
         c_bool, c_char, c_f_pointer, c_int, c_int8_t, c_int32_t, c_int64_t, c_loc, c_null_ptr, c_ptr, c_size_t
