@@ -281,3 +281,18 @@ ALSO = {
     "mke_fov": "pck_fov len_fos nested",
     "len_fos": "mke_fov",
 }
+
+# how the cases of `docs/dev/performance/measure_program_calls` begin that say what a function costs which no script calls
+COSTS = {
+    "order": ("order, ",),
+    "rank": ("rank, ",),
+    "sort": ("sort, any keys", "sort, keys below"),
+    "seg_sort": ("sort, segments of",),
+    "seg_exact_sums": ("exact sums, segments of",),
+    "combine_permute_int": ("sums by key, ",),
+    "counts": ("counts, ",),
+    "gather_segments_int": ("gather of segments",),
+    "append_segments_int": ("append of segments",),
+    "merge_by_flags_int": ("merge by flags",),
+    "first_true": ("first true flag",),
+}

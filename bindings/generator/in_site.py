@@ -8,6 +8,7 @@ import re
 import sys
 
 import about
+import entries
 import in_c
 import in_calls
 import in_python
@@ -78,28 +79,39 @@ def _of_script(name, entry):
     return f"```{{call}} {name}\n{entry.said.said}\n```"
 
 
+def _times(entry):
+    """Each measured case of an entry: what it is, its number of elements, and its times in nanoseconds by threads and as a plain loop."""
+    for row in [*PERFORMANCE.ROWS, *PERFORMANCE.MORE_ROWS]:
+        if entry.said and row[4] in entry.said.costs:
+            for length in PERFORMANCE.LENGTHS:
+                times = PERFORMANCE.times_of(row, length)
+                yield row[4], length, times.get("1 worker"), times.get("4 workers"), times.get("loop")
+    if not entry.said:
+        begins = tuple(entries.COSTS.get(entry.name, ()))
+        for (subject, case), times in PERFORMANCE.program_tables.ROWS.items():
+            found = PERFORMANCE.program_tables.CASE.fullmatch(case)
+            if subject == "calls for programs" and found and begins and found[1].startswith(begins):
+                yield found[1], int(found[2]), times.get("1 thread"), times.get("4 threads"), times.get("loop")
+
+
 def _costs(entry):
-    """A table of what rows of the measurements say: the call beside a plain loop."""
-    found = [row for row in [*PERFORMANCE.ROWS, *PERFORMANCE.MORE_ROWS] if entry.said and row[4] in entry.said.costs]
-    lines = []
-    for row in found:
-        for length in PERFORMANCE.LENGTHS:
-            times = PERFORMANCE.times_of(row, length)
-            if {"4 workers", "loop"} <= times.keys():
-                share = f"{PERFORMANCE.ratio(times):.2f}"
-                lines.append([row[4], f"{length:,}", PERFORMANCE.micros(times["4 workers"]), PERFORMANCE.micros(times["loop"]), share])
+    """A table of the entry's times beside those of a plain loop."""
+    lines = [
+        [what, f"{length:,}", PERFORMANCE.micros(alone), PERFORMANCE.micros(four), PERFORMANCE.micros(loop), f"{four / loop:.2f}"]
+        for what, length, alone, four, loop in _times(entry) if four and loop
+    ]  # fmt: skip
     if not lines:
         return []
-    shown = PERFORMANCE.table(["Call", "Elements", "CVL, µs", "Loop, µs", "CVL / loop"], lines)
-    intro = "CVL with 4 workers beside a plain loop in C++ on one thread; [Performance](../performance.md) has the machine and the other calls."
+    shown = PERFORMANCE.table(["Call", "Elements", "1 thread", "4 threads", "Loop", "4 threads / loop"], lines)
+    intro = "Microseconds, beside a plain loop in C++ on one thread; [Performance](../performance.md) has the machine and the other calls."
     return ["## What it costs", intro, shown.rstrip()]
 
 
 def _faults(entry):
-    found = [f"**Script:** {entry.faults}"] if entry.said else []
+    found = [f"**Faults in a script:** {entry.faults}"] if entry.said else []
     row = entry.rows[0] if entry.rows else None
     if row:
-        found.append(f"**C, Python, Rust and Fortran:** {_in_words(rows.fault_text(row)) or 'those of [all calls](all-calls.md).'}")
+        found.append(f"**Faults in C, Python, Rust and Fortran:** {_in_words(rows.fault_text(row)) or 'those of [all calls](all-calls.md).'}")
         found.append(f"**In place:** {rows.in_place_words(row.family) or 'no, 102 Overlap.'}")
     return found
 
@@ -123,8 +135,8 @@ def _examples(entry):
 def _homes():
     """On which page each family is described: that of the first entry that has it."""
     found = {}
-    for _, _, entries in reference.of_scripts():
-        for entry in entries:
+    for _, _, section in reference.of_scripts():
+        for entry in section:
             for row in entry.families:
                 found.setdefault(row.name, entry.name)
     return found
@@ -235,7 +247,7 @@ def shared_pages():
 
 def leads():
     """Where a link to a heading of `calls.md` leads on the site: each heading's page."""
-    found = {in_calls.anchor(entry): f"{FOLDER}/{entry.name}.md" for _, _, entries in reference.of_scripts() for entry in entries}
+    found = {in_calls.anchor(entry): f"{FOLDER}/{entry.name}.md" for _, _, section in reference.of_scripts() for entry in section}
     return {**found, **{slug(title): f"{FOLDER}/{slug(title)}.md" for title, _, _ in reference.of_scripts()}, "functions-that-no-script-calls": "calls.md"}
 
 
@@ -259,7 +271,7 @@ def index_page():
 def pages():
     """Each page of the reference, by its path on the site."""
     found = {"calls.md": index_page(), **shared_pages()}
-    for title, said, entries in [*reference.of_scripts(), *reference.beside()]:
-        found[f"{FOLDER}/{slug(title)}.md"] = section_page(title, said, entries)
-        found.update({f"{FOLDER}/{entry.name}.md": entry_page(entry) for entry in entries})
+    for title, said, section in [*reference.of_scripts(), *reference.beside()]:
+        found[f"{FOLDER}/{slug(title)}.md"] = section_page(title, said, section)
+        found.update({f"{FOLDER}/{entry.name}.md": entry_page(entry) for entry in section})
     return found
