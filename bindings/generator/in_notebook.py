@@ -14,7 +14,7 @@ HERE = pathlib.Path(__file__).resolve().parent
 PAGE, COSTS = HERE.parent.parent / "docs/user/tutorial.md", HERE / "notebook_costs.py"
 
 # the page says where the notebook is, and the notebook where the page is
-OF_NOTEBOOK = "The same hour is a notebook, `tutorial.ipynb`, with plots of what the calls cost: an installation has it beside this page."
+OF_NOTEBOOK = "The same hour is a notebook, `tutorial.ipynb`, with plots of what the calls cost. An installation has it beside this page."
 OF_PAGE = "This is the page [tutorial.md](tutorial.md) as a notebook. Run a cell by shift and return; plots of what the calls cost follow at its end."
 
 
