@@ -1,0 +1,2 @@
+pub use Rattle.permute_walks.specs.Marks
+pub use Rattle.permute_walks.specs.Senders
