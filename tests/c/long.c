@@ -64,15 +64,15 @@ static size_t memory_of_keys(const char *call) {
 }
 
 /* How many bytes of memory a call asks for that has no text: its descriptors, and a mark or a sender for each place of a permute, or a
- * result that is made before it is put into the room. */
+ * result that is made before it is put into the room. The indices jump, so that the marks of a simple and a default permute are bits. */
 static size_t memory_of(const Row *row, const char *call) {
-    const size_t item = is_bool(call) ? 1 : sizeof(int32_t), descriptors = descriptors_of(row, call);
+    const size_t item = is_bool(call) ? 1 : sizeof(int32_t), descriptors = descriptors_of(row, call), marks = (n + 31) / 32 * sizeof(uint32_t);
     if (strstr(row->name, "_range") != NULL) return 0; /* a part of a permute has the caller's marks */
     if (orders(call)) return memory_of_keys(call);
     if (strstr(row->name, "exact_sums") != NULL) return 0; /* without a fault they are written into the room */
-    if (begins(call, "smp")) return descriptors + (by_segments(call) ? longest : n);
+    if (begins(call, "smp")) return descriptors + (by_segments(call) ? longest : marks);
     if (begins(call, "sel_p")) return descriptors + sizeof(uint32_t) * trues;
-    if (begins(call, "def")) return descriptors + sizeof(uint32_t) * n;
+    if (begins(call, "def")) return descriptors + (by_segments(call) ? sizeof(uint32_t) * n : marks);
     if (begins(call, "rep")) return begins(call, "rep_vub") ? 0 : item * n;
     if (begins(call, "num")) return 3 * segments * sizeof(int32_t); /* numbers, and the descriptor by which they are distributed */
     if (begins(call, "prd") && strstr(row->name, "by_offsets") != NULL) return 2 * item * segments; /* the rows' lengths, too */

@@ -3,12 +3,10 @@
 ghost use Rattle.std.specs.Prelude.{◌≤◌, length};
 ghost use Rattle.cvl_base.specs.Limits.{most_places};
 
-use permute_walks::Destinations;
-
 /// From how many places on it pays to ask. A shorter result stays in a cache with whatever is kept of its places.
 const LONG: usize = 65_536;
 
-/// About so many neighbouring indices are looked at.
+/// About so many indices are looked at, and the one behind each.
 const LOOKS: usize = 64;
 
 /// Indices that name places of one block of so many run along.
@@ -16,10 +14,10 @@ const BLOCK: u32 = 1024;
 
 /// Whether most indices of a long permute name a place far from that of the index before them. It looks at few of them, spread
 /// evenly.
-pub fn jumps<D: Destinations>(destinations: &D) -> bool
-    requires { length (D.destinations destinations.now) ≤ most_places }
+pub fn jumps(index: &[i32]) -> bool
+    requires { length index.now ≤ most_places }
 {
-    let count = destinations.count();
+    let count = index.len();
     if count < LONG {
         return false;
     }
@@ -27,9 +25,7 @@ pub fn jumps<D: Destinations>(destinations: &D) -> bool
     let mut far = 0;
     let mut k = 0;
     while k + 1 < count {
-        let (first, _) = destinations.at(k);
-        let (second, _) = destinations.at(k + 1);
-        if first.cast_unsigned() / BLOCK != second.cast_unsigned() / BLOCK {
+        if index[k].cast_unsigned() / BLOCK != index[k + 1].cast_unsigned() / BLOCK {
             far += 1;
         }
         k += step;

@@ -1,83 +1,69 @@
-//! The first walk: a bit for each place of the result that an index names. They are as many as places take part exactly where no
-//! index is outside or repeated.
+//! The first walk: a bit for each place of the result that an index names. They are as many as the indices exactly where none is
+//! outside or repeated.
 
-ghost use Rattle.std.specs.Prelude.{◌≡◌, ◌<◌, ◌≤◌, ◌/◌, ◌↔◌, Bool, List, None, false, length, replicate, set, true, IfOk, IfSome};
-ghost use Rattle.std.specs.Prelude.{IsTrue, is_some};
+ghost use Rattle.std.specs.Prelude.{◌≡◌, ◌<◌, ◌≤◌, ◌/◌, ◌↔◌, Bool, List, None, length, replicate, set, true, IfOk, IsTrue};
 ghost use Rattle.cvl_base.specs.Limits.{most_places};
-ghost use Rattle.cvl_base.specs.Permutes.{first_fault, wrongs};
+ghost use Rattle.cvl_base.specs.Permutes.{all_destinations, first_fault, wrongs};
 ghost use Rattle.permute_walks.specs.Marks.{mark_words, words_for};
-ghost use Rattle.permute_walks.specs.Senders.{count_destinations, last_senders, sent_marks};
+ghost use Rattle.permute_walks.specs.Senders.{last_senders, sent_marks};
 
-use crate::named::{either, named_place};
+use crate::leaps::jumps;
+use cvl_base::limits::MOST_PLACES;
 use cvl_base::{Memory, NoResources};
 use permute_walks::marks::WORD_BITS;
-use permute_walks::{Destinations, count_marks, words_for};
+use permute_walks::{count_marks, words_for};
 
-/// Marks a place where it takes part, and else nothing.
+/// Marks a place.
 #[inline]
-fn mark_if(marks: &mut [u32], place: usize, takes_part: bool)
+#[tactic(auto, using(permute_walks::proofs::MarkWords::marked_one))]
+fn mark_place(marks: &mut [u32], place: usize)
     requires within { place / 32 < length marks.old }
-    ensures marked { takes_part ≡ true → (flags : List Bool) → place < length flags → marks.old ≡ mark_words flags
+    ensures { (flags : List Bool) → place < length flags → marks.old ≡ mark_words flags
         → marks.new ≡ mark_words (set flags place true) }
-    ensures kept { takes_part ≡ false → marks.new ≡ marks.old }
 {
-    let bit = if takes_part {
-        1 << (place % WORD_BITS)
-    } else {
-        0
-    };
-    marks[place / WORD_BITS] |= bit;
+    marks[place / WORD_BITS] |= 1 << (place % WORD_BITS);
 }
 
-/// Marks each place that an index names, and tells how many places take part; none where an index is no place of the result, and
-/// then the marks are of no use.
+/// Marks the place that each index names; false where an index names none, and then the marks are of no use.
+// Without its sign an index below 0 is beyond the longest vector, so that one comparison is enough.
 // Inlined into a large function the loop keeps its pointers on the stack.
 #[inline(never)]
-fn mark_each<D: Destinations>(destinations: &D, places: usize, marks: &mut [u32]) -> Option<usize>
+fn mark_each(index: &[i32], places: usize, marks: &mut [u32]) -> bool
     requires unmarked { marks.old ≡ replicate (words_for places) 0 }
-    requires some { 1 ≤ places }
-    requires in_limit { (length (D.destinations destinations.now) ≤ most_places) × (places ≤ most_places) }
-    ensures marked { IfSome result (λ _. marks.new ≡ mark_words (sent_marks
-        (last_senders 0 (D.destinations destinations.now) 0 places))) }
-    ensures count { IfSome result (λ sent. sent ≡ count_destinations (D.destinations destinations.now)) }
-    ensures inside { None ≡ first_fault 0 (wrongs places (D.destinations destinations.now)) → is_some result ≡ true }
+    requires in_limit { (length index.now ≤ most_places) × (places ≤ most_places) }
+    ensures marked { IsTrue result → marks.new ≡ mark_words (sent_marks (last_senders 0 (all_destinations index.now) 0 places)) }
+    ensures inside { None ≡ first_fault 0 (wrongs places (all_destinations index.now)) → IsTrue result }
 {
-    let mut sent = 0;
-    for k in 0..destinations.count() {
-        let (index, takes_part) = destinations.at(k);
-        let place = named_place(index, takes_part);
-        if place >= places {
-            return None;
+    for i in index {
+        let named = i.cast_unsigned() as usize;
+        if named >= places {
+            return false;
         }
-        mark_if(marks, place, takes_part);
-        sent += either(takes_part, 1, 0);
+        mark_place(marks, named);
     }
-    Some(sent)
+    true
 }
 
-/// Whether no place of a permute to so many places is bad. No place is marked to begin with.
-fn are_apart<D: Destinations>(destinations: &D, places: usize, marks: &mut [u32]) -> bool
+/// Whether each index names one of so many places, and no two the same. No place is marked to begin with.
+fn are_apart(index: &[i32], places: usize, marks: &mut [u32]) -> bool
     requires unmarked { marks.old ≡ replicate (words_for places) 0 }
-    requires some { 1 ≤ places }
-    requires in_limit { (length (D.destinations destinations.now) ≤ most_places) × (places ≤ most_places) }
-    ensures { IsTrue result ↔ None ≡ first_fault 0 (wrongs places (D.destinations destinations.now)) }
+    requires in_limit { (length index.now ≤ most_places) × (places ≤ most_places) }
+    ensures { IsTrue result ↔ None ≡ first_fault 0 (wrongs places (all_destinations index.now)) }
 {
-    match mark_each(destinations, places, marks) {
-        Some(sent) => count_marks(marks) == sent,
-        None => false,
-    }
+    mark_each(index, places, marks) && count_marks(marks) == index.len()
 }
 
-/// The same by marks of its own. `NoResources` where there is no memory for a bit a place.
-pub fn has_no_fault<A: Memory, D: Destinations>(
-    alloc: A,
-    destinations: &D,
-    places: usize,
-) -> Result<bool, NoResources>
-    requires some { 1 ≤ places }
-    requires in_limit { (length (D.destinations destinations.now) ≤ most_places) × (places ≤ most_places) }
-    ensures { IfOk result (λ is. IsTrue is ↔ None ≡ first_fault 0 (wrongs places (D.destinations destinations.now))) }
+/// Whether the index of a long permute jumps from place to place, and each index names one of so many places, no two the same, so
+/// that a scatter makes the permute. Only where the index jumps are its places marked. `NoResources` where there is no memory for
+/// a bit a place.
+pub fn is_scattered<A: Memory>(alloc: A, index: &[i32], places: usize) -> Result<bool, NoResources>
+    requires in_limit { length index.now ≤ most_places }
+    ensures { IfOk result (λ is. IsTrue is
+        → (places ≤ most_places) × (None ≡ first_fault 0 (wrongs places (all_destinations index.now)))) }
 {
+    if places > MOST_PLACES || !jumps(index) {
+        return Ok(false);
+    }
     let mut marks = vec![in alloc; 0; words_for(places)]?;
-    Ok(are_apart(destinations, places, &mut marks))
+    Ok(are_apart(index, places, &mut marks))
 }

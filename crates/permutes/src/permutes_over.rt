@@ -1,21 +1,24 @@
 //! The permutes over a room of the caller's, by the thread that calls, for code that has no runtime.
 //!
 //! Each tells the faults of the permute first, and then `LengthMismatch`, without a place, where the room isn't as long as the
-//! result. Only then the room is written. A back permute asks for no memory. A simple permute asks for a byte for each place of
-//! its result, and for the senders only to find its first fault; the others ask for the senders, 4 bytes a place.
+//! result. Only then the room is written. A back permute asks for no memory. Where the index of a long permute jumps from place to
+//! place, a simple and a default permute ask for a bit for each place of the result, and for the senders, 4 bytes a place, only to
+//! find the first fault. Elsewhere a simple permute asks for a byte a place, and a default permute for the senders, as a select
+//! permute does anywhere.
 
-ghost use Rattle.std.specs.Prelude.{◌≤◌, List, Result, length};
+ghost use Rattle.std.specs.Prelude.{◌≡◌, ◌≤◌, IfOk, IsTrue, List, None, Result, length};
 ghost use Rattle.cvl_base.specs.declared.fault.Fault.{Fault};
 ghost use Rattle.cvl_base.specs.Limits.{most_places};
-ghost use Rattle.cvl_base.specs.Permutes.{back_of, default_of, first_fault, select_of, simple_of, wrongs};
+ghost use Rattle.cvl_base.specs.Permutes.{all_destinations, back_of, default_of, first_fault, select_of, simple_of, wrongs};
 ghost use Rattle.cvl_base.specs.Rooms.{Overwrites, OverwritesOr, in_room};
-ghost use Rattle.permute_walks.specs.Before.{IsPermuted, values_of};
+ghost use Rattle.permute_walks.specs.Before.{IsPermuted, MayStand, values_of};
 ghost use Rattle.permute_walks.specs.Senders.{senders_of};
 
 use crate::first_walk::senders_alone;
 use crate::second_walk::elements_of_senders_over;
-use cvl_base::{Fault, Memory, Refused, check_agree, true_count};
+use cvl_base::{Fault, Memory, NoResources, Refused, check_agree, true_count};
 use fresh::write_over;
+use permute_scatters::{is_scattered, jumps, scatter};
 use permute_walks::{
     AllDestinations, Before, Destinations, ElementsAt, FlaggedDestinations, check_places_alone,
     is_permutation, scatter_over,
@@ -39,6 +42,54 @@ fn permuted_over<T: Copy, A: Memory, D: Destinations>(
     elements_of_senders_over(source, found, before, out)
 }
 
+/// Writes the defaults over the room, where there are any.
+fn let_stand<T: Copy>(before: &Before<T>, out: &mut [T])
+    requires as_long { length out.old ≡ length (values_of before.now) }
+    ensures stands { MayStand before.now out.new }
+    ensures long { length out.new ≡ length out.old }
+{
+    if let Before::Defaults(values) = before {
+        out.copy_from_slice(values);
+    }
+}
+
+/// A permute of all elements. Where the index jumps and has no fault, each element goes straight to its place; else the senders
+/// are found.
+fn all_permuted_over<T: Copy, A: Memory>(
+    alloc: A,
+    source: &[T],
+    index: &[i32],
+    before: Before<T>,
+    out: &mut [T],
+) -> Result<(), Refused>
+    requires sourced { length source.now ≡ length index.now }
+    requires few { length index.now ≤ most_places }
+    ensures { (meaning : Result (List T) Fault) → IsPermuted source.now before.entry meaning
+        (first_fault 0 (wrongs (length (values_of before.entry)) (all_destinations index.now)))
+        (senders_of 0 (all_destinations index.now) (length (values_of before.entry)))
+        → OverwritesOr (in_room (length out.old) meaning) result out.old out.new }
+{
+    let places = before.values().len();
+    if is_scattered(alloc, index, places)? {
+        check_agree(places, out.len())?;
+        let_stand(&before, out);
+        scatter(source, index, out);
+        return Ok(());
+    }
+    permuted_over(alloc, source, &AllDestinations { index }, before, out)
+}
+
+/// Whether the index runs along and is a permutation of its own places. `NoResources` where there is no memory for a byte a place.
+fn is_permutation_along<A: Memory>(alloc: A, index: &[i32]) -> Result<bool, NoResources>
+    requires in_limit { length index.now ≤ most_places }
+    ensures { IfOk result (λ is. IsTrue is → None ≡ first_fault 0 (wrongs (length index.now) (all_destinations index.now))) }
+{
+    if jumps(index) {
+        return Ok(false);
+    }
+    is_permutation(alloc, index)
+}
+
 /// The same as [`simple`](crate::simple), over a room.
 pub fn simple_over<T: Copy, A: Memory>(
     alloc: A,
@@ -50,13 +101,12 @@ pub fn simple_over<T: Copy, A: Memory>(
     ensures { OverwritesOr (in_room (length out.old) (simple_of source.now index.now)) result out.old out.new }
 {
     check_agree(source.len(), index.len())?;
-    if is_permutation(alloc, index)? {
+    if is_permutation_along(alloc, index)? {
         check_agree(index.len(), out.len())?;
         scatter_over(source, index, out);
         return Ok(());
     }
-    let destinations = AllDestinations { index };
-    permuted_over(alloc, source, &destinations, Before::Any(source), out)
+    all_permuted_over(alloc, source, index, Before::Any(source), out)
 }
 
 /// The same as [`select`](crate::select), over a room.
@@ -89,9 +139,7 @@ pub fn default_into_over<T: Copy, A: Memory>(
     ensures { OverwritesOr (in_room (length out.old) (default_of source.now index.now defaults.now)) result out.old out.new }
 {
     check_agree(source.len(), index.len())?;
-    let destinations = AllDestinations { index };
-    let before = Before::Defaults(defaults);
-    permuted_over(alloc, source, &destinations, before, out)
+    all_permuted_over(alloc, source, index, Before::Defaults(defaults), out)
 }
 
 /// The same as [`back`](crate::back), over a room.
