@@ -1,10 +1,10 @@
 //! The permutes over a room of the caller's, by the thread that calls, for code that has no runtime.
 //!
 //! Each tells the faults of the permute first, and then `LengthMismatch`, without a place, where the room isn't as long as the
-//! result. Only then the room is written. A back permute asks for no memory. Where the index of a long permute jumps from place to
-//! place, a simple and a default permute ask for a bit for each place of the result, and for the senders, 4 bytes a place, only to
-//! find the first fault. Elsewhere a simple permute asks for a byte a place, and a default permute for the senders, as a select
-//! permute does anywhere.
+//! result. Only then the room is written. A back permute asks for no memory. If the index of a long permute jumps from place to
+//! place, a simple and a default permute ask for a bit for each place of the result, and only to find the first fault for the
+//! senders, 4 bytes a place. Else a simple permute asks for a byte a place, and a default permute for the senders, as a select
+//! permute always does.
 
 ghost use Rattle.std.specs.Prelude.{◌≡◌, ◌≤◌, IfOk, IsTrue, List, None, Result, length};
 ghost use Rattle.cvl_base.specs.declared.fault.Fault.{Fault};
@@ -53,8 +53,8 @@ fn let_stand<T: Copy>(before: &Before<T>, out: &mut [T])
     }
 }
 
-/// A permute of all elements. Where the index jumps and has no fault, each element goes straight to its place; else the senders
-/// are found.
+/// A permute of all elements. If the index jumps and has no fault, each element goes straight to its place; else the senders are
+/// found.
 fn all_permuted_over<T: Copy, A: Memory>(
     alloc: A,
     source: &[T],
@@ -79,7 +79,8 @@ fn all_permuted_over<T: Copy, A: Memory>(
     permuted_over(alloc, source, &AllDestinations { index }, before, out)
 }
 
-/// Whether the index runs along and is a permutation of its own places. `NoResources` where there is no memory for a byte a place.
+/// Whether the index runs along and is a permutation of its own places. `NoResources` where there is no memory for a byte a
+/// place.
 fn is_permutation_along<A: Memory>(alloc: A, index: &[i32]) -> Result<bool, NoResources>
     requires in_limit { length index.now ≤ most_places }
     ensures { IfOk result (λ is. IsTrue is → None ≡ first_fault 0 (wrongs (length index.now) (all_destinations index.now))) }
