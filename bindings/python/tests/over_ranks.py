@@ -83,6 +83,10 @@ def main():
     sides = ranks.pck_luz(own, own > 2), ranks.pck_luz(own, own <= 2)
     same(whole(ranks.merge_by_flags_int(own > 2, *sides)), WHOLE)
     same(whole(ranks.gather_segments_int(own, numpy.zeros(rows.starts, dtype=numpy.int32), rows)), [3, 1, -4, 3, 1, -4, 1, 5, 3, 1, -4])
+    appended = ranks.append_segments_int(own, own, rows, rows, length=2 * len(WHOLE) if comm.rank == 0 else 0)
+    same(whole(appended), numpy.concatenate([numpy.tile(WHOLE[a:b], 2) for a, b in zip(starts, starts[1:])]))
+    same(whole(ranks.transpose_int(own, 11, 1)), WHOLE)
+    assert raised(ranks.transpose_int, own, 5, 2) == (7, None)
     assert ranks.first_true(own == 9) == 5 and ranks.first_true(own == 7) == -1
     same(whole(ranks.seg_first_true(own == 5, rows)), [-1, -1, 1, 0])
     same(whole(ranks.seg_exact_sums(own, rows)), [WHOLE[a:b].sum() for a, b in zip(starts, starts[1:])])

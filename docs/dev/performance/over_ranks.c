@@ -132,17 +132,23 @@ static bool write_pairs(const Pair *got, size_t count, uint64_t *marks) {
     return twice == 0;
 }
 
+/* The rank that has a place of a vector that is spread evenly: the first ranks have one more element if there is a rest. */
+static size_t owner_of(uint64_t place) {
+    const uint64_t each = total / (uint64_t)size, more = total % (uint64_t)size;
+    return (size_t)(place < more * (each + 1) ? place / (each + 1) : (place - more) / each);
+}
+
 static CvlStatus plain_permute(void) {
     CvlStatus status = {CVL_DONE, -1};
-    const size_t block = (size_t)(total / (uint64_t)size), words = n / 64 + 1;
+    const size_t words = n / 64 + 1;
     int *counts = calloc(4 * (size_t)size + 2, sizeof *counts), *first = counts + size, *got_counts = first + size + 1, *got_first = got_counts + size;
     int *next = calloc((size_t)size, sizeof *next);
     Pair *sent = malloc((n + 1) * sizeof *sent), *got = malloc((n + 1) * sizeof *got);
     uint64_t *marks = calloc(words, sizeof *marks);
     if (!counts || !next || !sent || !got || !marks) MPI_Abort(MPI_COMM_WORLD, 1);
-    for (size_t k = 0; k < n; k++) counts[(uint32_t)at_random[k] / block]++;
+    for (size_t k = 0; k < n; k++) counts[owner_of((uint64_t)at_random[k])]++;
     for (int r = 0; r < size; r++) next[r] = first[r], first[r + 1] = first[r] + counts[r];
-    for (size_t k = 0; k < n; k++) sent[next[(uint32_t)at_random[k] / block]++] = (Pair){at_random[k], a[k]};
+    for (size_t k = 0; k < n; k++) sent[next[owner_of((uint64_t)at_random[k])]++] = (Pair){at_random[k], a[k]};
     MPI_Alltoall(counts, 1, MPI_INT, got_counts, 1, MPI_INT, MPI_COMM_WORLD);
     for (int r = 0; r < size; r++) got_first[r + 1] = got_first[r] + got_counts[r];
     MPI_Alltoallv(sent, counts, first, MPI_INT64_T, got, got_counts, got_first, MPI_INT64_T, MPI_COMM_WORLD);
