@@ -388,6 +388,31 @@ class Pages(Tree):
             if path.is_file():
                 self.assertEqual(self.files[f"{pages.DOC}/{path.relative_to(TOP)}"], path)
 
+    def site(self, maker, makes):
+        """Which files of a site are installed, and what is said, where Sphinx is `maker` and makes two files, or fails."""
+
+        def build(folder):
+            (folder / "calls").mkdir(parents=True)
+            for name in ("index.html", "calls/add_rez.html"):
+                (folder / name).write_text("page")
+            return makes
+
+        with mock.patch.object(pages.making, "maker", lambda: maker), mock.patch.object(pages.making, "build", build), mock.patch("builtins.print") as said:
+            return pages.site(self.top / "html"), " ".join(str(word) for call in said.call_args_list for word in call.args)
+
+    def test_the_site_is_installed_where_it_can_be_made(self):
+        found, said = self.site(("python3", "Sphinx 5"), True)
+        names = {f"share/doc/cvl/html/{name}": self.top / "html" / name for name in ("index.html", "calls/add_rez.html")}
+        self.assertEqual((found, said), (names, ""))
+
+    def test_without_a_site_the_rest_is_installed_and_that_is_said(self):
+        found, said = self.site(None, True)
+        self.assertEqual(found, {})
+        self.assertIn("python3-sphinx", said)
+        found, said = self.site(("python3", "Sphinx 5"), False)
+        self.assertEqual(found, {})
+        self.assertIn("could not make", said)
+
     def test_what_an_example_includes_is_there(self):
         sources = {name: path.read_text() for name, path in self.files.items() if name.endswith((".c", ".cpp", ".h"))}
         for name, text in sources.items():
