@@ -83,7 +83,7 @@ static size_t memory_of(const Row *row, const char *call) {
 /* Whether a call in parts keeps what stood in its room. */
 static bool keeps_room(const char *call) {
     if (!by_segments(call)) return begins(call, "fst") || (call[4] == 'p' && !begins(call, "bck"));
-    return call[4] == 'p' || begins(call, "ext") || begins(call, "rep") || begins(call, "prd") || begins(call, "fst") || begins(call, "cmb") ||
+    return call[4] == 'p' || begins(call, "ext") || begins(call, "rep") || begins(call, "prd") || begins(call, "fst") || begins(call, "cmb") || begins(call, "mrg") ||
         begins(call, "nmd");
 }
 
