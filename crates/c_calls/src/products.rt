@@ -2,8 +2,8 @@
 
 ghost use Rattle.std.specs.Prelude.{Ok};
 ghost use Rattle.cvl_base.specs.Gives.{Gives};
-ghost use Rattle.c_calls.specs.Calls.{by_row_offsets, by_segments, in_limit};
-ghost use Rattle.sparse_products.specs.Answers.{checked_rows_product, rows_product};
+ghost use Rattle.c_calls.specs.Calls.{by_row_offsets};
+ghost use Rattle.c_calls.specs.Products.{checked_product_by_offsets_of, checked_product_of, product_by_offsets_of, product_of};
 
 use crate::checks::{check_limit, segments};
 use cvl_base::limits::MOST_PLACES;
@@ -19,8 +19,7 @@ pub fn product(
     values: &[i32],
     x: &[i32],
 ) -> Result<Vec<i32, Global>, Refused>
-    ensures { Gives (λ v. v.items) result (by_segments lengths.now
-        (λ rows. in_limit columns.now (rows_product rows columns.now values.now x.now))) }
+    ensures { Gives (λ v. v.items) result (product_of lengths.now columns.now values.now x.now) }
 {
     let rows = segments(lengths)?;
     check_limit(columns)?;
@@ -35,8 +34,7 @@ pub fn checked_product(
     values: &[i32],
     x: &[i32],
 ) -> Result<Vec<i32, Global>, Refused>
-    ensures { Gives (λ v. v.items) result (by_segments lengths.now
-        (λ rows. in_limit columns.now (checked_rows_product rows columns.now values.now x.now))) }
+    ensures { Gives (λ v. v.items) result (checked_product_of lengths.now columns.now values.now x.now) }
 {
     let rows = segments(lengths)?;
     check_limit(columns)?;
@@ -62,8 +60,7 @@ pub fn product_by_offsets(
     values: &[i32],
     x: &[i32],
 ) -> Result<Vec<i32, Global>, Refused>
-    ensures { Gives (λ v. v.items) result (by_row_offsets offsets.now (λ lengths. by_segments lengths
-        (λ rows. in_limit columns.now (rows_product rows columns.now values.now x.now)))) }
+    ensures { Gives (λ v. v.items) result (product_by_offsets_of offsets.now columns.now values.now x.now) }
 {
     let lengths = lengths_between(alloc, offsets)?;
     product(alloc, &lengths, columns, values, x)
@@ -77,8 +74,7 @@ pub fn checked_product_by_offsets(
     values: &[i32],
     x: &[i32],
 ) -> Result<Vec<i32, Global>, Refused>
-    ensures { Gives (λ v. v.items) result (by_row_offsets offsets.now (λ lengths. by_segments lengths
-        (λ rows. in_limit columns.now (checked_rows_product rows columns.now values.now x.now)))) }
+    ensures { Gives (λ v. v.items) result (checked_product_by_offsets_of offsets.now columns.now values.now x.now) }
 {
     let lengths = lengths_between(alloc, offsets)?;
     checked_product(alloc, &lengths, columns, values, x)

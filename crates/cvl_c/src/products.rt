@@ -1,9 +1,8 @@
 //! Products of sparse matrices with vectors. The rows come as their lengths, or by their offsets.
 
 ghost use Rattle.std.specs.Prelude.{length};
-ghost use Rattle.c_calls.specs.Calls.{by_row_offsets, by_segments, in_limit};
+ghost use Rattle.c_calls.specs.Products.{checked_product_by_offsets_of, checked_product_of, product_by_offsets_of, product_of};
 ghost use Rattle.c_calls.specs.Told.{ToldOr, in_room};
-ghost use Rattle.sparse_products.specs.Answers.{checked_rows_product, rows_product};
 
 use c_calls::products::{checked_product, checked_product_by_offsets, product, product_by_offsets};
 use c_calls::status::{CvlStatus, told};
@@ -19,8 +18,8 @@ pub extern "C" fn cvl_proved_sparse_product(
     x: &[i32],
     out: &mut [i32],
 ) -> CvlStatus
-    ensures { ToldOr (in_room (length out.old) (by_segments lengths.now
-        (λ rows. in_limit columns.now (rows_product rows columns.now values.now x.now)))) result out.old out.new }
+    ensures { ToldOr (in_room (length out.old) (product_of lengths.now columns.now values.now x.now))
+        result out.old out.new }
 {
     told(product(alloc, lengths, columns, values, x), out)
 }
@@ -35,8 +34,8 @@ pub extern "C" fn cvl_proved_checked_sparse_product(
     x: &[i32],
     out: &mut [i32],
 ) -> CvlStatus
-    ensures { ToldOr (in_room (length out.old) (by_segments lengths.now
-        (λ rows. in_limit columns.now (checked_rows_product rows columns.now values.now x.now)))) result out.old out.new }
+    ensures { ToldOr (in_room (length out.old) (checked_product_of lengths.now columns.now values.now x.now))
+        result out.old out.new }
 {
     told(checked_product(alloc, lengths, columns, values, x), out)
 }
@@ -51,8 +50,8 @@ pub extern "C" fn cvl_proved_sparse_product_by_offsets(
     x: &[i32],
     out: &mut [i32],
 ) -> CvlStatus
-    ensures { ToldOr (in_room (length out.old) (by_row_offsets offsets.now (λ lengths. by_segments lengths
-        (λ rows. in_limit columns.now (rows_product rows columns.now values.now x.now))))) result out.old out.new }
+    ensures { ToldOr (in_room (length out.old) (product_by_offsets_of offsets.now columns.now values.now x.now))
+        result out.old out.new }
 {
     told(product_by_offsets(alloc, offsets, columns, values, x), out)
 }
@@ -67,8 +66,8 @@ pub extern "C" fn cvl_proved_checked_sparse_product_by_offsets(
     x: &[i32],
     out: &mut [i32],
 ) -> CvlStatus
-    ensures { ToldOr (in_room (length out.old) (by_row_offsets offsets.now (λ lengths. by_segments lengths
-        (λ rows. in_limit columns.now (checked_rows_product rows columns.now values.now x.now))))) result out.old out.new }
+    ensures { ToldOr (in_room (length out.old) (checked_product_by_offsets_of offsets.now columns.now values.now x.now))
+        result out.old out.new }
 {
     told(
         checked_product_by_offsets(alloc, offsets, columns, values, x),

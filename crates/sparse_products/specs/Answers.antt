@@ -60,5 +60,10 @@ row_lengths_of (first ∷ offsets) =
     fault_if (not (int_eq first (pos 0))) (fault no.LengthMismatch) (none_negative (lengths_after first offsets))
 
 -- the product of a matrix by the offsets of its rows
-abbrev pub by_offsets : (List ℤ → Result (List ℤ) Fault) → List ℤ → Result (List ℤ) Fault
-by_offsets product offsets = row_lengths_of offsets >>= product
+abbrev pub sparse_product_by_offsets_of : List ℤ → List ℤ → List ℤ → List ℤ → Result (List ℤ) Fault
+sparse_product_by_offsets_of offsets columns values x =
+    row_lengths_of offsets >>= λ lengths. sparse_product_of lengths columns values x
+
+abbrev pub checked_sparse_product_by_offsets_of : List ℤ → List ℤ → List ℤ → List ℤ → Result (List ℤ) Fault
+checked_sparse_product_by_offsets_of offsets columns values x =
+    row_lengths_of offsets >>= λ lengths. checked_sparse_product_of lengths columns values x

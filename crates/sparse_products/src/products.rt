@@ -3,7 +3,8 @@
 ghost use Rattle.std.specs.Prelude.{◌≤◌, ◌+◌, length};
 ghost use Rattle.cvl_base.specs.Gives.{Gives};
 ghost use Rattle.cvl_base.specs.Limits.{most_elements};
-ghost use Rattle.sparse_products.specs.Answers.{by_offsets, checked_sparse_product_of, sparse_product_of};
+ghost use Rattle.sparse_products.specs.Answers.{checked_sparse_product_by_offsets_of, checked_sparse_product_of};
+ghost use Rattle.sparse_products.specs.Answers.{sparse_product_by_offsets_of, sparse_product_of};
 ghost use Rattle.sparse_products.specs.Rows.{product_by};
 
 use crate::answers::{check_entries, product_or_fault};
@@ -104,7 +105,7 @@ pub fn sparse_product_by_offsets<R: Threads + Sync, A: Memory>(
     requires offsets { length offsets.now ≤ most_elements + 1 }
     requires columns { length columns.now ≤ most_elements }
     ensures { Gives (λ y. y.items) result
-        (by_offsets (λ lengths. sparse_product_of lengths columns.now values.now x.now) offsets.now) }
+        (sparse_product_by_offsets_of offsets.now columns.now values.now x.now) }
 {
     let lengths = row_lengths(alloc, offsets)?;
     sparse_product(rt, alloc, config, &lengths, columns, values, x)
@@ -123,7 +124,7 @@ pub fn checked_sparse_product_by_offsets<R: Threads + Sync, A: Memory>(
     requires offsets { length offsets.now ≤ most_elements + 1 }
     requires columns { length columns.now ≤ most_elements }
     ensures { Gives (λ y. y.items) result
-        (by_offsets (λ lengths. checked_sparse_product_of lengths columns.now values.now x.now) offsets.now) }
+        (checked_sparse_product_by_offsets_of offsets.now columns.now values.now x.now) }
 {
     let lengths = row_lengths(alloc, offsets)?;
     checked_sparse_product(rt, alloc, config, &lengths, columns, values, x)

@@ -3,7 +3,8 @@
 ghost use Rattle.std.specs.Prelude.{◌≡◌, negsuc, pos, [], ◌∷◌, Ok, Err};
 ghost use Rattle.cvl_base.specs.declared.fault.FaultNo.TheVariants as no;
 ghost use Rattle.cvl_base.specs.Faults.{fault, fault_at};
-ghost use Rattle.sparse_products.specs.Answers.{by_offsets, checked_sparse_product_of, row_lengths_of, sparse_product_of};
+ghost use Rattle.sparse_products.specs.Answers.{checked_sparse_product_of, row_lengths_of};
+ghost use Rattle.sparse_products.specs.Answers.{sparse_product_by_offsets_of, sparse_product_of};
 
 /// A row without entries has 0; a sum wraps, or is at fault; of several faults the first is told; offsets are lengths.
 pub fn product_values()
@@ -29,6 +30,6 @@ pub fn product_values()
     ensures offsets { row_lengths_of (pos 0 ∷ pos 2 ∷ pos 2 ∷ pos 4 ∷ []) ≡ Ok (pos 2 ∷ pos 0 ∷ pos 2 ∷ []) }
     ensures first_offset { row_lengths_of (pos 1 ∷ pos 0 ∷ []) ≡ Err (fault no.LengthMismatch) }
     ensures descending { row_lengths_of (pos 0 ∷ pos 3 ∷ pos 2 ∷ []) ≡ Err (fault_at no.NegativeLength 1) }
-    ensures last_offset { by_offsets (λ lengths. sparse_product_of lengths (pos 0 ∷ []) (pos 1 ∷ []) (pos 1 ∷ []))
-        (pos 0 ∷ pos 2 ∷ []) ≡ Err (fault no.LengthMismatch) }
+    ensures last_offset { sparse_product_by_offsets_of (pos 0 ∷ pos 2 ∷ []) (pos 0 ∷ []) (pos 1 ∷ []) (pos 1 ∷ [])
+        ≡ Err (fault no.LengthMismatch) }
 {}
