@@ -16,6 +16,7 @@ sys.path[:0] = [str(TOP / "bindings"), str(TOP / "bindings/generator")]
 
 import in_notebook
 import in_site
+import reference
 
 # the pages for users by what a reader wants; all others stand at the end
 SHELVES = {
@@ -54,9 +55,32 @@ def _without_last_lines(text):
     return "\n".join(lines)
 
 
+LINK = re.compile(r"(!?\[[^]]*\]\([^)]*\))")
+
+
+@functools.lru_cache
+def _calls():
+    """The name of each call, under which its page is found, as pages have it: in a script, and in C."""
+    names = [name for _, _, found in (*reference.of_scripts(), *reference.beside()) for entry in found for name in entry.calls]
+    return {**{name: f"{{call}}`{name}`" for name in names if "_" in name}, **{f"cvl_{name}": f"{{call}}`cvl_{name} <{name}>`" for name in names}}
+
+
+def _with_calls(text):
+    """A page on which each name of a call leads to it: in prose and tables, but in no heading, link or block of code."""
+    lines, inside = [], False
+    for line in text.split("\n"):
+        inside ^= line.startswith("```")
+        if not inside and not line.startswith(("#", "    ", "```")):
+            parts = LINK.split(line)
+            parts[::2] = (re.sub(r"(?<![`}])`(\w+)`(?!`)", lambda found: _calls().get(found[1], found[0]), part) for part in parts[::2])
+            line = "".join(parts)
+        lines.append(line)
+    return "\n".join(lines)
+
+
 def linked(text):
     """A page as it is on the site: calls have pages of their own, and examples stand beside the pages."""
-    text = _without_last_lines(text)
+    text = _with_calls(_without_last_lines(text))
     leads = in_site.leads()
     text = re.sub(r"\]\(calls\.md#([\w-]+)\)", lambda found: f"]({leads[found[1]]})" if found[1] in leads else found[0], text)
     text = re.sub(r"\[([^]]*)\]\(\.\./\.\./examples/?\)", r"\1", text)
