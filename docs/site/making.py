@@ -14,6 +14,7 @@ TOP = HERE.parent.parent
 USER, EXAMPLES = TOP / "docs/user", TOP / "examples"
 sys.path[:0] = [str(TOP / "bindings"), str(TOP / "bindings/generator")]
 
+import about
 import in_notebook
 import in_site
 import reference
@@ -62,7 +63,9 @@ LINK = re.compile(r"(!?\[[^]]*\]\([^)]*\))")
 def _calls():
     """The name of each call, under which its page is found, as pages have it: in a script, and in C."""
     names = [name for _, _, found in (*reference.of_scripts(), *reference.beside()) for entry in found for name in entry.calls]
-    return {**{name: f"{{call}}`{name}`" for name in names if "_" in name}, **{f"cvl_{name}": f"{{call}}`cvl_{name} <{name}>`" for name in names}}
+    others = [name.removeprefix("cvl_") for found in (about.OF_VERSIONS, about.OF_FLAGS, about.OF_THREADS, about.OF_DESCRIPTORS) for name, *_ in found]
+    in_c = {f"cvl_{name}": f"{{call}}`cvl_{name} <{name}>`" for name in (*names, *others)}
+    return {**{name: f"{{call}}`{name}`" for name in names if "_" in name}, **in_c}
 
 
 def _with_calls(text):
