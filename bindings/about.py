@@ -95,8 +95,7 @@ THREADS = (
     "A program starts with one thread for calls, the one that calls. If cvl_set_threads or the variable CVL_NUM_THREADS asks for more, for the whole "
     "process, long calls run on them: from 262144 elements on, from 131072 bytes of a text that is read, and from 32768 elements whose text is written. "
     "These calls stay on the calling thread: those that read one element, read a nested text or a text behind another, scan after a carry, add up "
-    "exactly, make a range of a permute or of first senders, combine or count without segments, sort, gather or append segments, merge without segments, transpose, or look for the "
-    "first true flag. Results and faults are the same for any number of threads. On several a call may copy its buffer; if there is no memory for that, it "
+    "exactly, make a range of another call, sort without segments, transpose, or look for one true flag. Results and faults are the same for any number of threads. On several a call may copy its buffer; if there is no memory for that, it "
     "runs on the calling thread.",
     "One call at a time has the threads. Another call meanwhile runs on its own thread, and so does one during cvl_set_threads: no call waits for another, "
     "or for that function. A call in parts on a pool of yours (cvl_parallel.h) uses only the threads of that pool.",

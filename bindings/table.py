@@ -65,6 +65,8 @@ CUTS = {
     "whole": "not cut",
     "ranges": "the result is cut; each part reads all indices",
     "senders": "the result is cut; each part reads all indices",
+    "combine": "the room is cut; each part reads all indices",
+    "merge": "cut at places; each part goes on in both vectors behind those that the flags before it take",
     "replace": "the copy is cut at places",
     "lengths": "the lengths are cut; the parts' totals are added",
     "seg_scan": "cut inside segments; each part goes on from what stands before it in its segment",
@@ -177,12 +179,13 @@ OF_FAMILIES = {
         "No script calls these. Keys are signed integers, and equal ones keep the order of their places (a stable sort). An order and a rank are inverse "
         "permutations; by either of them other vectors follow their keys. For descending order use CVL_NOT on the keys before a call, and on the result of "
         "a sort; equal keys still keep their order. A sort may be in place.",
-        "These calls run on the calling thread. An order and a rank take up to 16 bytes a key while they run, a sort up to 4 (by segments, for the keys of "
+        "Without segments these calls run on the calling thread. An order and a rank take up to 16 bytes a key while they run, a sort up to 4 (by segments, for the keys of "
         "the longest one), and all up to 8192 bytes more. If that is refused, the status is 100 NoResources.",
     ),
     "slices and merges": (
         "No script calls these. They move runs of elements while a back permute moves single elements, or give one value of each segment that no "
-        "operator joins. None asks for memory, but for booleans that are neither 0 nor 1, and each runs on the calling thread.",
+        "operator joins. None asks for memory, but for booleans that are neither 0 nor 1, and on several threads for a copy of the buffer. A search for one "
+        "true flag runs on the calling thread.",
         "The faults by the lengths come first, as at the other calls on segments, then 7 LengthMismatch, without a place, if the lengths of "
         "arrays do not fit.",
     ),
@@ -412,6 +415,9 @@ RANGE_FAULTS = (
     Fault((13,), f"13 TooLong, by the index, and if the range ends behind place {MOST_ELEMENTS}", False),
     Fault((7,), "7 LengthMismatch if source and index differ in length, or marks_len is not (out_len + 31) / 32. After a fault all buffers are as they were", False),
 )
+COMBINE_RANGE_FAULTS = (
+    Fault((13,), f"13 TooLong, by the index, and where the range ends behind place {MOST_ELEMENTS}", False), NOT_AS_MANY,
+)
 
 FAMILIES = (
     # ---- place by place ----
@@ -639,7 +645,7 @@ FAMILIES = (
         ("combine_permute_int", "combine_permute_bool"), "combining permutes", lambda kind: (items(kind, "source"), ints("index"), over(kind)),
         lambda kind: f"At each place of out what stands there, joined by the operator, of {first_to_last(joining(kind))}, with each {word(kind)} whose index "
         "names the place. out may have any number of places.",
-        operators=joining, faults=(LONG_ROOM, NOT_AS_MANY, BAD_NAMED), cut=("whole", None),
+        operators=joining, faults=(LONG_ROOM, NOT_AS_MANY, BAD_NAMED), cut=("combine", "n"),
         example=lambda kind: {
             "ints": {"op": "ADD", "source": "5 6 7 8", "index": "2 0 2 1", "out_before": "100 200 300", "out": "106 208 312"},
             "flags": {"op": "XOR", "source": "true true true", "index": "2 0 2", "out_before": "false false true", "out": "true false true"},
@@ -648,7 +654,7 @@ FAMILIES = (
     family(
         "counts", "combining permutes", (ints("index"), room("ints", "m")),
         "For each place of the result how many indices name it. The result may have any number of places.",
-        faults=(LONG_ROOM, BAD_NAMED), cut=("whole", None), example={"index": "2 0 2 3", "out": "1 0 2 1"},
+        faults=(LONG_ROOM, BAD_NAMED), cut=("combine", "n"), example={"index": "2 0 2 3", "out": "1 0 2 1"},
     ),
     *twins(
         ("seg_combine_permute_int", "seg_combine_permute_bool"), "combining permutes",
@@ -692,18 +698,18 @@ FAMILIES = (
     family(
         "seg_order", "orders, ranks and sorts", (ints("keys"), lengths(), room("ints")),
         "The order of the keys of each segment, whose places count from the start of the segment.",
-        faults=(TOO_LONG, SUM_OF_N), asks=True, cut=("whole", None), shape="keys and out have n elements.",
+        faults=(TOO_LONG, SUM_OF_N), asks=True, cut=("segments", "n"), shape="keys and out have n elements.",
         example={"keys": "3 1 9 2 7", "lengths": "2 0 3", "out": "1 0 1 2 0"},
     ),
     family(
         "seg_rank", "orders, ranks and sorts", (ints("keys"), lengths(), room("ints")),
         "The rank of each key in its segment.",
-        faults=(TOO_LONG, SUM_OF_N), asks=True, cut=("whole", None), shape="keys and out have n elements.",
+        faults=(TOO_LONG, SUM_OF_N), asks=True, cut=("segments", "n"), shape="keys and out have n elements.",
         example={"keys": "3 1 9 2 7", "lengths": "2 0 3", "out": "1 0 2 0 1"},
     ),
     family(
         "seg_sort", "orders, ranks and sorts", (ints("keys"), lengths(), room("ints")), "The keys of each segment in ascending order.",
-        in_place=(("keys",),), faults=(TOO_LONG, SUM_OF_N), asks=True, cut=("whole", None), shape="keys and out have n elements.",
+        in_place=(("keys",),), faults=(TOO_LONG, SUM_OF_N), asks=True, cut=("segments", "n"), shape="keys and out have n elements.",
         example={"keys": "3 1 9 2 7", "lengths": "2 0 3", "out": "1 3 2 7 9"},
     ),
     # ---- slices and merges ----
@@ -712,7 +718,7 @@ FAMILIES = (
         lambda kind: (items(kind, "source"), ints("starts", "segments"), lengths(extent="total"), room(kind, "total")),
         "For each segment the elements of the source from the place `starts` on, as many as the segment is long, one segment behind another. The slices may "
         "overlap, come in any order and be empty; an empty one may start where the source ends.",
-        limit="segments", faults=(BAD_SLICE,), shape="There is one start for each segment; out has the total of the lengths.",
+        limit="segments", faults=(BAD_SLICE,), cut=("segments", "total"), shape="There is one start for each segment; out has the total of the lengths.",
         example=lambda kind: {
             "ints": {"source": "10 20 30 40", "starts": "2 4 1", "lengths": "2 0 3", "out": "30 40 20 30 40"},
             "flags": {"source": "true false false", "starts": "1 0", "lengths": "1 2", "out": "false true false"},
@@ -722,7 +728,7 @@ FAMILIES = (
         ("append_segments_int", "append_segments_bool"), "slices and merges",
         lambda kind: (items(kind, "a"), items(kind, "b", "m"), lengths(), lengths("other_lengths", "m"), room(kind, "both")),
         "The segments of a, each followed by the segment of b that has its number.",
-        limit=None, faults=(SUMS_OF_BOTH,), shape="a has n elements in segments with the lengths, b has m in as many segments with the other lengths, and out "
+        limit=None, faults=(SUMS_OF_BOTH,), cut=("segments", "n"), shape="a has n elements in segments with the lengths, b has m in as many segments with the other lengths, and out "
         "n + m.",
         example=lambda kind: {
             "ints": {"a": "1 2 3", "b": "7 8 9", "lengths": "2 0 1", "other_lengths": "1 2 0", "out": "1 2 7 8 9 3"},
@@ -733,7 +739,7 @@ FAMILIES = (
         ("merge_by_flags_int", "merge_by_flags_bool"), "slices and merges",
         lambda kind: (copied("flags"), items(kind, "when_true", "trues"), items(kind, "when_false", "falses"), room(kind)),
         "At each place the next element of when_true if the flag is true, and of when_false if it is false: the inverse of two packs.",
-        faults=(TOO_LONG, NO_SIDES), shape="flags and out have n elements, when_true as many as there are true flags, and when_false the others.",
+        faults=(TOO_LONG, NO_SIDES), cut=("merge", "n"), shape="flags and out have n elements, when_true as many as there are true flags, and when_false the others.",
         example=lambda kind: {
             "ints": {"flags": "true false false true", "when_true": "1 2", "when_false": "7 8", "out": "1 7 8 2"},
             "flags": {"flags": "false true true", "when_true": "true false", "when_false": "true", "out": "true true false"},
@@ -768,13 +774,13 @@ FAMILIES = (
     family(
         "seg_first_true", "slices and merges", (copied("flags"), lengths(), room("ints", "segments")),
         "For each segment the place of its first true flag, counted from the start of the segment, or -1 if none is true.",
-        limit=None, faults=(SUM_OF_N,), shape="flags has n elements, out one for each segment.",
+        limit=None, faults=(SUM_OF_N,), cut=("segments", "n"), shape="flags has n elements, out one for each segment.",
         example={"flags": "false true false false true", "lengths": "2 1 0 2", "out": "1 -1 -1 1"},
     ),
     family(
         "seg_exact_sums", "slices and merges", (ints("a"), lengths(), room("sums", "segments")),
-        "The sum of each segment in 64 bits, which always fits.", limit=None, faults=(SUM_OF_N,), shape="a has n elements, out one for each segment.",
-        example={"a": "2147483647 1 5", "lengths": "2 0 1", "out": "2147483648 0 5"},
+        "The sum of each segment in 64 bits, which always fits.", limit=None, faults=(SUM_OF_N,), cut=("segments", "n"),
+        shape="a has n elements, out one for each segment.", example={"a": "2147483647 1 5", "lengths": "2 0 1", "out": "2147483648 0 5"},
     ),
     # ---- transposes, and integers of a byte ----
     *twins(
@@ -926,6 +932,26 @@ FAMILIES = (
         "The same among the places whose flag is true: if all parts together named as many as flags are true, the ranges are the first senders.",
         faults=(Fault((13, 7), "those of cvl_first_senders_range; 7 LengthMismatch if index and flags differ in length", False),),
         example={"index": "2 0 2 9", "flags": "false true true false", "lowest": "1", "out_len": "2", "out": "-1 2", "named": "1"},
+    ),
+    *twins(
+        ("combine_permute_int_range", "combine_permute_bool_range"), "calls in parts",
+        lambda kind: (items(kind, "source"), ints("index"), value("lowest", "size"), over(kind, "range"), told("named")),
+        lambda kind: f"One range of a combining permute of {word(kind)}s, by the operator, of {first_to_last(joining(kind))}: the out_len places of the room "
+        "from place `lowest` on. What stands at each of them is joined with the elements whose index names it. named is how many indices name a place of the "
+        "range. Each part has another range, and all of source and index. Where all parts together named index_len, the ranges, one after another, are the "
+        "combining permute. Else an index is out of range: cvl_combine_permute_int tells which.",
+        operators=joining, faults=COMBINE_RANGE_FAULTS,
+        example=lambda kind: {
+            "ints": {"op": "ADD", "source": "5 6 7 8", "index": "2 0 2 1", "lowest": "1", "out_len": "2", "out_before": "200 300", "out": "208 312", "named": "3"},
+            "flags": {
+                "op": "XOR", "source": "true true true", "index": "2 0 2", "lowest": "2", "out_len": "1", "out_before": "true", "out": "true", "named": "2",
+            },
+        }[kind],
+    ),
+    family(
+        "counts_range", "calls in parts", (ints("index"), value("lowest", "size"), room("ints", "range"), told("named")),
+        "One range of the counts by place: how many indices name each of the out_len places from place `lowest` on, and as named how many name one of them.",
+        faults=(COMBINE_RANGE_FAULTS[0],), example={"index": "2 0 2 3", "lowest": "1", "out_len": "2", "out": "0 2", "named": "2"},
     ),
     family(
         "read_ints_after", "calls in parts", (value("before", "size"), text("text"), room("ints", "room"), told()),

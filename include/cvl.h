@@ -174,10 +174,9 @@ const char *cvl_fault_name(uint32_t number);
  * A program starts with one thread for calls, the one that calls. If cvl_set_threads or the variable CVL_NUM_THREADS asks for
  * more, for the whole process, long calls run on them: from 262144 elements on, from 131072 bytes of a text that is read, and
  * from 32768 elements whose text is written. These calls stay on the calling thread: those that read one element, read a nested
- * text or a text behind another, scan after a carry, add up exactly, make a range of a permute or of first senders, combine or
- * count without segments, sort, gather or append segments, merge without segments, transpose, or look for the first true flag.
- * Results and faults are the same for any number of threads. On several a call may copy its buffer; if there is no memory for
- * that, it runs on the calling thread.
+ * text or a text behind another, scan after a carry, add up exactly, make a range of another call, sort without segments,
+ * transpose, or look for one true flag. Results and faults are the same for any number of threads. On several a call may copy
+ * its buffer; if there is no memory for that, it runs on the calling thread.
  *
  * One call at a time has the threads. Another call meanwhile runs on its own thread, and so does one during cvl_set_threads: no
  * call waits for another, or for that function. A call in parts on a pool of yours (cvl_parallel.h) uses only the threads of
@@ -579,8 +578,9 @@ CVL_CHECKED CvlStatus cvl_seg_counts(const int32_t *index, size_t index_len, Cvl
  * a rank are inverse permutations; by either of them other vectors follow their keys. For descending order use CVL_NOT on the
  * keys before a call, and on the result of a sort; equal keys still keep their order. A sort may be in place.
  *
- * These calls run on the calling thread. An order and a rank take up to 16 bytes a key while they run, a sort up to 4 (by
- * segments, for the keys of the longest one), and all up to 8192 bytes more. If that is refused, the status is 100 NoResources.
+ * Without segments these calls run on the calling thread. An order and a rank take up to 16 bytes a key while they run, a sort
+ * up to 4 (by segments, for the keys of the longest one), and all up to 8192 bytes more. If that is refused, the status is 100
+ * NoResources.
  */
 
 /*
@@ -631,8 +631,8 @@ CVL_CHECKED CvlStatus cvl_seg_sort(const int32_t *keys, size_t keys_len, CvlLeng
 
 /*
  * No script calls these. They move runs of elements while a back permute moves single elements, or give one value of each
- * segment that no operator joins. None asks for memory, but for booleans that are neither 0 nor 1, and each runs on the calling
- * thread.
+ * segment that no operator joins. None asks for memory, but for booleans that are neither 0 nor 1, and on several threads for a
+ * copy of the buffer. A search for one true flag runs on the calling thread.
  *
  * The faults by the lengths come first, as at the other calls on segments, then 7 LengthMismatch, without a place, if the
  * lengths of arrays do not fit.
@@ -947,6 +947,41 @@ CVL_CHECKED CvlStatus cvl_first_senders_range(const int32_t *index, size_t index
  */
 CVL_CHECKED CvlStatus cvl_select_first_senders_range(const int32_t *index, size_t index_len, const bool *flags,
     size_t flags_len, size_t lowest, int32_t *out, size_t out_len, size_t *named);
+
+/*
+ * cvl_combine_permute_int_range: One range of a combining permute of integers, by the operator, of CVL_ADD to CVL_XOR: the
+ * out_len places of the room from place `lowest` on. What stands at each of them is joined with the elements whose index names
+ * it. named is how many indices name a place of the range. Each part has another range, and all of source and index. Where all
+ * parts together named index_len, the ranges, one after another, are the combining permute. Else an index is out of range:
+ * cvl_combine_permute_int tells which.
+ * Faults: 13 TooLong, by the index, and where the range ends behind place 2147483647; 7 LengthMismatch if source and index
+ * differ in length.
+ * op = CVL_ADD, source = 5 6 7 8, index = 2 0 2 1, lowest = 1, out_len = 2, out = 200 300: out = 208 312, named = 3
+ */
+CVL_CHECKED CvlStatus cvl_combine_permute_int_range(uint32_t op, const int32_t *source, size_t source_len, const int32_t *index,
+    size_t index_len, size_t lowest, int32_t *out, size_t out_len, size_t *named);
+
+/*
+ * cvl_combine_permute_bool_range: One range of a combining permute of booleans, by the operator, of CVL_AND to CVL_XOR: the
+ * out_len places of the room from place `lowest` on. What stands at each of them is joined with the elements whose index names
+ * it. named is how many indices name a place of the range. Each part has another range, and all of source and index. Where all
+ * parts together named index_len, the ranges, one after another, are the combining permute. Else an index is out of range:
+ * cvl_combine_permute_int tells which.
+ * Faults: 13 TooLong, by the index, and where the range ends behind place 2147483647; 7 LengthMismatch if source and index
+ * differ in length.
+ * op = CVL_XOR, source = true true true, index = 2 0 2, lowest = 2, out_len = 1, out = true: out = true, named = 2
+ */
+CVL_CHECKED CvlStatus cvl_combine_permute_bool_range(uint32_t op, const bool *source, size_t source_len, const int32_t *index,
+    size_t index_len, size_t lowest, bool *out, size_t out_len, size_t *named);
+
+/*
+ * cvl_counts_range: One range of the counts by place: how many indices name each of the out_len places from place `lowest` on,
+ * and as named how many name one of them.
+ * Faults: 13 TooLong, by the index, and where the range ends behind place 2147483647.
+ * index = 2 0 2 3, lowest = 1, out_len = 2: out = 0 2, named = 2
+ */
+CVL_CHECKED CvlStatus cvl_counts_range(const int32_t *index, size_t index_len, size_t lowest, int32_t *out, size_t out_len,
+    size_t *named);
 
 /*
  * cvl_read_ints_after: The integers of one piece of a text that is cut at white space, as cvl_read_ints reads them. `before` is

@@ -322,15 +322,15 @@ CVL_CHECKED CvlStatus cvl_seg_first_senders_on(const CvlPool *pool, const int32_
 CVL_CHECKED CvlStatus cvl_seg_select_first_senders_on(const CvlPool *pool, const int32_t *index, size_t index_len,
     const bool *flags, size_t flags_len, CvlLengths lengths, CvlLengths result_lengths, int32_t *out, size_t out_len);
 
-/* cvl_combine_permute_int in parts: not cut. */
+/* cvl_combine_permute_int in parts: the room is cut; each part reads all indices. */
 CVL_CHECKED CvlStatus cvl_combine_permute_int_on(const CvlPool *pool, uint32_t op, const int32_t *source, size_t source_len,
     const int32_t *index, size_t index_len, int32_t *out, size_t out_len);
 
-/* cvl_combine_permute_bool in parts: not cut. */
+/* cvl_combine_permute_bool in parts: the room is cut; each part reads all indices. */
 CVL_CHECKED CvlStatus cvl_combine_permute_bool_on(const CvlPool *pool, uint32_t op, const bool *source, size_t source_len,
     const int32_t *index, size_t index_len, bool *out, size_t out_len);
 
-/* cvl_counts in parts: not cut. */
+/* cvl_counts in parts: the room is cut; each part reads all indices. */
 CVL_CHECKED CvlStatus cvl_counts_on(const CvlPool *pool, const int32_t *index, size_t index_len, int32_t *out, size_t out_len);
 
 /* cvl_seg_combine_permute_int in parts: cut between segments. */
@@ -354,17 +354,47 @@ CVL_CHECKED CvlStatus cvl_rank_on(const CvlPool *pool, const int32_t *keys, size
 /* cvl_sort in parts: not cut. */
 CVL_CHECKED CvlStatus cvl_sort_on(const CvlPool *pool, const int32_t *keys, size_t keys_len, int32_t *out, size_t out_len);
 
-/* cvl_seg_order in parts: not cut. */
+/* cvl_seg_order in parts: cut between segments. */
 CVL_CHECKED CvlStatus cvl_seg_order_on(const CvlPool *pool, const int32_t *keys, size_t keys_len, CvlLengths lengths,
     int32_t *out, size_t out_len);
 
-/* cvl_seg_rank in parts: not cut. */
+/* cvl_seg_rank in parts: cut between segments. */
 CVL_CHECKED CvlStatus cvl_seg_rank_on(const CvlPool *pool, const int32_t *keys, size_t keys_len, CvlLengths lengths,
     int32_t *out, size_t out_len);
 
-/* cvl_seg_sort in parts: not cut. */
+/* cvl_seg_sort in parts: cut between segments. */
 CVL_CHECKED CvlStatus cvl_seg_sort_on(const CvlPool *pool, const int32_t *keys, size_t keys_len, CvlLengths lengths,
     int32_t *out, size_t out_len);
+
+/* cvl_gather_segments_int in parts: cut between segments. */
+CVL_CHECKED CvlStatus cvl_gather_segments_int_on(const CvlPool *pool, const int32_t *source, size_t source_len,
+    const int32_t *starts, size_t starts_len, CvlLengths lengths, int32_t *out, size_t out_len);
+
+/* cvl_gather_segments_bool in parts: cut between segments. */
+CVL_CHECKED CvlStatus cvl_gather_segments_bool_on(const CvlPool *pool, const bool *source, size_t source_len,
+    const int32_t *starts, size_t starts_len, CvlLengths lengths, bool *out, size_t out_len);
+
+/* cvl_append_segments_int in parts: cut between segments. */
+CVL_CHECKED CvlStatus cvl_append_segments_int_on(const CvlPool *pool, const int32_t *a, size_t a_len, const int32_t *b,
+    size_t b_len, CvlLengths lengths, CvlLengths other_lengths, int32_t *out, size_t out_len);
+
+/* cvl_append_segments_bool in parts: cut between segments. */
+CVL_CHECKED CvlStatus cvl_append_segments_bool_on(const CvlPool *pool, const bool *a, size_t a_len, const bool *b, size_t b_len,
+    CvlLengths lengths, CvlLengths other_lengths, bool *out, size_t out_len);
+
+/*
+ * cvl_merge_by_flags_int in parts: cut at places; each part goes on in both vectors behind those that the flags before it take.
+ */
+CVL_CHECKED CvlStatus cvl_merge_by_flags_int_on(const CvlPool *pool, const bool *flags, size_t flags_len,
+    const int32_t *when_true, size_t when_true_len, const int32_t *when_false, size_t when_false_len, int32_t *out,
+    size_t out_len);
+
+/*
+ * cvl_merge_by_flags_bool in parts: cut at places; each part goes on in both vectors behind those that the flags before it
+ * take.
+ */
+CVL_CHECKED CvlStatus cvl_merge_by_flags_bool_on(const CvlPool *pool, const bool *flags, size_t flags_len,
+    const bool *when_true, size_t when_true_len, const bool *when_false, size_t when_false_len, bool *out, size_t out_len);
 
 /* cvl_seg_merge_by_flags_int in parts: cut between segments. */
 CVL_CHECKED CvlStatus cvl_seg_merge_by_flags_int_on(const CvlPool *pool, const bool *flags, size_t flags_len,
@@ -375,6 +405,14 @@ CVL_CHECKED CvlStatus cvl_seg_merge_by_flags_int_on(const CvlPool *pool, const b
 CVL_CHECKED CvlStatus cvl_seg_merge_by_flags_bool_on(const CvlPool *pool, const bool *flags, size_t flags_len,
     const bool *when_true, size_t when_true_len, const bool *when_false, size_t when_false_len, CvlLengths lengths,
     CvlLengths true_lengths, CvlLengths false_lengths, bool *out, size_t out_len);
+
+/* cvl_seg_first_true in parts: cut between segments. */
+CVL_CHECKED CvlStatus cvl_seg_first_true_on(const CvlPool *pool, const bool *flags, size_t flags_len, CvlLengths lengths,
+    int32_t *out, size_t out_len);
+
+/* cvl_seg_exact_sums in parts: cut between segments. */
+CVL_CHECKED CvlStatus cvl_seg_exact_sums_on(const CvlPool *pool, const int32_t *a, size_t a_len, CvlLengths lengths,
+    int64_t *out, size_t out_len);
 
 /* cvl_ints_from_bytes in parts: cut at places. */
 CVL_CHECKED CvlStatus cvl_ints_from_bytes_on(const CvlPool *pool, const uint8_t *bytes, size_t bytes_len, int32_t *out,

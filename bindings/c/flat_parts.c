@@ -204,6 +204,18 @@ static CvlStatus pack_part(CvlWork *w, size_t k) {
     return cvl_proved_pack_int(CVL_INTS(w, CVL_AS_A, from), n, CVL_BOOLS(w, CVL_AS_FLAGS, from), n, CVL_INT_ROOM(w, to), kept, &w->counts[k]);
 }
 
+/* The flags before a part say how many elements of either vector are taken before it. */
+bool cvl_merge_in_parts(const CvlPool *pool, CvlWork *w) {
+    w->other[0] = 0;
+    if (!count_parts(pool, w)) return 0;
+    /*@ loop invariant 0 <= k && w->parts == \at(w->parts, Pre);
+        loop assigns k, w->third[0 .. CVL_MOST_PARTS]; */
+    for (size_t k = 0; k <= w->parts; k++) w->third[k] = w->from[k] - w->other[k];
+    w->told = cvl_done();
+    if (w->other[w->parts] != w->in[CVL_AS_A].number || w->third[w->parts] != w->in[CVL_AS_B].number) return 0;
+    return cvl_make_all(pool, w) && cvl_step(pool, w, CVL_WRITES, cvl_make_part);
+}
+
 /* A pack of segments keeps what a pack of the whole keeps, once the lengths are those of the vector. */
 bool cvl_pack_in_parts(const CvlPool *pool, CvlWork *w) {
     w->other[0] = 0;

@@ -168,6 +168,12 @@ CVL_HIDDEN bool cvl_ranges_in_parts(const CvlPool *pool, CvlWork *w);
 /*@ assigns *w, rooms, kept, made;
     ensures !\result ==> rooms == \old(rooms); */
 CVL_HIDDEN bool cvl_senders_in_parts(const CvlPool *pool, CvlWork *w);
+/*@ requires 0 < w->parts <= CVL_MOST_PARTS;
+    assigns *w, rooms, made; */
+CVL_HIDDEN bool cvl_combine_in_parts(const CvlPool *pool, CvlWork *w);
+/*@ requires w->parts <= CVL_MOST_PARTS;
+    assigns *w, rooms, made; */
+CVL_HIDDEN bool cvl_merge_in_parts(const CvlPool *pool, CvlWork *w);
 /*@ requires w->parts <= CVL_MOST_PARTS;
     assigns *w, rooms, kept, made;
     ensures !\result ==> rooms == \old(rooms); */

@@ -233,13 +233,25 @@ static bool cut_by(const CvlPool *pool, CvlWork *w, CvlBy by, CvlStepPart counts
     return from[w->parts] == len && len <= CVL_MOST_ELEMENTS;
 }
 
-/* The same of a second vector, and of a third one. */
+/* Where each part's segments stand in a room that has those of two vectors, whose length is known. */
+/*@ requires w->parts <= CVL_MOST_PARTS;
+    assigns *w;
+    ensures w->parts == \old(w->parts); */
+static bool cut_both(CvlWork *w) {
+    const size_t len = w->in[CVL_AS_OUT].number;
+    /*@ loop invariant 0 <= k && w->parts == \at(w->parts, Pre);
+        loop assigns k, w->third[0 .. CVL_MOST_PARTS]; */
+    for (size_t k = 0; k <= w->parts; k++) w->third[k] = w->start[k] + w->other[k];
+    return w->third[w->parts] == len && len <= CVL_MOST_ELEMENTS;
+}
+
+/* Where each part's segments stand in the second vector and the third one of a call that has some. */
 /*@ requires w->parts <= CVL_MOST_PARTS;
     assigns *w, rooms;
     ensures rooms == \old(rooms); */
 static bool cut_others(const CvlPool *pool, CvlWork *w) {
-    return cut_by(pool, w, CVL_BY_OTHER, w->row->is & CVL_BY_TRUES ? flags_of_part : lengths_of_part) &&
-        cut_by(pool, w, CVL_BY_THIRD, third_lengths_of_part);
+    if (!cut_by(pool, w, CVL_BY_OTHER, w->row->is & CVL_BY_TRUES ? flags_of_part : lengths_of_part)) return 0;
+    return w->row->is & CVL_APPENDS ? cut_both(w) : cut_by(pool, w, CVL_BY_THIRD, third_lengths_of_part);
 }
 
 bool cvl_segments_in_parts(const CvlPool *pool, CvlWork *w) {

@@ -37,6 +37,11 @@ class Direct(packages.Call):
         return EXAMPLES.get(self.name) or super().example
 
     @property
+    def over(self):
+        """The rooms that hold what stands before; that of a range is an operand."""
+        return [] if self.is_range else super().over
+
+    @property
     def fills(self):
         return super().fills and self.gives not in ("TEXT", "READ_NESTED", "WRITTEN")
 

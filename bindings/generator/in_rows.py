@@ -109,13 +109,15 @@ class Family:
         operand = self.operands[k]
         if self.cut == "places":
             return "FROM" if operand.extent == self.extent or operand.role == "count" or operand.name == "init" else "NONE"
+        if self.cut == "merge":
+            return {"n": "FROM", "trues": "OTHER", "falses": "THIRD"}[operand.extent]
         if self.cut != "segments" or operand.role not in ("reads", "lengths", "room"):
             return "NONE"
         if operand.role == "lengths" or operand.extent == "segments":
             return "FIRST"
         if operand.extent == self.extent:
             return "START"
-        if operand.extent == "falses":
+        if operand.extent in ("falses", "both"):
             return "THIRD"
         return "OTHER" if operand.extent == "trues" or any(self.operands[j].extent == operand.extent for j in self.lengths) else "NONE"
 

@@ -117,7 +117,8 @@ def _example(function):
 def _example_of_range(function):
     example, rooms = function.row.example, function.row.rooms
     zeros = ["false" if room.kind == "flags" else "0" for room in rooms]
-    arrays = [f"[{zero}; {len(example[room.name].split())}]" for room, zero in zip(rooms, zeros)]
+    held = [", ".join(example[table.before(room.name)].split()) if room.over else None for room in rooms]
+    arrays = [f"[{before or f'{zero}; {len(example[room.name].split())}'}]" for room, zero, before in zip(rooms, zeros, held)]
     found = [f"[{', '.join(example[room.name].split())}]" for room in rooms]
     several = len(rooms) > 1
     yield f"let {_tuple([f'mut {room.name}' for room in rooms], several)} = {_tuple(arrays, several)};"

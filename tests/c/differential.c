@@ -277,7 +277,7 @@ static void fill_row_offsets(int32_t *offsets, size_t count, size_t entries) {
 /* The indices of first senders or combining permutes, most times each a place of its segment of the result; those whose flag is false are no
  * places. */
 static void fill_senders(const Row *row, Given *g) {
-    const bool selects = kind_of(row, 1) == FLAG, combines = row->model == COMBINE_PERMUTE || row->model == SEG_COMBINE_PERMUTE;
+    const bool selects = kind_of(row, 1) == FLAG, combines = row->model == COMBINE_PERMUTE || row->model == SEG_COMBINE_PERMUTE || row->model == COMBINE_PERMUTE_RANGE;
     const size_t out = operand(row, WRITES), many = g->len[combines];
     int32_t *index = (int32_t *)g->at[combines];
     if (has_negative(g, row)) return;

@@ -81,14 +81,15 @@ static size_t memory_of(const Row *row, const char *call) {
 }
 
 /* Whether a call in parts keeps what stood in its room. */
-static bool keeps_room(const char *call) {
+static bool keeps_room(const Row *row, const char *call) {
+    if (strstr(row->name, "exact_sums") != NULL) return true;
     if (!by_segments(call)) return begins(call, "fst") || (call[4] == 'p' && !begins(call, "bck"));
-    return call[4] == 'p' || begins(call, "ext") || begins(call, "rep") || begins(call, "prd") || begins(call, "fst") || begins(call, "cmb") || begins(call, "mrg") ||
-        begins(call, "nmd");
+    return call[4] == 'p' || begins(call, "ext") || begins(call, "rep") || begins(call, "prd") || begins(call, "fst") || begins(call, "cmb") ||
+        begins(call, "nmd") || begins(call, "mrg") || begins(call, "gth") || begins(call, "app") || begins(call, "ftr") || orders(call);
 }
 
 /* A room for elements, and not for a text, for marks or for a number. */
-static bool is_room_for_elements(Holds holds) { return holds >= ROOM_FOR_INTS && holds <= ROOM_FOR_SEGMENT_FLAGS; }
+static bool is_room_for_elements(Holds holds) { return holds >= ROOM_FOR_INTS && holds <= ROOM_FOR_SEGMENT_SUMS; }
 
 /*
  * How many bytes a call in parts asks for beside its parts: for a copy of its room, and a bit for each place of a permute; of a
@@ -100,7 +101,7 @@ static size_t memory_in_parts(const Row *row, const char *call) {
     const size_t in_brackets = by_segments(call) ? segments : 0;
     if (has(row, ROOM_FOR_TEXT)) return (is_bool(call) ? 2 : 12) * n + 3 * in_brackets + 2 * PARTS;
     if (has(row, TEXT)) return (text_length + PARTS) / 2 * sizeof(int32_t);
-    if (!keeps_room(call)) return 0;
+    if (!keeps_room(row, call)) return 0;
     if (has(row, OFFSETS)) return bytes_of(room) + sizeof(int32_t) * segments; /* the rows' lengths, too */
     if (!has_marks) return bytes_of(room);
     return (bytes_of(room) + 3) / 4 * 4 + sizeof(uint32_t) * (array_of(room).count / 32 + PARTS);
@@ -125,7 +126,7 @@ static void check(const Row *row, bool odd) {
     put_all(row, odd, p);
     asked = asked_by_parts = 0;
     const CvlStatus status = row->call(p);
-    const size_t needed = !is_known(row, odd) ? asked : in_parts(row) && !orders(call) ? memory_in_parts(row, call) : memory_of(row, call);
+    const size_t needed = !is_known(row, odd) ? asked : in_parts(row) && !(orders(call) && !by_segments(call)) ? memory_in_parts(row, call) : memory_of(row, call);
     if (status.number != CVL_DONE || status.place != -1) {
         fail(row, "another status", status.number, CVL_DONE);
         return;

@@ -120,9 +120,7 @@ static void variable(void) {
  */
 static bool is_cut(const char *name) {
     static const char *const whole[] = {
-        "cvl_ext_vuz", "cvl_ext_vub", "cvl_extract_int", "cvl_extract_bool", "cvl_seg_read_ints", "cvl_segments_free", "cvl_combine_permute_int",
-        "cvl_combine_permute_bool", "cvl_counts", "cvl_order", "cvl_rank", "cvl_sort", "cvl_seg_order", "cvl_seg_rank", "cvl_seg_sort",
-        "cvl_segments_order", "cvl_segments_rank", "cvl_segments_sort", "cvl_segments_first_true", "cvl_segments_exact_sums",
+        "cvl_ext_vuz", "cvl_ext_vub", "cvl_extract_int", "cvl_extract_bool", "cvl_seg_read_ints", "cvl_segments_free", "cvl_order", "cvl_rank", "cvl_sort",
     };
     char parts[64];
     for (size_t k = 0; k < sizeof whole / sizeof *whole; k++) {

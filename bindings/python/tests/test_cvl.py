@@ -710,7 +710,7 @@ class EachCall(Limited):
 
     def test_arrays_of_other_elements_are_refused(self):
         for name, example in self.examples.items():
-            others = (numpy.int64, numpy.uint8, float, ">i4")
+            others = (numpy.int64, numpy.int8, float, ">i4")
             for make in (*(lambda a, dtype=dtype: a.astype(dtype) for dtype in others), numpy.ndarray.tolist):
                 for changed, arguments in example.other_arguments(make):
                     with self.assertRaisesRegex(TypeError, f"^{changed} ", msg=name):
@@ -927,12 +927,54 @@ class Slices(Limited):
         self.assertEqual((cvl.first_true(marks), cvl.first_true(marks[2:4]), cvl.first_true(marks[:0])), (1, -1, -1))
         self.assertEqual(cvl.seg_first_true(marks, ints(2, 1, 0, 2)).tolist(), [1, -1, -1, 1])
 
+    def test_merges_of_segments(self):
+        values = numpy.arange(90, dtype=numpy.int32)
+        marks = values * values % 7 < 3
+        lengths = ints(20, 0, 60, 10)
+        kept, left = cvl.pck_fov(marks, lengths), cvl.pck_fov(~marks, lengths)
+        sides = values[marks], values[~marks]
+        self.assertEqual(cvl.seg_merge_by_flags_int(marks, *sides, lengths, kept, left).tolist(), values.tolist())
+        flagged = cvl.seg_merge_by_flags_bool(marks, sides[0] % 2 == 0, sides[1] % 2 == 0, lengths, kept, left)
+        self.assertEqual(flagged.tolist(), (values % 2 == 0).tolist())
+        with self.assertRaises(cvl.Fault) as caught:
+            cvl.seg_merge_by_flags_int(flags(True, False), ints(1), ints(2), ints(1, 1), ints(0, 1), ints(1, 0))
+        self.assertEqual((caught.exception.number, caught.exception.place), (7, 0))
+
+    def test_transposes(self):
+        matrix = numpy.arange(70 * 45, dtype=numpy.int32).reshape(70, 45)
+        self.assertEqual(cvl.transpose_int(numpy.ravel(matrix), 70, 45).tolist(), numpy.ravel(matrix.T).tolist())
+        self.assertEqual(cvl.transpose_bool(numpy.ravel(matrix % 3 == 1), 70, 45).tolist(), numpy.ravel(matrix.T % 3 == 1).tolist())
+        with self.assertRaisesRegex(OverflowError, "rows is -1, which does not fit a number of elements"):
+            cvl.transpose_int(ints(1), -1, -1)
+
+    def test_bytes(self):
+        every = bytes(range(256))
+        for given in (every, bytearray(every), memoryview(every), numpy.frombuffer(every, numpy.uint8)):
+            self.assertEqual(cvl.ints_from_bytes(given).tolist(), list(range(256)))
+        narrow = cvl.bytes_from_ints(numpy.arange(256, dtype=numpy.int32))
+        self.assertEqual((narrow.tobytes(), narrow.dtype), (every, numpy.uint8))
+        room = numpy.zeros(2, numpy.uint8)
+        self.assertIs(cvl.bytes_from_ints(ints(255, 0), out=room), room)
+        self.assertEqual(room.tolist(), [255, 0])
+        with self.assertRaises(cvl.Fault) as caught:
+            cvl.bytes_from_ints(ints(1, 256, -1), out=numpy.zeros(3, numpy.uint8))
+        self.assertEqual((caught.exception.number, caught.exception.place), (18, 1))
+        for given, said in (
+            (numpy.zeros(2, numpy.int8), r"bytes has elements of int8, and has to have uint8; bytes of another kind are bytes.view\(numpy.uint8\)"),
+            ("text", "bytes is no array but a str; write numpy.array"),
+        ):
+            with self.assertRaisesRegex(TypeError, said):
+                cvl.ints_from_bytes(given)
+
     def test_faults(self):
         source = ints(10, 20, 30)
         with self.assertRaisesRegex(cvl.Fault, r"starts\[1\] is 2"):
             cvl.gather_segments_int(source, ints(0, 2), ints(3, 2))
         for call, number, place in (
             (lambda: cvl.gather_segments_int(source, ints(0, 2), ints(3, 2)), 10, 1),
+            (lambda: cvl.transpose_int(source, 2, 2), 7, None),
+            (lambda: cvl.transpose_int(source, 3, 1, out=ints(1)), 7, None),
+            (lambda: cvl.seg_merge_by_flags_int(flags(True), ints(1), ints(), ints(2), ints(1), ints(0)), 7, None),
             (lambda: cvl.gather_segments_int(source, ints(-1, 2), ints(3, 2)), 10, 0),
             (lambda: cvl.gather_segments_int(source, ints(0), ints(3, 2)), 7, None),
             (lambda: cvl.gather_segments_int(source, ints(0, 0), ints(3, -1)), 12, 1),

@@ -622,3 +622,25 @@ fn sums_of_segments_fit_64_bits() {
     assert_eq!(cvl::seg_exact_sums(&[i32::MAX, i32::MAX, 5], &segments).unwrap(), [2 * i64::from(i32::MAX), 0, 5]);
     assert_eq!(told(cvl::seg_exact_sums(&[5], &segments).unwrap_err()), (7, None));
 }
+
+#[test]
+fn segments_are_merged_by_flags() {
+    let flags = [true, false, false, true, true];
+    let [lengths, kept, left] = [[2, 0, 3], [1, 0, 2], [1, 0, 1]].map(|lengths| Segments::new(&lengths).unwrap());
+    assert_eq!(cvl::seg_merge_by_flags_int(&flags, &[1, 2, 3], &[7, 8], &lengths, &kept, &left).unwrap(), [1, 7, 8, 2, 3]);
+    let [other, none] = [[2, 0, 1], [0, 0, 2]].map(|lengths| Segments::new(&lengths).unwrap());
+    let mut out = [5; 5];
+    let miscount = cvl::seg_merge_by_flags_int_into(&flags, &[1, 2, 3], &[7, 8], &lengths, &other, &none, &mut out).unwrap_err();
+    assert_eq!((told(miscount), out), ((7, Some(0)), [5; 5]));
+}
+
+#[test]
+fn a_matrix_is_transposed_and_bytes_are_integers() {
+    let matrix: Vec<i32> = (0..70 * 45).collect();
+    let turned: Vec<i32> = (0..70 * 45).map(|k| k % 70 * 45 + k / 70).collect();
+    assert_eq!(cvl::transpose_int(&matrix, 70, 45).unwrap(), turned);
+    assert_eq!(told(cvl::transpose_int(&matrix, 70, 44).unwrap_err()), (7, None));
+    assert_eq!(cvl::ints_from_bytes(b"CV\xff").unwrap(), [67, 86, 255]);
+    assert_eq!(cvl::bytes_from_ints(&[67, 86, 255]).unwrap(), b"CV\xff");
+    assert_eq!(told(cvl::bytes_from_ints(&[67, 256, -1]).unwrap_err()), (18, Some(1)));
+}

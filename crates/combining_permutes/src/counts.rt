@@ -14,7 +14,7 @@ use scan_walks::{Reading, know_numbers};
 use segdes::SegLengths;
 
 /// The rule by which each index is read as one more.
-struct One;
+pub(crate) struct One;
 
 impl Reading<i32, i32> for One {
     ghost item = { λ x. pos 1 };

@@ -7,6 +7,7 @@
 
 mod byte_widths;
 mod checked_sums;
+mod combine_ranges;
 mod combines;
 mod descriptors;
 mod elements;

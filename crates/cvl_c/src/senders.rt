@@ -1,13 +1,14 @@
 //! First senders, of a whole vector and of each segment, by an index of at most 2,147,483,647 elements; and one range of their
 //! result.
 
-ghost use Rattle.std.specs.Prelude.{ℕ, ℤ, List, Result, length};
+ghost use Rattle.std.specs.Prelude.{ℕ, List, Result, length};
 ghost use Rattle.c_calls.specs.Calls.{by_segments, in_limit};
 ghost use Rattle.c_calls.specs.Told.{Told, in_room};
 ghost use Rattle.cvl_base.specs.declared.fault.Fault.{Fault};
 ghost use Rattle.first_senders.specs.FirstSenders.{first_senders_of, seg_first_senders_of, seg_select_first_senders_of};
 ghost use Rattle.first_senders.specs.FirstSenders.{select_first_senders_of};
-ghost use Rattle.part_calls.specs.SenderRanges.{WritesSenders, select_senders_range_of, senders_range_of};
+ghost use Rattle.part_calls.specs.CountedRanges.{WritesCounted};
+ghost use Rattle.part_calls.specs.SenderRanges.{select_senders_range_of, senders_range_of};
 
 use c_calls::checks::{check_limit, segments};
 use c_calls::or_tell;
@@ -76,9 +77,9 @@ pub extern "C" fn cvl_proved_seg_select_first_senders(
     told_over::<i32>(seg_select_first_senders_over(index, flags, &d, &result_d, out))
 }
 
-/// Tells a caller whether a range of first senders was written, and how many places name one of it.
-fn told_range(answer: Result<usize, Fault>, named: &mut usize) -> CvlStatus
-    ensures { (meaning : Result (List ℤ × ℕ) Fault) (out now : List ℤ) → WritesSenders meaning answer out now
+/// Tells a caller whether a range of a result was written, and how many indices name a place of it.
+pub(crate) fn told_counted<T>(answer: Result<usize, Fault>, named: &mut usize) -> CvlStatus
+    ensures { (meaning : Result (List T × ℕ) Fault) (out now : List T) → WritesCounted meaning answer out now
         → Told meaning result (out, named.old) (now, named.new) }
 {
     match answer {
@@ -100,7 +101,7 @@ pub extern "C" fn cvl_proved_first_senders_range(
 ) -> CvlStatus
     ensures { Told (senders_range_of index.now lowest (length out.old)) result (out.old, named.old) (out.new, named.new) }
 {
-    told_range(senders_range(index, lowest, out), named)
+    told_counted::<i32>(senders_range(index, lowest, out), named)
 }
 
 /// The same among the places whose flag is true.
@@ -115,5 +116,5 @@ pub extern "C" fn cvl_proved_select_first_senders_range(
     ensures { Told (select_senders_range_of index.now flags.now lowest (length out.old)) result
         (out.old, named.old) (out.new, named.new) }
 {
-    told_range(select_senders_range(index, flags, lowest, out), named)
+    told_counted::<i32>(select_senders_range(index, flags, lowest, out), named)
 }

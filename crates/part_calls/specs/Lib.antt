@@ -1,3 +1,5 @@
+pub mod CombineRanges
+pub mod CountedRanges
 pub mod Limits
 pub mod Pieces
 pub mod Ranges

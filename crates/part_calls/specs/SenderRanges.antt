@@ -1,7 +1,7 @@
 -- First senders by ranges of their result: who owns a range reads all indices, writes the first senders of the range, and counts the
 -- indices that name a place of it.
 -- Source: the least sender of each place, as in the whole; the ranges are this library's.
-use Rattle.std.specs.Prelude.{◌≡◌, ℕ, ◌+◌, ℤ, Bool, List, count_by, length, MatchResult, Option, Result, Ok, Err}
+use Rattle.std.specs.Prelude.{ℕ, ◌+◌, ℤ, Bool, List, count_by, length, Option, Result, Ok}
 use Rattle.cvl_base.specs.declared.fault.Fault.{Fault}
 use Rattle.cvl_base.specs.Elementwise.{if_as_long}
 use Rattle.cvl_base.specs.Permutes.{all_destinations, flagged_destinations}
@@ -21,8 +21,3 @@ abbrev pub select_senders_range_of : List ℤ → List Bool → ℕ → ℕ → 
 select_senders_range_of index flags low n =
     few_enough (length index) (few_enough (low + n)
     (if_as_long index flags (Ok (counted_senders (flagged_destinations index flags) low n))))
-
--- The room holds what the definition gives, and the answer is its count; or the call told its fault, and left the room as it was.
-abbrev pub WritesSenders : Result (List ℤ × ℕ) Fault → Result ℕ Fault → List ℤ → List ℤ → Type 0
-WritesSenders meaning answer before now =
-    MatchResult answer (λ count. meaning ≡ Ok (now, count)) (λ f. (meaning ≡ Err f) × (now ≡ before))

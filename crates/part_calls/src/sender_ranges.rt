@@ -6,7 +6,8 @@ ghost use Rattle.std.specs.Prelude.{◌≡◌, ◌+◌, ◌≤◌, count_by, len
 ghost use Rattle.cvl_base.specs.Limits.{most_places};
 ghost use Rattle.first_senders.specs.FirstSenders.{first_senders};
 ghost use Rattle.permute_walks.specs.Senders.{is_between};
-ghost use Rattle.part_calls.specs.SenderRanges.{WritesSenders, select_senders_range_of, senders_range_of};
+ghost use Rattle.part_calls.specs.CountedRanges.{WritesCounted};
+ghost use Rattle.part_calls.specs.SenderRanges.{select_senders_range_of, senders_range_of};
 
 use crate::limits::{check_end, check_few};
 use cvl_base::{Fault, check_agree};
@@ -28,7 +29,7 @@ fn write_counted<D: Destinations + Copy>(destinations: &D, lowest: usize, out: &
 ///
 /// TooLong, without a place, where there are more than 2,147,483,647 indices or the range ends behind as many places.
 pub fn senders_range(index: &[i32], lowest: usize, out: &mut [i32]) -> Result<usize, Fault>
-    ensures { WritesSenders (senders_range_of index.now lowest (length out.old)) result out.old out.new }
+    ensures { WritesCounted (senders_range_of index.now lowest (length out.old)) result out.old out.new }
 {
     check_few(index.len())?;
     check_end(lowest, out.len())?;
@@ -42,7 +43,7 @@ pub fn select_senders_range(
     lowest: usize,
     out: &mut [i32],
 ) -> Result<usize, Fault>
-    ensures { WritesSenders (select_senders_range_of index.now flags.now lowest (length out.old)) result out.old out.new }
+    ensures { WritesCounted (select_senders_range_of index.now flags.now lowest (length out.old)) result out.old out.new }
 {
     check_few(index.len())?;
     check_end(lowest, out.len())?;
