@@ -21,6 +21,10 @@ owned_pairs owns source destinations = filter (λ p. owns p.0) (zip destinations
 abbrev pub owned_destinations : (Option ℤ → Bool) → List (Option ℤ) → List (Option ℤ)
 owned_destinations owns destinations = filter owns destinations
 
+-- the elements that it is sent, each beside its index
+abbrev pub owned_sends : {X : Type 0} → (ℤ → Bool) → List (ℤ × X) → List (ℤ × X)
+owned_sends owns sends = filter (λ p. owns p.0) sends
+
 -- each of m places has an owner
 abbrev pub HaveOwners : List (Option ℤ → Bool) → ℕ → Type 0
 HaveOwners owners m = (d : ℕ) → d < m → list_any (λ owns. owns (Some (pos d))) owners ≡ true

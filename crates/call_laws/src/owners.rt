@@ -1,8 +1,9 @@
 //! Laws of permutes by the owners of their places, each a function that takes and gives nothing and whose contract is the law.
 
-ghost use Rattle.std.specs.Prelude.{◌≡◌, ℕ, ℤ, pos, Bool, Option, List, find, option_map};
-ghost use Rattle.std.specs.List.{list_any};
-ghost use Rattle.call_laws.specs.Owned.{HasPlace, HaveOwners, agreed_fault, owned_destinations, owned_pairs};
+ghost use Rattle.std.specs.Prelude.{◌≡◌, ℕ, ℤ, pos, Bool, true, Option, List, count_by, find, option_map};
+ghost use Rattle.std.specs.List.{filter, list_any};
+ghost use Rattle.call_laws.specs.Owned.{HasPlace, HaveOwners, agreed_fault, owned_destinations, owned_pairs, owned_sends};
+ghost use Rattle.combining_permutes.specs.CombiningPermutes.{names, sent_there};
 ghost use Rattle.cvl_base.specs.Permutes.{first_fault, is_destination, sent_to, wrongs};
 
 /// The owner of a place finds in what it is sent, in the order of senders, the element that the whole permute sends to the place,
@@ -20,4 +21,13 @@ pub fn permute_by_owners<T>()
 pub fn fault_by_owners()
     ensures { (owners : List (Option ℤ → Bool)) (m : ℕ) (destinations : List (Option ℤ)) → HaveOwners owners m →
         first_fault 0 (wrongs m destinations) ≡ agreed_fault owners m destinations }
+{}
+
+/// The owner of a place finds in what it is sent all elements that the whole sends to the place, in the order of senders, so that
+/// it joins and counts the same.
+pub fn combining_by_owners<T>()
+    ensures joined { (owns : ℤ → Bool) (sends : List (ℤ × T)) (d : ℕ) → ((i : ℤ) → names d i ≡ true → owns i ≡ true) →
+        sent_there (owned_sends owns sends) d ≡ sent_there sends d }
+    ensures counted { (owns : ℤ → Bool) (index : List ℤ) (d : ℕ) → ((i : ℤ) → names d i ≡ true → owns i ≡ true) →
+        count_by (names d) (filter owns index) ≡ count_by (names d) index }
 {}
