@@ -1,7 +1,8 @@
 //! Tests of what threads share: the scan board and the least board, by hand, and the scan board by two threads of the test's own
 //! beside a third worker; a list that is gathered from the pieces of a crew; the world of workers; and vectors that several
 //! threads write, also one of two runs that wait for each other, which are pushed to, shrunk and cloned afterwards, and one that
-//! a thread leaves early; and partitions by a digit. What asks for memory is made with each of its requests refused in turn.
+//! a thread leaves early; partitions by a digit; and orders, ranks and sorts. What asks for memory is made with each of its
+//! requests refused in turn.
 #![tactic(auto)]
 
 #[cfg(test)]
@@ -18,6 +19,8 @@ mod partitions;
 mod requests;
 #[cfg(test)]
 mod scan_boards;
+#[cfg(test)]
+mod sorts;
 #[cfg(test)]
 mod tiles;
 #[cfg(test)]

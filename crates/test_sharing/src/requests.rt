@@ -1,7 +1,7 @@
 //! What threads share, with ample memory and with each of its requests refused in turn.
 
 use crate::counter::Counter;
-use crate::{crews, doubles, lowered_places, partitions, scan_boards, worlds};
+use crate::{crews, doubles, lowered_places, partitions, scan_boards, sorts, worlds};
 use cvl_base::{Config, Memory, NoResources};
 use refusing_memory::withstands_refusals;
 use sharing::all_workers;
@@ -21,6 +21,8 @@ enum Made {
     Early,
     /// So many numbers by their last digit.
     Partition(u16),
+    /// The order, the ranks and the sort of so many keys.
+    Sorts(u32),
 }
 
 /// Each, by so many workers, and how many requests it makes at least.
@@ -42,6 +44,9 @@ const ALL: &[(Made, &[u32], u64)] = &[
     (Made::Partition(0), &[1, 2, 3, 4, 5], 1),
     (Made::Partition(3), &[1, 2, 3, 4, 5], 3),
     (Made::Partition(997), &[1, 2, 3, 4, 5, 9], 3),
+    // few keys, and so many that two threads share them; the keys, what is told of them, and what each call works in
+    (Made::Sorts(50), &[2], 9),
+    (Made::Sorts(262_147), &[3], 14),
 ];
 
 /// Whether it is right.
@@ -62,6 +67,7 @@ fn is_right<R: Threads + Sync, A: Memory>(
         }
         Made::Early => doubles::keeps_what_is_written(heap),
         Made::Partition(length) => partitions::are_parted(rt, heap, threads, *length),
+        Made::Sorts(length) => sorts::are_right(rt, heap, threads, *length),
     }
 }
 

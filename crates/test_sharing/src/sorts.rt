@@ -1,0 +1,101 @@
+//! Orders, ranks and sorts by several threads, of keys whose ranks are known from how they are made.
+
+use cvl_base::{Memory, NoResources};
+use sharing::ThreadCount;
+use stable_sorts::{order_shared, rank_shared, sort_in_shared, sort_shared};
+use std::thread::Threads;
+
+/// A prime that divides none of the lengths, so that its multiples leave each remainder once.
+const STEP: u32 = 7_919;
+
+/// How far apart the keys are, so that they differ in each digit.
+const APART: i32 = 8_191;
+
+/// What a room holds before.
+const BEFORE: i32 = -7;
+
+/// The rank of place k among n keys: the remainder of k steps.
+fn rank_at(k: u32, n: u32) -> i32 {
+    if n == 0 {
+        return 0;
+    }
+    (k.wrapping_mul(STEP) % n).cast_signed()
+}
+
+/// The key of a rank.
+fn key_of(rank: i32) -> i32 {
+    rank.wrapping_sub(131_072).wrapping_mul(APART)
+}
+
+/// Whether the ranks of n keys are those that they were made of.
+fn are_ranks(ranks: &[i32], n: u32) -> bool {
+    let mut k = 0u32;
+    for rank in ranks {
+        if *rank != rank_at(k, n) {
+            return false;
+        }
+        k = k.wrapping_add(1);
+    }
+    true
+}
+
+/// Whether the order of n keys is the inverse of their ranks.
+fn is_order(order: &[i32], n: u32) -> bool {
+    let mut rank = 0i32;
+    for place in order {
+        if rank_at(place.cast_unsigned(), n) != rank {
+            return false;
+        }
+        rank = rank.wrapping_add(1);
+    }
+    true
+}
+
+/// Whether each key stands at its rank.
+fn are_in_order(keys: &[i32]) -> bool {
+    let mut rank = 0i32;
+    for key in keys {
+        if *key != key_of(rank) {
+            return false;
+        }
+        rank = rank.wrapping_add(1);
+    }
+    true
+}
+
+/// No memory if what was asked for left the room as it was, and else a wrong answer.
+fn refused(room: &[i32]) -> Result<bool, NoResources> {
+    for number in room {
+        if *number != BEFORE {
+            return Ok(false);
+        }
+    }
+    Err(NoResources)
+}
+
+/// Whether the ranks, the order and the sort of n keys are right, which at most so many threads share.
+pub fn are_right<R: Threads + Sync, A: Memory>(
+    rt: &R,
+    heap: A,
+    threads: ThreadCount,
+    n: u32,
+) -> Result<bool, NoResources> {
+    let mut keys = vec![in heap; 0; n as usize]?;
+    for k in 0..keys.len() {
+        keys[k] = key_of(rank_at(k as u32, n));
+    }
+    let mut ranks = vec![in heap; BEFORE; n as usize]?;
+    if rank_shared(rt, heap, threads, &keys, &mut ranks).is_err() {
+        return refused(&ranks);
+    }
+    let mut order = vec![in heap; BEFORE; n as usize]?;
+    if order_shared(rt, heap, threads, &keys, &mut order).is_err() {
+        return refused(&order);
+    }
+    let mut sorted = vec![in heap; BEFORE; n as usize]?;
+    if sort_shared(rt, heap, threads, &keys, &mut sorted).is_err() {
+        return refused(&sorted);
+    }
+    sort_in_shared(rt, heap, threads, &mut keys)?;
+    Ok(are_ranks(&ranks, n) && is_order(&order, n) && are_in_order(&sorted) && are_in_order(&keys))
+}
