@@ -1,5 +1,6 @@
 //! Orders, ranks and sorts by several threads, of keys whose ranks are known from how they are made.
 
+use cvl_base::limits::MOST_PLACES;
 use cvl_base::{Memory, NoResources};
 use sharing::ThreadCount;
 use stable_sorts::{order_shared, rank_shared, sort_in_shared, sort_shared};
@@ -73,26 +74,31 @@ fn refused(room: &[i32]) -> Result<bool, NoResources> {
     Err(NoResources)
 }
 
-/// Whether the ranks, the order and the sort of n keys are right, which at most so many threads share.
+/// Whether the ranks, the order and the sort of n keys are right, which at most so many threads share; false if n is more than a
+/// vector may have.
 pub fn are_right<R: Threads + Sync, A: Memory>(
     rt: &R,
     heap: A,
     threads: ThreadCount,
     n: u32,
 ) -> Result<bool, NoResources> {
-    let mut keys = vec![in heap; 0; n as usize]?;
+    let count = n as usize;
+    if count > MOST_PLACES {
+        return Ok(false);
+    }
+    let mut keys = vec![in heap; 0; count]?;
     for k in 0..keys.len() {
         keys[k] = key_of(rank_at(k as u32, n));
     }
-    let mut ranks = vec![in heap; BEFORE; n as usize]?;
+    let mut ranks = vec![in heap; BEFORE; count]?;
     if rank_shared(rt, heap, threads, &keys, &mut ranks).is_err() {
         return refused(&ranks);
     }
-    let mut order = vec![in heap; BEFORE; n as usize]?;
+    let mut order = vec![in heap; BEFORE; count]?;
     if order_shared(rt, heap, threads, &keys, &mut order).is_err() {
         return refused(&order);
     }
-    let mut sorted = vec![in heap; BEFORE; n as usize]?;
+    let mut sorted = vec![in heap; BEFORE; count]?;
     if sort_shared(rt, heap, threads, &keys, &mut sorted).is_err() {
         return refused(&sorted);
     }
