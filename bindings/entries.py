@@ -12,7 +12,8 @@ from collections import namedtuple
 #   picture  a file of docs/user/pictures without its end, and what it shows
 #   costs    the names of rows of the tables of docs/user/performance.md
 #   takes, gives, faults   what the rows of `table.py` do not say, or no row is of
-Entry = namedtuple("Entry", "calls title said picture costs takes gives faults", defaults=(None, (), None, None, None))
+#   shows    what is to be seen in the example
+Entry = namedtuple("Entry", "calls title said picture costs takes gives faults shows", defaults=(None, (), None, None, None, None))
 
 # Calls of one kind, with what holds for all of them.
 Section = namedtuple("Section", "title said entries")
@@ -29,27 +30,29 @@ NO_INPUT = "14 NoSuchInput, without a place; else 13 TooLong, without a place, i
 SECTIONS = (
     Section(
         "Elementwise calls",
-        "The result has one element for each place of the arguments. Results that do not fit 32 bits wrap: they keep their lowest 32 bits, without a fault. "
-        "[Checked sums](#checked-sums) report one.",
+        "The result has one element for each place of the arguments. What does not fit 32 bits wraps, without a fault; [checked sums](#checked-sums) report one.",
         (
             Entry(
                 ("add_wuz", "sub_wuz", "mul_wuz", "min_wuz", "max_wuz", "and_wuz", "ior_wuz", "xor_wuz"),
                 "sum, difference, product, lesser, greater; and, or, exclusive or of bits",
-                "The wrapped sum, difference or product of each pair of elements; the lesser or the greater of the two; their and, or or exclusive or, bit by bit.",
+                "The wrapped sum, difference or product of each pair of elements; the lesser or the greater; their and, or or exclusive or, bit by bit.",
                 costs=("add",),
+                shows="2147483647 + 1 wraps to -2147483648.",
             ),
             Entry(
                 ("div_wuz", "mod_wuz"), "quotient, remainder",
-                "The quotient truncated toward zero; the remainder, which has the sign of the dividend. -2147483648 divided by -1 is -2147483648, with remainder 0.",
+                "The quotient truncated toward zero; the remainder, with the sign of the dividend. -2147483648 divided by -1 is -2147483648, with remainder 0.",
                 costs=("divide",),
+                shows="-7 divided by 2 is -3, with remainder -1.",
             ),
             Entry(
                 ("lsh_wuz", "rsh_wuz"), "shift left, shift right",
                 "The elements of a shifted by those of b: left, without the bits that no longer fit; right, keeping the sign, which is the floor of `a / 2^b`.",
                 costs=("shift left",),
+                shows="3 shifted left by 31 keeps one bit, that of the sign; -7 shifted right by 1 is -4, the floor of -3.5.",
             ),
             Entry(("not_wuz", "not_wub"), "the opposite", "All bits of each integer inverted; the opposite of each boolean.", costs=("not, on booleans",)),
-            Entry(("cpy_wuz", "cpy_wub"), "a copy", "A copy, which stays the same if the first name is bound again.", costs=("copy",)),
+            Entry(("cpy_wuz", "cpy_wub"), "a copy", "A copy, which stays the same if the first name is bound again.", costs=("copy",), shows="`c` keeps what `a` was before."),
             Entry(
                 ("grt_wuz", "les_wuz", "geq_wuz", "leq_wuz", "eql_wuz", "neq_wuz"), "comparisons: greater, less, at least, at most, equal, unequal",
                 "T if the element of a is greater than, less than, at least, at most, equal to or unequal to that of b, in the order of the names. Numbers are signed.",
@@ -58,6 +61,7 @@ SECTIONS = (
             Entry(
                 ("sel_wuz", "sel_wub"), "for each place, the element of one of two vectors, chosen by a flag",
                 "The element of a if the flag is T, and that of b if it is F.", costs=("select",),
+                shows="`c` has the greater of each pair.",
             ),
             Entry(("and_wub", "ior_wub", "xor_wub"), "and, or, exclusive or of flags", "And, or or exclusive or of each pair of booleans.", costs=("and, on booleans",)),
             Entry(("int_wub",), "0 and 1 of flags", "1 for T and 0 for F.", costs=("integers of booleans",)),
@@ -66,16 +70,18 @@ SECTIONS = (
     ),
     Section(
         "Scans and reduces",
-        "Each operator has an identity, which changes nothing: 0 for `add`, `ior` and `xor`, 1 for `mul`, 2147483647 for `min`, -2147483648 for `max`, -1 for "
+        "An operator's identity changes nothing: 0 for `add`, `ior` and `xor`, 1 for `mul`, 2147483647 for `min`, -2147483648 for `max`, -1 for "
         "`and`; of booleans T for `and`, and F for `ior` and `xor`. Scans are exclusive: a place has the join of the elements before it, without its own.",
         (
             Entry(
                 _each(JOINING, "su", OF_FLAGS), "exclusive scan", "At each place all elements before it, joined by the operator; at place 0 the identity.",
                 costs=("add scan",),
+                shows="Each scan begins with its identity; the last element of `a` counts nowhere.",
             ),
             Entry(
                 _each(JOINING, "se", OF_FLAGS), "exclusive scan of each segment", "The scan of each segment; it starts from the identity in each.",
                 ("scan_segments", "Each element is added to the sums after it in its segment"), costs=("add scan, segments of 1,000",),
+                shows="Each segment starts anew, and the empty one has no element.",
             ),
             Entry(
                 _each(JOINING, "ru", OF_FLAGS), "reduce", "All elements, joined by the operator; the identity if there are none.", costs=("add reduce",),
@@ -83,40 +89,43 @@ SECTIONS = (
             Entry(
                 _each(JOINING, "re", OF_FLAGS), "reduce of each segment", "The elements of each segment, joined; the identity for an empty segment.",
                 costs=("add reduce, segments of 1,000",),
+                shows="The empty segment has the identities: 0, the greatest integer, F.",
             ),
         ),
     ),
     Section(
         "Checked sums",
-        "Scans and reduces by addition that never wrap. A result outside -2147483648 to 2147483647 is a fault; sums on the way to a result may be any whole "
-        "number. These calls [cannot see](mistakes.md#a-checked-sum-of-what-has-wrapped) that an element wrapped when it was computed.",
+        "Scans and reduces by addition that never wrap: a result outside -2147483648 to 2147483647 is a fault, and sums on the way may be any whole number. "
+        "They [cannot see](mistakes.md#a-checked-sum-of-what-has-wrapped) that an element wrapped when it was computed.",
         (
             Entry(
                 ("tot_suz",), "exclusive scan of sums that never wrap", "At each place the sum of all elements before it; 0 at place 0.",
                 costs=("checked add scan",),
+                shows="The sum of all three would not fit, but no place has it.",
             ),
             Entry(
                 ("tot_sez",), "exclusive scan of each segment, of sums that never wrap", "The scan of each segment; it starts from 0 in each.",
                 costs=("checked add scan, segments of 1,000",),
+                shows="2147483647 + 1 would not fit, but no place has it.",
             ),
             Entry(
                 ("tot_ruz",), "sum that never wraps", "The sum of all elements; 0 if there are none. Only the whole sum has to fit.",
                 costs=("checked add reduce",),
+                shows="The sum of the first two does not fit, and is no result.",
             ),
             Entry(
                 ("tot_rez",), "sum of each segment that never wraps", "The sum of each segment; 0 for an empty one.",
                 costs=("checked add reduce, segments of 1,000",),
+                shows="The second segment is empty, and its sum 0.",
             ),
         ),
     ),
     Section(
         "Permutes",
-        "A permute moves elements by a vector of indices. In a simple, select or default permute, the index of a place says where its element goes: it must be 0 "
-        "to m-1, for a result of length m, and no two elements may go to one place. In a back permute, the index says where the place's element comes from: it "
-        "must lie inside the source, and may repeat.\n\n"
-        "In a segmented call an index counts from the start of its own segment, and m is the length of that segment of the result, or of the source for a back "
-        "permute. So an index for an empty segment is always outside, and indices of different segments never collide. Places of faults are places in the whole "
-        "index vector. The least bad place is reported; an index that is both outside and repeated is fault 10.",
+        "In a simple, select or default permute, the index of a place says where its element goes: inside the result, and no two to one place. In a back permute "
+        "it says where the element comes from: inside the source, and it may repeat.\n\n"
+        "In a segmented call an index counts from the start of its own segment, and has to lie inside that segment of the result or source; so indices of "
+        "different segments never collide. The place of a fault is that in the whole index vector; an index that is both outside and repeated is fault 10.",
         (
             Entry(
                 ("smp_puz", "smp_pub"), "simple permute: each element goes to its index", "Element k of the source goes to place `index[k]` of the result.",
@@ -134,11 +143,13 @@ SECTIONS = (
             Entry(
                 ("bck_pez", "bck_peb"), "back permute of each segment",
                 "The back permute of each segment of the source by the same segment of the index.", costs=("back permute, segments of 1,000",),
+                shows="The first segment's element 1 is fetched three times, and the empty segment has no index.",
             ),
             Entry(
                 ("sel_puz", "sel_pub"), "select permute: the elements whose flag is true go to their indices",
                 "The simple permute of the elements whose flag is T. Indices whose flag is F are ignored.",
                 ("select_permute", "Each element whose flag is true leads to the place that its index names"), ("select permute, at random",),
+                shows="The index 9 is outside, and ignored, since its flag is F.",
             ),
             Entry(
                 ("sel_pez", "sel_peb"), "select permute of each segment",
@@ -154,6 +165,7 @@ SECTIONS = (
                 ("def_pez", "def_peb"), "default permute of each segment",
                 "The default permute of each segment of the source into the same segment of the defaults.",
                 costs=("default permute, segments of 1,000",),
+                shows="The empty segment sends nothing, and its default 9 stays.",
             ),
         ),
     ),
@@ -162,17 +174,18 @@ SECTIONS = (
         (
             Entry(
                 ("input",), "the vector of an input",
-                "The vector of the input with this number; inputs count from 1. The first line that names an input turns its bytes into numbers. Further lines "
-                "cost nothing, since all names share them.",
+                "The vector of the input with this number, from 1. Only the first line that names an input reads its numbers, which all names share.",
                 takes="number (integer)", gives="integers", faults=f"{NO_INPUT}; else 15 BadInput at the first token that is no integer.",
+                shows="Leading zeros are fine.",
             ),
             Entry(
                 ("nested",), "the vector and the descriptor of a list of lists",
-                "The vector and the descriptor of the nested input with this number, from 1: the elements of all inner lists, and the lengths of the lists. What "
-                "`write v d` prints after ` = ` is a nested input, which gives `v` and `d` again.",
+                "The elements of all inner lists of the input with this number, from 1, and the lengths of the lists. What `write v d` prints after ` = ` is such "
+                "an input.",
                 takes="number (integer)", gives="integers, to the first name; their descriptor, to the second",
                 faults=f"{NO_INPUT} other than brackets, or more than 4,194,305 `[`; else 15 BadInput at the first token that cannot stand there, or at the "
                 "number of tokens if the input ends too early.",
+                shows="`write v d` prints the input again.",
             ),
         ),
     ),
@@ -191,10 +204,12 @@ SECTIONS = (
             Entry(
                 ("pck_lez", "pck_leb"), "pack of each segment", "The values of each segment whose flag is T, in their order.",
                 ("pack_segments", "The elements of each segment whose flag is true move up"), ("pack, segments of 1,000",),
+                shows="The pack is flat; `pck_fov` of the same flags cuts it into segments again.",
             ),
             Entry(
                 ("pck_fov",), "the descriptor of a pack of each segment",
-                "The number of true flags of each segment. It cuts the result of a pack or a select permute by these flags.",
+                "How many flags are true in each segment: it cuts a pack or a select permute by these flags.",
+                shows="The first segment keeps nothing, and the empty one has nothing to keep.",
             ),
         ),
     ),
@@ -202,11 +217,12 @@ SECTIONS = (
         "Copies and numbers with a stride", "",
         (
             Entry(("dis_vuz", "dis_vub"), "distribute: copies of one element", "Copies of the value.", costs=("distribute",)),
-            Entry(("dis_vez", "dis_veb"), "copies of one element for each segment", "Copies of each value, one for each place of its segment.", costs=("distribute, segments of 1,000",)),
-            Entry(("ind_luz",), "numbers with a stride", "Place k has `init + k*stride`, wrapped.", costs=("index",)),
+            Entry(("dis_vez", "dis_veb"), "copies of one element for each segment", "Copies of each value, one for each place of its segment.", costs=("distribute, segments of 1,000",), shows="8 belongs to the empty segment, and is copied nowhere."),
+            Entry(("ind_luz",), "numbers with a stride", "Place k has `init + k*stride`, wrapped.", costs=("index",), shows="A stride may be negative; `b` wraps."),
             Entry(
                 ("ind_lez",), "numbers with a stride in each segment",
                 "The numbers from each init with its stride; k counts from the start of the segment.", costs=("index, segments of 1,000",),
+                shows="The init 5 belongs to the empty segment, and is used nowhere.",
             ),
         ),
     ),
@@ -217,11 +233,13 @@ SECTIONS = (
             Entry(
                 ("ext_vez", "ext_veb"), "one element of each segment",
                 "The element of each segment at its index, which counts from the start of the segment. An index for an empty segment is always outside.",
+                shows="Index 2 is the third element of the second segment.",
             ),
             Entry(("rep_vuz", "rep_vub"), "one element replaced", "The vector with the value at the index."),
             Entry(
                 ("rep_vez", "rep_veb"), "one element of each segment replaced",
                 "The vector with each segment's value at its index, which counts from the start of the segment. An index for an empty segment is always outside.",
+                shows="Index 1 is the second element of the second segment.",
             ),
         ),
     ),
@@ -231,8 +249,9 @@ SECTIONS = (
             Entry(
                 ("mke_fov",), "a descriptor, made of lengths", "The descriptor with these lengths.",
                 faults="12 NegativeLength at the first negative length; else 13 TooLong, without a place, if the total is above 4,194,304.",
+                shows="The descriptor cuts `v` into three segments, the second of them empty.",
             ),
-            Entry(("len_fos",), "the lengths of a descriptor", "The lengths of the segments.", takes="d (descriptor)", gives="integers", faults="none."),
+            Entry(("len_fos",), "the lengths of a descriptor", "The lengths of the segments.", takes="d (descriptor)", gives="integers", faults="none.", shows="The greatest length is that of the longest segment."),
         ),
     ),
 )

@@ -1,29 +1,29 @@
 """What is written of the calls of scripts on a page: `docs/user/calls.md`."""
 
+import re
+
 import entries
 import reference
 
 HEAD = """# The calls
 
-Look up any call that a script can make: what it takes and gives, which lengths must agree, its faults, and an example. To find a call by what it does, use the index; to find it by its name in numpy, Thrust or CVL, use the [glossary](glossary.md). [Scripts](script.md) describes the form of a line, inputs, output and all limits.
+Look up a call: what it takes and gives, its faults, and an example. Use the index to find it by what it does, and the [glossary](glossary.md) to find it by its name in numpy, Thrust or CVL. [Scripts](script.md) has the form of a line, inputs, output and limits.
 
-The comment after an `input` shows what that input holds. In the pictures a box is an element, a frame is a segment, and an empty frame is an empty segment; arrows lead from an element to where it goes. [Thinking in segments](segments.md) has more of them.
+The comment after an `input` shows what it holds. In the pictures a box is an element and a frame a segment; arrows lead from an element to where it goes.
 
-C, Fortran, Python and Rust have [functions beside the calls](#functions-that-no-script-calls), which this page lists at its end."""
+C, Fortran, Python and Rust have [more functions](#functions-that-no-script-calls)."""
 
 READING = """## Reading an entry
 
-- A name is made of an operator, `_`, the class of the call, `u` or `e` for flat or segmented, and `z` or `b` for integers or booleans. The classes are `w` elementwise, `s` scan, `r` reduce, `p` permute, `v` vectors with single values, and `l` library. So `bck_puz` is a back permute of a flat vector of integers. `input`, `nested` and the two calls on descriptors, of class `f`, are named differently.
-- *Integers* and *booleans* are vectors; an *integer* and a *boolean* are single values, which you can also write as a number, `T` or `F`. *Elements* are integers if the name ends in `z` and booleans if it ends in `b`; an *element* is one of them.
-- Arguments come in the order of `Takes`. If the example shows a call only on integers, the one on booleans does the same.
-- A descriptor is the lengths of the segments into which a vector is cut. Its *total* is their sum; a length may be 0. A segmented call does in each segment what the flat call does on a whole vector, and its results lie one after another.
-- Places count from 0, in a segmented call too, where the place of a fault is that in the whole vector. A fault of an element is reported at the least place that has one.
-- If lengths that must agree do not, the fault is 7 LengthMismatch, which has no place and comes before the other faults of the entry.
-- Faults of the line (1, 2, 3, 6), of its arguments (4, 5) and of new names (16) come before those of an entry, and are the same for every call. A name that is not in the index is fault 2 UnknownCall. `script.md` has them all, in order."""
+- A name is an operator, `_`, the class of the call, `u` or `e` for flat or segmented, and `z` or `b` for integers or booleans. The classes are `w` elementwise, `s` scan, `r` reduce, `p` permute, `v` vectors with single values, and `l` library. So `bck_puz` is a back permute of a flat vector of integers.
+- *Integers* and *booleans* are vectors, an *integer* and a *boolean* single values. *Elements* are either, by the last letter of the name. Arguments come in the order of `Takes`.
+- A descriptor is the lengths of the segments of a vector; its *total* is their sum. A segmented call does in each segment what the flat call does on a whole vector, and its results lie one after another.
+- Places count from 0, and the place of a fault is that in the whole vector. A fault of an element is reported at the least place that has one.
+- If lengths that must agree do not, the fault is 7 LengthMismatch, without a place, before all others of the entry. An entry without a line `Faults` has no others. `script.md` has those of the line, of its arguments and of new names, which come first."""
 
 BESIDE = """## Functions that no script calls
 
-C, Fortran, Python and Rust have them, with `cvl_` before the name in C and Fortran. `man 3 cvl` leads to each in C, `help(cvl)` in Python and `cargo doc` in Rust."""
+C, Fortran, Python and Rust have them, in C and Fortran with `cvl_` before the name: see `man 3 cvl`, `help(cvl)` and `cargo doc`."""
 
 
 def anchor(entry):
@@ -41,10 +41,12 @@ def index(found, leads_to):
 
 
 def said(entry):
-    """What an entry takes and gives, what it does, which lengths must agree, and its faults."""
+    """What an entry takes and gives, what it does, which lengths must agree, and its other faults."""
     lines = [f"Takes: {entry.takes}. Gives: {entry.gives}.", entry.said.said]
     lines += [f"Lengths that must agree: {entry.agree}."] if entry.agree else []
-    return "\n".join(f"- {line}" for line in [*lines, f"Faults: {entry.faults}"])
+    others = re.sub(r"^7 LengthMismatch(?:\.|; )", "", entry.faults)
+    lines += [f"Faults: {others}"] if others not in ("", "none.") else []
+    return "\n".join(f"- {line}" for line in lines)
 
 
 def also(entry, found, leads_to):
@@ -55,7 +57,12 @@ def also(entry, found, leads_to):
 
 def example(entry):
     script, text = entry.example
-    return f"```\n{script}\n```\n\nwrites\n\n```\n{text}\n```"
+    return "\n\n".join([f"```\n{script}\n```\n\nwrites\n\n```\n{text}\n```", *shows(entry)])
+
+
+def shows(entry):
+    """What is to be seen in the example, if an entry says so."""
+    return [entry.said.shows] if entry.said.shows else []
 
 
 def picture(entry):
