@@ -60,7 +60,8 @@ SECTIONS = (
             ),
             Entry(
                 ("sel_wuz", "sel_wub"), "for each place, the element of one of two vectors, chosen by a flag",
-                "The element of a if the flag is T, and that of b if it is F.", costs=("select",),
+                "The element of a if the flag is T, and that of b if it is F.",
+                ("choice", "Each element leads to the place at which its flag chooses it"), ("select",),
                 shows="`c` has the greater of each pair.",
             ),
             Entry(("and_wub", "ior_wub", "xor_wub"), "and, or, exclusive or of flags", "And, or or exclusive or of each pair of booleans.", costs=("and, on booleans",)),
@@ -75,7 +76,7 @@ SECTIONS = (
         (
             Entry(
                 _each(JOINING, "su", OF_FLAGS), "exclusive scan", "At each place all elements before it, joined by the operator; at place 0 the identity.",
-                costs=("add scan",),
+                ("scan", "Each element is added to the sums after it"), ("add scan",),
                 shows="Each scan begins with its identity; the last element of `a` counts nowhere.",
             ),
             Entry(
@@ -88,7 +89,7 @@ SECTIONS = (
             ),
             Entry(
                 _each(JOINING, "re", OF_FLAGS), "reduce of each segment", "The elements of each segment, joined; the identity for an empty segment.",
-                costs=("add reduce, segments of 1,000",),
+                ("reduce_segments", "Each element leads to the sum of its segment"), ("add reduce, segments of 1,000",),
                 shows="The empty segment has the identities: 0, the greatest integer, F.",
             ),
         ),
@@ -142,7 +143,8 @@ SECTIONS = (
             ),
             Entry(
                 ("bck_pez", "bck_peb"), "back permute of each segment",
-                "The back permute of each segment of the source by the same segment of the index.", costs=("back permute, segments of 1,000",),
+                "The back permute of each segment of the source by the same segment of the index.",
+                ("back_permute_segments", "The element of a segment that an index names leads to the place of the index"), ("back permute, segments of 1,000",),
                 shows="The first segment's element 1 is fetched three times, and the empty segment has no index.",
             ),
             Entry(
@@ -154,7 +156,7 @@ SECTIONS = (
             Entry(
                 ("sel_pez", "sel_peb"), "select permute of each segment",
                 "The select permute of each segment. Its result has as many elements as the segment has true flags.",
-                costs=("select permute, segments of 1,000",),
+                ("select_permute_segments", "Each element whose flag is true leads to the place of its segment that its index names"), ("select permute, segments of 1,000",),
             ),
             Entry(
                 ("def_puz", "def_pub"), "default permute: a permute into a copy of defaults",
@@ -164,7 +166,7 @@ SECTIONS = (
             Entry(
                 ("def_pez", "def_peb"), "default permute of each segment",
                 "The default permute of each segment of the source into the same segment of the defaults.",
-                costs=("default permute, segments of 1,000",),
+                ("default_permute_segments", "Each element leads to the place of its segment that its index names, and defaults to the other places"), ("default permute, segments of 1,000",),
                 shows="The empty segment sends nothing, and its default 9 stays.",
             ),
         ),
@@ -217,7 +219,11 @@ SECTIONS = (
         "Copies and numbers with a stride", "",
         (
             Entry(("dis_vuz", "dis_vub"), "distribute: copies of one element", "Copies of the value.", costs=("distribute",)),
-            Entry(("dis_vez", "dis_veb"), "copies of one element for each segment", "Copies of each value, one for each place of its segment.", costs=("distribute, segments of 1,000",), shows="8 belongs to the empty segment, and is copied nowhere."),
+            Entry(
+                ("dis_vez", "dis_veb"), "copies of one element for each segment", "Copies of each value, one for each place of its segment.",
+                ("distribute_segments", "Each value leads to the places of its segment"), ("distribute, segments of 1,000",),
+                shows="8 belongs to the empty segment, and is copied nowhere.",
+            ),
             Entry(("ind_luz",), "numbers with a stride", "Place k has `init + k*stride`, wrapped.", costs=("index",), shows="A stride may be negative; `b` wraps."),
             Entry(
                 ("ind_lez",), "numbers with a stride in each segment",
@@ -233,7 +239,7 @@ SECTIONS = (
             Entry(
                 ("ext_vez", "ext_veb"), "one element of each segment",
                 "The element of each segment at its index, which counts from the start of the segment. An index for an empty segment is always outside.",
-                shows="Index 2 is the third element of the second segment.",
+                ("extract_segments", "The element that each segment's index names"), shows="Index 2 is the third element of the second segment.",
             ),
             Entry(("rep_vuz", "rep_vub"), "one element replaced", "The vector with the value at the index."),
             Entry(
