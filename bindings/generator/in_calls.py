@@ -50,9 +50,9 @@ def said(entry):
 
 
 def also(entry, found, leads_to):
-    """The calls of other entries that a reader may want instead, each with a link to its entry."""
+    """The calls of these sections that a reader may want instead, each with a link to its entry."""
     homes = {name: other for _, _, section in found for other in section for name in other.calls}
-    return ", ".join(f"[`{name}`]({leads_to(homes[name])})" for name in entries.ALSO.get(entry.name, "").split())
+    return ", ".join(f"[`{name}`]({leads_to(homes[name])})" for name in entries.ALSO.get(entry.name, "").split() if name in homes)
 
 
 def example(entry):
@@ -73,8 +73,13 @@ def _leads_to(entry):
     return f"#{anchor(entry)}"
 
 
+def _elsewhere(entry, found):
+    """The sections without that of an entry, whose other calls stand beside it."""
+    return [section for section in found if section[0] != entry.section]
+
+
 def _entry(entry, found):
-    others = also(entry, found, _leads_to)
+    others = also(entry, _elsewhere(entry, found), _leads_to)
     lines = "\n".join([said(entry), *([f"- See also: {others}."] if others else [])])
     return "\n\n".join([f"### {entry.heading}", lines, example(entry), *picture(entry)])
 
