@@ -134,7 +134,7 @@ def _given(row, argument, place):
 
 
 class Procedure:
-    """A procedure of the module: of a call or a family; in the place of an operand; with the places and counts of 32 bits."""
+    """A procedure of the module: of a call or a family; in place, over an operand; with the places and counts of 32 bits."""
 
     def __init__(self, row, place=None, narrow=False):
         self.row, self.place, self.narrow = row, place, narrow
@@ -175,7 +175,7 @@ class Procedure:
         family = self.row.family
         said = self.row.call.sentence if self.row.call else family.sentence
         if self.place:
-            return _comment(f"{self.public}: the same in the place of {self.place.name}.")
+            return _comment(f"{self.public}: the same in place, over {self.place.name}.")
         faults = rows.fault_text(self.row)
         return _comment(f"{self.public}: {said} {family.shape}".rstrip(), family.told, f"Faults: {faults}" if faults else "")
 

@@ -163,7 +163,7 @@ def _purpose(call):
         said += " out may be longer than the result, which stands at its front." if call.fills and call.told else ""
         said += f" It gives {call.told[0].name}." if call.is_range and len(call.row.rooms) == 1 else ""
         said += " It gives how many places it wrote." if call.is_range and len(call.row.rooms) > 1 else ""
-        said += " out is written where it is, and given." if call.over else ""
+        said += " out is written over, and returned." if call.over else ""
         said += " op is one of cvl.operators." if call.family.operators else ""
     return said + (" A number may stand for an array of it." if _spreads(call) else "")
 

@@ -1,5 +1,5 @@
 """What is written in Rust over slices: a safe function for each call, and for texts and what a part of a call needs; one that
-writes into a room; one in the place of an argument; and their examples as tests."""
+writes into a room; one in place, over an argument; and their examples as tests."""
 
 import re
 import textwrap
@@ -322,8 +322,8 @@ def _counted(function):
 
 
 def _within(function, place):
-    """The function in the place of an operand."""
-    yield f"/// [`{function.name}`] in the place of `{place.name}`; a fault leaves it as it was."
+    """The function in place, over an operand."""
+    yield f"/// [`{function.name}`] in place, over `{place.name}`; a fault leaves it as it was."
     if _has_example(function):
         yield from _in_comment([*_cuts(function), *_example_within(function, place)])
     body = [f"let out = {place.name}.as_mut_ptr();", _called(function, place)]
@@ -354,7 +354,7 @@ def calls():
     """`bindings/rust/src/calls.rs`."""
     about = (
         "Each call of the table, by its name: over slices, with a new vector for its result; under a name that ends in `_into`,\n"
-        "//! into a room; and under one that ends in `_in`, in the place of an argument, if a call may."
+        "//! into a room; and under one that ends in `_in`, in place, over an argument, if a call may."
     )
     uses = (
         "use alloc::vec::Vec;\n\n"
@@ -397,7 +397,7 @@ def numbers():
 
 # ---- the calls as a test has them that tries each on its example ----
 
-TRIED_HEAD = f"""//! Each function on the operands of its example: what it gives; the same into a room; and in the place of an operand.
+TRIED_HEAD = f"""//! Each function on the operands of its example: what it gives; the same into a room; and in place, over an operand.
 //!
 //! {rows.NOTE}
 

@@ -59,7 +59,7 @@ def _in_parts(row):
 
 
 def _on_segments(row):
-    said = documented(f"[`cvl_{row.name}`] with a descriptor in the place of the lengths.")
+    said = documented(f"[`cvl_{row.name}`] with a descriptor for the lengths.")
     return [*said, *declared(in_c.segments_name(row), in_c.held(row.arguments))]
 
 

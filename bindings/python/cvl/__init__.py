@@ -1,24 +1,23 @@
-"""The vector calls of CVL over numpy: flat and segmented vectors of int32 and bool, through a proved library.
+"""The vector calls of CVL over numpy: flat and segmented vectors of int32 and bool.
 
-A vector is a numpy array of int32 or of bool in one dimension, which is not copied. A result is a new array, or stands in `out`.
+A vector is a numpy array of int32 or bool in one dimension, which is not copied. A result is a new array, or is written into `out`.
 
     >>> import cvl, numpy
     >>> a = numpy.array([3, 1, 4, 1, 5], dtype=numpy.int32)
     >>> cvl.add_suz(a).tolist()
     [0, 3, 4, 8, 9]
 
-Segments cut a vector. Made once, they serve any calls:
+Segments cut a vector, for any number of calls:
 
     >>> rows = cvl.Segments([2, 0, 3])
     >>> cvl.add_rez(a, rows).tolist()
     [4, 0, 10]
 
-The name of a call is its operation and three letters. The first letter is how it works: `w` place by place, `s` a scan, `r` a
-reduce, `p` a permute, `l`, `v` and `f` in another way. The second is what the vectors are: `u` flat, `e` segmented, `o` segments
-alone. The third is what they hold: `z` integers, `b` booleans. So `add_suz` scans a flat vector of integers by sums, and
-`add_rez` sums up each segment. help(cvl.add_suz) has what it does, its faults and an example.
+A name is an operation and three letters: `w` for elementwise, `s` for a scan, `r` for a reduce, `p` for a permute, and `l`, `v`
+and `f` for others; `u` for flat, `e` for segmented, `o` for segments alone; `z` for integers, `b` for booleans. So `add_suz` scans
+a flat vector of integers by sums. help(cvl.add_suz) has what it does, its faults and an example.
 
-What has no value raises `Fault`, whose numbers are in `cvl.faults`:
+A call without a value raises `Fault`; `cvl.faults` has the numbers:
 
     >>> try:
     ...     cvl.ext_vuz(a, 5)
@@ -26,12 +25,11 @@ What has no value raises `Fault`, whose numbers are in `cvl.faults`:
     ...     print(fault, fault.number == cvl.faults.INDEX_OUT_OF_RANGE, sep="; ")
     fault 10 IndexOutOfRange at 0: index is 5, and len(vector) is 5; True
 
-A long call runs on several threads where the program asks for them, by `set_threads(4)` or `with cvl.threads(4):`.
+Long calls run on several threads after `set_threads(4)`, or inside `with cvl.threads(4):`.
 
-Texts are read and written by `read_ints`, `write_ints` and their like. `first_senders` and its like find of several places that
-name one place of a result the first. `combine_permute_int` and its like add up by key, over what an array holds, and `counts`
-counts how often each key is there. `order`, `rank` and `sort` put keys in order. What ends in `_after` or `_range`, and
-`exact_sum`, serves who makes a call in parts.
+`read_ints` and `write_ints` read and write texts. `first_senders` finds the first of several places that name one place.
+`combine_permute_int` adds up by key, and `counts` counts keys. `order`, `rank` and `sort` put keys in order. `exact_sum`, and names
+that end in `_after` or `_range`, are for calls in parts.
 """
 
 from typing import List

@@ -38,10 +38,10 @@ def _check(given: Any, name: str) -> None:
 
 
 def as_ints(numbers: ArrayLike, name: str = "numbers") -> IntArray:
-    """The numbers as an array of int32 in one dimension. One that is one already, side by side, is given back as it is.
+    """The numbers as an array of int32 in one dimension; a contiguous one is returned as it is.
 
-    The first number that is not whole is a `ValueError`, and the first that does not fit 32 bits an `OverflowError`; `name` is what
-    they call the array. `numpy.ndarray.astype` tells neither: it cuts the one and wraps the other.
+    The first number that is not whole is a `ValueError`, and the first that does not fit 32 bits an `OverflowError`, where
+    `numpy.ndarray.astype` silently cuts and wraps; their messages call the array `name`.
 
     >>> import cvl, numpy
     >>> cvl.as_ints([3, 1.0]).tolist(), cvl.as_ints(numpy.arange(3)).dtype.name

@@ -4,8 +4,8 @@ from typing import Optional
 
 
 class Fault(ValueError):
-    """A call that has no value: the number of its fault, as in `cvl.faults`, its name, and its place, counted from 0, or None.
-    `said` has more words, if there are some: which lengths differ, which value is at fault, or which array `out` shares memory with.
+    """A call without a value: its fault's number, as in `cvl.faults`, name, and place, counted from 0, or None. `said` may say more:
+    which lengths differ, which value is at fault, or which array `out` overlaps.
 
     >>> import cvl, numpy
     >>> a = numpy.array([7, 7], dtype=numpy.int32)

@@ -1,5 +1,5 @@
 """The calls over the ranks of MPI, on each rank's numpy arrays. It needs mpi4py, and the library libcvl_mpi of the same MPI, which
-`install PREFIX --mpi` builds; where it is not among the system's libraries, the variable CVL_MPI_LIBRARY names it.
+`install PREFIX --mpi` builds; if the system does not find it, the variable CVL_MPI_LIBRARY names it.
 
     from mpi4py import MPI
     from cvl import mpi
@@ -126,7 +126,7 @@ class RankSegments:
 
 
 class Route:
-    """Who has the elements that an index names, found once."""
+    """Which ranks have the elements that an index names, found once."""
 
     def __init__(self, ranks: Ranks, index: Any, source_len: int) -> None:
         self.ranks, self._at = ranks, ctypes.c_void_p()
@@ -153,7 +153,7 @@ class Route:
         return self._moved("permute", source, self.source_len)
 
     def sparse_product(self, rows: RankSegments, values: Any, x: Any, checked: bool = False) -> Any:
-        """The product of a sparse matrix with x, where the index is that of the columns; `checked` sums never wrap."""
+        """The product of a sparse matrix with x, if the index is that of its columns; `checked` sums never wrap."""
         values, x = _array(values, "ints", "values"), _array(x, "ints", "x")
         out = numpy.empty(rows.starts, KINDS["ints"])
         name = "route_checked_sparse_product" if checked else "route_sparse_product"
@@ -211,7 +211,7 @@ class Ranks:
         return out
 
     def even_share(self, total: int) -> Tuple[int, int]:
-        """Where this rank's part begins where a vector of so many elements is spread evenly, and how many it has."""
+        """Where this rank's part of a vector begins that is spread evenly, and how many elements it has."""
         first, count = ctypes.c_uint64(), ctypes.c_size_t()
         _call("even_share", self._at, ctypes.c_uint64(total), ctypes.byref(first), ctypes.byref(count))
         return first.value, count.value

@@ -39,11 +39,11 @@ def _frozen(found: IntArray) -> IntArray:
 
 
 class Segments(Lengths):
-    """Segments of a vector, one after another, made once from their lengths and then used by any calls and threads.
+    """Segments of a vector, one after another, made once from their lengths and used by any calls and threads.
 
-    `lengths` is an array of int32, `total` how many elements the segments have in all, and `len` of it how many segments there
-    are; `offsets` says where each starts, and `numbers` whose each place is. None of it can be changed, so that a copy is the same
-    object. A negative length and a total above `cvl.MOST_ELEMENTS` are faults.
+    `lengths` is an array of int32, `total` the number of elements and `len` of it the number of segments; `offsets` says where each
+    starts, and `numbers` the segment of each place. None of it can be changed. A negative length and a total above
+    `cvl.MOST_ELEMENTS` are faults.
 
     >>> import cvl, numpy
     >>> rows = cvl.Segments([2, 0, 3])
@@ -71,10 +71,10 @@ class Segments(Lengths):
 
     @classmethod
     def from_offsets(cls, offsets: ArrayLike) -> Segments:
-        """Segments whose starts stand in `offsets`, and last where the last one ends, as in a matrix of compressed rows.
+        """Segments by the offsets of compressed rows: where each starts, and where the last one ends.
 
-        Faults: 7 LengthMismatch if there is no offset or the first is not 0; 12 NegativeLength at the first segment whose end
-        stands before its start; 13 TooLong if the last offset is above `cvl.MOST_ELEMENTS`.
+        Faults: 7 LengthMismatch if there is no offset or the first is not 0; 12 NegativeLength at the first segment that
+        ends before it starts; 13 TooLong if the last offset is above `cvl.MOST_ELEMENTS`.
         """
         given = _whole_numbers(offsets, "offsets")
         if given.size == 0 or given[0] != 0:
@@ -88,7 +88,7 @@ class Segments(Lengths):
 
     @property
     def offsets(self) -> IntArray:
-        """Where each segment starts, and last where the last one ends: one more than there are segments.
+        """Where each segment starts, and where the last one ends: one more than there are segments.
 
         >>> import cvl
         >>> cvl.Segments([2, 0, 3]).offsets.tolist()

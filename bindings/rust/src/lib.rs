@@ -1,9 +1,8 @@
-//! The vector calls of CVL over slices: flat and segmented vectors of 32-bit integers and booleans, through a proved library.
+//! The vector calls of CVL over slices: flat and segmented vectors of 32-bit integers and booleans.
 //!
-//! Each call has its name from the table of calls. It takes slices, and segments as [`Segments`], and gives a new
-//! vector, or a [`Fault`]. The function whose name ends in `_into` writes into a room of the caller's, and the one
-//! whose name ends in `_in`, where a call has one, in the place of an argument. Beside the calls there are texts, as
-//! [`read_ints`], [`first_senders`], and what a part of a call needs, as [`int_scan_after`].
+//! Each call takes slices, and segments as [`Segments`], and returns a new vector or a [`Fault`]. A function whose name
+//! ends in `_into` writes into a room, a slice of yours, and one whose name ends in `_in` works in place. Beside the calls
+//! there are others, such as [`read_ints`] for texts, [`first_senders`], and [`int_scan_after`] for calls in parts.
 //!
 //! ```
 //! let rows = cvl::Segments::new(&[2, 0, 3])?;
