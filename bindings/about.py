@@ -14,52 +14,50 @@ FROM_C = (
 ABOUT = (
     "cvl.h: the vector calls of CVL, the C Vector Library, on your own memory.",
     "Link with -lcvl, an archive and a shared object; docs/user/programs.md shows how. C99 to C23, and C++.",
-    "Every call returns a CvlStatus: number 0 if it is done, else the number of the first fault, with its place or -1. 100 means that memory ran out, "
-    "101 that there is no descriptor, 102 that arrays overlap. The result is in your buffer, the last array, value or values that you pass. After a fault "
-    "your buffers are as they were.",
+    "Every call returns a CvlStatus: number 0 if it is done, else the number of the first fault, with its place or -1. The result is in your buffer, the "
+    "last array, value or values that you pass. After a fault your buffers are as they were.",
     "Arrays come in the order of the call's operands. The number of elements follows the last array that has so many; the functions of families take one "
-    "behind each array. Lengths of segments are one argument, a CvlLengths. Behind the buffer come at most its number of elements and a count. Places and "
-    "counts are int64_t, so that one outside of 32 bits is reported like any other that is out of range.",
-    "If the last argument is a count, the call stores how many elements the result has. They are at the front of your buffer, and the rest stays as it was. "
-    "If the buffer is too short, the status is 7 LengthMismatch and the count is the length that you need; pass a buffer of no elements to ask. After any "
-    "other fault the count stays as it was.",
-    "Buffers are all that a function writes, counts and single values too. If one shares memory with another argument, the status is 102 Overlap, without a "
-    'place, and nothing is written. You may make a call in place if its line "In place" says so: then an array that it reads is also its buffer, from the '
-    "first to the last element. The result is the same, and after a fault the array is as it was. Arrays that are only read may overlap. An array of 0 "
-    "elements overlaps nothing, and its pointer may be null.",
-    "A boolean is a byte; any byte but 0 is true, as in C. You may pass an array of another type of bytes by a cast, since no function reads it as bool. "
-    "Results are 0 and 1. If an array has other bytes, these calls copy it, one byte an element: packs, permutes, combining permutes (also the buffer that "
-    "they join with), first senders, gathers of segments, appends, merges, transposes, searches for a true flag, scans, texts, and replaces and distributes in "
-    "segments. All others read any bytes where they lie.",
+    "behind each array. Lengths of segments are one argument, a CvlLengths. Places and counts are int64_t, so that one outside 32 bits is a fault like any "
+    "other.",
+    "If the last argument is a count, the result stands at the front of your buffer, the count is its length, and the rest of the buffer stays as it was. If "
+    "the buffer is too short, the status is 7 LengthMismatch and the count is the length that you need; pass a buffer of no elements to ask. After any other "
+    "fault the count stays as it was.",
+    "What a function writes, counts and single values too, may share memory with no other argument, else 102 Overlap and nothing is written. Only in place, "
+    'as the line "In place" of a function allows, is an array also the buffer, from the first to the last element. Arrays that are only read may overlap. An '
+    "array of 0 elements overlaps nothing, and its pointer may be null.",
+    "A boolean is a byte, true unless it is 0; results are 0 and 1. You may pass an array of any type of bytes by a cast. If it has other bytes than 0 and 1, "
+    "these calls copy it: packs, permutes, combining permutes (also the buffer that they join with), first senders, gathers of segments, appends, merges, "
+    "transposes, searches for a true flag, scans, texts, and replaces and distributes in segments.",
     "What you owe, and what happens if you break it:",
-    "  - A pointer leads to as many elements as you say, aligned for their type, which may be read and, in a buffer, written. Else the call may crash, or "
-    "read or write other memory.",
+    "  - A pointer leads to as many elements as you say, aligned, readable and, in a buffer, writable. Else the call may crash, or read or write other memory.",
     "  - While a call runs, no other thread writes its arrays or reads its buffers. Else the results are arbitrary, and the call may crash or write other "
     "memory.",
     f"  - The calling thread has CVL_MOST_STACK bytes of its stack left, {MOST_STACK // 1024} KiB. Else the call may crash, or write other memory.",
-    "  - A signal handler that interrupts a call returns: it does not leave the call by longjmp, siglongjmp, an exception or pthread_exit. Else threads of "
-    "the library keep reading and writing the call's memory, also on the stack that is left, and cvl_set_threads may wait for ever.",
+    "  - A signal handler that interrupts a call returns to it: no longjmp, siglongjmp, exception or pthread_exit. Else threads of the library go on using "
+    "the call's memory, and cvl_set_threads may wait for ever.",
     "  - The program has one malloc, realloc and free. Else memory is freed by an allocator that it is not from.",
     "  - The lengths of a descriptor live as long as calls use it. Else the call may crash or read other memory.",
-    "Everything else is checked, in every language: whatever lengths, indices, operators and buffers you pass, a call returns a status. It runs on the "
-    "calling thread; a long one also runs on threads of the library if you asked for some. Several threads may call at once.",
-    "If there are several faults, the first of this list is reported; places count from 0:",
+    "Everything else is checked, in every language: whatever lengths, indices, operators and buffers you pass, a call returns a status. Several threads may "
+    "call at once.",
+    "If there are several faults, the first of this list is reported. Places count from 0; 2, 7 and 13 have none unless a function says so.",
     "  - 102 Overlap; without a descriptor 101 NoDescriptor, before overlaps of other arguments;",
-    "  - 2 UnknownCall, without a place, if the number is no operator of the family;",
-    f"  - 13 TooLong, without a place, if the vector that sets the length of the call has more than {MOST_ELEMENTS} elements: its first vector, the flags of a "
-    "pack, or the index of a permute, of first senders or of counts; also the buffer of a flat combining permute or of counts, and the starts of a gather "
-    "of segments; on segments after the lengths. Other calls on segments check only the lengths, of which there are at most as many, with at most that "
-    "total; a longer vector is 7 LengthMismatch. A vector that is too long is not read;",
+    "  - 2 UnknownCall if the number is no operator of the family;",
+    f"  - 13 TooLong if the vector that sets the length of the call has more than {MOST_ELEMENTS} elements: its first vector, the flags of a pack, or the index "
+    "of a permute, of first senders or of counts; also the buffer of a flat combining permute or of counts, and the starts of a gather of segments. On "
+    "segments this comes after the faults by the lengths; calls on segments without such a vector check only the lengths;",
     "  - 13, 12 and 13 again by the lengths of segments;",
-    "  - 7 LengthMismatch, without a place, if vectors that belong together differ in length; then if a buffer is not as long as the result, or shorter if "
-    "there is a count;",
-    "  - 100 NoResources;",
-    "  - the faults of elements, in the order of the function's comment. A buffer that is too short for a text that is read comes last.",
-    f"These vectors may be longer than {MOST_ELEMENTS} elements: the source of a back permute, the defaults of a permute, the result of first senders, the "
-    "source of a gather of segments, and the vectors of which one element is taken or replaced.",
-    "Each call of a script has its name with the prefix cvl_, such as cvl_add_wuz. If you define CVL_SHORT_NAMES before you include this header, it also has "
+    "  - 7 LengthMismatch if vectors that belong together differ in length, or lengths do not add up to the vector that they cut; then if a buffer is not as "
+    "long as the result, or shorter if there is a count;",
+    "  - 100 NoResources if memory runs out;",
+    "  - the faults of elements, in the order that the function has. A buffer that is too short for a text that is read comes last.",
+    "These vectors may be longer: the source of a back permute and of a gather of segments, the defaults of a permute, the result of first senders, and the "
+    "vectors of which one element is taken or replaced.",
+    "Each call of a script has its name with the prefix cvl_, such as cvl_add_wuz. If you define CVL_SHORT_NAMES before you include the header, it also has "
     "the name without it.",
 )
+
+# what the header alone says, since its comments leave out what the manual has of each function
+IN_HEADER = "The comments leave out 13 TooLong and 7 LengthMismatch by this list. The manual, from cvl(3) on, has them and an example of each function."
 
 STATUS_TYPE = """/* What a call returns. */
 typedef struct CvlStatus {
@@ -92,42 +90,40 @@ OF_VERSIONS = (
 )
 
 THREADS = (
-    "A program starts with one thread for calls, the one that calls. If cvl_set_threads or the variable CVL_NUM_THREADS asks for more, for the whole "
-    "process, long calls run on them: from 262144 elements on, from 131072 bytes of a text that is read, and from 32768 elements whose text is written. "
-    "These calls stay on the calling thread: those that read one element, read a nested text or a text behind another, scan after a carry, add up "
-    "exactly, make a range of another call, sort without segments, transpose, or look for one true flag. Results and faults are the same for any number of threads. On several a call may copy its buffer; if there is no memory for that, it "
-    "runs on the calling thread.",
-    "One call at a time has the threads. Another call meanwhile runs on its own thread, and so does one during cvl_set_threads: no call waits for another, "
-    "or for that function. A call in parts on a pool of yours (cvl_parallel.h) uses only the threads of that pool.",
-    "Between calls the threads sleep. One that has no work for a second ends, and the next long call starts it again, with the processors and the priority "
-    "of its own thread; if that fails, the call runs on the threads that there are. So they never keep a process alive.",
-    "The threads block signals that are sent to the process, so your handlers run on your own threads. They do not block SIGSEGV, SIGBUS, SIGFPE, SIGILL, "
+    "Calls run on the thread that calls. If cvl_set_threads or the variable CVL_NUM_THREADS asks for more threads, for the whole process, long calls run on "
+    "them: from 262144 elements on, from 131072 bytes of a text that is read, and from 32768 elements whose text is written. Results and faults are the same. "
+    "These calls stay on the calling thread: those that read one element, read a nested text or a text behind another, scan after a carry, add up exactly, "
+    "make a range of another call, sort without segments, transpose, or look for one true flag. On several threads a call may copy its buffer; if there is no "
+    "memory for that, it runs on the calling thread.",
+    "One call at a time has the threads. No other call waits for it, or for cvl_set_threads: it runs on its own thread. A call in parts on a pool of yours "
+    "(cvl_parallel.h) uses only the threads of that pool.",
+    "A thread that has no work for a second ends, so that it keeps no process alive. The next long call starts it again, with the processors and the priority "
+    "of its own thread; if that fails, the call runs on the threads that there are.",
+    "The threads block the signals that are sent to the process, so your handlers run on your own threads. They do not block SIGSEGV, SIGBUS, SIGFPE, SIGILL, "
     "SIGTRAP and SIGSYS: if you guard the pages of an array, your handler runs on the thread that touches one. A handler must not call the library, and must "
     "return. A thread that is cancelled finishes its call first.",
-    "The child of a fork has none of the threads, even if it was forked in the middle of a call, and may set a number of its own. The library recognizes a "
-    "child by its process number and by a handler of pthread_atfork, since the first process of a namespace may have its parent's number; after _Fork or "
-    "clone, which run no handlers, by its number alone.",
-    "You owe nothing at exit: the threads end with the process. The shared object stays loaded after dlclose, so that no thread loses its code; "
-    "cvl_set_threads(1) ends the threads. If your own shared object contains the archive and may be unloaded, link it with -z nodelete or call "
-    "cvl_set_threads(1) first; a thread that was just ending by itself, a second after its last work, may then still be about to return.",
+    "The child of a fork has none of the threads, and may set a number of its own. After _Fork or clone, which run no handlers of pthread_atfork, the library "
+    "knows a child only by its process number, which may be its parent's in a new namespace.",
+    "The threads end with the process, and the shared object stays loaded after dlclose. If your own shared object contains the archive and may be unloaded, "
+    "link it with -z nodelete or call cvl_set_threads(1) first; a thread that was just ending by itself may then still be about to return.",
 )
 OF_THREADS = (
     (
         "cvl_set_threads",
         (
-            "Sets how many threads long calls have, 1 to 64, with the one that calls. Returns 0; EINVAL for any other number; or an error of POSIX, such as "
-            "EAGAIN, if a thread cannot be started. After an error there are as many as before. It waits for the call that has the threads, and for no later "
-            "one. Several threads may call it at once.",
+            "Sets how many threads long calls have, 1 to 64, the calling one included. Returns 0; EINVAL for any other number; or an error of POSIX, such as "
+            "EAGAIN, if a thread cannot be started, and then the number stays. It waits for the call that has the threads, and for no later one. Several "
+            "threads may call it at once.",
         ),
         "int cvl_set_threads(size_t threads);",
     ),
     (
         "cvl_threads",
         (
-            "How many threads there are: what cvl_set_threads set last, else what CVL_NUM_THREADS says, a number from 1 to 64 in digits alone, else 1. The "
-            "variable is read once, by the first call of either function or the first long call; long calls start the threads, and if one cannot be started, "
-            "the number stays. This function waits for nobody. In the child of a fork the number is 1 until you set another; if nobody had asked before the "
-            "fork, the child starts like any program.",
+            "How many threads there are: what cvl_set_threads set last, else CVL_NUM_THREADS, a number from 1 to 64 in digits alone, else 1. The variable is "
+            "read once, by the first call of either function or the first long call. Long calls start the threads; if one cannot be started, the number stays. "
+            "It waits for nobody. In the child of a fork the number is 1 until you set another; if nobody had asked before the fork, the child starts like any "
+            "program.",
         ),
         "size_t cvl_threads(void);",
     ),
@@ -142,9 +138,8 @@ DESCRIPTORS = (
     "number of threads may use it at once, and there is nothing to free. Start with CVL_NO_SEGMENTS; cvl_segments_new fills it. No call writes the lengths "
     "or the descriptor.",
     "The functions from cvl_segments_free to cvl_segments_numbers make descriptors and read them. Each of the others is the family on segments of its name, "
-    "with a descriptor for the lengths: cvl_segments_int_scan is cvl_seg_int_scan, with the same results and faults, in place if that is. Each checks the "
-    "lengths before it writes, so it uses lengths that you changed after you made the descriptor, and reports wrong ones; do not write them during a call. A "
-    "buffer may overlap neither the lengths nor the descriptor. With CVL_NO_SEGMENTS or a null pointer a call returns 101 NoDescriptor.",
+    "with a descriptor for the lengths: cvl_segments_int_scan is cvl_seg_int_scan. Each checks the lengths anew, so you may change them between calls. A buffer may "
+    "overlap neither the lengths nor the descriptor. With CVL_NO_SEGMENTS or a null pointer a call returns 101 NoDescriptor.",
 )
 OF_DESCRIPTORS = (
     (
@@ -154,21 +149,20 @@ OF_DESCRIPTORS = (
     (
         "cvl_segments_new",
         (
-            "Makes the descriptor of segments with these lengths, which may be 0. After a fault there is none.",
-            f"Faults: 13 TooLong, without a place, if there are more than {MOST_ELEMENTS} lengths; 12 NegativeLength at the first that is below 0; 13 TooLong, "
-            f"without a place, if the total is more than {MOST_ELEMENTS}; else 101 NoDescriptor if `segments` is null.",
+            "Makes the descriptor of segments with these lengths. After a fault there is none.",
+            f"Faults: 13 TooLong if there are more than {MOST_ELEMENTS} lengths; 12 NegativeLength at the first below 0; 13 TooLong if the total is more than "
+            f"{MOST_ELEMENTS}; else 101 NoDescriptor if `segments` is null.",
         ),
         "CVL_CHECKED CvlStatus cvl_segments_new(CvlLengths lengths, CvlSegments *segments);",
     ),
     (
         "cvl_segments_from_offsets",
         (
-            "Makes the descriptor of segments that start at these offsets, one more than there are segments; the last segment ends at the last offset, as in a "
-            "matrix of compressed rows. The lengths go into your buffer, one for each segment, which the descriptor names. After a fault there is no descriptor, "
-            "and the buffer is as it was.",
-            f"Faults: 13 TooLong, without a place, if there are more than {MOST_ELEMENTS} segments; 7 LengthMismatch if there is no offset or the first is not 0; "
-            "12 NegativeLength at the first segment that ends before it starts; 7 LengthMismatch if the buffer does not have one place for each segment; else "
-            "101 NoDescriptor if `segments` is null.",
+            "Makes the descriptor of segments that start at these offsets, of which the last is the end, as in a matrix of compressed rows. The lengths go into "
+            "your buffer, which the descriptor names. After a fault there is no descriptor, and the buffer is as it was.",
+            f"Faults: 13 TooLong if there are more than {MOST_ELEMENTS} segments; 7 LengthMismatch if there is no offset or the first is not 0; 12 NegativeLength at "
+            "the first segment that ends before it starts; 7 LengthMismatch if the buffer does not have one place for each segment; else 101 NoDescriptor if "
+            "`segments` is null.",
         ),
         "CVL_CHECKED CvlStatus cvl_segments_from_offsets(const int32_t *offsets, size_t offsets_len, int32_t *lengths, size_t lengths_len,\n"
         "    CvlSegments *segments);",

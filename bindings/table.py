@@ -160,80 +160,67 @@ VERSION = "1.0.0"
 # What stands before the functions of a section: of families, and of calls.
 OF_FAMILIES = {
     "combining permutes": (
-        "No script calls these. A combining permute sends each element to the place that its index names and joins it with what is there: one call adds up "
-        "by key, or finds the least of each group. Elements that go to one place are joined in their order. out holds the values before and then the result, "
-        "so a call on a few elements of a large table touches no other place. To start anew, fill out with what changes nothing, such as 0 for CVL_ADD and "
-        "INT32_MAX for CVL_MIN. Booleans in out that are neither 0 nor 1 become 1.",
-        "With lengths, an index counts from the start of its segment of out. The faults by the lengths come first, those of `lengths` before "
-        "those of `result_lengths`; there are as many of the one as of the other, else 7 LengthMismatch.",
+        "No script calls these. A combining permute joins each element with what stands at the place that its index names: one call adds up by key, or finds "
+        "the least of each group. Elements that go to one place are joined in their order. out holds the values before and then the result; to start anew, "
+        "fill it with what changes nothing, such as 0 for CVL_ADD and INT32_MAX for CVL_MIN. Booleans in out that are neither 0 nor 1 become 1.",
+        "With lengths, an index counts from the start of its segment of out. The faults by `lengths` come first, then those by `result_lengths`, which are as "
+        "many, else 7 LengthMismatch.",
     ),
     "first senders": (
-        "No script calls these. If several places name one place of the result, the least wins, for any number of threads, and no values are "
-        "combined: this finds the winners of a breadth-first search, a sort or a removal of duplicates. A back permute by the senders that are not -1 gives "
-        "one element for each place that is named.",
-        "With lengths, an index counts from the start of its segment of the result, and a sender from the start of its own segment. The faults "
-        "by the lengths come first, those of `lengths` before those of `result_lengths`; there are as many of the one as of the other, else 7 "
-        "LengthMismatch.",
+        "No script calls these. If several places name one place of the result, the least wins, for any number of threads. A back permute by the senders that "
+        "are not -1 gives one element for each place that is named.",
+        "With lengths, an index counts from the start of its segment of the result, and a sender from the start of its own. The faults by `lengths` come "
+        "first, then those by `result_lengths`, which are as many, else 7 LengthMismatch.",
     ),
     "orders, ranks and sorts": (
-        "No script calls these. Keys are signed integers, and equal ones keep the order of their places (a stable sort). An order and a rank are inverse "
-        "permutations; by either of them other vectors follow their keys. For descending order use CVL_NOT on the keys before a call, and on the result of "
-        "a sort; equal keys still keep their order. A sort may be in place.",
-        "Without segments these calls run on the calling thread. An order and a rank take up to 16 bytes a key while they run, a sort up to 4 (by segments, for the keys of "
-        "the longest one), and all up to 8192 bytes more. If that is refused, the status is 100 NoResources.",
+        "No script calls these. Keys are signed integers, and equal ones keep the order of their places (a stable sort). For descending order use CVL_NOT on "
+        "the keys before a call, and on the result of a sort. A sort may be in place.",
+        "Without segments these calls run on the calling thread. An order and a rank take up to 16 bytes a key while they run, a sort up to 4 (by segments, for "
+        "the keys of the longest one), and all up to 8192 bytes more, else 100 NoResources.",
     ),
     "slices and merges": (
-        "No script calls these. They move runs of elements while a back permute moves single elements, or give one value of each segment that no "
-        "operator joins. None asks for memory, but for booleans that are neither 0 nor 1, and on several threads for a copy of the buffer. A search for one "
-        "true flag runs on the calling thread.",
-        "The faults by the lengths come first, as at the other calls on segments, then 7 LengthMismatch, without a place, if the lengths of "
-        "arrays do not fit.",
+        "No script calls these. They ask for memory only for booleans that are neither 0 nor 1, and on several threads for a copy of the buffer. A search for "
+        "one true flag runs on the calling thread.",
+        "The faults by the lengths come first, then 7 LengthMismatch, without a place, if the lengths of arrays do not fit.",
     ),
     "transposes, and integers of a byte": (
-        "No script calls these. A transpose moves a matrix block by block, so it reads neighbours while they are in cache, which a back permute "
-        "does not. It runs on the calling thread. Integers of a byte take a quarter of the memory, as the bytes of a text do: "
-        "widen them before calls on integers, and narrow what fits. The bytes of a signed type are the same bytes: subtract 256 from the integers above 127 "
-        "once they are widened, and add 256 to the negative ones before they are narrowed.",
+        "No script calls these. A transpose moves a matrix block by block, which takes less time than a back permute, and runs on the calling thread. Widen "
+        "bytes before calls on integers, and narrow what fits. For a signed type of bytes subtract 256 from the integers above 127 once they are widened, and add "
+        "256 to the negative ones before they are narrowed.",
     ),
     "texts": (
-        "A text is bytes, with no zero at its end. You may not know how long a result is: it is at the front of your buffer, count is its length, and the "
-        "rest stays as it was. If the buffer is too short, it stays as it was, the status is 7 LengthMismatch, without a place, and count is the length that "
-        "you need; pass a buffer of no elements to ask. After any other fault the count stays as it was, too. For a text that is read the buffer is checked "
-        "last, since only the text says how long the result is.",
+        "A text is bytes, with no zero at its end; count is the length of the result. For a text that is read the buffer is checked last, since only the text "
+        "says how long the result is.",
     ),
     "scans in parts, by threads of the caller's": (
         "Your own threads scan one vector together in three steps, with a barrier of yours between them:",
         "  1. each thread reduces its tiles: cvl_int_reduce(op, a + from, to - from, &sums[t]), for tile t from place `from` to `to`;",
         "  2. one thread scans the sums: cvl_int_scan(op, sums, tiles, before, tiles);",
         "  3. each thread scans its tiles: cvl_int_scan_after(op, before[t], a + from, to - from, out + from, to - from).",
-        "Then out is the cvl_int_scan of the whole. Tiles may have any length, also 0, and any thread may take any tile of a step. "
-        "examples/c/threads.c does this with POSIX threads.",
+        "Tiles may have any length, also 0, and any thread may take any tile of a step. examples/c/threads.c does this with POSIX threads.",
     ),
     "sparse products": (
-        "A sparse matrix comes by its rows: how many entries each row has, and the column and the value of each entry, row after row. Each row is one "
-        "pass, so no vector is written in between, as by cvl_bck_puz, cvl_mul_wuz and cvl_add_rez in turn. Faults by the lengths come "
-        "first, as at the calls on segments. Rows may also come by their offsets, as in a matrix of compressed rows (CSR): one more than rows; row r has the "
-        "entries from offset r to before offset r + 1. For many products of one matrix make the lengths once, by cvl_segments_from_offsets.",
+        "A sparse matrix comes by its rows: how many entries each row has, and the column and the value of each entry, row after row. Rows may also come by "
+        "their offsets, as in a matrix of compressed rows (CSR): one more than rows; row r has the entries from offset r to before offset r + 1. Faults by the "
+        "lengths come first. For many products of one matrix make the lengths once, by cvl_segments_from_offsets.",
     ),
     "calls in parts": (
-        "If you have threads or machines of your own, make a call in parts, each a range of the vector. Most calls need only themselves for that; "
-        "these functions are what else a part needs. docs/user/parallel.md says for each call how to cut it, what its parts pass on, and how to join the "
-        "results; cvl_parallel.h does it for threads.",
+        "Most calls in parts need only themselves; these functions are what else a part needs. docs/user/parallel.md says for each call how to cut it, what its "
+        "parts pass on, and how to join the results; cvl_parallel.h does it for threads.",
     ),
 }
 OF_CALLS = {
     "segments": (
-        "Segments come as their lengths, one for each segment, which may be 0. Each call on segments first has these faults, by the lengths: 13 "
-        f"TooLong, without a place, if there are more than {MOST_ELEMENTS}; 12 NegativeLength at the first that is below 0; 13 TooLong, without a "
-        f"place, if they add up to more than {MOST_ELEMENTS}.",
+        "Segments come as their lengths, which may be 0. Each call on segments first has these faults, by the lengths: 13 TooLong, without a place, if there "
+        f"are more than {MOST_ELEMENTS}; 12 NegativeLength at the first below 0; 13 TooLong, without a place, if they add up to more than {MOST_ELEMENTS}.",
     ),
     "permutes": (
         "In a simple, a select and a default permute the index of a place says where its element goes, and no two may go to one place. 13 TooLong, "
         f"if the index has more than {MOST_ELEMENTS} elements, comes first.",
     ),
     "permutes of segments": (
-        "The faults by the lengths come first, as at the other calls on segments; with two arrays of lengths those of `lengths` before "
-        "those of the other. There are as many of the one as of the other, else 7 LengthMismatch. Indices count from the start of their segment.",
+        "Indices count from the start of their segment. The faults by the lengths come first; with two arrays of lengths those by `lengths` before those by the "
+        "other, which are as many, else 7 LengthMismatch.",
     ),
 }
 
@@ -390,13 +377,12 @@ LONG_ROOM = Fault((13,), "13 TooLong, also if out is too long", False)
 NOT_AS_MANY = Fault((7,), "7 LengthMismatch if source and index differ in length", False)
 SUMS_OF_SENT = Fault(
     (7,), "7 LengthMismatch if source and index differ in length, or the lengths do not add up to them, or the result lengths to out", False)
-BAD_SLICE = Fault((10,), "10 IndexOutOfRange at the first segment whose start is below 0, or whose end is behind that of the source", False)
+BAD_SLICE = Fault((10,), "10 IndexOutOfRange at the first segment that starts below 0 or ends behind the source", False)
 SUMS_OF_BOTH = Fault((7,), "7 LengthMismatch if the lengths do not add up to a, or the other lengths to b", False)
 SUMS_OF_SIDES = Fault(
     (7,), "7 LengthMismatch if the lengths do not add up to flags, the true lengths to when_true or the false lengths to when_false", False)
 MISCOUNT = Fault(
-    (7,), "7 LengthMismatch at the first segment that has not as many true flags as when_true has elements there, or not as many false ones as when_false",
-    False)
+    (7,), "7 LengthMismatch at the first segment whose true flags are not as many as its elements of when_true, or the false ones as those of when_false", False)
 NO_MATRIX = Fault((7,), "7 LengthMismatch if rows times columns is not n", False)
 NO_BYTE = Fault((18,), "18 Overflow at the first integer below 0 or above 255", False)
 NO_SIDES = Fault((7,), "7 LengthMismatch if when_true does not have one element for each true flag, or when_false for each false one", False)
@@ -411,12 +397,17 @@ BAD_OFFSETS = Fault(
 LAST_OFFSET = Fault((7,), "7 LengthMismatch if columns and values differ in length, or the last offset is not n", False)
 OVERFLOW_AT_ROW = Fault((18,), "18 Overflow at the first row whose sum does not fit 32 bits", False)
 OVERFLOW_AT_SEGMENT = Fault((18,), "18 Overflow at the first segment whose sum does not fit 32 bits", False)
+# of the lengths of arrays, as all calls have them: what stands before the functions says them once
+OF_LENGTHS = (
+    TOO_LONG, SUM_OF_N, NO_ROOM, SUM_OR_NO_ROOM, SUMS_OF_DEFAULTS, SUMS_OF_INDEX, SUMS_OF_RESULT, SUMS_OF_SENT, SUMS_OF_BOTH, SUMS_OF_SIDES, FLAGS_DIFFER,
+    NOT_AS_MANY, SUM_OF_ENTRIES, LONG_ROOM,
+)
 RANGE_FAULTS = (
     Fault((13,), f"13 TooLong, by the index, and if the range ends behind place {MOST_ELEMENTS}", False),
-    Fault((7,), "7 LengthMismatch if source and index differ in length, or marks_len is not (out_len + 31) / 32. After a fault all buffers are as they were", False),
+    Fault((7,), "7 LengthMismatch if source and index differ in length, or marks_len is not (out_len + 31) / 32", False),
 )
 COMBINE_RANGE_FAULTS = (
-    Fault((13,), f"13 TooLong, by the index, and where the range ends behind place {MOST_ELEMENTS}", False), NOT_AS_MANY,
+    Fault((13,), f"13 TooLong, by the index, and if the range ends behind place {MOST_ELEMENTS}", False), NOT_AS_MANY,
 )
 
 FAMILIES = (
@@ -682,13 +673,13 @@ FAMILIES = (
     # ---- orders, ranks and sorts ----
     family(
         "order", "orders, ranks and sorts", (ints("keys"), room("ints")),
-        "The places in ascending order of their keys, equal keys in the order of their places. A back permute by them sorts whatever belongs to the keys.",
+        "The places in ascending order of their keys. A back permute by them sorts whatever belongs to the keys.",
         asks=True, cut=("whole", None), shape="keys and out have n elements.", example={"keys": "3 1 2 1", "out": "1 3 2 0"},
     ),
     family(
         "rank", "orders, ranks and sorts", (ints("keys"), room("ints")),
-        "For each place how many keys stand before its key in that order: the lesser ones, and the equal ones of earlier places. A simple permute by them "
-        "sorts whatever belongs to the keys.",
+        "For each place how many keys come before its key: the lesser ones, and the equal ones of earlier places. A simple permute by them sorts whatever "
+        "belongs to the keys.",
         asks=True, cut=("whole", None), shape="keys and out have n elements.", example={"keys": "3 1 2 1", "out": "3 0 2 1"},
     ),
     family(
@@ -716,8 +707,8 @@ FAMILIES = (
     *twins(
         ("gather_segments_int", "gather_segments_bool"), "slices and merges",
         lambda kind: (items(kind, "source"), ints("starts", "segments"), lengths(extent="total"), room(kind, "total")),
-        "For each segment the elements of the source from the place `starts` on, as many as the segment is long, one segment behind another. The slices may "
-        "overlap, come in any order and be empty; an empty one may start where the source ends.",
+        "For each segment the elements of the source from its start on, as many as the segment is long. Slices may overlap, come in any order and be empty; an "
+        "empty one may start where the source ends.",
         limit="segments", faults=(BAD_SLICE,), cut=("segments", "total"), shape="There is one start for each segment; out has the total of the lengths.",
         example=lambda kind: {
             "ints": {"source": "10 20 30 40", "starts": "2 4 1", "lengths": "2 0 3", "out": "30 40 20 30 40"},
@@ -751,8 +742,8 @@ FAMILIES = (
             copied("flags"), items(kind, "when_true", "trues"), items(kind, "when_false", "falses"), lengths(), lengths("true_lengths", "trues"),
             lengths("false_lengths", "falses"), room(kind),
         ),
-        "At each place of each segment the next element of the same segment of when_true if the flag is true, and of when_false if it is false: the "
-        "inverse of two packs of segments.",
+        "At each place the next element of the same segment of when_true if the flag is true, and of when_false if it is false: the inverse of two packs of "
+        "segments.",
         limit=None, faults=(SUMS_OF_SIDES, MISCOUNT), cut=("segments", "n"),
         shape="flags and out have n elements in segments with the lengths; when_true and when_false are in as many segments with the true lengths and the "
         "false lengths.",
@@ -773,7 +764,7 @@ FAMILIES = (
     ),
     family(
         "seg_first_true", "slices and merges", (copied("flags"), lengths(), room("ints", "segments")),
-        "For each segment the place of its first true flag, counted from the start of the segment, or -1 if none is true.",
+        "For each segment the place of its first true flag, counted from its start, or -1 if none is true.",
         limit=None, faults=(SUM_OF_N,), cut=("segments", "n"), shape="flags has n elements, out one for each segment.",
         example={"flags": "false true false false true", "lengths": "2 1 0 2", "out": "1 -1 -1 1"},
     ),
@@ -804,8 +795,8 @@ FAMILIES = (
     # ---- texts ----
     family(
         "read_ints", "texts", (text("text"), room("ints", "room"), told()),
-        "The integers of a text. They stand between white space (space, tab, line feed, carriage return), and each is an optional minus sign "
-        "and at least one digit, inside 32 bits. A text of white space alone has none.",
+        "The integers of a text, between white space (space, tab, line feed, carriage return), each an optional minus sign and at least one digit, inside 32 "
+        "bits.",
         limit=None,
         faults=(
             Fault((13,), f"13 TooLong, without a place, if there are more than {MOST_OF_TEXT} words between white space, whatever they are", False),
@@ -825,9 +816,8 @@ FAMILIES = (
     ),
     family(
         "seg_read_ints", "texts", (text("text"), room("ints", "room"), told(), room("ints", "lengths_room", "lengths"), told("segments")),
-        'The integers and the lengths of the lists of a nested text: "[", any number of lists, "]"; a list is "[", integers as in '
-        'cvl_read_ints, "]". Each of the two results has a room and a count of its own; if one is too short, both stay as they were, and '
-        "both counts are the lengths that you need.",
+        'The integers and the lengths of the lists of a nested text: "[", any number of lists, "]"; a list is "[", integers as in cvl_read_ints, "]". If one '
+        "of the two buffers is too short, both stay as they were, and both counts are the lengths that you need.",
         limit=None,
         faults=(
             Fault(
@@ -845,7 +835,7 @@ FAMILIES = (
     ),
     family(
         "seg_write_ints", "texts", (ints("a"), lengths(), room("text", "room"), told()),
-        "The text of a vector of integers that is cut into segments: the texts of the segments, a space between each two, in brackets.",
+        "The texts of the segments of a vector of integers, a space between each two, in brackets.",
         limit=None, faults=(
             Fault((13, 12), "by the lengths those of each call on segments, 13 TooLong, 12 NegativeLength, 13 TooLong", False),
             Fault((7,), "7 LengthMismatch if the lengths do not add up to the vector's", False),
@@ -866,24 +856,22 @@ FAMILIES = (
     # ---- calls in parts ----
     family(
         "exact_sum", "calls in parts", (ints("a"), single("sum")),
-        "The sum of the integers in 64 bits, which always fits: what a part of a checked sum passes on.",
+        "The sum of the integers in 64 bits, which always fits.",
         example={"a": "2147483647 1", "out": "2147483648"},
     ),
     family(
         "checked_scan_after", "calls in parts", (value("before", "sum"), ints("a"), room("ints")),
-        "For each integer `before` and those in front of it, added up: a part of cvl_checked_scan after the exact sum of the parts in front of it. "
-        "The place of a fault counts from the start of the part.",
+        "A part of cvl_checked_scan after the exact sum `before` of the parts in front of it. The place of a fault counts from the start of the part.",
         faults=(TOO_LONG, OVERFLOW_AT_PLACE), example={"before": "10", "a": "3 1 4", "out": "10 13 14"},
     ),
     family(
         "permute_int_range", "calls in parts",
         (ints("source"), ints("index"), value("lowest", "size"), room("ints", "range"), room("marks", "marks", "marks"), told("written")),
         "One range of the result of smp_puz, its out_len places from place `lowest` on: each element whose index is one of them is written there, the last "
-        "if there are several, and a bit marks the place. marks are (out_len + 31) / 32 words: bit b of word w, of the value 1 << b, is set if "
-        "place 32 * w + b of the range is written, and the bits behind the last place are not. It does not matter what they hold before; written is how many "
-        "bits are set. Each part has another range, its own marks, and all of source and index. If all parts together wrote index_len places, the ranges, "
-        "one after another, are the permute. Else an index is out of range or repeated: cvl_permute_int reports which. A place to which nothing is sent stays "
-        "as it was, so over ranges that hold the defaults the parts are def_puz.",
+        "if there are several. marks are (out_len + 31) / 32 words, whatever they hold before: bit b of word w, of the value 1 << b, is set if place 32 * w + b "
+        "of the range is written, and written is how many bits are set. Each part has another range, its own marks, and all of source and index. If all parts "
+        "together wrote index_len places, the ranges are the permute; else an index is out of range or repeated: cvl_permute_int reports which. Other places "
+        "stay as they were, so over ranges that hold the defaults the parts are def_puz.",
         faults=RANGE_FAULTS, example={"source": "5 6 7", "index": "2 0 1", "lowest": "1", "out_len": "2", "out": "7 5", "marks": "3", "written": "2"},
     ),
     family(
@@ -899,8 +887,8 @@ FAMILIES = (
             ints("source"), ints("index"), copied("flags"), value("lowest", "size"), room("ints", "range"), room("marks", "marks", "marks"),
             told("written"),
         ),
-        "One range of the result of sel_puz, the same way: only elements whose flag is true go anywhere. If the result has as many places as there "
-        "are true flags, and all parts together wrote as many, the ranges are the permute.",
+        "One range of the result of sel_puz, the same way, of the elements whose flag is true. If the result has as many places as there are true flags, and all "
+        "parts together wrote as many, the ranges are the permute.",
         faults=(Fault((13, 7), "those of cvl_permute_int_range; 7 LengthMismatch also if index and flags differ in length", False),),
         example={
             "source": "5 6 7", "index": "1 9 0", "flags": "true false true", "lowest": "0", "out_len": "1", "out": "7", "marks": "1", "written": "1",
@@ -921,8 +909,8 @@ FAMILIES = (
     family(
         "first_senders_range", "calls in parts", (ints("index"), value("lowest", "size"), room("ints", "range"), told("named")),
         "One range of the first senders, its out_len places from place `lowest` on: for each the least place whose index names it, or -1. named is how "
-        "many indices name a place of the range. Each part has another range and all of index. If all parts together named index_len, the ranges, one "
-        "after another, are the first senders. Else an index is out of range: cvl_first_senders reports which.",
+        "many indices name a place of the range. Each part has another range and all of index. If all parts together named index_len, the ranges are the first "
+        "senders; else an index is out of range: cvl_first_senders reports which.",
         faults=(Fault((13,), f"13 TooLong, by the index, and if the range ends behind place {MOST_ELEMENTS}", False),),
         example={"index": "2 0 2 3", "lowest": "1", "out_len": "2", "out": "-1 0", "named": "2"},
     ),
@@ -936,10 +924,10 @@ FAMILIES = (
     *twins(
         ("combine_permute_int_range", "combine_permute_bool_range"), "calls in parts",
         lambda kind: (items(kind, "source"), ints("index"), value("lowest", "size"), over(kind, "range"), told("named")),
-        lambda kind: f"One range of a combining permute of {word(kind)}s, by the operator, of {first_to_last(joining(kind))}: the out_len places of the room "
-        "from place `lowest` on. What stands at each of them is joined with the elements whose index names it. named is how many indices name a place of the "
-        "range. Each part has another range, and all of source and index. Where all parts together named index_len, the ranges, one after another, are the "
-        "combining permute. Else an index is out of range: cvl_combine_permute_int tells which.",
+        lambda kind: f"One range of a combining permute of {word(kind)}s, by the operator, of {first_to_last(joining(kind))}: the out_len places from place "
+        "`lowest` on, each joined with the elements whose index names it. named is how many indices name a place of the range. Each part has another range, and "
+        "all of source and index. If all parts together named index_len, the ranges are the combining permute; else an index is out of range: "
+        f"cvl_combine_permute_{one(kind).replace('flag', 'bool')} reports which.",
         operators=joining, faults=COMBINE_RANGE_FAULTS,
         example=lambda kind: {
             "ints": {"op": "ADD", "source": "5 6 7 8", "index": "2 0 2 1", "lowest": "1", "out_len": "2", "out_before": "200 300", "out": "208 312", "named": "3"},
@@ -955,8 +943,8 @@ FAMILIES = (
     ),
     family(
         "read_ints_after", "calls in parts", (value("before", "size"), text("text"), room("ints", "room"), told()),
-        "The integers of one piece of a text that is cut at white space, as cvl_read_ints reads them. `before` is how many words the pieces before it have, so "
-        "that a fault's place is that in the whole text.",
+        "The integers of one piece of a text that is cut at white space, as cvl_read_ints reads them. `before` is how many words the pieces before it have; a "
+        "fault's place is that in the whole text.",
         limit=None,
         faults=(
             Fault((13,), f"13 TooLong, without a place, if `before` is more than {MOST_ELEMENTS}, or the piece itself has more than {MOST_OF_TEXT} words", False),
@@ -969,8 +957,8 @@ FAMILIES = (
     # ---- sparse products ----
     family(
         "sparse_product", "sparse products", (lengths(), ints("columns"), ints("values"), ints("x", "m"), room("ints", "segments")),
-        "The product of a sparse matrix in rows with the vector x: for each row the sum, over its entries, of the value times the element of x at the "
-        "column. Sums and products are wrapped to 32 bits, and a row without entries has 0.",
+        "The product of a sparse matrix with the vector x: for each row the sum of its values, each times the element of x at its column, wrapped to 32 bits; 0 "
+        "for a row without entries.",
         faults=(TOO_LONG, SUM_OF_ENTRIES, BAD_COLUMN), asks=True, cut=("segments", "n"),
         shape="lengths are those of the rows, columns and values have n elements, one for each entry, row after row; x has m, which may be any number; out has "
         "one for each row.",
@@ -978,7 +966,7 @@ FAMILIES = (
     ),
     family(
         "checked_sparse_product", "sparse products", (lengths(), ints("columns"), ints("values"), ints("x", "m"), room("ints", "segments")),
-        "The same product, in which no product wraps and no sum: each row is added up in whole numbers.",
+        "The same product, in which nothing wraps: each row is added up in whole numbers.",
         faults=(TOO_LONG, SUM_OF_ENTRIES, BAD_COLUMN, OVERFLOW_AT_ROW), asks=True, cut=("segments", "n"),
         shape="lengths, columns, values, x and out are those of cvl_sparse_product.",
         example={"lengths": "2 1", "columns": "0 1 0", "values": "2147483647 -1 3", "x": "2 2147483647", "out": "2147483647 6"},

@@ -5,69 +5,65 @@
  *
  * Link with -lcvl, an archive and a shared object; docs/user/programs.md shows how. C99 to C23, and C++.
  *
- * Every call returns a CvlStatus: number 0 if it is done, else the number of the first fault, with its place or -1. 100 means
- * that memory ran out, 101 that there is no descriptor, 102 that arrays overlap. The result is in your buffer, the last array,
- * value or values that you pass. After a fault your buffers are as they were.
+ * Every call returns a CvlStatus: number 0 if it is done, else the number of the first fault, with its place or -1. The result
+ * is in your buffer, the last array, value or values that you pass. After a fault your buffers are as they were.
  *
  * Arrays come in the order of the call's operands. The number of elements follows the last array that has so many; the
- * functions of families take one behind each array. Lengths of segments are one argument, a CvlLengths. Behind the buffer come
- * at most its number of elements and a count. Places and counts are int64_t, so that one outside of 32 bits is reported like
- * any other that is out of range.
+ * functions of families take one behind each array. Lengths of segments are one argument, a CvlLengths. Places and counts are
+ * int64_t, so that one outside 32 bits is a fault like any other.
  *
- * If the last argument is a count, the call stores how many elements the result has. They are at the front of your buffer, and
- * the rest stays as it was. If the buffer is too short, the status is 7 LengthMismatch and the count is the length that you
- * need; pass a buffer of no elements to ask. After any other fault the count stays as it was.
+ * If the last argument is a count, the result stands at the front of your buffer, the count is its length, and the rest of the
+ * buffer stays as it was. If the buffer is too short, the status is 7 LengthMismatch and the count is the length that you need;
+ * pass a buffer of no elements to ask. After any other fault the count stays as it was.
  *
- * Buffers are all that a function writes, counts and single values too. If one shares memory with another argument, the status
- * is 102 Overlap, without a place, and nothing is written. You may make a call in place if its line "In place" says so: then an
- * array that it reads is also its buffer, from the first to the last element. The result is the same, and after a fault the
- * array is as it was. Arrays that are only read may overlap. An array of 0 elements overlaps nothing, and its pointer may be
- * null.
+ * What a function writes, counts and single values too, may share memory with no other argument, else 102 Overlap and nothing
+ * is written. Only in place, as the line "In place" of a function allows, is an array also the buffer, from the first to the
+ * last element. Arrays that are only read may overlap. An array of 0 elements overlaps nothing, and its pointer may be null.
  *
- * A boolean is a byte; any byte but 0 is true, as in C. You may pass an array of another type of bytes by a cast, since no
- * function reads it as bool. Results are 0 and 1. If an array has other bytes, these calls copy it, one byte an element: packs,
- * permutes, combining permutes (also the buffer that they join with), first senders, gathers of segments, appends, merges,
- * transposes, searches for a true flag, scans, texts, and replaces and distributes in segments. All others read any bytes where
- * they lie.
+ * A boolean is a byte, true unless it is 0; results are 0 and 1. You may pass an array of any type of bytes by a cast. If it
+ * has other bytes than 0 and 1, these calls copy it: packs, permutes, combining permutes (also the buffer that they join with),
+ * first senders, gathers of segments, appends, merges, transposes, searches for a true flag, scans, texts, and replaces and
+ * distributes in segments.
  *
  * What you owe, and what happens if you break it:
  *
- *   - A pointer leads to as many elements as you say, aligned for their type, which may be read and, in a buffer, written. Else
- *     the call may crash, or read or write other memory.
+ *   - A pointer leads to as many elements as you say, aligned, readable and, in a buffer, writable. Else the call may crash, or
+ *     read or write other memory.
  *   - While a call runs, no other thread writes its arrays or reads its buffers. Else the results are arbitrary, and the call
  *     may crash or write other memory.
  *   - The calling thread has CVL_MOST_STACK bytes of its stack left, 32 KiB. Else the call may crash, or write other memory.
- *   - A signal handler that interrupts a call returns: it does not leave the call by longjmp, siglongjmp, an exception or
- *     pthread_exit. Else threads of the library keep reading and writing the call's memory, also on the stack that is left, and
- *     cvl_set_threads may wait for ever.
+ *   - A signal handler that interrupts a call returns to it: no longjmp, siglongjmp, exception or pthread_exit. Else threads of
+ *     the library go on using the call's memory, and cvl_set_threads may wait for ever.
  *   - The program has one malloc, realloc and free. Else memory is freed by an allocator that it is not from.
  *   - The lengths of a descriptor live as long as calls use it. Else the call may crash or read other memory.
  *
  * Everything else is checked, in every language: whatever lengths, indices, operators and buffers you pass, a call returns a
- * status. It runs on the calling thread; a long one also runs on threads of the library if you asked for some. Several threads
- * may call at once.
+ * status. Several threads may call at once.
  *
- * If there are several faults, the first of this list is reported; places count from 0:
+ * If there are several faults, the first of this list is reported. Places count from 0; 2, 7 and 13 have none unless a function
+ * says so.
  *
  *   - 102 Overlap; without a descriptor 101 NoDescriptor, before overlaps of other arguments;
- *   - 2 UnknownCall, without a place, if the number is no operator of the family;
- *   - 13 TooLong, without a place, if the vector that sets the length of the call has more than 2147483647 elements: its first
- *     vector, the flags of a pack, or the index of a permute, of first senders or of counts; also the buffer of a flat
- *     combining permute or of counts, and the starts of a gather of segments; on segments after the lengths. Other calls on
- *     segments check only the lengths, of which there are at most as many, with at most that total; a longer vector is 7
- *     LengthMismatch. A vector that is too long is not read;
+ *   - 2 UnknownCall if the number is no operator of the family;
+ *   - 13 TooLong if the vector that sets the length of the call has more than 2147483647 elements: its first vector, the flags
+ *     of a pack, or the index of a permute, of first senders or of counts; also the buffer of a flat combining permute or of
+ *     counts, and the starts of a gather of segments. On segments this comes after the faults by the lengths; calls on segments
+ *     without such a vector check only the lengths;
  *   - 13, 12 and 13 again by the lengths of segments;
- *   - 7 LengthMismatch, without a place, if vectors that belong together differ in length; then if a buffer is not as long as
- *     the result, or shorter if there is a count;
- *   - 100 NoResources;
- *   - the faults of elements, in the order of the function's comment. A buffer that is too short for a text that is read comes
+ *   - 7 LengthMismatch if vectors that belong together differ in length, or lengths do not add up to the vector that they cut;
+ *     then if a buffer is not as long as the result, or shorter if there is a count;
+ *   - 100 NoResources if memory runs out;
+ *   - the faults of elements, in the order that the function has. A buffer that is too short for a text that is read comes
  *     last.
  *
- * These vectors may be longer than 2147483647 elements: the source of a back permute, the defaults of a permute, the result of
- * first senders, the source of a gather of segments, and the vectors of which one element is taken or replaced.
+ * These vectors may be longer: the source of a back permute and of a gather of segments, the defaults of a permute, the result
+ * of first senders, and the vectors of which one element is taken or replaced.
  *
  * Each call of a script has its name with the prefix cvl_, such as cvl_add_wuz. If you define CVL_SHORT_NAMES before you
- * include this header, it also has the name without it.
+ * include the header, it also has the name without it.
+ *
+ * The comments leave out 13 TooLong and 7 LengthMismatch by this list. The manual, from cvl(3) on, has them and an example of
+ * each function.
  */
 #ifndef CVL_H
 #define CVL_H
@@ -171,46 +167,42 @@ const char *cvl_fault_name(uint32_t number);
 /* ---- threads ---- */
 
 /*
- * A program starts with one thread for calls, the one that calls. If cvl_set_threads or the variable CVL_NUM_THREADS asks for
- * more, for the whole process, long calls run on them: from 262144 elements on, from 131072 bytes of a text that is read, and
- * from 32768 elements whose text is written. These calls stay on the calling thread: those that read one element, read a nested
- * text or a text behind another, scan after a carry, add up exactly, make a range of another call, sort without segments,
- * transpose, or look for one true flag. Results and faults are the same for any number of threads. On several a call may copy
- * its buffer; if there is no memory for that, it runs on the calling thread.
+ * Calls run on the thread that calls. If cvl_set_threads or the variable CVL_NUM_THREADS asks for more threads, for the whole
+ * process, long calls run on them: from 262144 elements on, from 131072 bytes of a text that is read, and from 32768 elements
+ * whose text is written. Results and faults are the same. These calls stay on the calling thread: those that read one element,
+ * read a nested text or a text behind another, scan after a carry, add up exactly, make a range of another call, sort without
+ * segments, transpose, or look for one true flag. On several threads a call may copy its buffer; if there is no memory for
+ * that, it runs on the calling thread.
  *
- * One call at a time has the threads. Another call meanwhile runs on its own thread, and so does one during cvl_set_threads: no
- * call waits for another, or for that function. A call in parts on a pool of yours (cvl_parallel.h) uses only the threads of
- * that pool.
+ * One call at a time has the threads. No other call waits for it, or for cvl_set_threads: it runs on its own thread. A call in
+ * parts on a pool of yours (cvl_parallel.h) uses only the threads of that pool.
  *
- * Between calls the threads sleep. One that has no work for a second ends, and the next long call starts it again, with the
- * processors and the priority of its own thread; if that fails, the call runs on the threads that there are. So they never keep
- * a process alive.
+ * A thread that has no work for a second ends, so that it keeps no process alive. The next long call starts it again, with the
+ * processors and the priority of its own thread; if that fails, the call runs on the threads that there are.
  *
- * The threads block signals that are sent to the process, so your handlers run on your own threads. They do not block SIGSEGV,
- * SIGBUS, SIGFPE, SIGILL, SIGTRAP and SIGSYS: if you guard the pages of an array, your handler runs on the thread that touches
- * one. A handler must not call the library, and must return. A thread that is cancelled finishes its call first.
+ * The threads block the signals that are sent to the process, so your handlers run on your own threads. They do not block
+ * SIGSEGV, SIGBUS, SIGFPE, SIGILL, SIGTRAP and SIGSYS: if you guard the pages of an array, your handler runs on the thread that
+ * touches one. A handler must not call the library, and must return. A thread that is cancelled finishes its call first.
  *
- * The child of a fork has none of the threads, even if it was forked in the middle of a call, and may set a number of its own.
- * The library recognizes a child by its process number and by a handler of pthread_atfork, since the first process of a
- * namespace may have its parent's number; after _Fork or clone, which run no handlers, by its number alone.
+ * The child of a fork has none of the threads, and may set a number of its own. After _Fork or clone, which run no handlers of
+ * pthread_atfork, the library knows a child only by its process number, which may be its parent's in a new namespace.
  *
- * You owe nothing at exit: the threads end with the process. The shared object stays loaded after dlclose, so that no thread
- * loses its code; cvl_set_threads(1) ends the threads. If your own shared object contains the archive and may be unloaded, link
- * it with -z nodelete or call cvl_set_threads(1) first; a thread that was just ending by itself, a second after its last work,
- * may then still be about to return.
+ * The threads end with the process, and the shared object stays loaded after dlclose. If your own shared object contains the
+ * archive and may be unloaded, link it with -z nodelete or call cvl_set_threads(1) first; a thread that was just ending by
+ * itself may then still be about to return.
  */
 /*
- * Sets how many threads long calls have, 1 to 64, with the one that calls. Returns 0; EINVAL for any other number; or an error
- * of POSIX, such as EAGAIN, if a thread cannot be started. After an error there are as many as before. It waits for the call
- * that has the threads, and for no later one. Several threads may call it at once.
+ * Sets how many threads long calls have, 1 to 64, the calling one included. Returns 0; EINVAL for any other number; or an error
+ * of POSIX, such as EAGAIN, if a thread cannot be started, and then the number stays. It waits for the call that has the
+ * threads, and for no later one. Several threads may call it at once.
  */
 int cvl_set_threads(size_t threads);
 
 /*
- * How many threads there are: what cvl_set_threads set last, else what CVL_NUM_THREADS says, a number from 1 to 64 in digits
- * alone, else 1. The variable is read once, by the first call of either function or the first long call; long calls start the
- * threads, and if one cannot be started, the number stays. This function waits for nobody. In the child of a fork the number is
- * 1 until you set another; if nobody had asked before the fork, the child starts like any program.
+ * How many threads there are: what cvl_set_threads set last, else CVL_NUM_THREADS, a number from 1 to 64 in digits alone, else
+ * 1. The variable is read once, by the first call of either function or the first long call. Long calls start the threads; if
+ * one cannot be started, the number stays. It waits for nobody. In the child of a fork the number is 1 until you set another;
+ * if nobody had asked before the fork, the child starts like any program.
  */
 size_t cvl_threads(void);
 
@@ -243,8 +235,6 @@ CVL_CHECKED CvlStatus cvl_bool_from_int(const int32_t *a, size_t a_len, bool *ou
 /* At each place the element of a if the flag is true, else that of b. */
 CVL_CHECKED CvlStatus cvl_select_int(const bool *flags, size_t flags_len, const int32_t *a, size_t a_len, const int32_t *b,
     size_t b_len, int32_t *out, size_t out_len);
-
-/* At each place the element of a if the flag is true, else that of b. */
 CVL_CHECKED CvlStatus cvl_select_bool(const bool *flags, size_t flags_len, const bool *a, size_t a_len, const bool *b,
     size_t b_len, bool *out, size_t out_len);
 
@@ -283,22 +273,16 @@ CVL_CHECKED CvlStatus cvl_count(const bool *flags, size_t flags_len, int32_t *ou
 
 /* The element at an index. Vectors of any length. */
 CVL_CHECKED CvlStatus cvl_extract_int(const int32_t *vector, size_t vector_len, int64_t index, int32_t *out);
-
-/* The element at an index. Vectors of any length. */
 CVL_CHECKED CvlStatus cvl_extract_bool(const bool *vector, size_t vector_len, int64_t index, bool *out);
 
 /* The vector with another element at an index. Vectors of any length. */
 CVL_CHECKED CvlStatus cvl_replace_int(const int32_t *vector, size_t vector_len, int64_t index, int32_t value, int32_t *out,
     size_t out_len);
-
-/* The vector with another element at an index. Vectors of any length. */
 CVL_CHECKED CvlStatus cvl_replace_bool(const bool *vector, size_t vector_len, int64_t index, bool value, bool *out,
     size_t out_len);
 
 /* Copies of a value, count of them. */
 CVL_CHECKED CvlStatus cvl_distribute_int(int32_t value, int64_t count, int32_t *out, size_t out_len);
-
-/* Copies of a value, count of them. */
 CVL_CHECKED CvlStatus cvl_distribute_bool(bool value, int64_t count, bool *out, size_t out_len);
 
 /* The numbers init + k * stride, each wrapped to 32 bits, count of them. */
@@ -312,24 +296,18 @@ CVL_CHECKED CvlStatus cvl_make_descriptor(CvlLengths lengths, size_t *total);
 /* The element of each segment at its index. */
 CVL_CHECKED CvlStatus cvl_seg_extract_int(const int32_t *vector, size_t vector_len, const int32_t *index, size_t index_len,
     CvlLengths lengths, int32_t *out, size_t out_len);
-
-/* The element of each segment at its index. */
 CVL_CHECKED CvlStatus cvl_seg_extract_bool(const bool *vector, size_t vector_len, const int32_t *index, size_t index_len,
     CvlLengths lengths, bool *out, size_t out_len);
 
 /* The vector with another element in each segment, at its index. */
 CVL_CHECKED CvlStatus cvl_seg_replace_int(const int32_t *vector, size_t vector_len, const int32_t *index, size_t index_len,
     const int32_t *values, size_t values_len, CvlLengths lengths, int32_t *out, size_t out_len);
-
-/* The vector with another element in each segment, at its index. */
 CVL_CHECKED CvlStatus cvl_seg_replace_bool(const bool *vector, size_t vector_len, const int32_t *index, size_t index_len,
     const bool *values, size_t values_len, CvlLengths lengths, bool *out, size_t out_len);
 
 /* Copies of the value of each segment, as many as it has places. */
 CVL_CHECKED CvlStatus cvl_seg_distribute_int(const int32_t *values, size_t values_len, CvlLengths lengths, int32_t *out,
     size_t out_len);
-
-/* Copies of the value of each segment, as many as it has places. */
 CVL_CHECKED CvlStatus cvl_seg_distribute_bool(const bool *values, size_t values_len, CvlLengths lengths, bool *out,
     size_t out_len);
 
@@ -385,32 +363,24 @@ CVL_CHECKED CvlStatus cvl_seg_count(const bool *flags, size_t flags_len, CvlLeng
 /* Each element of the source at its index. */
 CVL_CHECKED CvlStatus cvl_permute_int(const int32_t *source, size_t source_len, const int32_t *index, size_t index_len,
     int32_t *out, size_t out_len);
-
-/* Each element of the source at its index. */
 CVL_CHECKED CvlStatus cvl_permute_bool(const bool *source, size_t source_len, const int32_t *index, size_t index_len, bool *out,
     size_t out_len);
 
 /* Each element of the source whose flag is true at its index. */
 CVL_CHECKED CvlStatus cvl_select_permute_int(const int32_t *source, size_t source_len, const int32_t *index, size_t index_len,
     const bool *flags, size_t flags_len, int32_t *out, size_t out_len);
-
-/* Each element of the source whose flag is true at its index. */
 CVL_CHECKED CvlStatus cvl_select_permute_bool(const bool *source, size_t source_len, const int32_t *index, size_t index_len,
     const bool *flags, size_t flags_len, bool *out, size_t out_len);
 
 /* Each element of the source at its index, and at a place to which none goes its default. */
 CVL_CHECKED CvlStatus cvl_default_permute_int(const int32_t *source, size_t source_len, const int32_t *index, size_t index_len,
     const int32_t *defaults, size_t defaults_len, int32_t *out, size_t out_len);
-
-/* Each element of the source at its index, and at a place to which none goes its default. */
 CVL_CHECKED CvlStatus cvl_default_permute_bool(const bool *source, size_t source_len, const int32_t *index, size_t index_len,
     const bool *defaults, size_t defaults_len, bool *out, size_t out_len);
 
 /* At each place the element of the source at the place's index. */
 CVL_CHECKED CvlStatus cvl_back_permute_int(const int32_t *source, size_t source_len, const int32_t *index, size_t index_len,
     int32_t *out, size_t out_len);
-
-/* At each place the element of the source at the place's index. */
 CVL_CHECKED CvlStatus cvl_back_permute_bool(const bool *source, size_t source_len, const int32_t *index, size_t index_len,
     bool *out, size_t out_len);
 
@@ -419,16 +389,12 @@ CVL_CHECKED CvlStatus cvl_back_permute_bool(const bool *source, size_t source_le
 /* Each element of the source at its index in its segment. */
 CVL_CHECKED CvlStatus cvl_seg_permute_int(const int32_t *source, size_t source_len, const int32_t *index, size_t index_len,
     CvlLengths lengths, int32_t *out, size_t out_len);
-
-/* Each element of the source at its index in its segment. */
 CVL_CHECKED CvlStatus cvl_seg_permute_bool(const bool *source, size_t source_len, const int32_t *index, size_t index_len,
     CvlLengths lengths, bool *out, size_t out_len);
 
 /* Each element of the source whose flag is true at its index in its segment of the result. */
 CVL_CHECKED CvlStatus cvl_seg_select_permute_int(const int32_t *source, size_t source_len, const int32_t *index,
     size_t index_len, const bool *flags, size_t flags_len, CvlLengths lengths, int32_t *out, size_t out_len);
-
-/* Each element of the source whose flag is true at its index in its segment of the result. */
 CVL_CHECKED CvlStatus cvl_seg_select_permute_bool(const bool *source, size_t source_len, const int32_t *index, size_t index_len,
     const bool *flags, size_t flags_len, CvlLengths lengths, bool *out, size_t out_len);
 
@@ -436,8 +402,6 @@ CVL_CHECKED CvlStatus cvl_seg_select_permute_bool(const bool *source, size_t sou
 CVL_CHECKED CvlStatus cvl_seg_default_permute_int(const int32_t *source, size_t source_len, const int32_t *index,
     size_t index_len, const int32_t *defaults, size_t defaults_len, CvlLengths lengths, CvlLengths default_lengths,
     int32_t *out, size_t out_len);
-
-/* Each element of the source at its index in its segment of the defaults, and at a place to which none goes its default. */
 CVL_CHECKED CvlStatus cvl_seg_default_permute_bool(const bool *source, size_t source_len, const int32_t *index,
     size_t index_len, const bool *defaults, size_t defaults_len, CvlLengths lengths, CvlLengths default_lengths, bool *out,
     size_t out_len);
@@ -445,57 +409,44 @@ CVL_CHECKED CvlStatus cvl_seg_default_permute_bool(const bool *source, size_t so
 /* At each place the element at the place's index in the same segment of the source. */
 CVL_CHECKED CvlStatus cvl_seg_back_permute_int(const int32_t *source, size_t source_len, const int32_t *index, size_t index_len,
     CvlLengths lengths, CvlLengths index_lengths, int32_t *out, size_t out_len);
-
-/* At each place the element at the place's index in the same segment of the source. */
 CVL_CHECKED CvlStatus cvl_seg_back_permute_bool(const bool *source, size_t source_len, const int32_t *index, size_t index_len,
     CvlLengths lengths, CvlLengths index_lengths, bool *out, size_t out_len);
 
 /* ---- first senders: families ---- */
 
 /*
- * No script calls these. If several places name one place of the result, the least wins, for any number of threads, and no
- * values are combined: this finds the winners of a breadth-first search, a sort or a removal of duplicates. A back permute by
- * the senders that are not -1 gives one element for each place that is named.
+ * No script calls these. If several places name one place of the result, the least wins, for any number of threads. A back
+ * permute by the senders that are not -1 gives one element for each place that is named.
  *
- * With lengths, an index counts from the start of its segment of the result, and a sender from the start of its own segment.
- * The faults by the lengths come first, those of `lengths` before those of `result_lengths`; there are as many of the one as of
- * the other, else 7 LengthMismatch.
+ * With lengths, an index counts from the start of its segment of the result, and a sender from the start of its own. The faults
+ * by `lengths` come first, then those by `result_lengths`, which are as many, else 7 LengthMismatch.
  */
 
 /*
- * cvl_first_senders: For each place of the result the least place whose index names it, or -1 if none does. The result may have
- * any number of places.
- * Faults: 13 TooLong; 10 IndexOutOfRange at the first index that is no place of the result.
- * index = 2 0 2 3: out = 1 -1 0 3
+ * For each place of the result the least place whose index names it, or -1 if none does. The result may have any number of
+ * places. Faults: 10 IndexOutOfRange at the first index that is no place of the result.
  */
 CVL_CHECKED CvlStatus cvl_first_senders(const int32_t *index, size_t index_len, int32_t *out, size_t out_len);
 
 /*
- * cvl_select_first_senders: For each place of the result the least place whose flag is true and whose index names it, or -1 if
- * none does. An index whose flag is false is ignored. The result may have any number of places.
- * Faults: 13 TooLong; 7 LengthMismatch if index and flags differ in length; 10 IndexOutOfRange at the first index that is no
+ * For each place of the result the least place whose flag is true and whose index names it, or -1 if none does. An index whose
+ * flag is false is ignored. The result may have any number of places. Faults: 10 IndexOutOfRange at the first index that is no
  * place of the result.
- * index = 2 0 2 9, flags = false true true false: out = 1 -1 2
  */
 CVL_CHECKED CvlStatus cvl_select_first_senders(const int32_t *index, size_t index_len, const bool *flags, size_t flags_len,
     int32_t *out, size_t out_len);
 
 /*
- * cvl_seg_first_senders: For each place of each segment of the result the least place of the same segment of the index that
- * names it, or -1 if none does.
- * Faults: 13 TooLong; 7 LengthMismatch if the lengths do not add up to the index, or the result lengths to out; 10
- * IndexOutOfRange at the first index that is no place of its segment of the result.
- * index = 1 1 0 3 0, lengths = 2 0 3, result_lengths = 2 1 4: out = -1 0 -1 0 -1 -1 1
+ * For each place of each segment of the result the least place of the same segment of the index that names it, or -1 if none
+ * does. Faults: 10 IndexOutOfRange at the first index that is no place of its segment of the result.
  */
 CVL_CHECKED CvlStatus cvl_seg_first_senders(const int32_t *index, size_t index_len, CvlLengths lengths,
     CvlLengths result_lengths, int32_t *out, size_t out_len);
 
 /*
- * cvl_seg_select_first_senders: For each place of each segment of the result the least place of the same segment of the index
- * whose flag is true and whose index names it, or -1 if none does. An index whose flag is false is ignored.
- * Faults: 13 TooLong; 7 LengthMismatch if index and flags differ in length; 7 LengthMismatch if the lengths do not add up to
- * the index, or the result lengths to out; 10 IndexOutOfRange at the first index that is no place of its segment of the result.
- * index = 1 1 9 3 0, flags = false true false true true, lengths = 2 0 3, result_lengths = 2 1 4: out = -1 1 -1 2 -1 -1 1
+ * For each place of each segment of the result the least place of the same segment of the index whose flag is true and whose
+ * index names it, or -1 if none does. An index whose flag is false is ignored. Faults: 10 IndexOutOfRange at the first index
+ * that is no place of its segment of the result.
  */
 CVL_CHECKED CvlStatus cvl_seg_select_first_senders(const int32_t *index, size_t index_len, const bool *flags, size_t flags_len,
     CvlLengths lengths, CvlLengths result_lengths, int32_t *out, size_t out_len);
@@ -503,70 +454,54 @@ CVL_CHECKED CvlStatus cvl_seg_select_first_senders(const int32_t *index, size_t 
 /* ---- combining permutes: families ---- */
 
 /*
- * No script calls these. A combining permute sends each element to the place that its index names and joins it with what is
- * there: one call adds up by key, or finds the least of each group. Elements that go to one place are joined in their order.
- * out holds the values before and then the result, so a call on a few elements of a large table touches no other place. To
- * start anew, fill out with what changes nothing, such as 0 for CVL_ADD and INT32_MAX for CVL_MIN. Booleans in out that are
- * neither 0 nor 1 become 1.
+ * No script calls these. A combining permute joins each element with what stands at the place that its index names: one call
+ * adds up by key, or finds the least of each group. Elements that go to one place are joined in their order. out holds the
+ * values before and then the result; to start anew, fill it with what changes nothing, such as 0 for CVL_ADD and INT32_MAX for
+ * CVL_MIN. Booleans in out that are neither 0 nor 1 become 1.
  *
- * With lengths, an index counts from the start of its segment of out. The faults by the lengths come first, those of `lengths`
- * before those of `result_lengths`; there are as many of the one as of the other, else 7 LengthMismatch.
+ * With lengths, an index counts from the start of its segment of out. The faults by `lengths` come first, then those by
+ * `result_lengths`, which are as many, else 7 LengthMismatch.
  */
 
 /*
- * cvl_combine_permute_int: At each place of out what stands there, joined by the operator, of CVL_ADD to CVL_XOR, with each
- * integer whose index names the place. out may have any number of places.
- * Faults: 13 TooLong, also if out is too long; 7 LengthMismatch if source and index differ in length; 10 IndexOutOfRange at the
- * first index that is no place of the result.
- * op = CVL_ADD, source = 5 6 7 8, index = 2 0 2 1, out = 100 200 300: out = 106 208 312
+ * At each place of out what stands there, joined by the operator, of CVL_ADD to CVL_XOR, with each integer whose index names
+ * the place. out may have any number of places. Faults: 10 IndexOutOfRange at the first index that is no place of the result.
  */
 CVL_CHECKED CvlStatus cvl_combine_permute_int(uint32_t op, const int32_t *source, size_t source_len, const int32_t *index,
     size_t index_len, int32_t *out, size_t out_len);
 
 /*
- * cvl_combine_permute_bool: At each place of out what stands there, joined by the operator, of CVL_AND to CVL_XOR, with each
- * boolean whose index names the place. out may have any number of places.
- * Faults: 13 TooLong, also if out is too long; 7 LengthMismatch if source and index differ in length; 10 IndexOutOfRange at the
- * first index that is no place of the result.
- * op = CVL_XOR, source = true true true, index = 2 0 2, out = false false true: out = true false true
+ * At each place of out what stands there, joined by the operator, of CVL_AND to CVL_XOR, with each boolean whose index names
+ * the place. out may have any number of places. Faults: 10 IndexOutOfRange at the first index that is no place of the result.
  */
 CVL_CHECKED CvlStatus cvl_combine_permute_bool(uint32_t op, const bool *source, size_t source_len, const int32_t *index,
     size_t index_len, bool *out, size_t out_len);
 
 /*
- * cvl_counts: For each place of the result how many indices name it. The result may have any number of places.
- * Faults: 13 TooLong, also if out is too long; 10 IndexOutOfRange at the first index that is no place of the result.
- * index = 2 0 2 3: out = 1 0 2 1
+ * For each place of the result how many indices name it. The result may have any number of places. Faults: 10 IndexOutOfRange
+ * at the first index that is no place of the result.
  */
 CVL_CHECKED CvlStatus cvl_counts(const int32_t *index, size_t index_len, int32_t *out, size_t out_len);
 
 /*
- * cvl_seg_combine_permute_int: At each place of each segment of out what stands there, joined by the operator, of CVL_ADD to
- * CVL_XOR, with each integer of the same segment whose index names the place.
- * Faults: 7 LengthMismatch if source and index differ in length, or the lengths do not add up to them, or the result lengths to
- * out; 10 IndexOutOfRange at the first index that is no place of its segment of the result.
- * op = CVL_MAX, source = 5 6 7 8 9, index = 1 1 0 3 0, lengths = 2 0 3, result_lengths = 2 1 4, out = 0 0 0 0 0 0 10: out = 0 6
- * 0 9 0 0 10
+ * At each place of each segment of out what stands there, joined by the operator, of CVL_ADD to CVL_XOR, with each integer of
+ * the same segment whose index names the place. Faults: 10 IndexOutOfRange at the first index that is no place of its segment
+ * of the result.
  */
 CVL_CHECKED CvlStatus cvl_seg_combine_permute_int(uint32_t op, const int32_t *source, size_t source_len, const int32_t *index,
     size_t index_len, CvlLengths lengths, CvlLengths result_lengths, int32_t *out, size_t out_len);
 
 /*
- * cvl_seg_combine_permute_bool: At each place of each segment of out what stands there, joined by the operator, of CVL_AND to
- * CVL_XOR, with each boolean of the same segment whose index names the place.
- * Faults: 7 LengthMismatch if source and index differ in length, or the lengths do not add up to them, or the result lengths to
- * out; 10 IndexOutOfRange at the first index that is no place of its segment of the result.
- * op = CVL_IOR, source = true false true, index = 1 0 0, lengths = 2 1, result_lengths = 2 2, out = false false false true: out
- * = false true true true
+ * At each place of each segment of out what stands there, joined by the operator, of CVL_AND to CVL_XOR, with each boolean of
+ * the same segment whose index names the place. Faults: 10 IndexOutOfRange at the first index that is no place of its segment
+ * of the result.
  */
 CVL_CHECKED CvlStatus cvl_seg_combine_permute_bool(uint32_t op, const bool *source, size_t source_len, const int32_t *index,
     size_t index_len, CvlLengths lengths, CvlLengths result_lengths, bool *out, size_t out_len);
 
 /*
- * cvl_seg_counts: For each place of each segment of the result how many indices of the same segment name it.
- * Faults: 7 LengthMismatch if the lengths do not add up to the index, or the result lengths to out; 10 IndexOutOfRange at the
+ * For each place of each segment of the result how many indices of the same segment name it. Faults: 10 IndexOutOfRange at the
  * first index that is no place of its segment of the result.
- * index = 1 1 0 3 0, lengths = 2 0 3, result_lengths = 2 1 4: out = 0 2 0 2 0 0 1
  */
 CVL_CHECKED CvlStatus cvl_seg_counts(const int32_t *index, size_t index_len, CvlLengths lengths, CvlLengths result_lengths,
     int32_t *out, size_t out_len);
@@ -574,273 +509,151 @@ CVL_CHECKED CvlStatus cvl_seg_counts(const int32_t *index, size_t index_len, Cvl
 /* ---- orders, ranks and sorts: families ---- */
 
 /*
- * No script calls these. Keys are signed integers, and equal ones keep the order of their places (a stable sort). An order and
- * a rank are inverse permutations; by either of them other vectors follow their keys. For descending order use CVL_NOT on the
- * keys before a call, and on the result of a sort; equal keys still keep their order. A sort may be in place.
+ * No script calls these. Keys are signed integers, and equal ones keep the order of their places (a stable sort). For
+ * descending order use CVL_NOT on the keys before a call, and on the result of a sort. A sort may be in place.
  *
  * Without segments these calls run on the calling thread. An order and a rank take up to 16 bytes a key while they run, a sort
- * up to 4 (by segments, for the keys of the longest one), and all up to 8192 bytes more. If that is refused, the status is 100
- * NoResources.
+ * up to 4 (by segments, for the keys of the longest one), and all up to 8192 bytes more, else 100 NoResources.
  */
 
-/*
- * cvl_order: The places in ascending order of their keys, equal keys in the order of their places. A back permute by them sorts
- * whatever belongs to the keys.
- * Faults: 13 TooLong.
- * keys = 3 1 2 1: out = 1 3 2 0
- */
+/* The places in ascending order of their keys. A back permute by them sorts whatever belongs to the keys. */
 CVL_CHECKED CvlStatus cvl_order(const int32_t *keys, size_t keys_len, int32_t *out, size_t out_len);
 
 /*
- * cvl_rank: For each place how many keys stand before its key in that order: the lesser ones, and the equal ones of earlier
- * places. A simple permute by them sorts whatever belongs to the keys.
- * Faults: 13 TooLong.
- * keys = 3 1 2 1: out = 3 0 2 1
+ * For each place how many keys come before its key: the lesser ones, and the equal ones of earlier places. A simple permute by
+ * them sorts whatever belongs to the keys.
  */
 CVL_CHECKED CvlStatus cvl_rank(const int32_t *keys, size_t keys_len, int32_t *out, size_t out_len);
 
-/*
- * cvl_sort: The keys in ascending order.
- * Faults: 13 TooLong.
- * keys = 3 1 2 1: out = 1 1 2 3
- */
+/* The keys in ascending order. */
 CVL_CHECKED CvlStatus cvl_sort(const int32_t *keys, size_t keys_len, int32_t *out, size_t out_len);
 
-/*
- * cvl_seg_order: The order of the keys of each segment, whose places count from the start of the segment.
- * Faults: 13 TooLong; 7 LengthMismatch if the lengths do not add up to n.
- * keys = 3 1 9 2 7, lengths = 2 0 3: out = 1 0 1 2 0
- */
+/* The order of the keys of each segment, whose places count from the start of the segment. */
 CVL_CHECKED CvlStatus cvl_seg_order(const int32_t *keys, size_t keys_len, CvlLengths lengths, int32_t *out, size_t out_len);
 
-/*
- * cvl_seg_rank: The rank of each key in its segment.
- * Faults: 13 TooLong; 7 LengthMismatch if the lengths do not add up to n.
- * keys = 3 1 9 2 7, lengths = 2 0 3: out = 1 0 2 0 1
- */
+/* The rank of each key in its segment. */
 CVL_CHECKED CvlStatus cvl_seg_rank(const int32_t *keys, size_t keys_len, CvlLengths lengths, int32_t *out, size_t out_len);
 
-/*
- * cvl_seg_sort: The keys of each segment in ascending order.
- * Faults: 13 TooLong; 7 LengthMismatch if the lengths do not add up to n.
- * keys = 3 1 9 2 7, lengths = 2 0 3: out = 1 3 2 7 9
- */
+/* The keys of each segment in ascending order. */
 CVL_CHECKED CvlStatus cvl_seg_sort(const int32_t *keys, size_t keys_len, CvlLengths lengths, int32_t *out, size_t out_len);
 
 /* ---- slices and merges: families ---- */
 
 /*
- * No script calls these. They move runs of elements while a back permute moves single elements, or give one value of each
- * segment that no operator joins. None asks for memory, but for booleans that are neither 0 nor 1, and on several threads for a
- * copy of the buffer. A search for one true flag runs on the calling thread.
+ * No script calls these. They ask for memory only for booleans that are neither 0 nor 1, and on several threads for a copy of
+ * the buffer. A search for one true flag runs on the calling thread.
  *
- * The faults by the lengths come first, as at the other calls on segments, then 7 LengthMismatch, without a place, if the
- * lengths of arrays do not fit.
+ * The faults by the lengths come first, then 7 LengthMismatch, without a place, if the lengths of arrays do not fit.
  */
 
 /*
- * cvl_gather_segments_int: For each segment the elements of the source from the place `starts` on, as many as the segment is
- * long, one segment behind another. The slices may overlap, come in any order and be empty; an empty one may start where the
- * source ends.
- * Faults: 10 IndexOutOfRange at the first segment whose start is below 0, or whose end is behind that of the source.
- * source = 10 20 30 40, starts = 2 4 1, lengths = 2 0 3: out = 30 40 20 30 40
+ * For each segment the elements of the source from its start on, as many as the segment is long. Slices may overlap, come in
+ * any order and be empty; an empty one may start where the source ends. Faults: 10 IndexOutOfRange at the first segment that
+ * starts below 0 or ends behind the source.
  */
 CVL_CHECKED CvlStatus cvl_gather_segments_int(const int32_t *source, size_t source_len, const int32_t *starts,
     size_t starts_len, CvlLengths lengths, int32_t *out, size_t out_len);
-
-/*
- * cvl_gather_segments_bool: For each segment the elements of the source from the place `starts` on, as many as the segment is
- * long, one segment behind another. The slices may overlap, come in any order and be empty; an empty one may start where the
- * source ends.
- * Faults: 10 IndexOutOfRange at the first segment whose start is below 0, or whose end is behind that of the source.
- * source = true false false, starts = 1 0, lengths = 1 2: out = false true false
- */
 CVL_CHECKED CvlStatus cvl_gather_segments_bool(const bool *source, size_t source_len, const int32_t *starts, size_t starts_len,
     CvlLengths lengths, bool *out, size_t out_len);
 
-/*
- * cvl_append_segments_int: The segments of a, each followed by the segment of b that has its number.
- * Faults: 7 LengthMismatch if the lengths do not add up to a, or the other lengths to b.
- * a = 1 2 3, b = 7 8 9, lengths = 2 0 1, other_lengths = 1 2 0: out = 1 2 7 8 9 3
- */
+/* The segments of a, each followed by the segment of b that has its number. */
 CVL_CHECKED CvlStatus cvl_append_segments_int(const int32_t *a, size_t a_len, const int32_t *b, size_t b_len,
     CvlLengths lengths, CvlLengths other_lengths, int32_t *out, size_t out_len);
-
-/*
- * cvl_append_segments_bool: The segments of a, each followed by the segment of b that has its number.
- * Faults: 7 LengthMismatch if the lengths do not add up to a, or the other lengths to b.
- * a = true true, b = false, lengths = 1 1, other_lengths = 1 0: out = true false true
- */
 CVL_CHECKED CvlStatus cvl_append_segments_bool(const bool *a, size_t a_len, const bool *b, size_t b_len, CvlLengths lengths,
     CvlLengths other_lengths, bool *out, size_t out_len);
 
 /*
- * cvl_merge_by_flags_int: At each place the next element of when_true if the flag is true, and of when_false if it is false:
- * the inverse of two packs.
- * Faults: 13 TooLong; 7 LengthMismatch if when_true does not have one element for each true flag, or when_false for each false
- * one.
- * flags = true false false true, when_true = 1 2, when_false = 7 8: out = 1 7 8 2
+ * At each place the next element of when_true if the flag is true, and of when_false if it is false: the inverse of two packs.
+ * Faults: 7 LengthMismatch if when_true does not have one element for each true flag, or when_false for each false one.
  */
 CVL_CHECKED CvlStatus cvl_merge_by_flags_int(const bool *flags, size_t flags_len, const int32_t *when_true,
     size_t when_true_len, const int32_t *when_false, size_t when_false_len, int32_t *out, size_t out_len);
-
-/*
- * cvl_merge_by_flags_bool: At each place the next element of when_true if the flag is true, and of when_false if it is false:
- * the inverse of two packs.
- * Faults: 13 TooLong; 7 LengthMismatch if when_true does not have one element for each true flag, or when_false for each false
- * one.
- * flags = false true true, when_true = true false, when_false = true: out = true true false
- */
 CVL_CHECKED CvlStatus cvl_merge_by_flags_bool(const bool *flags, size_t flags_len, const bool *when_true, size_t when_true_len,
     const bool *when_false, size_t when_false_len, bool *out, size_t out_len);
 
 /*
- * cvl_seg_merge_by_flags_int: At each place of each segment the next element of the same segment of when_true if the flag is
- * true, and of when_false if it is false: the inverse of two packs of segments.
- * Faults: 7 LengthMismatch if the lengths do not add up to flags, the true lengths to when_true or the false lengths to
- * when_false; 7 LengthMismatch at the first segment that has not as many true flags as when_true has elements there, or not as
- * many false ones as when_false.
- * flags = true false false true true, when_true = 1 2 3, when_false = 7 8, lengths = 2 0 3, true_lengths = 1 0 2, false_lengths
- * = 1 0 1: out = 1 7 8 2 3
+ * At each place the next element of the same segment of when_true if the flag is true, and of when_false if it is false: the
+ * inverse of two packs of segments. Faults: 7 LengthMismatch at the first segment whose true flags are not as many as its
+ * elements of when_true, or the false ones as those of when_false.
  */
 CVL_CHECKED CvlStatus cvl_seg_merge_by_flags_int(const bool *flags, size_t flags_len, const int32_t *when_true,
     size_t when_true_len, const int32_t *when_false, size_t when_false_len, CvlLengths lengths, CvlLengths true_lengths,
     CvlLengths false_lengths, int32_t *out, size_t out_len);
-
-/*
- * cvl_seg_merge_by_flags_bool: At each place of each segment the next element of the same segment of when_true if the flag is
- * true, and of when_false if it is false: the inverse of two packs of segments.
- * Faults: 7 LengthMismatch if the lengths do not add up to flags, the true lengths to when_true or the false lengths to
- * when_false; 7 LengthMismatch at the first segment that has not as many true flags as when_true has elements there, or not as
- * many false ones as when_false.
- * flags = false true true, when_true = true false, when_false = true, lengths = 2 1, true_lengths = 1 1, false_lengths = 1 0:
- * out = true true false
- */
 CVL_CHECKED CvlStatus cvl_seg_merge_by_flags_bool(const bool *flags, size_t flags_len, const bool *when_true,
     size_t when_true_len, const bool *when_false, size_t when_false_len, CvlLengths lengths, CvlLengths true_lengths,
     CvlLengths false_lengths, bool *out, size_t out_len);
 
-/*
- * cvl_first_true: The place of the first true flag, or -1 if none is true.
- * Faults: 13 TooLong.
- * flags = false false true true: out = 2
- */
+/* The place of the first true flag, or -1 if none is true. */
 CVL_CHECKED CvlStatus cvl_first_true(const bool *flags, size_t flags_len, int32_t *out);
 
-/*
- * cvl_seg_first_true: For each segment the place of its first true flag, counted from the start of the segment, or -1 if none
- * is true.
- * Faults: 7 LengthMismatch if the lengths do not add up to n.
- * flags = false true false false true, lengths = 2 1 0 2: out = 1 -1 -1 1
- */
+/* For each segment the place of its first true flag, counted from its start, or -1 if none is true. */
 CVL_CHECKED CvlStatus cvl_seg_first_true(const bool *flags, size_t flags_len, CvlLengths lengths, int32_t *out, size_t out_len);
 
-/*
- * cvl_seg_exact_sums: The sum of each segment in 64 bits, which always fits.
- * Faults: 7 LengthMismatch if the lengths do not add up to n.
- * a = 2147483647 1 5, lengths = 2 0 1: out = 2147483648 0 5
- */
+/* The sum of each segment in 64 bits, which always fits. */
 CVL_CHECKED CvlStatus cvl_seg_exact_sums(const int32_t *a, size_t a_len, CvlLengths lengths, int64_t *out, size_t out_len);
 
 /* ---- transposes, and integers of a byte: families ---- */
 
 /*
- * No script calls these. A transpose moves a matrix block by block, so it reads neighbours while they are in cache, which a
- * back permute does not. It runs on the calling thread. Integers of a byte take a quarter of the memory, as the bytes of a text
- * do: widen them before calls on integers, and narrow what fits. The bytes of a signed type are the same bytes: subtract 256
- * from the integers above 127 once they are widened, and add 256 to the negative ones before they are narrowed.
+ * No script calls these. A transpose moves a matrix block by block, which takes less time than a back permute, and runs on the
+ * calling thread. Widen bytes before calls on integers, and narrow what fits. For a signed type of bytes subtract 256 from the
+ * integers above 127 once they are widened, and add 256 to the negative ones before they are narrowed.
  */
 
 /*
- * cvl_transpose_int: The transpose of a matrix whose rows lie one behind another: element r of row c of the result is element c
- * of row r.
- * Faults: 13 TooLong; 7 LengthMismatch if rows times columns is not n.
- * source = 1 2 3 4 5 6, rows = 2, columns = 3: out = 1 4 2 5 3 6
+ * The transpose of a matrix whose rows lie one behind another: element r of row c of the result is element c of row r. Faults:
+ * 7 LengthMismatch if rows times columns is not n.
  */
 CVL_CHECKED CvlStatus cvl_transpose_int(const int32_t *source, size_t source_len, size_t rows, size_t columns, int32_t *out,
     size_t out_len);
-
-/*
- * cvl_transpose_bool: The transpose of a matrix whose rows lie one behind another: element r of row c of the result is element
- * c of row r.
- * Faults: 13 TooLong; 7 LengthMismatch if rows times columns is not n.
- * source = true false false true true true, rows = 3, columns = 2: out = true false true false true true
- */
 CVL_CHECKED CvlStatus cvl_transpose_bool(const bool *source, size_t source_len, size_t rows, size_t columns, bool *out,
     size_t out_len);
 
-/*
- * cvl_ints_from_bytes: Each byte as an integer from 0 to 255.
- * Faults: 13 TooLong.
- * bytes = 67 86 255: out = 67 86 255
- */
+/* Each byte as an integer from 0 to 255. */
 CVL_CHECKED CvlStatus cvl_ints_from_bytes(const uint8_t *bytes, size_t bytes_len, int32_t *out, size_t out_len);
 
-/*
- * cvl_bytes_from_ints: Each integer as a byte.
- * Faults: 13 TooLong; 18 Overflow at the first integer below 0 or above 255.
- * a = 67 86 255: out = 67 86 255
- */
+/* Each integer as a byte. Faults: 18 Overflow at the first integer below 0 or above 255. */
 CVL_CHECKED CvlStatus cvl_bytes_from_ints(const int32_t *a, size_t a_len, uint8_t *out, size_t out_len);
 
 /* ---- texts: families ---- */
 
 /*
- * A text is bytes, with no zero at its end. You may not know how long a result is: it is at the front of your buffer, count is
- * its length, and the rest stays as it was. If the buffer is too short, it stays as it was, the status is 7 LengthMismatch,
- * without a place, and count is the length that you need; pass a buffer of no elements to ask. After any other fault the count
- * stays as it was, too. For a text that is read the buffer is checked last, since only the text says how long the result is.
+ * A text is bytes, with no zero at its end; count is the length of the result. For a text that is read the buffer is checked
+ * last, since only the text says how long the result is.
  */
 
 /*
- * cvl_read_ints: The integers of a text. They stand between white space (space, tab, line feed, carriage return), and each is
- * an optional minus sign and at least one digit, inside 32 bits. A text of white space alone has none.
- * Faults: 13 TooLong, without a place, if there are more than 4194304 words between white space, whatever they are; else 15
- * BadInput at the first word that is no such integer.
- * text = "5 -1\n007 -0": out = 5 -1 7 0, count = 4
+ * The integers of a text, between white space (space, tab, line feed, carriage return), each an optional minus sign and at
+ * least one digit, inside 32 bits. Faults: 13 TooLong, without a place, if there are more than 4194304 words between white
+ * space, whatever they are; else 15 BadInput at the first word that is no such integer.
  */
 CVL_CHECKED CvlStatus cvl_read_ints(const char *text, size_t text_len, int32_t *out, size_t out_len, size_t *count);
 
-/*
- * cvl_write_ints: The text of a vector of integers: in decimal, a space between each two, in brackets.
- * Faults: 13 TooLong.
- * a = 0 -3 4: out = "[0 -3 4]", count = 8
- */
+/* The text of a vector of integers: in decimal, a space between each two, in brackets. */
 CVL_CHECKED CvlStatus cvl_write_ints(const int32_t *a, size_t a_len, char *out, size_t out_len, size_t *count);
 
-/*
- * cvl_write_bools: The text of a vector of booleans: each T or F, a space between each two, in brackets.
- * Faults: 13 TooLong.
- * a = true false: out = "[T F]", count = 5
- */
+/* The text of a vector of booleans: each T or F, a space between each two, in brackets. */
 CVL_CHECKED CvlStatus cvl_write_bools(const bool *a, size_t a_len, char *out, size_t out_len, size_t *count);
 
 /*
- * cvl_seg_read_ints: The integers and the lengths of the lists of a nested text: "[", any number of lists, "]"; a list is "[",
- * integers as in cvl_read_ints, "]". Each of the two results has a room and a count of its own; if one is too short, both stay
- * as they were, and both counts are the lengths that you need.
- * Faults: 13 TooLong, without a place, if there are more than 4194304 words other than brackets or more than 4194305 "[",
+ * The integers and the lengths of the lists of a nested text: "[", any number of lists, "]"; a list is "[", integers as in
+ * cvl_read_ints, "]". If one of the two buffers is too short, both stay as they were, and both counts are the lengths that you
+ * need. Faults: 13 TooLong, without a place, if there are more than 4194304 words other than brackets or more than 4194305 "[",
  * whatever they are; else 15 BadInput at the first word or bracket that cannot stand there, or, if the text ends too early, at
  * the number of its words and brackets.
- * text = "[[1 2] [] [3]]": out = 1 2 3, count = 3, lengths = 2 0 1, segments = 3
  */
 CVL_CHECKED CvlStatus cvl_seg_read_ints(const char *text, size_t text_len, int32_t *out, size_t out_len, size_t *count,
     int32_t *lengths, size_t lengths_len, size_t *segments);
 
 /*
- * cvl_seg_write_ints: The text of a vector of integers that is cut into segments: the texts of the segments, a space between
- * each two, in brackets.
- * Faults: by the lengths those of each call on segments, 13 TooLong, 12 NegativeLength, 13 TooLong; 7 LengthMismatch if the
- * lengths do not add up to the vector's.
- * a = 5 1 7, lengths = 0 2 1: out = "[[] [5 1] [7]]", count = 14
+ * The texts of the segments of a vector of integers, a space between each two, in brackets. Faults: by the lengths those of
+ * each call on segments, 13 TooLong, 12 NegativeLength, 13 TooLong; 7 LengthMismatch if the lengths do not add up to the
+ * vector's.
  */
 CVL_CHECKED CvlStatus cvl_seg_write_ints(const int32_t *a, size_t a_len, CvlLengths lengths, char *out, size_t out_len,
     size_t *count);
 
-/*
- * cvl_seg_write_bools: The same of booleans, each T or F.
- * a = true false, lengths = 1 1: out = "[[T] [F]]", count = 9
- */
+/* The same of booleans, each T or F. */
 CVL_CHECKED CvlStatus cvl_seg_write_bools(const bool *a, size_t a_len, CvlLengths lengths, char *out, size_t out_len,
     size_t *count);
 
@@ -853,8 +666,8 @@ CVL_CHECKED CvlStatus cvl_seg_write_bools(const bool *a, size_t a_len, CvlLength
  *   2. one thread scans the sums: cvl_int_scan(op, sums, tiles, before, tiles);
  *   3. each thread scans its tiles: cvl_int_scan_after(op, before[t], a + from, to - from, out + from, to - from).
  *
- * Then out is the cvl_int_scan of the whole. Tiles may have any length, also 0, and any thread may take any tile of a step.
- * examples/c/threads.c does this with POSIX threads.
+ * Tiles may have any length, also 0, and any thread may take any tile of a step. examples/c/threads.c does this with POSIX
+ * threads.
  */
 
 /* For each integer `before`, joined by the operator, of CVL_ADD to CVL_XOR, with those in front of it. */
@@ -867,129 +680,97 @@ CVL_CHECKED CvlStatus cvl_bool_scan_after(uint32_t op, bool before, const bool *
 /* ---- calls in parts: families ---- */
 
 /*
- * If you have threads or machines of your own, make a call in parts, each a range of the vector. Most calls need only
- * themselves for that; these functions are what else a part needs. docs/user/parallel.md says for each call how to cut it, what
- * its parts pass on, and how to join the results; cvl_parallel.h does it for threads.
+ * Most calls in parts need only themselves; these functions are what else a part needs. docs/user/parallel.md says for each
+ * call how to cut it, what its parts pass on, and how to join the results; cvl_parallel.h does it for threads.
  */
 
-/*
- * cvl_exact_sum: The sum of the integers in 64 bits, which always fits: what a part of a checked sum passes on.
- * Faults: 13 TooLong.
- * a = 2147483647 1: out = 2147483648
- */
+/* The sum of the integers in 64 bits, which always fits. */
 CVL_CHECKED CvlStatus cvl_exact_sum(const int32_t *a, size_t a_len, int64_t *out);
 
 /*
- * cvl_checked_scan_after: For each integer `before` and those in front of it, added up: a part of cvl_checked_scan after the
- * exact sum of the parts in front of it. The place of a fault counts from the start of the part.
- * Faults: 13 TooLong; 18 Overflow at the first place whose sum does not fit 32 bits.
- * before = 10, a = 3 1 4: out = 10 13 14
+ * A part of cvl_checked_scan after the exact sum `before` of the parts in front of it. The place of a fault counts from the
+ * start of the part. Faults: 18 Overflow at the first place whose sum does not fit 32 bits.
  */
 CVL_CHECKED CvlStatus cvl_checked_scan_after(int64_t before, const int32_t *a, size_t a_len, int32_t *out, size_t out_len);
 
 /*
- * cvl_permute_int_range: One range of the result of smp_puz, its out_len places from place `lowest` on: each element whose
- * index is one of them is written there, the last if there are several, and a bit marks the place. marks are (out_len + 31) /
- * 32 words: bit b of word w, of the value 1 << b, is set if place 32 * w + b of the range is written, and the bits behind the
- * last place are not. It does not matter what they hold before; written is how many bits are set. Each part has another range,
- * its own marks, and all of source and index. If all parts together wrote index_len places, the ranges, one after another, are
- * the permute. Else an index is out of range or repeated: cvl_permute_int reports which. A place to which nothing is sent stays
- * as it was, so over ranges that hold the defaults the parts are def_puz.
- * Faults: 13 TooLong, by the index, and if the range ends behind place 2147483647; 7 LengthMismatch if source and index differ
- * in length, or marks_len is not (out_len + 31) / 32. After a fault all buffers are as they were.
- * source = 5 6 7, index = 2 0 1, lowest = 1, out_len = 2: out = 7 5, marks = 3, written = 2
+ * One range of the result of smp_puz, its out_len places from place `lowest` on: each element whose index is one of them is
+ * written there, the last if there are several. marks are (out_len + 31) / 32 words, whatever they hold before: bit b of word
+ * w, of the value 1 << b, is set if place 32 * w + b of the range is written, and written is how many bits are set. Each part
+ * has another range, its own marks, and all of source and index. If all parts together wrote index_len places, the ranges are
+ * the permute; else an index is out of range or repeated: cvl_permute_int reports which. Other places stay as they were, so
+ * over ranges that hold the defaults the parts are def_puz. Faults: 13 TooLong, by the index, and if the range ends behind
+ * place 2147483647; 7 LengthMismatch if source and index differ in length, or marks_len is not (out_len + 31) / 32.
  */
 CVL_CHECKED CvlStatus cvl_permute_int_range(const int32_t *source, size_t source_len, const int32_t *index, size_t index_len,
     size_t lowest, int32_t *out, size_t out_len, uint32_t *marks, size_t marks_len, size_t *written);
 
-/*
- * cvl_permute_bool_range: The same of booleans: smp_pub, and def_pub over ranges that hold the defaults before, each 0 or 1.
- * source = true false true, index = 2 0 1, lowest = 1, out_len = 2: out = true true, marks = 3, written = 2
- */
+/* The same of booleans: smp_pub, and def_pub over ranges that hold the defaults before, each 0 or 1. */
 CVL_CHECKED CvlStatus cvl_permute_bool_range(const bool *source, size_t source_len, const int32_t *index, size_t index_len,
     size_t lowest, bool *out, size_t out_len, uint32_t *marks, size_t marks_len, size_t *written);
 
 /*
- * cvl_select_permute_int_range: One range of the result of sel_puz, the same way: only elements whose flag is true go anywhere.
- * If the result has as many places as there are true flags, and all parts together wrote as many, the ranges are the permute.
- * Faults: those of cvl_permute_int_range; 7 LengthMismatch also if index and flags differ in length.
- * source = 5 6 7, index = 1 9 0, flags = true false true, lowest = 0, out_len = 1: out = 7, marks = 1, written = 1
+ * One range of the result of sel_puz, the same way, of the elements whose flag is true. If the result has as many places as
+ * there are true flags, and all parts together wrote as many, the ranges are the permute. Faults: those of
+ * cvl_permute_int_range; 7 LengthMismatch also if index and flags differ in length.
  */
 CVL_CHECKED CvlStatus cvl_select_permute_int_range(const int32_t *source, size_t source_len, const int32_t *index,
     size_t index_len, const bool *flags, size_t flags_len, size_t lowest, int32_t *out, size_t out_len, uint32_t *marks,
     size_t marks_len, size_t *written);
 
-/*
- * cvl_select_permute_bool_range: The same of booleans: sel_pub.
- * source = true false false, index = 1 9 0, flags = true false true, lowest = 0, out_len = 1: out = false, marks = 1, written =
- * 1
- */
+/* The same of booleans: sel_pub. */
 CVL_CHECKED CvlStatus cvl_select_permute_bool_range(const bool *source, size_t source_len, const int32_t *index,
     size_t index_len, const bool *flags, size_t flags_len, size_t lowest, bool *out, size_t out_len, uint32_t *marks,
     size_t marks_len, size_t *written);
 
 /*
- * cvl_first_senders_range: One range of the first senders, its out_len places from place `lowest` on: for each the least place
- * whose index names it, or -1. named is how many indices name a place of the range. Each part has another range and all of
- * index. If all parts together named index_len, the ranges, one after another, are the first senders. Else an index is out of
- * range: cvl_first_senders reports which.
- * Faults: 13 TooLong, by the index, and if the range ends behind place 2147483647.
- * index = 2 0 2 3, lowest = 1, out_len = 2: out = -1 0, named = 2
+ * One range of the first senders, its out_len places from place `lowest` on: for each the least place whose index names it, or
+ * -1. named is how many indices name a place of the range. Each part has another range and all of index. If all parts together
+ * named index_len, the ranges are the first senders; else an index is out of range: cvl_first_senders reports which. Faults: 13
+ * TooLong, by the index, and if the range ends behind place 2147483647.
  */
 CVL_CHECKED CvlStatus cvl_first_senders_range(const int32_t *index, size_t index_len, size_t lowest, int32_t *out,
     size_t out_len, size_t *named);
 
 /*
- * cvl_select_first_senders_range: The same among the places whose flag is true: if all parts together named as many as flags
- * are true, the ranges are the first senders.
- * Faults: those of cvl_first_senders_range; 7 LengthMismatch if index and flags differ in length.
- * index = 2 0 2 9, flags = false true true false, lowest = 1, out_len = 2: out = -1 2, named = 1
+ * The same among the places whose flag is true: if all parts together named as many as flags are true, the ranges are the first
+ * senders. Faults: those of cvl_first_senders_range; 7 LengthMismatch if index and flags differ in length.
  */
 CVL_CHECKED CvlStatus cvl_select_first_senders_range(const int32_t *index, size_t index_len, const bool *flags,
     size_t flags_len, size_t lowest, int32_t *out, size_t out_len, size_t *named);
 
 /*
- * cvl_combine_permute_int_range: One range of a combining permute of integers, by the operator, of CVL_ADD to CVL_XOR: the
- * out_len places of the room from place `lowest` on. What stands at each of them is joined with the elements whose index names
- * it. named is how many indices name a place of the range. Each part has another range, and all of source and index. Where all
- * parts together named index_len, the ranges, one after another, are the combining permute. Else an index is out of range:
- * cvl_combine_permute_int tells which.
- * Faults: 13 TooLong, by the index, and where the range ends behind place 2147483647; 7 LengthMismatch if source and index
- * differ in length.
- * op = CVL_ADD, source = 5 6 7 8, index = 2 0 2 1, lowest = 1, out_len = 2, out = 200 300: out = 208 312, named = 3
+ * One range of a combining permute of integers, by the operator, of CVL_ADD to CVL_XOR: the out_len places from place `lowest`
+ * on, each joined with the elements whose index names it. named is how many indices name a place of the range. Each part has
+ * another range, and all of source and index. If all parts together named index_len, the ranges are the combining permute; else
+ * an index is out of range: cvl_combine_permute_int reports which. Faults: 13 TooLong, by the index, and if the range ends
+ * behind place 2147483647.
  */
 CVL_CHECKED CvlStatus cvl_combine_permute_int_range(uint32_t op, const int32_t *source, size_t source_len, const int32_t *index,
     size_t index_len, size_t lowest, int32_t *out, size_t out_len, size_t *named);
 
 /*
- * cvl_combine_permute_bool_range: One range of a combining permute of booleans, by the operator, of CVL_AND to CVL_XOR: the
- * out_len places of the room from place `lowest` on. What stands at each of them is joined with the elements whose index names
- * it. named is how many indices name a place of the range. Each part has another range, and all of source and index. Where all
- * parts together named index_len, the ranges, one after another, are the combining permute. Else an index is out of range:
- * cvl_combine_permute_int tells which.
- * Faults: 13 TooLong, by the index, and where the range ends behind place 2147483647; 7 LengthMismatch if source and index
- * differ in length.
- * op = CVL_XOR, source = true true true, index = 2 0 2, lowest = 2, out_len = 1, out = true: out = true, named = 2
+ * One range of a combining permute of booleans, by the operator, of CVL_AND to CVL_XOR: the out_len places from place `lowest`
+ * on, each joined with the elements whose index names it. named is how many indices name a place of the range. Each part has
+ * another range, and all of source and index. If all parts together named index_len, the ranges are the combining permute; else
+ * an index is out of range: cvl_combine_permute_bool reports which. Faults: 13 TooLong, by the index, and if the range ends
+ * behind place 2147483647.
  */
 CVL_CHECKED CvlStatus cvl_combine_permute_bool_range(uint32_t op, const bool *source, size_t source_len, const int32_t *index,
     size_t index_len, size_t lowest, bool *out, size_t out_len, size_t *named);
 
 /*
- * cvl_counts_range: One range of the counts by place: how many indices name each of the out_len places from place `lowest` on,
- * and as named how many name one of them.
- * Faults: 13 TooLong, by the index, and where the range ends behind place 2147483647.
- * index = 2 0 2 3, lowest = 1, out_len = 2: out = 0 2, named = 2
+ * One range of the counts by place: how many indices name each of the out_len places from place `lowest` on, and as named how
+ * many name one of them. Faults: 13 TooLong, by the index, and if the range ends behind place 2147483647.
  */
 CVL_CHECKED CvlStatus cvl_counts_range(const int32_t *index, size_t index_len, size_t lowest, int32_t *out, size_t out_len,
     size_t *named);
 
 /*
- * cvl_read_ints_after: The integers of one piece of a text that is cut at white space, as cvl_read_ints reads them. `before` is
- * how many words the pieces before it have, so that a fault's place is that in the whole text.
- * Faults: 13 TooLong, without a place, if `before` is more than 2147483647, or the piece itself has more than 4194304 words;
- * else 15 BadInput at the first word of the piece that is no integer. You must check that all pieces together have at most
- * 2147483647 words.
- * before = 3, text = "9 10": out = 9 10, count = 2
+ * The integers of one piece of a text that is cut at white space, as cvl_read_ints reads them. `before` is how many words the
+ * pieces before it have; a fault's place is that in the whole text. Faults: 13 TooLong, without a place, if `before` is more
+ * than 2147483647, or the piece itself has more than 4194304 words; else 15 BadInput at the first word of the piece that is no
+ * integer. You must check that all pieces together have at most 2147483647 words.
  */
 CVL_CHECKED CvlStatus cvl_read_ints_after(size_t before, const char *text, size_t text_len, int32_t *out, size_t out_len,
     size_t *count);
@@ -998,48 +779,40 @@ CVL_CHECKED CvlStatus cvl_read_ints_after(size_t before, const char *text, size_
 
 /*
  * A sparse matrix comes by its rows: how many entries each row has, and the column and the value of each entry, row after row.
- * Each row is one pass, so no vector is written in between, as by cvl_bck_puz, cvl_mul_wuz and cvl_add_rez in turn. Faults by
- * the lengths come first, as at the calls on segments. Rows may also come by their offsets, as in a matrix of compressed rows
- * (CSR): one more than rows; row r has the entries from offset r to before offset r + 1. For many products of one matrix make
- * the lengths once, by cvl_segments_from_offsets.
+ * Rows may also come by their offsets, as in a matrix of compressed rows (CSR): one more than rows; row r has the entries from
+ * offset r to before offset r + 1. Faults by the lengths come first. For many products of one matrix make the lengths once, by
+ * cvl_segments_from_offsets.
  */
 
 /*
- * cvl_sparse_product: The product of a sparse matrix in rows with the vector x: for each row the sum, over its entries, of the
- * value times the element of x at the column. Sums and products are wrapped to 32 bits, and a row without entries has 0.
- * Faults: 13 TooLong; 7 LengthMismatch if columns and values differ in length, or the lengths do not add up to n; 10
- * IndexOutOfRange at the first column below 0, or m or more.
- * lengths = 2 0 2, columns = 0 2 1 2, values = 2 1 3 4, x = 1 2 3: out = 5 0 18
+ * The product of a sparse matrix with the vector x: for each row the sum of its values, each times the element of x at its
+ * column, wrapped to 32 bits; 0 for a row without entries. Faults: 10 IndexOutOfRange at the first column below 0, or m or
+ * more.
  */
 CVL_CHECKED CvlStatus cvl_sparse_product(CvlLengths lengths, const int32_t *columns, size_t columns_len, const int32_t *values,
     size_t values_len, const int32_t *x, size_t x_len, int32_t *out, size_t out_len);
 
 /*
- * cvl_checked_sparse_product: The same product, in which no product wraps and no sum: each row is added up in whole numbers.
- * Faults: 13 TooLong; 7 LengthMismatch if columns and values differ in length, or the lengths do not add up to n; 10
- * IndexOutOfRange at the first column below 0, or m or more; 18 Overflow at the first row whose sum does not fit 32 bits.
- * lengths = 2 1, columns = 0 1 0, values = 2147483647 -1 3, x = 2 2147483647: out = 2147483647 6
+ * The same product, in which nothing wraps: each row is added up in whole numbers. Faults: 10 IndexOutOfRange at the first
+ * column below 0, or m or more; 18 Overflow at the first row whose sum does not fit 32 bits.
  */
 CVL_CHECKED CvlStatus cvl_checked_sparse_product(CvlLengths lengths, const int32_t *columns, size_t columns_len,
     const int32_t *values, size_t values_len, const int32_t *x, size_t x_len, int32_t *out, size_t out_len);
 
 /*
- * cvl_sparse_product_by_offsets: cvl_sparse_product of rows that come by their offsets.
- * Faults: 13 TooLong, also if there are more than 2147483648 offsets; 7 LengthMismatch if there is no offset or the first is
- * not 0, else 12 NegativeLength at the first row whose offset is above the next one; 7 LengthMismatch if columns and values
- * differ in length, or the last offset is not n; 10 IndexOutOfRange at the first column below 0, or m or more.
- * offsets = 0 2 2 4, columns = 0 2 1 2, values = 2 1 3 4, x = 1 2 3: out = 5 0 18
+ * cvl_sparse_product of rows that come by their offsets. Faults: 13 TooLong, also if there are more than 2147483648 offsets; 7
+ * LengthMismatch if there is no offset or the first is not 0, else 12 NegativeLength at the first row whose offset is above the
+ * next one; 7 LengthMismatch if columns and values differ in length, or the last offset is not n; 10 IndexOutOfRange at the
+ * first column below 0, or m or more.
  */
 CVL_CHECKED CvlStatus cvl_sparse_product_by_offsets(const int32_t *offsets, size_t offsets_len, const int32_t *columns,
     size_t columns_len, const int32_t *values, size_t values_len, const int32_t *x, size_t x_len, int32_t *out, size_t out_len);
 
 /*
- * cvl_checked_sparse_product_by_offsets: cvl_checked_sparse_product of rows that come by their offsets.
- * Faults: 13 TooLong, also if there are more than 2147483648 offsets; 7 LengthMismatch if there is no offset or the first is
- * not 0, else 12 NegativeLength at the first row whose offset is above the next one; 7 LengthMismatch if columns and values
- * differ in length, or the last offset is not n; 10 IndexOutOfRange at the first column below 0, or m or more; 18 Overflow at
- * the first row whose sum does not fit 32 bits.
- * offsets = 0 2 3, columns = 0 1 0, values = 2147483647 -1 3, x = 2 2147483647: out = 2147483647 6
+ * cvl_checked_sparse_product of rows that come by their offsets. Faults: 13 TooLong, also if there are more than 2147483648
+ * offsets; 7 LengthMismatch if there is no offset or the first is not 0, else 12 NegativeLength at the first row whose offset
+ * is above the next one; 7 LengthMismatch if columns and values differ in length, or the last offset is not n; 10
+ * IndexOutOfRange at the first column below 0, or m or more; 18 Overflow at the first row whose sum does not fit 32 bits.
  */
 CVL_CHECKED CvlStatus cvl_checked_sparse_product_by_offsets(const int32_t *offsets, size_t offsets_len, const int32_t *columns,
     size_t columns_len, const int32_t *values, size_t values_len, const int32_t *x, size_t x_len, int32_t *out, size_t out_len);
@@ -1054,540 +827,262 @@ void cvl_make_flags(bool *flags, size_t flags_len);
 
 /* ---- place by place: the calls of the table ---- */
 
-/*
- * cvl_add_wuz: The wrapped sums. a, b and out have n elements.
- * Faults: 13 TooLong.
- * In place: a, b or both may be out.
- * a = 12 -7 2147483647, b = 10 2 1: out = 22 -5 -2147483648
- */
+/* The wrapped sums. a, b and out have n elements. In place: a, b or both. */
 CVL_CHECKED CvlStatus cvl_add_wuz(const int32_t *a, const int32_t *b, int32_t *out, size_t n);
 
-/*
- * cvl_mul_wuz: The wrapped products. a, b and out have n elements.
- * Faults: 13 TooLong.
- * In place: a, b or both may be out.
- * a = 12 -7 2147483647, b = 10 2 1: out = 120 -14 2147483647
- */
+/* The wrapped products. a, b and out have n elements. In place: a, b or both. */
 CVL_CHECKED CvlStatus cvl_mul_wuz(const int32_t *a, const int32_t *b, int32_t *out, size_t n);
 
-/*
- * cvl_min_wuz: The lesser of each two. a, b and out have n elements.
- * Faults: 13 TooLong.
- * In place: a, b or both may be out.
- * a = 12 -7 2147483647, b = 10 2 1: out = 10 -7 1
- */
+/* The lesser of each two. a, b and out have n elements. In place: a, b or both. */
 CVL_CHECKED CvlStatus cvl_min_wuz(const int32_t *a, const int32_t *b, int32_t *out, size_t n);
 
-/*
- * cvl_max_wuz: The greater of each two. a, b and out have n elements.
- * Faults: 13 TooLong.
- * In place: a, b or both may be out.
- * a = 12 -7 2147483647, b = 10 2 1: out = 12 2 2147483647
- */
+/* The greater of each two. a, b and out have n elements. In place: a, b or both. */
 CVL_CHECKED CvlStatus cvl_max_wuz(const int32_t *a, const int32_t *b, int32_t *out, size_t n);
 
-/*
- * cvl_and_wuz: And, bit by bit. a, b and out have n elements.
- * Faults: 13 TooLong.
- * In place: a, b or both may be out.
- * a = 12 -7 2147483647, b = 10 2 1: out = 8 0 1
- */
+/* And, bit by bit. a, b and out have n elements. In place: a, b or both. */
 CVL_CHECKED CvlStatus cvl_and_wuz(const int32_t *a, const int32_t *b, int32_t *out, size_t n);
 
-/*
- * cvl_ior_wuz: Or, bit by bit. a, b and out have n elements.
- * Faults: 13 TooLong.
- * In place: a, b or both may be out.
- * a = 12 -7 2147483647, b = 10 2 1: out = 14 -5 2147483647
- */
+/* Or, bit by bit. a, b and out have n elements. In place: a, b or both. */
 CVL_CHECKED CvlStatus cvl_ior_wuz(const int32_t *a, const int32_t *b, int32_t *out, size_t n);
 
-/*
- * cvl_xor_wuz: Exclusive or, bit by bit. a, b and out have n elements.
- * Faults: 13 TooLong.
- * In place: a, b or both may be out.
- * a = 12 -7 2147483647, b = 10 2 1: out = 6 -5 2147483646
- */
+/* Exclusive or, bit by bit. a, b and out have n elements. In place: a, b or both. */
 CVL_CHECKED CvlStatus cvl_xor_wuz(const int32_t *a, const int32_t *b, int32_t *out, size_t n);
 
-/*
- * cvl_sub_wuz: The wrapped differences. a, b and out have n elements.
- * Faults: 13 TooLong.
- * In place: a, b or both may be out.
- * a = 12 -7 2147483647, b = 10 2 1: out = 2 -9 2147483646
- */
+/* The wrapped differences. a, b and out have n elements. In place: a, b or both. */
 CVL_CHECKED CvlStatus cvl_sub_wuz(const int32_t *a, const int32_t *b, int32_t *out, size_t n);
 
 /*
- * cvl_div_wuz: The quotients, truncated toward zero; -2147483648 by -1 is -2147483648. a, b and out have n elements.
- * Faults: 13 TooLong; 8 DivideByZero at the first divisor that is 0.
- * In place: a, b or both may be out.
- * a = 7 -7 -2147483648, b = 2 2 -1: out = 3 -3 -2147483648
+ * The quotients, truncated toward zero; -2147483648 by -1 is -2147483648. a, b and out have n elements. Faults: 8 DivideByZero
+ * at the first divisor that is 0. In place: a, b or both.
  */
 CVL_CHECKED CvlStatus cvl_div_wuz(const int32_t *a, const int32_t *b, int32_t *out, size_t n);
 
 /*
- * cvl_mod_wuz: The remainders of the quotients, with the dividends' signs. a, b and out have n elements.
- * Faults: 13 TooLong; 8 DivideByZero at the first divisor that is 0.
- * In place: a, b or both may be out.
- * a = 7 -7 -2147483648, b = 2 2 -1: out = 1 -1 0
+ * The remainders of the quotients, with the dividends' signs. a, b and out have n elements. Faults: 8 DivideByZero at the first
+ * divisor that is 0. In place: a, b or both.
  */
 CVL_CHECKED CvlStatus cvl_mod_wuz(const int32_t *a, const int32_t *b, int32_t *out, size_t n);
 
 /*
- * cvl_lsh_wuz: The elements of a, shifted left by those of b. a, b and out have n elements.
- * Faults: 13 TooLong; 9 ShiftOutOfRange at the first element of b outside 0 to 31.
- * In place: a, b or both may be out.
- * a = 1 -7 3, b = 4 1 31: out = 16 -14 -2147483648
+ * The elements of a, shifted left by those of b. a, b and out have n elements. Faults: 9 ShiftOutOfRange at the first element
+ * of b outside 0 to 31. In place: a, b or both.
  */
 CVL_CHECKED CvlStatus cvl_lsh_wuz(const int32_t *a, const int32_t *b, int32_t *out, size_t n);
 
 /*
- * cvl_rsh_wuz: The elements of a, shifted right by those of b, with their signs. a, b and out have n elements.
- * Faults: 13 TooLong; 9 ShiftOutOfRange at the first element of b outside 0 to 31.
- * In place: a, b or both may be out.
- * a = 1 -7 3, b = 4 1 31: out = 0 -4 0
+ * The elements of a, shifted right by those of b, with their signs. a, b and out have n elements. Faults: 9 ShiftOutOfRange at
+ * the first element of b outside 0 to 31. In place: a, b or both.
  */
 CVL_CHECKED CvlStatus cvl_rsh_wuz(const int32_t *a, const int32_t *b, int32_t *out, size_t n);
 
-/*
- * cvl_not_wuz: Each bit inverted. a and out have n elements.
- * Faults: 13 TooLong.
- * In place: a may be out.
- * a = 0 5 -1: out = -1 -6 0
- */
+/* Each bit inverted. a and out have n elements. In place: a. */
 CVL_CHECKED CvlStatus cvl_not_wuz(const int32_t *a, int32_t *out, size_t n);
 
-/*
- * cvl_not_wub: Each boolean inverted. a and out have n elements.
- * Faults: 13 TooLong.
- * In place: a may be out.
- * a = false true: out = true false
- */
+/* Each boolean inverted. a and out have n elements. In place: a. */
 CVL_CHECKED CvlStatus cvl_not_wub(const bool *a, bool *out, size_t n);
 
-/*
- * cvl_cpy_wuz: Each integer copied. a and out have n elements.
- * Faults: 13 TooLong.
- * In place: a may be out.
- * a = 3 1: out = 3 1
- */
+/* Each integer copied. a and out have n elements. In place: a. */
 CVL_CHECKED CvlStatus cvl_cpy_wuz(const int32_t *a, int32_t *out, size_t n);
 
-/*
- * cvl_cpy_wub: Each boolean copied. a and out have n elements.
- * Faults: 13 TooLong.
- * In place: a may be out.
- * a = true false: out = true false
- */
+/* Each boolean copied. a and out have n elements. In place: a. */
 CVL_CHECKED CvlStatus cvl_cpy_wub(const bool *a, bool *out, size_t n);
 
-/*
- * cvl_grt_wuz: True if a is greater. a, b and out have n elements.
- * Faults: 13 TooLong.
- * a = 1 2 3, b = 2 2 2: out = false false true
- */
+/* True if a is greater. a, b and out have n elements. */
 CVL_CHECKED CvlStatus cvl_grt_wuz(const int32_t *a, const int32_t *b, bool *CVL_RESTRICT out, size_t n);
 
-/*
- * cvl_les_wuz: True if a is less. a, b and out have n elements.
- * Faults: 13 TooLong.
- * a = 1 2 3, b = 2 2 2: out = true false false
- */
+/* True if a is less. a, b and out have n elements. */
 CVL_CHECKED CvlStatus cvl_les_wuz(const int32_t *a, const int32_t *b, bool *CVL_RESTRICT out, size_t n);
 
-/*
- * cvl_geq_wuz: True if a is greater, or they are equal. a, b and out have n elements.
- * Faults: 13 TooLong.
- * a = 1 2 3, b = 2 2 2: out = false true true
- */
+/* True if a is greater, or they are equal. a, b and out have n elements. */
 CVL_CHECKED CvlStatus cvl_geq_wuz(const int32_t *a, const int32_t *b, bool *CVL_RESTRICT out, size_t n);
 
-/*
- * cvl_leq_wuz: True if a is less, or they are equal. a, b and out have n elements.
- * Faults: 13 TooLong.
- * a = 1 2 3, b = 2 2 2: out = true true false
- */
+/* True if a is less, or they are equal. a, b and out have n elements. */
 CVL_CHECKED CvlStatus cvl_leq_wuz(const int32_t *a, const int32_t *b, bool *CVL_RESTRICT out, size_t n);
 
-/*
- * cvl_eql_wuz: True if they are equal. a, b and out have n elements.
- * Faults: 13 TooLong.
- * a = 1 2 3, b = 2 2 2: out = false true false
- */
+/* True if they are equal. a, b and out have n elements. */
 CVL_CHECKED CvlStatus cvl_eql_wuz(const int32_t *a, const int32_t *b, bool *CVL_RESTRICT out, size_t n);
 
-/*
- * cvl_neq_wuz: True if they are not equal. a, b and out have n elements.
- * Faults: 13 TooLong.
- * a = 1 2 3, b = 2 2 2: out = true false true
- */
+/* True if they are not equal. a, b and out have n elements. */
 CVL_CHECKED CvlStatus cvl_neq_wuz(const int32_t *a, const int32_t *b, bool *CVL_RESTRICT out, size_t n);
 
-/*
- * cvl_and_wub: Whether both are true. a, b and out have n elements.
- * Faults: 13 TooLong.
- * In place: a, b or both may be out.
- * a = true true false false, b = true false true false: out = true false false false
- */
+/* Whether both are true. a, b and out have n elements. In place: a, b or both. */
 CVL_CHECKED CvlStatus cvl_and_wub(const bool *a, const bool *b, bool *out, size_t n);
 
-/*
- * cvl_ior_wub: Whether at least one is true. a, b and out have n elements.
- * Faults: 13 TooLong.
- * In place: a, b or both may be out.
- * a = true true false false, b = true false true false: out = true true true false
- */
+/* Whether at least one is true. a, b and out have n elements. In place: a, b or both. */
 CVL_CHECKED CvlStatus cvl_ior_wub(const bool *a, const bool *b, bool *out, size_t n);
 
-/*
- * cvl_xor_wub: Whether exactly one is true. a, b and out have n elements.
- * Faults: 13 TooLong.
- * In place: a, b or both may be out.
- * a = true true false false, b = true false true false: out = false true true false
- */
+/* Whether exactly one is true. a, b and out have n elements. In place: a, b or both. */
 CVL_CHECKED CvlStatus cvl_xor_wub(const bool *a, const bool *b, bool *out, size_t n);
 
 /*
- * cvl_sel_wuz: The element of a if the flag is true, else that of b. flags, a, b and out have n elements.
- * Faults: 13 TooLong.
- * In place: a or b may be out, but not both.
- * flags = true false false, a = 5 0 5, b = 1 1 1: out = 5 1 1
+ * The element of a if the flag is true, else that of b. flags, a, b and out have n elements. In place: a or b, but not both.
  */
 CVL_CHECKED CvlStatus cvl_sel_wuz(const bool *flags, const int32_t *a, const int32_t *b, int32_t *out, size_t n);
-
-/*
- * cvl_sel_wub: The element of a if the flag is true, else that of b. flags, a, b and out have n elements.
- * Faults: 13 TooLong.
- * In place: a or b may be out, but not both.
- * flags = true false, a = true true, b = false false: out = true false
- */
 CVL_CHECKED CvlStatus cvl_sel_wub(const bool *flags, const bool *a, const bool *b, bool *out, size_t n);
 
-/*
- * cvl_int_wub: 1 for true and 0 for false. a and out have n elements.
- * Faults: 13 TooLong.
- * a = false true true: out = 0 1 1
- */
+/* 1 for true and 0 for false. a and out have n elements. */
 CVL_CHECKED CvlStatus cvl_int_wub(const bool *a, int32_t *CVL_RESTRICT out, size_t n);
 
-/*
- * cvl_boo_wuz: True if the integer is not 0. a and out have n elements.
- * Faults: 13 TooLong.
- * a = 0 -3 7: out = false true true
- */
+/* True if the integer is not 0. a and out have n elements. */
 CVL_CHECKED CvlStatus cvl_boo_wuz(const int32_t *a, bool *CVL_RESTRICT out, size_t n);
 
 /* ---- scans and reduces: the calls of the table ---- */
 
-/*
- * cvl_add_suz: For each integer the sum of those before it, wrapped; 0 at place 0. a and out have n elements.
- * Faults: 13 TooLong.
- * In place: a may be out.
- * a = 3 1 4: out = 0 3 4
- */
+/* For each integer the sum of those before it, wrapped; 0 at place 0. a and out have n elements. In place: a. */
 CVL_CHECKED CvlStatus cvl_add_suz(const int32_t *a, int32_t *out, size_t n);
 
-/*
- * cvl_add_ruz: The sum of the n integers, wrapped; 0 if there are none.
- * Faults: 13 TooLong.
- * a = 3 1 4: *out = 8
- */
+/* The sum of the n integers, wrapped; 0 if there are none. */
 CVL_CHECKED CvlStatus cvl_add_ruz(const int32_t *a, size_t n, int32_t *out) CVL_NONNULL(3);
 
-/*
- * cvl_mul_suz: For each integer the product of those before it, wrapped; 1 at place 0. a and out have n elements.
- * Faults: 13 TooLong.
- * In place: a may be out.
- * a = 3 1 4: out = 1 3 3
- */
+/* For each integer the product of those before it, wrapped; 1 at place 0. a and out have n elements. In place: a. */
 CVL_CHECKED CvlStatus cvl_mul_suz(const int32_t *a, int32_t *out, size_t n);
 
-/*
- * cvl_mul_ruz: The product of the n integers, wrapped; 1 if there are none.
- * Faults: 13 TooLong.
- * a = 3 1 4: *out = 12
- */
+/* The product of the n integers, wrapped; 1 if there are none. */
 CVL_CHECKED CvlStatus cvl_mul_ruz(const int32_t *a, size_t n, int32_t *out) CVL_NONNULL(3);
 
-/*
- * cvl_min_suz: For each integer the least of those before it; 2147483647 at place 0. a and out have n elements.
- * Faults: 13 TooLong.
- * In place: a may be out.
- * a = 3 1 4: out = 2147483647 3 1
- */
+/* For each integer the least of those before it; 2147483647 at place 0. a and out have n elements. In place: a. */
 CVL_CHECKED CvlStatus cvl_min_suz(const int32_t *a, int32_t *out, size_t n);
 
-/*
- * cvl_min_ruz: The least of the n integers; 2147483647 if there are none.
- * Faults: 13 TooLong.
- * a = 3 1 4: *out = 1
- */
+/* The least of the n integers; 2147483647 if there are none. */
 CVL_CHECKED CvlStatus cvl_min_ruz(const int32_t *a, size_t n, int32_t *out) CVL_NONNULL(3);
 
-/*
- * cvl_max_suz: For each integer the greatest of those before it; -2147483648 at place 0. a and out have n elements.
- * Faults: 13 TooLong.
- * In place: a may be out.
- * a = 3 1 4: out = -2147483648 3 3
- */
+/* For each integer the greatest of those before it; -2147483648 at place 0. a and out have n elements. In place: a. */
 CVL_CHECKED CvlStatus cvl_max_suz(const int32_t *a, int32_t *out, size_t n);
 
-/*
- * cvl_max_ruz: The greatest of the n integers; -2147483648 if there are none.
- * Faults: 13 TooLong.
- * a = 3 1 4: *out = 4
- */
+/* The greatest of the n integers; -2147483648 if there are none. */
 CVL_CHECKED CvlStatus cvl_max_ruz(const int32_t *a, size_t n, int32_t *out) CVL_NONNULL(3);
 
-/*
- * cvl_and_suz: For each integer those before it joined by and, bit by bit; -1 at place 0. a and out have n elements.
- * Faults: 13 TooLong.
- * In place: a may be out.
- * a = 3 1 4: out = -1 3 1
- */
+/* For each integer those before it joined by and, bit by bit; -1 at place 0. a and out have n elements. In place: a. */
 CVL_CHECKED CvlStatus cvl_and_suz(const int32_t *a, int32_t *out, size_t n);
 
-/*
- * cvl_and_ruz: The n integers joined by and, bit by bit; -1 if there are none.
- * Faults: 13 TooLong.
- * a = 3 1 4: *out = 0
- */
+/* The n integers joined by and, bit by bit; -1 if there are none. */
 CVL_CHECKED CvlStatus cvl_and_ruz(const int32_t *a, size_t n, int32_t *out) CVL_NONNULL(3);
 
-/*
- * cvl_ior_suz: For each integer those before it joined by or, bit by bit; 0 at place 0. a and out have n elements.
- * Faults: 13 TooLong.
- * In place: a may be out.
- * a = 3 1 4: out = 0 3 3
- */
+/* For each integer those before it joined by or, bit by bit; 0 at place 0. a and out have n elements. In place: a. */
 CVL_CHECKED CvlStatus cvl_ior_suz(const int32_t *a, int32_t *out, size_t n);
 
-/*
- * cvl_ior_ruz: The n integers joined by or, bit by bit; 0 if there are none.
- * Faults: 13 TooLong.
- * a = 3 1 4: *out = 7
- */
+/* The n integers joined by or, bit by bit; 0 if there are none. */
 CVL_CHECKED CvlStatus cvl_ior_ruz(const int32_t *a, size_t n, int32_t *out) CVL_NONNULL(3);
 
 /*
- * cvl_xor_suz: For each integer those before it joined by exclusive or, bit by bit; 0 at place 0. a and out have n elements.
- * Faults: 13 TooLong.
- * In place: a may be out.
- * a = 3 1 4: out = 0 3 2
+ * For each integer those before it joined by exclusive or, bit by bit; 0 at place 0. a and out have n elements. In place: a.
  */
 CVL_CHECKED CvlStatus cvl_xor_suz(const int32_t *a, int32_t *out, size_t n);
 
-/*
- * cvl_xor_ruz: The n integers joined by exclusive or, bit by bit; 0 if there are none.
- * Faults: 13 TooLong.
- * a = 3 1 4: *out = 6
- */
+/* The n integers joined by exclusive or, bit by bit; 0 if there are none. */
 CVL_CHECKED CvlStatus cvl_xor_ruz(const int32_t *a, size_t n, int32_t *out) CVL_NONNULL(3);
 
-/*
- * cvl_and_sub: For each boolean whether all those before it are true; true at place 0. a and out have n elements.
- * Faults: 13 TooLong.
- * In place: a may be out.
- * a = true false true: out = true true false
- */
+/* For each boolean whether all those before it are true; true at place 0. a and out have n elements. In place: a. */
 CVL_CHECKED CvlStatus cvl_and_sub(const bool *a, bool *out, size_t n);
 
-/*
- * cvl_and_rub: Whether all n booleans are true; true if there are none.
- * Faults: 13 TooLong.
- * a = true false true: *out = false
- */
+/* Whether all n booleans are true; true if there are none. */
 CVL_CHECKED CvlStatus cvl_and_rub(const bool *a, size_t n, bool *out) CVL_NONNULL(3);
 
-/*
- * cvl_ior_sub: For each boolean whether any of those before it is true; false at place 0. a and out have n elements.
- * Faults: 13 TooLong.
- * In place: a may be out.
- * a = true false true: out = false true true
- */
+/* For each boolean whether any of those before it is true; false at place 0. a and out have n elements. In place: a. */
 CVL_CHECKED CvlStatus cvl_ior_sub(const bool *a, bool *out, size_t n);
 
-/*
- * cvl_ior_rub: Whether any of the n booleans is true; false if there are none.
- * Faults: 13 TooLong.
- * a = true false true: *out = true
- */
+/* Whether any of the n booleans is true; false if there are none. */
 CVL_CHECKED CvlStatus cvl_ior_rub(const bool *a, size_t n, bool *out) CVL_NONNULL(3);
 
 /*
- * cvl_xor_sub: For each boolean whether an odd number of those before it is true; false at place 0. a and out have n elements.
- * Faults: 13 TooLong.
- * In place: a may be out.
- * a = true false true: out = false true true
+ * For each boolean whether an odd number of those before it is true; false at place 0. a and out have n elements. In place: a.
  */
 CVL_CHECKED CvlStatus cvl_xor_sub(const bool *a, bool *out, size_t n);
 
-/*
- * cvl_xor_rub: Whether an odd number of the n booleans is true; false if there are none.
- * Faults: 13 TooLong.
- * a = true false true: *out = false
- */
+/* Whether an odd number of the n booleans is true; false if there are none. */
 CVL_CHECKED CvlStatus cvl_xor_rub(const bool *a, size_t n, bool *out) CVL_NONNULL(3);
 
 /* ---- sums that never wrap: the calls of the table ---- */
 
 /*
- * cvl_tot_suz: For each integer the sum of those before it. a and out have n elements.
- * Faults: 13 TooLong; 18 Overflow at the first place whose sum does not fit 32 bits.
- * In place: a may be out.
- * a = 3 1 4: out = 0 3 4
+ * For each integer the sum of those before it. a and out have n elements. Faults: 18 Overflow at the first place whose sum does
+ * not fit 32 bits. In place: a.
  */
 CVL_CHECKED CvlStatus cvl_tot_suz(const int32_t *a, int32_t *out, size_t n);
 
-/*
- * cvl_tot_ruz: The sum of the n integers.
- * Faults: 13 TooLong; 18 Overflow at 0 if it does not fit 32 bits.
- * a = 3 1 4: *out = 8
- */
+/* The sum of the n integers. Faults: 18 Overflow at 0 if it does not fit 32 bits. */
 CVL_CHECKED CvlStatus cvl_tot_ruz(const int32_t *a, size_t n, int32_t *out) CVL_NONNULL(3);
 
 /* ---- counts, single elements, and vectors of a given length: the calls of the table ---- */
 
-/*
- * cvl_cnt_lub: The number of true flags, of n.
- * Faults: 13 TooLong.
- * flags = false true true false true: *out = 3
- */
+/* The number of true flags, of n. */
 CVL_CHECKED CvlStatus cvl_cnt_lub(const bool *flags, size_t n, int32_t *out) CVL_NONNULL(3);
 
-/*
- * cvl_ext_vuz: The element of n at the index.
- * Faults: 10 IndexOutOfRange at 0 if the index is below 0, or n or more.
- * vector = 4 5 6, index = 2: *out = 6
- */
+/* The element of n at the index. Faults: 10 IndexOutOfRange at 0 if the index is below 0, or n or more. */
 CVL_CHECKED CvlStatus cvl_ext_vuz(const int32_t *vector, size_t n, int64_t index, int32_t *out) CVL_NONNULL(4);
-
-/*
- * cvl_ext_vub: The element of n at the index.
- * Faults: 10 IndexOutOfRange at 0 if the index is below 0, or n or more.
- * vector = true true false, index = 0: *out = true
- */
 CVL_CHECKED CvlStatus cvl_ext_vub(const bool *vector, size_t n, int64_t index, bool *out) CVL_NONNULL(4);
 
 /*
- * cvl_rep_vuz: The vector with the value at the index. vector and out have n elements.
- * Faults: 10 IndexOutOfRange at 0 if the index is below 0, or n or more.
- * vector = 1 2 3, index = 1, value = 9: out = 1 9 3
+ * The vector with the value at the index. vector and out have n elements. Faults: 10 IndexOutOfRange at 0 if the index is below
+ * 0, or n or more.
  */
 CVL_CHECKED CvlStatus cvl_rep_vuz(const int32_t *vector, int64_t index, int32_t value, int32_t *CVL_RESTRICT out, size_t n);
-
-/*
- * cvl_rep_vub: The vector with the value at the index. vector and out have n elements.
- * Faults: 10 IndexOutOfRange at 0 if the index is below 0, or n or more.
- * vector = true true true, index = 2, value = false: out = true true false
- */
 CVL_CHECKED CvlStatus cvl_rep_vub(const bool *vector, int64_t index, bool value, bool *CVL_RESTRICT out, size_t n);
 
 /*
- * cvl_dis_vuz: count copies of the value; out has count elements.
- * Faults: 12 NegativeLength, without a place, if count is below 0; 13 TooLong if it is above 2147483647.
- * value = 7, count = 3: out = 7 7 7
+ * count copies of the value; out has count elements. Faults: 12 NegativeLength, without a place, if count is below 0; 13
+ * TooLong if it is above 2147483647.
  */
 CVL_CHECKED CvlStatus cvl_dis_vuz(int32_t value, int64_t count, int32_t *CVL_RESTRICT out);
-
-/*
- * cvl_dis_vub: count copies of the value; out has count elements.
- * Faults: 12 NegativeLength, without a place, if count is below 0; 13 TooLong if it is above 2147483647.
- * value = true, count = 2: out = true true
- */
 CVL_CHECKED CvlStatus cvl_dis_vub(bool value, int64_t count, bool *CVL_RESTRICT out);
 
 /*
- * cvl_ind_luz: The numbers init + k * stride, wrapped, for k from 0 to count - 1; out has count elements.
- * Faults: 12 NegativeLength, without a place, if count is below 0; 13 TooLong if it is above 2147483647.
- * init = 10, stride = -2, count = 3: out = 10 8 6
+ * The numbers init + k * stride, wrapped, for k from 0 to count - 1; out has count elements. Faults: 12 NegativeLength, without
+ * a place, if count is below 0; 13 TooLong if it is above 2147483647.
  */
 CVL_CHECKED CvlStatus cvl_ind_luz(int32_t init, int32_t stride, int64_t count, int32_t *CVL_RESTRICT out);
 
 /* ---- segments: the calls of the table ---- */
 
 /*
- * Segments come as their lengths, one for each segment, which may be 0. Each call on segments first has these faults, by the
- * lengths: 13 TooLong, without a place, if there are more than 2147483647; 12 NegativeLength at the first that is below 0; 13
- * TooLong, without a place, if they add up to more than 2147483647.
+ * Segments come as their lengths, which may be 0. Each call on segments first has these faults, by the lengths: 13 TooLong,
+ * without a place, if there are more than 2147483647; 12 NegativeLength at the first below 0; 13 TooLong, without a place, if
+ * they add up to more than 2147483647.
  */
 
-/*
- * cvl_mke_fov: Whether the numbers are the lengths of segments, and how many elements these have in all.
- * lengths = 2 0 3: *total = 5
- */
+/* Whether the numbers are the lengths of segments, and how many elements these have in all. */
 CVL_CHECKED CvlStatus cvl_mke_fov(CvlLengths lengths, size_t *total) CVL_NONNULL(2);
 
 /*
- * cvl_tot_sez: For each integer the sum of those before it in its segment. a and out have n elements.
- * Faults: 7 LengthMismatch if the lengths do not add up to n; 18 Overflow at the first place whose sum does not fit 32 bits.
- * In place: a may be out.
- * a = 3 1 4 1 5, lengths = 2 0 3: out = 0 3 0 4 5
+ * For each integer the sum of those before it in its segment. a and out have n elements. Faults: 18 Overflow at the first place
+ * whose sum does not fit 32 bits. In place: a.
  */
 CVL_CHECKED CvlStatus cvl_tot_sez(const int32_t *a, CvlLengths lengths, int32_t *out, size_t n);
 
 /*
- * cvl_tot_rez: The sum of each segment. a has n elements, out one for each segment.
- * Faults: 7 LengthMismatch if the lengths do not add up to n; 18 Overflow at the first segment whose sum does not fit 32 bits.
- * a = 3 1 4 1 5, lengths = 2 0 3: out = 4 0 10
+ * The sum of each segment. a has n elements, out one for each segment. Faults: 18 Overflow at the first segment whose sum does
+ * not fit 32 bits.
  */
 CVL_CHECKED CvlStatus cvl_tot_rez(const int32_t *a, size_t n, CvlLengths lengths, int32_t *CVL_RESTRICT out);
 
 /*
- * cvl_ext_vez: The element of each segment at its index, which counts from the segment's start. The vector has n elements,
- * index and out one for each segment.
- * Faults: 7 LengthMismatch if the lengths do not add up to n; 10 IndexOutOfRange at the segment.
- * vector = 1 2 3 4 5, index = 1 2, lengths = 2 3: out = 2 5
+ * The element of each segment at its index, which counts from the segment's start. The vector has n elements, index and out one
+ * for each segment. Faults: 10 IndexOutOfRange at the segment.
  */
 CVL_CHECKED CvlStatus cvl_ext_vez(const int32_t *vector, size_t n, const int32_t *index, CvlLengths lengths,
     int32_t *CVL_RESTRICT out);
-
-/*
- * cvl_ext_veb: The element of each segment at its index, which counts from the segment's start. The vector has n elements,
- * index and out one for each segment.
- * Faults: 7 LengthMismatch if the lengths do not add up to n; 10 IndexOutOfRange at the segment.
- * vector = true true false, index = 0 1, lengths = 1 2: out = true false
- */
 CVL_CHECKED CvlStatus cvl_ext_veb(const bool *vector, size_t n, const int32_t *index, CvlLengths lengths,
     bool *CVL_RESTRICT out);
 
 /*
- * cvl_rep_vez: The vector with the value of each segment at its index, which counts from the segment's start. vector and out
- * have n elements, index and values one for each segment.
- * Faults: 7 LengthMismatch if the lengths do not add up to n; 10 IndexOutOfRange at the segment.
- * vector = 1 2 3 4 5, index = 0 1, values = 8 9, lengths = 2 3: out = 8 2 3 9 5
+ * The vector with the value of each segment at its index, which counts from the segment's start. vector and out have n
+ * elements, index and values one for each segment. Faults: 10 IndexOutOfRange at the segment.
  */
 CVL_CHECKED CvlStatus cvl_rep_vez(const int32_t *vector, const int32_t *index, const int32_t *values, CvlLengths lengths,
     int32_t *CVL_RESTRICT out, size_t n);
-
-/*
- * cvl_rep_veb: The vector with the value of each segment at its index, which counts from the segment's start. vector and out
- * have n elements, index and values one for each segment.
- * Faults: 7 LengthMismatch if the lengths do not add up to n; 10 IndexOutOfRange at the segment.
- * vector = true true false, index = 0 1, values = false true, lengths = 1 2: out = false true true
- */
 CVL_CHECKED CvlStatus cvl_rep_veb(const bool *vector, const int32_t *index, const bool *values, CvlLengths lengths,
     bool *CVL_RESTRICT out, size_t n);
 
 /*
- * cvl_dis_vez: Copies of each value, as many as its segment has places. There is one value for each segment; out has n
- * elements, the total of the lengths, else 7 LengthMismatch.
- * values = 7 8 9, lengths = 2 0 3: out = 7 7 9 9 9
+ * Copies of each value, as many as its segment has places. There is one value for each segment; out has n elements, the total
+ * of the lengths, else 7 LengthMismatch.
  */
 CVL_CHECKED CvlStatus cvl_dis_vez(const int32_t *values, CvlLengths lengths, int32_t *CVL_RESTRICT out, size_t n);
-
-/*
- * cvl_dis_veb: Copies of each value, as many as its segment has places. There is one value for each segment; out has n
- * elements, the total of the lengths, else 7 LengthMismatch.
- * values = true false, lengths = 1 2: out = true false false
- */
 CVL_CHECKED CvlStatus cvl_dis_veb(const bool *values, CvlLengths lengths, bool *CVL_RESTRICT out, size_t n);
 
 /*
- * cvl_ind_lez: The numbers of each segment from its init on, in steps of its stride, wrapped. There are one init and one stride
- * for each segment; out has n elements, the total of the lengths, else 7 LengthMismatch.
- * inits = 0 5 10, strides = 1 1 -2, lengths = 2 0 3: out = 0 1 10 8 6
+ * The numbers of each segment from its init on, in steps of its stride, wrapped. There are one init and one stride for each
+ * segment; out has n elements, the total of the lengths, else 7 LengthMismatch.
  */
 CVL_CHECKED CvlStatus cvl_ind_lez(const int32_t *inits, const int32_t *strides, CvlLengths lengths, int32_t *CVL_RESTRICT out,
     size_t n);
@@ -1595,227 +1090,129 @@ CVL_CHECKED CvlStatus cvl_ind_lez(const int32_t *inits, const int32_t *strides, 
 /* ---- scans and reduces of segments: the calls of the table ---- */
 
 /*
- * cvl_add_sez: For each integer the sum of those before it in its segment, wrapped; 0 at the start of a segment. a and out have
- * n elements.
- * Faults: 7 LengthMismatch if the lengths do not add up to n.
- * In place: a may be out.
- * a = 3 1 4 1 5, lengths = 2 0 3: out = 0 3 0 4 5
+ * For each integer the sum of those before it in its segment, wrapped; 0 at the start of a segment. a and out have n elements.
+ * In place: a.
  */
 CVL_CHECKED CvlStatus cvl_add_sez(const int32_t *a, CvlLengths lengths, int32_t *out, size_t n);
 
-/*
- * cvl_add_rez: The sum of the integers of each segment, wrapped; 0 if it is empty. a has n elements, out one for each segment.
- * Faults: 7 LengthMismatch if the lengths do not add up to n.
- * a = 3 1 4 1 5, lengths = 2 0 3: out = 4 0 10
- */
+/* The sum of the integers of each segment, wrapped; 0 if it is empty. a has n elements, out one for each segment. */
 CVL_CHECKED CvlStatus cvl_add_rez(const int32_t *a, size_t n, CvlLengths lengths, int32_t *CVL_RESTRICT out);
 
 /*
- * cvl_mul_sez: For each integer the product of those before it in its segment, wrapped; 1 at the start of a segment. a and out
- * have n elements.
- * Faults: 7 LengthMismatch if the lengths do not add up to n.
- * In place: a may be out.
- * a = 3 1 4 1 5, lengths = 2 0 3: out = 1 3 1 4 4
+ * For each integer the product of those before it in its segment, wrapped; 1 at the start of a segment. a and out have n
+ * elements. In place: a.
  */
 CVL_CHECKED CvlStatus cvl_mul_sez(const int32_t *a, CvlLengths lengths, int32_t *out, size_t n);
 
-/*
- * cvl_mul_rez: The product of the integers of each segment, wrapped; 1 if it is empty. a has n elements, out one for each
- * segment.
- * Faults: 7 LengthMismatch if the lengths do not add up to n.
- * a = 3 1 4 1 5, lengths = 2 0 3: out = 3 1 20
- */
+/* The product of the integers of each segment, wrapped; 1 if it is empty. a has n elements, out one for each segment. */
 CVL_CHECKED CvlStatus cvl_mul_rez(const int32_t *a, size_t n, CvlLengths lengths, int32_t *CVL_RESTRICT out);
 
 /*
- * cvl_min_sez: For each integer the least of those before it in its segment; 2147483647 at the start of a segment. a and out
- * have n elements.
- * Faults: 7 LengthMismatch if the lengths do not add up to n.
- * In place: a may be out.
- * a = 3 1 4 1 5, lengths = 2 0 3: out = 2147483647 3 2147483647 4 1
+ * For each integer the least of those before it in its segment; 2147483647 at the start of a segment. a and out have n
+ * elements. In place: a.
  */
 CVL_CHECKED CvlStatus cvl_min_sez(const int32_t *a, CvlLengths lengths, int32_t *out, size_t n);
 
-/*
- * cvl_min_rez: The least of the integers of each segment; 2147483647 if it is empty. a has n elements, out one for each
- * segment.
- * Faults: 7 LengthMismatch if the lengths do not add up to n.
- * a = 3 1 4 1 5, lengths = 2 0 3: out = 1 2147483647 1
- */
+/* The least of the integers of each segment; 2147483647 if it is empty. a has n elements, out one for each segment. */
 CVL_CHECKED CvlStatus cvl_min_rez(const int32_t *a, size_t n, CvlLengths lengths, int32_t *CVL_RESTRICT out);
 
 /*
- * cvl_max_sez: For each integer the greatest of those before it in its segment; -2147483648 at the start of a segment. a and
- * out have n elements.
- * Faults: 7 LengthMismatch if the lengths do not add up to n.
- * In place: a may be out.
- * a = 3 1 4 1 5, lengths = 2 0 3: out = -2147483648 3 -2147483648 4 4
+ * For each integer the greatest of those before it in its segment; -2147483648 at the start of a segment. a and out have n
+ * elements. In place: a.
  */
 CVL_CHECKED CvlStatus cvl_max_sez(const int32_t *a, CvlLengths lengths, int32_t *out, size_t n);
 
-/*
- * cvl_max_rez: The greatest of the integers of each segment; -2147483648 if it is empty. a has n elements, out one for each
- * segment.
- * Faults: 7 LengthMismatch if the lengths do not add up to n.
- * a = 3 1 4 1 5, lengths = 2 0 3: out = 3 -2147483648 5
- */
+/* The greatest of the integers of each segment; -2147483648 if it is empty. a has n elements, out one for each segment. */
 CVL_CHECKED CvlStatus cvl_max_rez(const int32_t *a, size_t n, CvlLengths lengths, int32_t *CVL_RESTRICT out);
 
 /*
- * cvl_and_sez: For each integer those before it in its segment joined by and, bit by bit; -1 at the start of a segment. a and
- * out have n elements.
- * Faults: 7 LengthMismatch if the lengths do not add up to n.
- * In place: a may be out.
- * a = 3 1 4 1 5, lengths = 2 0 3: out = -1 3 -1 4 0
+ * For each integer those before it in its segment joined by and, bit by bit; -1 at the start of a segment. a and out have n
+ * elements. In place: a.
  */
 CVL_CHECKED CvlStatus cvl_and_sez(const int32_t *a, CvlLengths lengths, int32_t *out, size_t n);
 
-/*
- * cvl_and_rez: The integers of each segment joined by and, bit by bit; -1 if it is empty. a has n elements, out one for each
- * segment.
- * Faults: 7 LengthMismatch if the lengths do not add up to n.
- * a = 3 1 4 1 5, lengths = 2 0 3: out = 1 -1 0
- */
+/* The integers of each segment joined by and, bit by bit; -1 if it is empty. a has n elements, out one for each segment. */
 CVL_CHECKED CvlStatus cvl_and_rez(const int32_t *a, size_t n, CvlLengths lengths, int32_t *CVL_RESTRICT out);
 
 /*
- * cvl_ior_sez: For each integer those before it in its segment joined by or, bit by bit; 0 at the start of a segment. a and out
- * have n elements.
- * Faults: 7 LengthMismatch if the lengths do not add up to n.
- * In place: a may be out.
- * a = 3 1 4 1 5, lengths = 2 0 3: out = 0 3 0 4 5
+ * For each integer those before it in its segment joined by or, bit by bit; 0 at the start of a segment. a and out have n
+ * elements. In place: a.
  */
 CVL_CHECKED CvlStatus cvl_ior_sez(const int32_t *a, CvlLengths lengths, int32_t *out, size_t n);
 
-/*
- * cvl_ior_rez: The integers of each segment joined by or, bit by bit; 0 if it is empty. a has n elements, out one for each
- * segment.
- * Faults: 7 LengthMismatch if the lengths do not add up to n.
- * a = 3 1 4 1 5, lengths = 2 0 3: out = 3 0 5
- */
+/* The integers of each segment joined by or, bit by bit; 0 if it is empty. a has n elements, out one for each segment. */
 CVL_CHECKED CvlStatus cvl_ior_rez(const int32_t *a, size_t n, CvlLengths lengths, int32_t *CVL_RESTRICT out);
 
 /*
- * cvl_xor_sez: For each integer those before it in its segment joined by exclusive or, bit by bit; 0 at the start of a segment.
- * a and out have n elements.
- * Faults: 7 LengthMismatch if the lengths do not add up to n.
- * In place: a may be out.
- * a = 3 1 4 1 5, lengths = 2 0 3: out = 0 3 0 4 5
+ * For each integer those before it in its segment joined by exclusive or, bit by bit; 0 at the start of a segment. a and out
+ * have n elements. In place: a.
  */
 CVL_CHECKED CvlStatus cvl_xor_sez(const int32_t *a, CvlLengths lengths, int32_t *out, size_t n);
 
 /*
- * cvl_xor_rez: The integers of each segment joined by exclusive or, bit by bit; 0 if it is empty. a has n elements, out one for
- * each segment.
- * Faults: 7 LengthMismatch if the lengths do not add up to n.
- * a = 3 1 4 1 5, lengths = 2 0 3: out = 2 0 0
+ * The integers of each segment joined by exclusive or, bit by bit; 0 if it is empty. a has n elements, out one for each
+ * segment.
  */
 CVL_CHECKED CvlStatus cvl_xor_rez(const int32_t *a, size_t n, CvlLengths lengths, int32_t *CVL_RESTRICT out);
 
 /*
- * cvl_and_seb: For each boolean whether all those before it in its segment are true; true at the start of a segment. a and out
- * have n elements.
- * Faults: 7 LengthMismatch if the lengths do not add up to n.
- * In place: a may be out.
- * a = true false true false true, lengths = 2 0 3: out = true true true true false
+ * For each boolean whether all those before it in its segment are true; true at the start of a segment. a and out have n
+ * elements. In place: a.
  */
 CVL_CHECKED CvlStatus cvl_and_seb(const bool *a, CvlLengths lengths, bool *out, size_t n);
 
-/*
- * cvl_and_reb: Whether all the booleans of each segment are true; true if it is empty. a has n elements, out one for each
- * segment.
- * Faults: 7 LengthMismatch if the lengths do not add up to n.
- * a = true false true false true, lengths = 2 0 3: out = false true false
- */
+/* Whether all the booleans of each segment are true; true if it is empty. a has n elements, out one for each segment. */
 CVL_CHECKED CvlStatus cvl_and_reb(const bool *a, size_t n, CvlLengths lengths, bool *CVL_RESTRICT out);
 
 /*
- * cvl_ior_seb: For each boolean whether any of those before it in its segment is true; false at the start of a segment. a and
- * out have n elements.
- * Faults: 7 LengthMismatch if the lengths do not add up to n.
- * In place: a may be out.
- * a = true false true false true, lengths = 2 0 3: out = false true false true true
+ * For each boolean whether any of those before it in its segment is true; false at the start of a segment. a and out have n
+ * elements. In place: a.
  */
 CVL_CHECKED CvlStatus cvl_ior_seb(const bool *a, CvlLengths lengths, bool *out, size_t n);
 
-/*
- * cvl_ior_reb: Whether any of the booleans of each segment is true; false if it is empty. a has n elements, out one for each
- * segment.
- * Faults: 7 LengthMismatch if the lengths do not add up to n.
- * a = true false true false true, lengths = 2 0 3: out = true false true
- */
+/* Whether any of the booleans of each segment is true; false if it is empty. a has n elements, out one for each segment. */
 CVL_CHECKED CvlStatus cvl_ior_reb(const bool *a, size_t n, CvlLengths lengths, bool *CVL_RESTRICT out);
 
 /*
- * cvl_xor_seb: For each boolean whether an odd number of those before it in its segment is true; false at the start of a
- * segment. a and out have n elements.
- * Faults: 7 LengthMismatch if the lengths do not add up to n.
- * In place: a may be out.
- * a = true false true false true, lengths = 2 0 3: out = false true false true true
+ * For each boolean whether an odd number of those before it in its segment is true; false at the start of a segment. a and out
+ * have n elements. In place: a.
  */
 CVL_CHECKED CvlStatus cvl_xor_seb(const bool *a, CvlLengths lengths, bool *out, size_t n);
 
 /*
- * cvl_xor_reb: Whether an odd number of the booleans of each segment is true; false if it is empty. a has n elements, out one
- * for each segment.
- * Faults: 7 LengthMismatch if the lengths do not add up to n.
- * a = true false true false true, lengths = 2 0 3: out = true false false
+ * Whether an odd number of the booleans of each segment is true; false if it is empty. a has n elements, out one for each
+ * segment.
  */
 CVL_CHECKED CvlStatus cvl_xor_reb(const bool *a, size_t n, CvlLengths lengths, bool *CVL_RESTRICT out);
 
 /* ---- packs and counts of segments: the calls of the table ---- */
 
 /*
- * cvl_pck_luz: The values whose flag is true, in their order. values and flags have n elements. out needs room for so many; n
- * is always enough. *count is how many they are, also if out is too short.
- * Faults: 13 TooLong; 7 LengthMismatch if out is too short.
- * values = 1 2 3 4 5, flags = false true true false true: out = 2 3 5, *count = 3
+ * The values whose flag is true, in their order. values and flags have n elements. out needs room for so many; n is always
+ * enough. *count is how many they are, also if out is too short.
  */
 CVL_CHECKED CvlStatus cvl_pck_luz(const int32_t *values, const bool *flags, size_t n, int32_t *CVL_RESTRICT out, size_t room,
     size_t *count) CVL_NONNULL(6);
-
-/*
- * cvl_pck_lub: The values whose flag is true, in their order. values and flags have n elements. out needs room for so many; n
- * is always enough. *count is how many they are, also if out is too short.
- * Faults: 13 TooLong; 7 LengthMismatch if out is too short.
- * values = true false true, flags = false true true: out = false true, *count = 2
- */
 CVL_CHECKED CvlStatus cvl_pck_lub(const bool *values, const bool *flags, size_t n, bool *CVL_RESTRICT out, size_t room,
     size_t *count) CVL_NONNULL(6);
 
 /*
- * cvl_pck_lez: The values of each segment whose flag is true, in their order, one segment after another; pck_fov gives the
- * lengths of these segments. values and flags have n elements. out needs room for so many; n is always enough. *count is how
- * many they are, also if out is too short.
- * Faults: 7 LengthMismatch if the lengths do not add up to n, with *count as it was, and if out is too short.
- * values = 1 2 3 4 5, flags = false true true false true, lengths = 2 0 3: out = 2 3 5, *count = 3
+ * The values of each segment whose flag is true, in their order, one segment after another; pck_fov gives the lengths of these
+ * segments. values and flags have n elements. out needs room for so many; n is always enough. *count is how many they are, also
+ * if out is too short.
  */
 CVL_CHECKED CvlStatus cvl_pck_lez(const int32_t *values, const bool *flags, size_t n, CvlLengths lengths,
     int32_t *CVL_RESTRICT out, size_t room, size_t *count) CVL_NONNULL(7);
-
-/*
- * cvl_pck_leb: The values of each segment whose flag is true, in their order, one segment after another; pck_fov gives the
- * lengths of these segments. values and flags have n elements. out needs room for so many; n is always enough. *count is how
- * many they are, also if out is too short.
- * Faults: 7 LengthMismatch if the lengths do not add up to n, with *count as it was, and if out is too short.
- * values = true false true, flags = false true true, lengths = 1 2: out = false true, *count = 2
- */
 CVL_CHECKED CvlStatus cvl_pck_leb(const bool *values, const bool *flags, size_t n, CvlLengths lengths, bool *CVL_RESTRICT out,
     size_t room, size_t *count) CVL_NONNULL(7);
 
 /*
- * cvl_pck_fov: The lengths of the segments of what a pack keeps, or a select permute, 0 for a segment of which nothing is kept.
- * flags has n elements, out one for each segment.
- * Faults: 7 LengthMismatch if the lengths do not add up to n.
- * flags = false true true false true, lengths = 2 0 3: out = 1 0 2
+ * The lengths of the segments of what a pack keeps, or a select permute, 0 for a segment of which nothing is kept. flags has n
+ * elements, out one for each segment.
  */
 CVL_CHECKED CvlStatus cvl_pck_fov(const bool *flags, size_t n, CvlLengths lengths, int32_t *CVL_RESTRICT out);
 
-/*
- * cvl_cnt_leb: The number of true flags of each segment. flags has n elements, out one for each segment.
- * Faults: 7 LengthMismatch if the lengths do not add up to n.
- * flags = false false true false true, lengths = 2 0 3: out = 0 0 2
- */
+/* The number of true flags of each segment. flags has n elements, out one for each segment. */
 CVL_CHECKED CvlStatus cvl_cnt_leb(const bool *flags, size_t n, CvlLengths lengths, int32_t *CVL_RESTRICT out);
 
 /* ---- permutes: the calls of the table ---- */
@@ -1826,171 +1223,85 @@ CVL_CHECKED CvlStatus cvl_cnt_leb(const bool *flags, size_t n, CvlLengths length
  */
 
 /*
- * cvl_smp_puz: Each element of the source at its index. source, index and out have n elements.
- * Faults: 13 TooLong; at the first bad index 10 IndexOutOfRange if it is below 0, or n or more, else 11 IndexRepeated if an
- * earlier one is the same.
- * source = 10 20 30, index = 2 0 1: out = 20 30 10
+ * Each element of the source at its index. source, index and out have n elements. Faults: at the first bad index 10
+ * IndexOutOfRange if it is below 0, or n or more, else 11 IndexRepeated if an earlier one is the same.
  */
 CVL_CHECKED CvlStatus cvl_smp_puz(const int32_t *source, const int32_t *index, int32_t *CVL_RESTRICT out, size_t n);
-
-/*
- * cvl_smp_pub: Each element of the source at its index. source, index and out have n elements.
- * Faults: 13 TooLong; at the first bad index 10 IndexOutOfRange if it is below 0, or n or more, else 11 IndexRepeated if an
- * earlier one is the same.
- * source = true false false, index = 2 0 1: out = false false true
- */
 CVL_CHECKED CvlStatus cvl_smp_pub(const bool *source, const int32_t *index, bool *CVL_RESTRICT out, size_t n);
 
 /*
- * cvl_sel_puz: Each element of the source whose flag is true at its index. source, index and flags have n elements; out has m,
- * the number of true flags, else 7 LengthMismatch. An index whose flag is false is ignored.
- * Faults: 13 TooLong; at the first bad index 10 IndexOutOfRange if it is below 0, or the number of true flags or more, else 11
- * IndexRepeated if an earlier one is the same.
- * source = 1 2 3 4, index = 1 9 0 9, flags = true false true false: out = 3 1
+ * Each element of the source whose flag is true at its index. source, index and flags have n elements; out has m, the number of
+ * true flags, else 7 LengthMismatch. An index whose flag is false is ignored. Faults: at the first bad index 10 IndexOutOfRange
+ * if it is below 0, or the number of true flags or more, else 11 IndexRepeated if an earlier one is the same.
  */
 CVL_CHECKED CvlStatus cvl_sel_puz(const int32_t *source, const int32_t *index, const bool *flags, size_t n,
     int32_t *CVL_RESTRICT out, size_t m);
-
-/*
- * cvl_sel_pub: Each element of the source whose flag is true at its index. source, index and flags have n elements; out has m,
- * the number of true flags, else 7 LengthMismatch. An index whose flag is false is ignored.
- * Faults: 13 TooLong; at the first bad index 10 IndexOutOfRange if it is below 0, or the number of true flags or more, else 11
- * IndexRepeated if an earlier one is the same.
- * source = true true false true, index = 1 9 0 9, flags = true false true false: out = false true
- */
 CVL_CHECKED CvlStatus cvl_sel_pub(const bool *source, const int32_t *index, const bool *flags, size_t n, bool *CVL_RESTRICT out,
     size_t m);
 
 /*
- * cvl_def_puz: Each element of the source at its index, and at a place to which none goes its default. source and index have n
- * elements, defaults and out m, which may be any number.
- * Faults: 13 TooLong; at the first bad index 10 IndexOutOfRange if it is below 0, or m or more, else 11 IndexRepeated if an
- * earlier one is the same.
- * source = 7 8, index = 3 1, defaults = 0 0 0 0 0: out = 0 8 0 7 0
+ * Each element of the source at its index, and at a place to which none goes its default. source and index have n elements,
+ * defaults and out m, which may be any number. Faults: at the first bad index 10 IndexOutOfRange if it is below 0, or m or
+ * more, else 11 IndexRepeated if an earlier one is the same.
  */
 CVL_CHECKED CvlStatus cvl_def_puz(const int32_t *source, const int32_t *index, size_t n, const int32_t *defaults,
     int32_t *CVL_RESTRICT out, size_t m);
-
-/*
- * cvl_def_pub: Each element of the source at its index, and at a place to which none goes its default. source and index have n
- * elements, defaults and out m, which may be any number.
- * Faults: 13 TooLong; at the first bad index 10 IndexOutOfRange if it is below 0, or m or more, else 11 IndexRepeated if an
- * earlier one is the same.
- * source = true false, index = 3 1, defaults = false true true false: out = false false true true
- */
 CVL_CHECKED CvlStatus cvl_def_pub(const bool *source, const int32_t *index, size_t n, const bool *defaults,
     bool *CVL_RESTRICT out, size_t m);
 
 /*
- * cvl_bck_puz: At each place the element of the source at the place's index, which may repeat. The source has n elements, which
- * may be any number; index and out have m.
- * Faults: 13 TooLong; 10 IndexOutOfRange at the first index below 0, or n or more.
- * source = 10 20 30, index = 2 2 0 0: out = 30 30 10 10
+ * At each place the element of the source at the place's index, which may repeat. The source has n elements, which may be any
+ * number; index and out have m. Faults: 10 IndexOutOfRange at the first index below 0, or n or more.
  */
 CVL_CHECKED CvlStatus cvl_bck_puz(const int32_t *source, size_t n, const int32_t *index, int32_t *CVL_RESTRICT out, size_t m);
-
-/*
- * cvl_bck_pub: At each place the element of the source at the place's index, which may repeat. The source has n elements, which
- * may be any number; index and out have m.
- * Faults: 13 TooLong; 10 IndexOutOfRange at the first index below 0, or n or more.
- * source = true false false, index = 2 2 0 0: out = false false true true
- */
 CVL_CHECKED CvlStatus cvl_bck_pub(const bool *source, size_t n, const int32_t *index, bool *CVL_RESTRICT out, size_t m);
 
 /* ---- permutes of segments: the calls of the table ---- */
 
 /*
- * The faults by the lengths come first, as at the other calls on segments; with two arrays of lengths those of `lengths` before
- * those of the other. There are as many of the one as of the other, else 7 LengthMismatch. Indices count from the start of
- * their segment.
+ * Indices count from the start of their segment. The faults by the lengths come first; with two arrays of lengths those by
+ * `lengths` before those by the other, which are as many, else 7 LengthMismatch.
  */
 
 /*
- * cvl_smp_pez: Each element of the source at its index, which counts from the start of its segment. source, index and out have
- * n elements.
- * Faults: 13 TooLong; 7 LengthMismatch if the lengths do not add up to n; at the first bad index 10 IndexOutOfRange if it is no
- * place of its segment, else 11 IndexRepeated if an earlier one of its segment is the same.
- * source = 1 2 3 4 5, index = 1 0 2 0 1, lengths = 2 0 3: out = 2 1 4 5 3
+ * Each element of the source at its index, which counts from the start of its segment. source, index and out have n elements.
+ * Faults: at the first bad index 10 IndexOutOfRange if it is no place of its segment, else 11 IndexRepeated if an earlier one
+ * of its segment is the same.
  */
 CVL_CHECKED CvlStatus cvl_smp_pez(const int32_t *source, const int32_t *index, CvlLengths lengths, int32_t *CVL_RESTRICT out,
     size_t n);
-
-/*
- * cvl_smp_peb: Each element of the source at its index, which counts from the start of its segment. source, index and out have
- * n elements.
- * Faults: 13 TooLong; 7 LengthMismatch if the lengths do not add up to n; at the first bad index 10 IndexOutOfRange if it is no
- * place of its segment, else 11 IndexRepeated if an earlier one of its segment is the same.
- * source = true false false false true, index = 1 0 2 0 1, lengths = 2 0 3: out = false true false true false
- */
 CVL_CHECKED CvlStatus cvl_smp_peb(const bool *source, const int32_t *index, CvlLengths lengths, bool *CVL_RESTRICT out,
     size_t n);
 
 /*
- * cvl_sel_pez: Each element of the source whose flag is true at its index in its segment of the result, which is as long as the
- * segment has true flags. source, index and flags have n elements; out has m, the number of true flags, else 7 LengthMismatch.
- * An index whose flag is false is ignored.
- * Faults: 13 TooLong; 7 LengthMismatch if the lengths do not add up to n; at the first bad index 10 IndexOutOfRange if it is no
- * place of its segment of the result, else 11 IndexRepeated if an earlier one of its segment is the same.
- * source = 1 2 3 4 5, index = 9 0 1 9 0, flags = false true true false true, lengths = 2 0 3: out = 2 5 3
+ * Each element of the source whose flag is true at its index in its segment of the result, which is as long as the segment has
+ * true flags. source, index and flags have n elements; out has m, the number of true flags, else 7 LengthMismatch. An index
+ * whose flag is false is ignored. Faults: at the first bad index 10 IndexOutOfRange if it is no place of its segment of the
+ * result, else 11 IndexRepeated if an earlier one of its segment is the same.
  */
 CVL_CHECKED CvlStatus cvl_sel_pez(const int32_t *source, const int32_t *index, const bool *flags, size_t n, CvlLengths lengths,
     int32_t *CVL_RESTRICT out, size_t m);
-
-/*
- * cvl_sel_peb: Each element of the source whose flag is true at its index in its segment of the result, which is as long as the
- * segment has true flags. source, index and flags have n elements; out has m, the number of true flags, else 7 LengthMismatch.
- * An index whose flag is false is ignored.
- * Faults: 13 TooLong; 7 LengthMismatch if the lengths do not add up to n; at the first bad index 10 IndexOutOfRange if it is no
- * place of its segment of the result, else 11 IndexRepeated if an earlier one of its segment is the same.
- * source = true false true true false, index = 9 0 1 9 0, flags = false true true false true, lengths = 2 0 3: out = false
- * false true
- */
 CVL_CHECKED CvlStatus cvl_sel_peb(const bool *source, const int32_t *index, const bool *flags, size_t n, CvlLengths lengths,
     bool *CVL_RESTRICT out, size_t m);
 
 /*
- * cvl_def_pez: Each element of the source at its index in the same segment of the defaults, and at a place to which none goes
- * its default. source and index have n elements in segments with the lengths; defaults and out have m, in as many segments with
- * the default lengths.
- * Faults: 13 TooLong; 7 LengthMismatch if the lengths do not add up to n or the default lengths to m; at the first bad index 10
- * IndexOutOfRange if it is no place of its segment of the defaults, else 11 IndexRepeated if an earlier one of its segment is
- * the same.
- * source = 1 2 3 4 5, index = 2 0 0 1 2, defaults = 0 0 0 9 0 0 0, lengths = 2 0 3, default_lengths = 3 1 3: out = 2 0 1 9 3 4
- * 5
+ * Each element of the source at its index in the same segment of the defaults, and at a place to which none goes its default.
+ * source and index have n elements in segments with the lengths; defaults and out have m, in as many segments with the default
+ * lengths. Faults: at the first bad index 10 IndexOutOfRange if it is no place of its segment of the defaults, else 11
+ * IndexRepeated if an earlier one of its segment is the same.
  */
 CVL_CHECKED CvlStatus cvl_def_pez(const int32_t *source, const int32_t *index, size_t n, const int32_t *defaults,
     CvlLengths lengths, CvlLengths default_lengths, int32_t *CVL_RESTRICT out, size_t m);
-
-/*
- * cvl_def_peb: Each element of the source at its index in the same segment of the defaults, and at a place to which none goes
- * its default. source and index have n elements in segments with the lengths; defaults and out have m, in as many segments with
- * the default lengths.
- * Faults: 13 TooLong; 7 LengthMismatch if the lengths do not add up to n or the default lengths to m; at the first bad index 10
- * IndexOutOfRange if it is no place of its segment of the defaults, else 11 IndexRepeated if an earlier one of its segment is
- * the same.
- * source = true false, index = 1 0, defaults = false false true true, lengths = 1 1, default_lengths = 2 2: out = false true
- * false true
- */
 CVL_CHECKED CvlStatus cvl_def_peb(const bool *source, const int32_t *index, size_t n, const bool *defaults, CvlLengths lengths,
     CvlLengths default_lengths, bool *CVL_RESTRICT out, size_t m);
 
 /*
- * cvl_bck_pez: At each place the element at the place's index in the same segment of the source; an index may repeat. The
- * source has n elements in segments with the lengths; index and out have m, in as many segments with the index lengths.
- * Faults: 13 TooLong; 7 LengthMismatch if the lengths do not add up to n or the index lengths to m; 10 IndexOutOfRange at the
- * first index that is no place of its segment of the source.
- * source = 1 2 3 4 5, index = 1 1 1 2, lengths = 2 0 3, index_lengths = 3 0 1: out = 2 2 2 5
+ * At each place the element at the place's index in the same segment of the source; an index may repeat. The source has n
+ * elements in segments with the lengths; index and out have m, in as many segments with the index lengths. Faults: 10
+ * IndexOutOfRange at the first index that is no place of its segment of the source.
  */
 CVL_CHECKED CvlStatus cvl_bck_pez(const int32_t *source, size_t n, const int32_t *index, CvlLengths lengths,
     CvlLengths index_lengths, int32_t *CVL_RESTRICT out, size_t m);
-
-/*
- * cvl_bck_peb: At each place the element at the place's index in the same segment of the source; an index may repeat. The
- * source has n elements in segments with the lengths; index and out have m, in as many segments with the index lengths.
- * Faults: 13 TooLong; 7 LengthMismatch if the lengths do not add up to n or the index lengths to m; 10 IndexOutOfRange at the
- * first index that is no place of its segment of the source.
- * source = true false false false true, index = 1 1 1 2, lengths = 2 0 3, index_lengths = 3 0 1: out = false false false true
- */
 CVL_CHECKED CvlStatus cvl_bck_peb(const bool *source, size_t n, const int32_t *index, CvlLengths lengths,
     CvlLengths index_lengths, bool *CVL_RESTRICT out, size_t m);
 
@@ -2002,10 +1313,9 @@ CVL_CHECKED CvlStatus cvl_bck_peb(const bool *source, size_t n, const int32_t *i
  * cvl_segments_new fills it. No call writes the lengths or the descriptor.
  *
  * The functions from cvl_segments_free to cvl_segments_numbers make descriptors and read them. Each of the others is the family
- * on segments of its name, with a descriptor for the lengths: cvl_segments_int_scan is cvl_seg_int_scan, with the same results
- * and faults, in place if that is. Each checks the lengths before it writes, so it uses lengths that you changed after you made
- * the descriptor, and reports wrong ones; do not write them during a call. A buffer may overlap neither the lengths nor the
- * descriptor. With CVL_NO_SEGMENTS or a null pointer a call returns 101 NoDescriptor.
+ * on segments of its name, with a descriptor for the lengths: cvl_segments_int_scan is cvl_seg_int_scan. Each checks the
+ * lengths anew, so you may change them between calls. A buffer may overlap neither the lengths nor the descriptor. With
+ * CVL_NO_SEGMENTS or a null pointer a call returns 101 NoDescriptor.
  */
 typedef struct CvlSegments {
     const int32_t *lengths; /* the caller's, which live as long as the descriptor is used */
@@ -2020,19 +1330,19 @@ typedef struct CvlSegments {
 CvlStatus cvl_segments_free(CvlSegments *segments);
 
 /*
- * Makes the descriptor of segments with these lengths, which may be 0. After a fault there is none.
- * Faults: 13 TooLong, without a place, if there are more than 2147483647 lengths; 12 NegativeLength at the first that is below
- * 0; 13 TooLong, without a place, if the total is more than 2147483647; else 101 NoDescriptor if `segments` is null.
+ * Makes the descriptor of segments with these lengths. After a fault there is none.
+ * Faults: 13 TooLong if there are more than 2147483647 lengths; 12 NegativeLength at the first below 0; 13 TooLong if the total
+ * is more than 2147483647; else 101 NoDescriptor if `segments` is null.
  */
 CVL_CHECKED CvlStatus cvl_segments_new(CvlLengths lengths, CvlSegments *segments);
 
 /*
- * Makes the descriptor of segments that start at these offsets, one more than there are segments; the last segment ends at the
- * last offset, as in a matrix of compressed rows. The lengths go into your buffer, one for each segment, which the descriptor
- * names. After a fault there is no descriptor, and the buffer is as it was.
- * Faults: 13 TooLong, without a place, if there are more than 2147483647 segments; 7 LengthMismatch if there is no offset or
- * the first is not 0; 12 NegativeLength at the first segment that ends before it starts; 7 LengthMismatch if the buffer does
- * not have one place for each segment; else 101 NoDescriptor if `segments` is null.
+ * Makes the descriptor of segments that start at these offsets, of which the last is the end, as in a matrix of compressed
+ * rows. The lengths go into your buffer, which the descriptor names. After a fault there is no descriptor, and the buffer is as
+ * it was.
+ * Faults: 13 TooLong if there are more than 2147483647 segments; 7 LengthMismatch if there is no offset or the first is not 0;
+ * 12 NegativeLength at the first segment that ends before it starts; 7 LengthMismatch if the buffer does not have one place for
+ * each segment; else 101 NoDescriptor if `segments` is null.
  */
 CVL_CHECKED CvlStatus cvl_segments_from_offsets(const int32_t *offsets, size_t offsets_len, int32_t *lengths, size_t lengths_len,
     CvlSegments *segments);
@@ -2052,185 +1362,126 @@ CVL_CHECKED CvlStatus cvl_segments_offsets(const CvlSegments *segments, int32_t 
  */
 CVL_CHECKED CvlStatus cvl_segments_numbers(const CvlSegments *segments, int32_t *out, size_t out_len);
 
-/* For each integer the sum of those before it in its segment. */
 CVL_CHECKED CvlStatus cvl_segments_checked_scan(const int32_t *a, size_t a_len, const CvlSegments *segments, int32_t *out,
     size_t out_len);
 
-/* The sum of each segment. */
 CVL_CHECKED CvlStatus cvl_segments_checked_reduce(const int32_t *a, size_t a_len, const CvlSegments *segments, int32_t *out,
     size_t out_len);
 
-/* The element of each segment at its index. */
 CVL_CHECKED CvlStatus cvl_segments_extract_int(const int32_t *vector, size_t vector_len, const int32_t *index, size_t index_len,
     const CvlSegments *segments, int32_t *out, size_t out_len);
 
-/* The element of each segment at its index. */
 CVL_CHECKED CvlStatus cvl_segments_extract_bool(const bool *vector, size_t vector_len, const int32_t *index, size_t index_len,
     const CvlSegments *segments, bool *out, size_t out_len);
 
-/* The vector with another element in each segment, at its index. */
 CVL_CHECKED CvlStatus cvl_segments_replace_int(const int32_t *vector, size_t vector_len, const int32_t *index, size_t index_len,
     const int32_t *values, size_t values_len, const CvlSegments *segments, int32_t *out, size_t out_len);
 
-/* The vector with another element in each segment, at its index. */
 CVL_CHECKED CvlStatus cvl_segments_replace_bool(const bool *vector, size_t vector_len, const int32_t *index, size_t index_len,
     const bool *values, size_t values_len, const CvlSegments *segments, bool *out, size_t out_len);
 
-/* Copies of the value of each segment, as many as it has places. */
 CVL_CHECKED CvlStatus cvl_segments_distribute_int(const int32_t *values, size_t values_len, const CvlSegments *segments,
     int32_t *out, size_t out_len);
 
-/* Copies of the value of each segment, as many as it has places. */
 CVL_CHECKED CvlStatus cvl_segments_distribute_bool(const bool *values, size_t values_len, const CvlSegments *segments,
     bool *out, size_t out_len);
 
-/* The numbers of each segment from its init on, in steps of its stride. */
 CVL_CHECKED CvlStatus cvl_segments_index(const int32_t *inits, size_t inits_len, const int32_t *strides, size_t strides_len,
     const CvlSegments *segments, int32_t *out, size_t out_len);
 
-/* For each integer those before it in its segment, joined by the operator, of CVL_ADD to CVL_XOR. */
 CVL_CHECKED CvlStatus cvl_segments_int_scan(uint32_t op, const int32_t *a, size_t a_len, const CvlSegments *segments,
     int32_t *out, size_t out_len);
 
-/* For each boolean those before it in its segment, joined by the operator, of CVL_AND to CVL_XOR. */
 CVL_CHECKED CvlStatus cvl_segments_bool_scan(uint32_t op, const bool *a, size_t a_len, const CvlSegments *segments, bool *out,
     size_t out_len);
 
-/* The integers of each segment joined by the operator, of CVL_ADD to CVL_XOR. */
 CVL_CHECKED CvlStatus cvl_segments_int_reduce(uint32_t op, const int32_t *a, size_t a_len, const CvlSegments *segments,
     int32_t *out, size_t out_len);
 
-/* The booleans of each segment joined by the operator, of CVL_AND to CVL_XOR. */
 CVL_CHECKED CvlStatus cvl_segments_bool_reduce(uint32_t op, const bool *a, size_t a_len, const CvlSegments *segments, bool *out,
     size_t out_len);
 
-/* The integers of each segment whose flag is true, in order, one segment after another, and how many they are. */
 CVL_CHECKED CvlStatus cvl_segments_pack_int(const int32_t *values, size_t values_len, const bool *flags, size_t flags_len,
     const CvlSegments *segments, int32_t *out, size_t out_len, size_t *count);
 
-/* The booleans of each segment whose flag is true, in order, one segment after another, and how many they are. */
 CVL_CHECKED CvlStatus cvl_segments_pack_bool(const bool *values, size_t values_len, const bool *flags, size_t flags_len,
     const CvlSegments *segments, bool *out, size_t out_len, size_t *count);
 
-/* The lengths of the segments of what a pack of segments keeps. */
 CVL_CHECKED CvlStatus cvl_segments_packed_lengths(const bool *flags, size_t flags_len, const CvlSegments *segments,
     int32_t *out, size_t out_len);
 
-/* The number of true flags of each segment. */
 CVL_CHECKED CvlStatus cvl_segments_count(const bool *flags, size_t flags_len, const CvlSegments *segments, int32_t *out,
     size_t out_len);
 
-/* Each element of the source at its index in its segment. */
 CVL_CHECKED CvlStatus cvl_segments_permute_int(const int32_t *source, size_t source_len, const int32_t *index, size_t index_len,
     const CvlSegments *segments, int32_t *out, size_t out_len);
 
-/* Each element of the source at its index in its segment. */
 CVL_CHECKED CvlStatus cvl_segments_permute_bool(const bool *source, size_t source_len, const int32_t *index, size_t index_len,
     const CvlSegments *segments, bool *out, size_t out_len);
 
-/* Each element of the source whose flag is true at its index in its segment of the result. */
 CVL_CHECKED CvlStatus cvl_segments_select_permute_int(const int32_t *source, size_t source_len, const int32_t *index,
     size_t index_len, const bool *flags, size_t flags_len, const CvlSegments *segments, int32_t *out, size_t out_len);
 
-/* Each element of the source whose flag is true at its index in its segment of the result. */
 CVL_CHECKED CvlStatus cvl_segments_select_permute_bool(const bool *source, size_t source_len, const int32_t *index,
     size_t index_len, const bool *flags, size_t flags_len, const CvlSegments *segments, bool *out, size_t out_len);
 
-/* Each element of the source at its index in its segment of the defaults, and at a place to which none goes its default. */
 CVL_CHECKED CvlStatus cvl_segments_default_permute_int(const int32_t *source, size_t source_len, const int32_t *index,
     size_t index_len, const int32_t *defaults, size_t defaults_len, const CvlSegments *segments,
     const CvlSegments *default_segments, int32_t *out, size_t out_len);
 
-/* Each element of the source at its index in its segment of the defaults, and at a place to which none goes its default. */
 CVL_CHECKED CvlStatus cvl_segments_default_permute_bool(const bool *source, size_t source_len, const int32_t *index,
     size_t index_len, const bool *defaults, size_t defaults_len, const CvlSegments *segments,
     const CvlSegments *default_segments, bool *out, size_t out_len);
 
-/* At each place the element at the place's index in the same segment of the source. */
 CVL_CHECKED CvlStatus cvl_segments_back_permute_int(const int32_t *source, size_t source_len, const int32_t *index,
     size_t index_len, const CvlSegments *segments, const CvlSegments *index_segments, int32_t *out, size_t out_len);
 
-/* At each place the element at the place's index in the same segment of the source. */
 CVL_CHECKED CvlStatus cvl_segments_back_permute_bool(const bool *source, size_t source_len, const int32_t *index,
     size_t index_len, const CvlSegments *segments, const CvlSegments *index_segments, bool *out, size_t out_len);
 
-/*
- * For each place of each segment of the result the least place of the same segment of the index that names it, or -1 if none
- * does.
- */
 CVL_CHECKED CvlStatus cvl_segments_first_senders(const int32_t *index, size_t index_len, const CvlSegments *segments,
     const CvlSegments *result_segments, int32_t *out, size_t out_len);
 
-/*
- * For each place of each segment of the result the least place of the same segment of the index whose flag is true and whose
- * index names it, or -1 if none does. An index whose flag is false is ignored.
- */
 CVL_CHECKED CvlStatus cvl_segments_select_first_senders(const int32_t *index, size_t index_len, const bool *flags,
     size_t flags_len, const CvlSegments *segments, const CvlSegments *result_segments, int32_t *out, size_t out_len);
 
-/*
- * At each place of each segment of out what stands there, joined by the operator, of CVL_ADD to CVL_XOR, with each integer of
- * the same segment whose index names the place.
- */
 CVL_CHECKED CvlStatus cvl_segments_combine_permute_int(uint32_t op, const int32_t *source, size_t source_len,
     const int32_t *index, size_t index_len, const CvlSegments *segments, const CvlSegments *result_segments, int32_t *out,
     size_t out_len);
 
-/*
- * At each place of each segment of out what stands there, joined by the operator, of CVL_AND to CVL_XOR, with each boolean of
- * the same segment whose index names the place.
- */
 CVL_CHECKED CvlStatus cvl_segments_combine_permute_bool(uint32_t op, const bool *source, size_t source_len,
     const int32_t *index, size_t index_len, const CvlSegments *segments, const CvlSegments *result_segments, bool *out,
     size_t out_len);
 
-/* For each place of each segment of the result how many indices of the same segment name it. */
 CVL_CHECKED CvlStatus cvl_segments_counts(const int32_t *index, size_t index_len, const CvlSegments *segments,
     const CvlSegments *result_segments, int32_t *out, size_t out_len);
 
-/* The order of the keys of each segment, whose places count from the start of the segment. */
 CVL_CHECKED CvlStatus cvl_segments_order(const int32_t *keys, size_t keys_len, const CvlSegments *segments, int32_t *out,
     size_t out_len);
 
-/* The rank of each key in its segment. */
 CVL_CHECKED CvlStatus cvl_segments_rank(const int32_t *keys, size_t keys_len, const CvlSegments *segments, int32_t *out,
     size_t out_len);
 
-/* The keys of each segment in ascending order. */
 CVL_CHECKED CvlStatus cvl_segments_sort(const int32_t *keys, size_t keys_len, const CvlSegments *segments, int32_t *out,
     size_t out_len);
 
-/*
- * At each place of each segment the next element of the same segment of when_true if the flag is true, and of when_false if it
- * is false: the inverse of two packs of segments.
- */
 CVL_CHECKED CvlStatus cvl_segments_merge_by_flags_int(const bool *flags, size_t flags_len, const int32_t *when_true,
     size_t when_true_len, const int32_t *when_false, size_t when_false_len, const CvlSegments *segments,
     const CvlSegments *true_segments, const CvlSegments *false_segments, int32_t *out, size_t out_len);
 
-/*
- * At each place of each segment the next element of the same segment of when_true if the flag is true, and of when_false if it
- * is false: the inverse of two packs of segments.
- */
 CVL_CHECKED CvlStatus cvl_segments_merge_by_flags_bool(const bool *flags, size_t flags_len, const bool *when_true,
     size_t when_true_len, const bool *when_false, size_t when_false_len, const CvlSegments *segments,
     const CvlSegments *true_segments, const CvlSegments *false_segments, bool *out, size_t out_len);
 
-/* For each segment the place of its first true flag, counted from the start of the segment, or -1 if none is true. */
 CVL_CHECKED CvlStatus cvl_segments_first_true(const bool *flags, size_t flags_len, const CvlSegments *segments, int32_t *out,
     size_t out_len);
 
-/* The sum of each segment in 64 bits, which always fits. */
 CVL_CHECKED CvlStatus cvl_segments_exact_sums(const int32_t *a, size_t a_len, const CvlSegments *segments, int64_t *out,
     size_t out_len);
 
-/*
- * The text of a vector of integers that is cut into segments: the texts of the segments, a space between each two, in brackets.
- */
 CVL_CHECKED CvlStatus cvl_segments_write_ints(const int32_t *a, size_t a_len, const CvlSegments *segments, char *out,
     size_t out_len, size_t *count);
 
-/* The same of booleans, each T or F. */
 CVL_CHECKED CvlStatus cvl_segments_write_bools(const bool *a, size_t a_len, const CvlSegments *segments, char *out,
     size_t out_len, size_t *count);
 

@@ -1,5 +1,6 @@
 """What is written in C: the headers, the short names, and the checked functions."""
 
+import itertools
 import re
 import textwrap
 
@@ -81,18 +82,13 @@ def example_text(row):
 
 
 def comment_of(row):
-    """The comment before a function."""
-    name = f"cvl_{row.name}"
-    if row.call is None and row.example is None:
-        return comment(row.sentences if row.call else row.family.sentence)
-    said = [row.call.sentence if row.call else row.family.sentence, row.family.shape if row.call else "", row.family.told if row.call else ""]
-    lines = [f"{name}: {' '.join(filter(None, said))}"]
-    faults = rows.fault_text(row)
-    if faults:
-        lines.append(f"Faults: {faults}")
-    if row.call and row.family.in_place:
-        lines.append(f"In place: {rows.in_place_words(row.family)}")
-    return comment(*lines, example_text(row))
+    """The comment before a function. The faults of lengths stand once at the top, and examples in the manual."""
+    family, call = row.family, row.call
+    said = [call.sentence, family.shape, family.told] if call else [family.sentence]
+    faults = "; ".join(fault.said for fault in row.faults if fault not in table.OF_LENGTHS) if call or row.example else ""
+    said.append(f"Faults: {faults}." if faults else "")
+    said.append(f"In place: {rows.in_place_words(family)}".replace(" may be out", "") if call and family.in_place else "")
+    return comment(" ".join(filter(None, said)))
 
 
 def declaration(row):
@@ -101,16 +97,22 @@ def declaration(row):
     return wrapped(f"CVL_CHECKED CvlStatus cvl_{row.name}({parameters(row.arguments, alone)}){marks};")
 
 
+def commented(pairs):
+    """Declarations below their comments, which neighbours share if they have the same."""
+    return [
+        "\n".join([said, *(declared for _, declared in group)])
+        for said, group in itertools.groupby(pairs, key=lambda pair: pair[0])
+    ]
+
+
 def sections(found, title, intros):
     """The functions of rows, each section with its title."""
-    blocks, last = [], None
-    for row in found:
-        if row.section != last:
-            last = row.section
-            blocks.append(f"/* ---- {last}: {title} ---- */")
-            if last in intros:
-                blocks.append(comment(*spaced(intros[last])))
-        blocks.append(f"{comment_of(row)}\n{declaration(row)}")
+    blocks = []
+    for section, group in itertools.groupby(found, key=lambda row: row.section):
+        blocks.append(f"/* ---- {section}: {title} ---- */")
+        if section in intros:
+            blocks.append(comment(*spaced(intros[section])))
+        blocks += commented((comment_of(row), declaration(row)) for row in group)
     return "\n\n".join(blocks)
 
 
@@ -139,7 +141,7 @@ def segments_declaration(row):
 
 
 def segments_declarations():
-    return "\n\n".join(f"{comment(row.family.sentence)}\n{segments_declaration(row)}" for row in on_segments())
+    return "\n\n".join(map(segments_declaration, on_segments()))
 
 
 def operators():
@@ -179,7 +181,7 @@ def header(template):
     return filled(
         template,
         {
-            "about": comment(*spaced((about.ABOUT[0], rows.NOTE, *about.ABOUT[1:]))),
+            "about": comment(*spaced((about.ABOUT[0], rows.NOTE, *about.ABOUT[1:], about.IN_HEADER))),
             "version": version,
             "status_type": about.STATUS_TYPE,
             "lengths_type": about.LENGTHS_TYPE,

@@ -11,15 +11,20 @@ def families():
 
 
 def declaration(row):
-    said = in_c.comment(f"cvl_{row.name} in parts: {table.CUTS[row.family.cut[0]]}.")
-    return f"{said}\n{wrapped(f'CVL_CHECKED CvlStatus cvl_{row.name}_on({POOL}, {parameters(row.arguments)});')}"
+    return wrapped(f"CVL_CHECKED CvlStatus cvl_{row.name}_on({POOL}, {parameters(row.arguments)});")
+
+
+def cut(row):
+    """The comment on how a family is cut."""
+    said = table.CUTS[row.family.cut[0]]
+    return in_c.comment(f"{said[0].upper()}{said[1:]}.")
 
 
 def header(template):
     """`include/cvl_parallel.h`."""
     parts = {
         "note": f" * {rows.NOTE}",
-        "families": "\n\n".join(declaration(row) for row in families()),
-        "calls": "\n\n".join(declaration(row) for row in rows.CALLS),
+        "families": "\n\n".join(in_c.commented((cut(row), declaration(row)) for row in families())),
+        "calls": "\n".join(declaration(row) for row in rows.CALLS),
     }
     return in_c.filled(template, parts)
