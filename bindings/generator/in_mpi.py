@@ -10,11 +10,11 @@ from in_c import indented, kept, parameters, wrapped
 
 # How a family goes over ranks, by its name or else by how it is cut into parts: the name of its way, and what a comment says of it.
 BY_NAME = {
-    "extract": ("extract", "the rank that has the element tells it to all"),
+    "extract": ("extract", "the rank that has the element sends it to all"),
     "replace": ("replace", "the rank that has the place writes it"),
     "back_permute": ("back", "each rank asks for each element that it needs once"),
     "seg_back_permute": ("back", "each rank asks for each element that it needs once"),
-    "seg_extract": ("seg_extract", "a segment's element is asked for where its index stands, at the segment's start"),
+    "seg_extract": ("seg_extract", "the rank of a segment's start, which has its index, asks for the element"),
     "seg_replace": ("seg_replace", "a segment's value goes to the rank of its place"),
     "seg_permute": ("permute", "elements go to the ranks of their places"),
     "seg_select_permute": ("permute", "elements go to the ranks of their places"),
@@ -44,7 +44,7 @@ BY_NAME = {
     "seg_exact_sums": ("seg_exact_sums", "the pieces of a segment are added where it starts"),
 }
 BY_CUT = {
-    "places": ("places", "each rank its own places"),
+    "places": ("places", "each rank makes its own places"),
     "reduce": ("reduce", "the ranks' reduces are joined"),
     "scan": ("scan", "each rank goes on from the reduces before it"),
     "checked_reduce": ("checked_reduce", "the ranks' exact sums are added"),
@@ -107,16 +107,21 @@ def arguments(row):
 
 
 def declaration(row):
-    said = in_c.comment(f"cvl_{row.name} over ranks: {way(row)[1]}.")
-    return f"{said}\n{wrapped(f'CVL_CHECKED CvlStatus cvl_{row.name}_mpi({RANKS}, {parameters(arguments(row))});')}"
+    return wrapped(f"CVL_CHECKED CvlStatus cvl_{row.name}_mpi({RANKS}, {parameters(arguments(row))});")
+
+
+def going(row):
+    """The comment on how a family goes over ranks."""
+    said = way(row)[1]
+    return in_c.comment(f"{said[0].upper()}{said[1:]}.")
 
 
 def header(template):
     """`bindings/mpi/cvl_mpi.h`."""
     parts = {
         "note": f" * {rows.NOTE}",
-        "families": "\n\n".join(declaration(row) for row in families()),
-        "calls": "\n\n".join(declaration(row) for row in calls()),
+        "families": "\n\n".join(in_c.commented((going(row), declaration(row)) for row in families())),
+        "calls": "\n".join(declaration(row) for row in calls()),
     }
     return in_c.filled(template, parts)
 
