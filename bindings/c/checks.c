@@ -1,10 +1,10 @@
-/* The first fault of a call that is not in order, if it comes before those of the export. Finding it may take a walk over lengths, flags or a text. */
+/* The first fault of a call that is not in order, if it comes before those of the export. */
 #include "driver.h"
 #include "segments.h"
 
 CvlStatus cvl_count_told(size_t count) { return cvl_status(count > INT64_MAX ? CVL_NEGATIVE_LENGTH : CVL_TOO_LONG, -1); }
 
-/* The fault of lengths that are none of segments, or of offsets that are none of rows; and what they add up to. */
+/* The fault of lengths or offsets, and what they add up to. */
 /*@ requires \valid_read(o) && \valid(total);
     assigns *total; */
 static CvlStatus lengths_told(const CvlOperand *o, CvlSlot lengths, size_t most, size_t *total) {
@@ -19,7 +19,7 @@ static CvlStatus lengths_told(const CvlOperand *o, CvlSlot lengths, size_t most,
     return told.number == CVL_DONE && *total > most ? cvl_status(CVL_TOO_LONG, -1) : told;
 }
 
-/* How many bytes a list of so many elements has beside theirs: brackets, and a space between each two. */
+/* The brackets and spaces of a list of so many elements. */
 /*@ requires count <= CVL_MOST_ELEMENTS;
     assigns \nothing;
     ensures \result == around_of(count); */
@@ -62,7 +62,7 @@ static size_t around_all(const int32_t *lengths, size_t segments) {
     return length;
 }
 
-/* How long the text of so many elements is: of integers, or of booleans, which have a byte each; in segments, or in none. */
+/* How long the text of integers or booleans is, in segments or in none. */
 /*@ requires count <= CVL_MOST_OF_TEXT && (ints == \null || \valid_read(ints + (0 .. count - 1)));
     requires lengths == \null || (\valid_read(lengths + (0 .. segments - 1)) && segments <= CVL_MOST_OF_TEXT &&
       \forall integer s; 0 <= s < segments ==> 0 <= lengths[s]);
@@ -82,7 +82,7 @@ static const CvlSlot *slot_of(const CvlRow *row, const CvlSlot *s, CvlAs as) {
     return NULL;
 }
 
-/* How long the room has to be whose length elements say; or a fault. */
+/* How long the room has to be, as elements say, or a fault. */
 static CvlStatus needed_told(const CvlRow *row, const CvlSlot *s, size_t *needed) {
     const CvlSlot *const a = slot_of(row, s, CVL_AS_A), *const flags = slot_of(row, s, CVL_AS_FLAGS), *const lengths = slot_of(row, s, CVL_AS_LENGTHS);
     int32_t trues = 0;
@@ -96,7 +96,7 @@ static CvlStatus needed_told(const CvlRow *row, const CvlSlot *s, size_t *needed
     return counted;
 }
 
-/* The fault of vectors that are merged, whose lengths flags say. */
+/* The fault of vectors that are merged, whose lengths depend on flags. */
 static CvlStatus sides_told(const CvlRow *row, const CvlSlot *s) {
     const CvlSlot *const a = slot_of(row, s, CVL_AS_A), *const b = slot_of(row, s, CVL_AS_B), *const flags = slot_of(row, s, CVL_AS_FLAGS);
     int32_t trues = 0;
@@ -111,14 +111,14 @@ static CvlStatus appended_told(const CvlRow *row, const CvlSlot *s) {
     return room == a + b ? cvl_done() : cvl_status(CVL_LENGTH_MISMATCH, -1);
 }
 
-/* The fault of rows and columns that have not as many elements as there are. */
+/* The fault of rows and columns that do not have as many elements as there are. */
 static CvlStatus matrix_told(const CvlRow *row, const CvlSlot *s) {
     const size_t elements = slot_of(row, s, CVL_AS_A)->number, rows = slot_of(row, s, CVL_AS_ROWS)->number, columns = slot_of(row, s, CVL_AS_COLUMNS)->number;
     const bool are_all = rows == 0 || columns == 0 ? elements == 0 : elements % rows == 0 && elements / rows == columns;
     return are_all ? cvl_done() : cvl_status(CVL_LENGTH_MISMATCH, -1);
 }
 
-/* The fault of a room, or of vectors, whose length elements say, or of the shape of a matrix. */
+/* The fault of a room or of vectors whose length depends on elements, or of the shape of a matrix. */
 /*@ requires is_call(row, s);
     assigns told; */
 static CvlStatus room_told(const CvlRow *row, const CvlSlot *s) {
@@ -158,7 +158,7 @@ static bool are_too_long(const CvlRow *row, const CvlSlot *s) {
     return 0;
 }
 
-/* What lengths and offsets of a call say: their first fault, in their order, and whether they add up to what they should. */
+/* The first fault of a call's lengths and offsets, in their order, also if they do not add up to what they should. */
 typedef struct LengthsTold {
     CvlStatus first;
     bool agree;
@@ -191,7 +191,7 @@ CvlStatus cvl_told(const CvlRow *row, uint32_t op, const CvlSlot *s) {
     return lengths.agree && cvl_do_agree(row, op, s) ? room_told(row, s) : cvl_status(CVL_LENGTH_MISMATCH, -1);
 }
 
-/* Whether a status may stand behind one that an export did not ask yet: no memory, and faults of elements. */
+/* Whether faults that the export checks later may come before this status: no memory, and faults of elements. */
 /*@ assigns \nothing;
     ensures \result ==> status.number != CVL_DONE; */
 static bool is_late(CvlStatus status) {
@@ -220,7 +220,7 @@ bool cvl_many_words(const char *text, size_t text_len, bool nested) {
     return words > CVL_MOST_OF_TEXT || lists > (size_t)CVL_MOST_OF_TEXT + 1;
 }
 
-/* Whether a text that there is no memory for is too long, or the words before it are too many. */
+/* Whether a text is too long, or too many words come before it. */
 /*@ requires is_call(row, s);
     assigns \nothing; */
 static bool is_too_long_to_read(const CvlRow *row, const CvlSlot *s) {

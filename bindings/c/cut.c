@@ -1,4 +1,4 @@
-/* A call is cut into parts, and its steps are run. */
+/* Cuts a call into parts, and runs its steps. */
 #include "parts.h"
 #include "pools.h"
 
@@ -7,7 +7,7 @@
 /* The number of a part's status before it is run. */
 enum { NOT_RUN = 0x7fffffff };
 
-/* A step of a call in parts: what each part does, whether it has begun, and what it told. */
+/* A step of a call in parts: what each part does, whether it has begun, and its status. */
 typedef struct Step {
     CvlWork *work;
     CvlStepPart part;
@@ -44,7 +44,7 @@ static CvlStatus nothing_part(CvlWork *w, size_t k) {
     return cvl_done();
 }
 
-/* Whether a pool runs each part, as far as one step without work tells; those of the library do. */
+/* Whether a pool runs each part, as a step without work shows; those of the library do. */
 static bool runs_all(const CvlPool *pool, CvlWork *w) {
     return pool->run == cvl_run_alone || pool->run == cvl_run_posix || cvl_step(pool, w, CVL_READS, nothing_part);
 }
@@ -57,7 +57,7 @@ static size_t parts_of(const CvlPool *pool, size_t n, size_t each) {
     return n / each < parts ? n / each : parts;
 }
 
-/* A call of so many parts, of which nothing else is known. */
+/* A call of so many parts. */
 /*@ requires \valid(w);
     assigns *w;
     ensures w->parts == parts && \forall integer k; 0 <= k <= CVL_MOST_PARTS ==> w->from[k] == 0; */
@@ -92,7 +92,7 @@ static bool cut_evenly(const CvlPool *pool, CvlWork *w, size_t n, size_t least, 
     ensures \result <==> is_white_byte(byte); */
 static bool is_white(char byte) { return byte == ' ' || byte == '\t' || byte == '\n' || byte == '\r'; }
 
-/* The first white space at a place of a text or after it, or the text's end. */
+/* The first white space from a place of a text on, or the text's end. */
 /*@ requires place <= n && \valid_read(text + (0 .. n - 1));
     assigns \nothing;
     ensures place <= \result <= n && (\result < n ==> is_white_byte(text[\result])); */
@@ -127,7 +127,7 @@ static bool cut_at_white(const CvlPool *pool, CvlWork *w, const char *text, size
 
 /* ---- segments: the elements are cut, and each part finds the segments that start in it ---- */
 
-/* Elements that are cut, with the lengths of their segments; and where the first segment that starts in each part is known. */
+/* Elements that are cut, the lengths of their segments, and the first segment that starts in each part. */
 /*@ predicate has_segments{L}(CvlWork *w) =
       0 < w->parts <= CVL_MOST_PARTS && w->from[w->parts] <= CVL_MOST_ELEMENTS && w->segments <= CVL_MOST_ELEMENTS &&
       is_cut(&w->from[0], w->parts, w->from[w->parts]) && is_segments(w->lengths, w->segments, w->from[w->parts]) &&
@@ -142,7 +142,7 @@ static bool cut_at_white(const CvlPool *pool, CvlWork *w, const char *text, size
       (\forall integer k; 0 <= k <= w->parts ==> w->from[k] <= w->start[k] == start_of(w->lengths, w->first[k])) &&
       (\forall integer k, s; 0 <= k < w->parts && 0 <= s < w->first[k] ==> start_of(w->lengths, s) < w->from[k]); */
 
-/* The lengths, cut into parts of their own, and how many elements each part of them has. */
+/* The lengths, cut into parts of their own, and how many elements each of these has. */
 /*@ requires \valid(w) && k < w->parts <= CVL_MOST_PARTS && w->segments <= CVL_MOST_ELEMENTS;
     requires \valid_read(w->lengths + (0 .. w->segments - 1)) && \separated(w->lengths + (0 .. w->segments - 1), w);
     assigns w->counts[k];
@@ -153,7 +153,7 @@ static CvlStatus lengths_part(CvlWork *w, size_t k) {
     return cvl_proved_make_descriptor(w->lengths + from, to - from, &w->counts[k]);
 }
 
-/* Finds the first segment that starts in the part or after it. The walk begins at the last part of the lengths that starts before. */
+/* Finds the first segment that starts in the part or after it, from the last part of the lengths that starts before. */
 /*@ requires \valid(w) && has_segments(w) && k < w->parts;
     requires \forall integer j; 0 <= j <= w->parts ==> w->other[j] == start_of(w->lengths, even_place(w->segments, w->parts, j));
     assigns w->first[k], w->start[k];
@@ -237,7 +237,7 @@ static size_t share(const CvlWork *w, size_t len, size_t k) {
     return len / w->parts * k + (k < len % w->parts ? k : len % w->parts);
 }
 
-/* The flags among the arguments that have to be 0 and 1, from the operand k on: the next of them, or the number of operands. */
+/* The next operand, from k on, of flags that have to be 0 and 1, or the number of operands. */
 static size_t next_copied(const CvlRow *row, size_t k) {
     while (k < row->operands && !(row->operand[k].is & CVL_COPIED_IN_PARTS)) k++;
     return k;

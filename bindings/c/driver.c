@@ -1,11 +1,11 @@
-/* The driver, where a call is long, has flags that are neither 0 nor 1, or comes with a pool. */
+/* The driver of calls that are long, have flags that are neither 0 nor 1, or come with a pool. */
 #include "driver.h"
 #include "parts.h"
 #include "segments.h"
 
 CvlStatus cvl_alone(const CvlRow *row, uint32_t op, const CvlSlot *s) { return cvl_make_alone(row, op, s); }
 
-/* Copies flags that are neither 0 nor 1 into memory that is to be freed. Whether there was memory. */
+/* Copies flags that are neither 0 nor 1 into memory that the caller frees, and answers whether there was memory. */
 static bool copy(CvlSlot *slot, bool **copied) {
     if (cvl_proved_are_flags(slot->at, slot->number)) return 1;
     *copied = malloc(slot->number);
@@ -37,8 +37,8 @@ CvlStatus cvl_make_on_copies(const CvlRow *row, uint32_t op, const CvlSlot *s) {
 /* ---- by a pool ---- */
 
 /*
- * Whether a call has no fault that the driver can see, so that it may be cut; a place is one of the vector. Flags that stand in the room
- * before have to be 0 and 1, since parts write into the room itself.
+ * Whether a call has no fault that the driver can see, so that it may be cut. Flags that stand in the room before have to be 0 and 1, since
+ * parts write into the room itself.
  */
 /*@ requires is_call(row, s) && ((row->is & CVL_ONE_VALUE) != 0 ==> row->operands > 1);
     assigns \nothing;
@@ -67,18 +67,15 @@ static CvlStatus on_rows(const CvlPool *pool, const CvlRow *row, uint32_t op, co
     return status;
 }
 
-/*
- * Runs the parts of a call by the way of its row. Each way leaves the rooms as they were where its parts are not done, and where it tells
- * a fault.
- */
+/* Runs the parts of a call by the way of its row, which leaves the rooms as they were unless its parts are done without a fault. */
 /*@ assigns *w, rooms, told;
     ensures !\result ==> rooms == \old(rooms);
     ensures \result && w->told.number != CVL_DONE ==> rooms == \old(rooms); */
 static bool run_parts(const CvlPool *pool, CvlWork *w, const CvlRow *row) { return row->in_parts(pool, w); }
 
 /*
- * Cuts a call that is in order and runs its parts. Whether they are done; else the rooms are as they were, as the ways to run parts leave
- * them, and w->left_out says whether the pool left a part out of a step that reads.
+ * Cuts a call that is in order and runs its parts. If they are not done, the rooms are as they were; w->left_out says whether the pool left
+ * a part out of a step that reads.
  */
 /*@ requires is_call(row, s) && are_apart(row, s) && do_agree(row, op, s) && is_clean(row, s, row->out) && \separated(w, row);
     assigns *w, rooms, told;
@@ -95,7 +92,7 @@ static bool are_parts_done(const CvlPool *pool, CvlWork *w, const CvlRow *row, u
     return done;
 }
 
-/* Where a pool left out a part of a step that reads, the call is refused: it may leave out more. */
+/* If a pool left out a part of a step that reads, the call is refused: it may leave out more. */
 CvlStatus cvl_on(const CvlPool *pool, const CvlRow *row, uint32_t op, const CvlSlot *s) {
     CvlWork w;
     if (row->by_lengths != NULL) return on_rows(pool, row, op, s);

@@ -1,9 +1,8 @@
 /*
  * driver.h: how a call goes. A public function puts its arguments into slots and hands them to the driver with the row of its family.
  *
- * The first of these that is so is what a call answers: arrays overlap; a count is none; the operator is none of the family; lengths or
- * offsets are none of segments; a vector is too long; arrays are not as long as they have to be; there is no memory; what the export
- * tells.
+ * A call answers the first of these: arrays overlap; the count is out of range; the operator is none of the family; lengths or offsets have
+ * a fault; a vector is too long; arrays are not as long as they have to be; there is no memory; what the export answers.
  */
 #ifndef CVL_DRIVER_H
 #define CVL_DRIVER_H
@@ -14,8 +13,8 @@
 #include "threads.h"
 
 /*
- * A row that the compiler knows is walked while it compiles: what is left is what a function written for the call would ask. The rest of
- * the driver, where a call is long or not in order, is in driver.c.
+ * The compiler walks a row that it knows, and what is left is what a function written for the call would check. The rest, for calls that
+ * are long or not in order, is in driver.c.
  */
 #if defined(__GNUC__) && !defined(__FRAMAC__)
 #define CVL_WALKS static inline __attribute__((always_inline))
@@ -26,8 +25,8 @@
 #endif
 
 /*
- * A row is one of a family if its operands name one another; a call is one if arrays end before the memory does. Its operands are apart if
- * what is written shares memory with nothing else, but that the room may be an operand that may, or two that may together.
+ * A row is one of a family if its operands name one another; a call is one if arrays end before the memory does. Operands are apart if what
+ * is written shares memory with nothing else, except in place.
  */
 /*@ predicate is_row{L}(CvlRow *row) =
       row->operands <= CVL_MOST_OPERANDS && row->out < row->operands && row->cut < row->operands &&
@@ -183,13 +182,13 @@ CVL_WALKS bool cvl_do_agree(const CvlRow *row, uint32_t op, const CvlSlot *s) {
     return 1;
 }
 
-/* Flags are clean if each that the export takes as 0 and 1 alone is that. */
+/* Flags are clean if the export takes them: those that it takes only as 0 and 1 are. */
 /*@ predicate is_clean{L}(CvlRow *row, CvlSlot *s, integer k) =
       (row->operand[k].is & CVL_COPIED) != 0 ==> are_flags((uintptr_t)s[k].at, s[k].number);
 
     predicate are_clean{L}(CvlRow *row, CvlSlot *s) = \forall integer k; 0 <= k < row->operands ==> is_clean(row, s, k); */
 
-/* Whether flags are 0 and 1, as an export tells. */
+/* Whether flags are 0 and 1, by an export. */
 /*@ assigns \nothing;
     ensures \result <==> are_flags((uintptr_t)flags.at, flags.number); */
 CVL_WALKS bool cvl_is_clean(CvlSlot flags) { return cvl_proved_are_flags(flags.at, flags.number); }
@@ -210,7 +209,7 @@ CVL_WALKS bool cvl_are_clean(const CvlRow *row, const CvlSlot *s) {
     return 1;
 }
 
-/* The count of a row that has one, which says how long the room is that is cut. One below 0 is above all others here. */
+/* The count of a row that has one, which says how long the room is. One below 0 is above all others here. */
 /*@ predicate is_counted{L}(CvlRow *row, CvlSlot *s) =
       (row->is & CVL_COUNTED) != 0 ==> s[row->operand[row->cut].like].number <= CVL_MOST_ELEMENTS; */
 
@@ -220,8 +219,8 @@ CVL_WALKS bool cvl_are_clean(const CvlRow *row, const CvlSlot *s) {
 CVL_WALKS size_t cvl_count_given(const CvlRow *row, const CvlSlot *s) { return s[row->operand[row->cut].like].number; }
 
 /*
- * Calls the export, or the one in place. Nothing but what the export takes may come here: this is what the driver is for. What an export
- * leaves in its rooms where it is not done is proved with it.
+ * Calls the export, or the one in place, with nothing but what the export takes. What an export leaves in its rooms after a fault is proved
+ * with it.
  */
 /*@ requires is_call(row, s) && are_apart(row, s) && is_counted(row, s);
     requires (row->is & CVL_ASKED) != 0 ==> do_agree(row, op, s) && are_clean(row, s);
@@ -231,12 +230,12 @@ CVL_WALKS CvlStatus cvl_make(const CvlRow *row, uint32_t op, const CvlSlot *s) {
 
 /* ---- a call that is not in order: checks.c ---- */
 
-/* The fault of a count that is none. */
+/* The fault of a count that is out of range. */
 /*@ assigns \nothing;
     ensures \result.number == (count > INT64_MAX ? CVL_NEGATIVE_LENGTH : CVL_TOO_LONG); */
 CVL_HIDDEN CvlStatus cvl_count_told(size_t count);
 
-/* The first fault of what is asked of a call before memory is, or that it is done. */
+/* The first fault of a call that comes before memory is asked for, or that it is done. */
 /*@ predicate is_too_long{L}(CvlRow *row, CvlSlot *s, integer k) = (row->operand[k].is & CVL_TOO_MANY) != 0 &&
       (row->operand[k].relation == CVL_FROM_LOWEST ? !is_long_enough(row, s, k) : s[k].number > row->most);
 
@@ -251,7 +250,7 @@ CVL_HIDDEN CvlStatus cvl_count_told(size_t count);
     ensures !do_agree(row, op, s) ==> \result.number != CVL_DONE; */
 CVL_HIDDEN CvlStatus cvl_told(const CvlRow *row, uint32_t op, const CvlSlot *s);
 
-/* The same, where the export told something else than that it is done: what comes before that. */
+/* The first fault that comes before the one that the export answered. */
 /*@ requires is_call(row, s) && are_apart(row, s) && status.number != CVL_DONE;
     assigns told;
     ensures \result.number != CVL_DONE; */

@@ -1,9 +1,9 @@
-/* Calls in parts on whole vectors: each part is a range of places, and what the parts tell is joined. */
+/* Calls in parts on whole vectors: each part is a range of places, and the parts' results are joined. */
 #include "parts.h"
 
 /* ---- at places ---- */
 
-/* How many places a part has, or the number of a progression at the first of them. */
+/* How many places a part has, or the number of a progression at its first place. */
 /*@ requires \valid_read(w) && \valid_read(o) && o->as < CVL_ROLES && k < CVL_MOST_PARTS && w->from[k] <= w->from[k + 1];
     assigns \nothing;
     ensures o->as == CVL_AS_COUNT ==> \result.number == w->from[k + 1] - w->from[k]; */
@@ -32,7 +32,7 @@ const size_t *cvl_boundaries(const CvlWork *w, CvlBy by) {
     }
 }
 
-/* What a part has of an operand: all that lies between its boundaries. */
+/* What a part has of an operand. */
 /*@ requires \valid_read(w) && \valid_read(o) && o->as < CVL_ROLES && k < CVL_MOST_PARTS;
     requires begins(w, o->by, k) <= begins(w, o->by, k + 1) <= CVL_MOST_ELEMENTS && w->from[k] <= w->from[k + 1] <= CVL_MOST_ELEMENTS;
     assigns \nothing;
@@ -57,7 +57,7 @@ CvlStatus cvl_make_part(CvlWork *w, size_t k) {
     return w->row->make(w->op, s);
 }
 
-/* The same without a room, which looks for faults. */
+/* The same without a room, to look for faults. */
 static CvlStatus look_part(CvlWork *w, size_t k) {
     static const CvlSlot none = {NULL, 0};
     CvlSlot s[CVL_MOST_OPERANDS];
@@ -87,7 +87,7 @@ bool cvl_replace_in_parts(const CvlPool *pool, CvlWork *w) {
     return 1;
 }
 
-/* ---- reduces and scans: each part's reduce is told, and what stands before it is theirs, joined ---- */
+/* ---- reduces and scans: what stands before a part is the earlier parts' reduces, joined ---- */
 
 CvlStatus cvl_reduce_of(const CvlWork *w, size_t from, size_t to, CvlItem *sum) {
     if (cvl_of_bools(w)) return cvl_proved_bool_reduce(w->op, CVL_BOOLS(w, CVL_AS_A, from), to - from, &sum->flag);
@@ -145,7 +145,7 @@ bool cvl_scan_in_parts(const CvlPool *pool, CvlWork *w) {
     return cvl_step(pool, w, CVL_WRITES, scan_part);
 }
 
-/* ---- sums that never wrap: each part's exact sum is told, all parts are looked at, and then the scan that wraps is the same ---- */
+/* ---- sums that never wrap: all parts are checked by their exact sums, and then the scan that wraps is the same ---- */
 
 static CvlStatus total_part(CvlWork *w, size_t k) {
     const size_t from = w->from[k];
@@ -176,7 +176,7 @@ bool cvl_checked_scan_in_parts(const CvlPool *pool, CvlWork *w) {
     return cvl_step(pool, w, CVL_WRITES, scan_part);
 }
 
-/* ---- counts and packs: the parts' counts tell where each part's elements go ---- */
+/* ---- counts and packs: the parts' counts say where each part's elements go ---- */
 
 static CvlStatus count_part(CvlWork *w, size_t k) {
     return cvl_proved_count(CVL_BOOLS(w, CVL_AS_FLAGS, w->from[k]), w->from[k + 1] - w->from[k], &w->sums[k].number);

@@ -1,13 +1,11 @@
 /*
- * internal.h: what the compiled C of the library shares. A caller sees cvl.h and cvl_parallel.h alone.
- *
- * A call goes from its function through the driver (driver.h), which looks at what the proved exports cannot see, to an export of
- * crates/cvl_c under its name here, as cvl_proved_int2.
+ * internal.h: what the compiled C of the library shares. A call goes from its function through the driver (driver.h), which checks what the
+ * proved exports cannot see, to an export of crates/cvl_c under its name here, as cvl_proved_int2.
  */
 #ifndef CVL_INTERNAL_H
 #define CVL_INTERNAL_H
 
-/* Here a boolean is a byte of any value: what a caller gives is never read as a bool, which may be 0 and 1 alone. */
+/* Here a boolean is a byte of any value, since a bool may be read only as 0 and 1. */
 #include <stdbool.h>
 #undef bool
 #define bool unsigned char
@@ -53,7 +51,7 @@ static inline bool cvl_meet(const void *a, size_t a_len, size_t a_size, const vo
 }
 #define CVL_MEET(a, a_len, b, b_len) cvl_meet(a, a_len, sizeof *(a), b, b_len, sizeof *(b))
 
-/* A place or a count of 32 bits, where it is one: else a place that no vector has, and a count that is none. */
+/* A place or a count of 32 bits; else a place that no vector has, and a count that is out of range. */
 /*@ assigns \nothing;
     ensures 0 <= place <= INT32_MAX ? \result == place : \result == -1; */
 static inline int32_t cvl_place_of(int64_t place) { return place < 0 || place > INT32_MAX ? -1 : (int32_t)place; }
@@ -61,7 +59,7 @@ static inline int32_t cvl_place_of(int64_t place) { return place < 0 || place > 
     ensures \result == (0 <= count ? count : 0); */
 static inline size_t cvl_room_of(int64_t count) { return count < 0 ? 0 : (size_t)count; }
 
-/* Whether a text has more words than a vector may have elements; brackets are none where the text is nested. */
+/* Whether a text has more words than a vector may have elements; brackets do not count if the text is nested. */
 CVL_HIDDEN bool cvl_many_words(const char *text, size_t text_len, bool nested);
 
 #endif

@@ -1,7 +1,7 @@
 /*
- * parts.h: a call in parts, as its steps see it. The driver looks at what it looks at in every call, cuts the vector, and runs the way of
- * the row to make the parts, which asks for all memory that it needs itself, and runs steps by the pool. Where any of this doesn't do, the
- * rooms are as they were, and the call is made by the thread that calls.
+ * parts.h: a call in parts, as its steps see it. The driver checks and cuts the call, and runs the way of the row to make the parts, which
+ * asks for all memory that it needs itself, and runs steps by the pool. If any of this fails, the rooms are as they were, and the call is
+ * made by the thread that calls.
  */
 #ifndef CVL_PARTS_H
 #define CVL_PARTS_H
@@ -25,16 +25,16 @@ struct CvlWork {
     size_t start[CVL_MOST_PARTS + 1]; /* where that segment starts */
     size_t other[CVL_MOST_PARTS + 1]; /* where it starts in a second vector, or where a part's result stands */
     size_t third[CVL_MOST_PARTS + 1]; /* where it starts in a third one */
-    CvlItem sums[CVL_MOST_PARTS];     /* what each part joins to, or, of one with segments, its last, cut segment */
+    CvlItem sums[CVL_MOST_PARTS];     /* what each part, or its last, cut segment, joins to */
     CvlItem heads[CVL_MOST_PARTS];    /* what those elements of each part join to that belong to a segment of an earlier part */
     CvlItem before[CVL_MOST_PARTS];   /* what stands before each part */
     int64_t totals[CVL_MOST_PARTS];   /* the same as sums that never wrap */
     int64_t head_totals[CVL_MOST_PARTS];
     int64_t reached[CVL_MOST_PARTS];
     size_t counts[CVL_MOST_PARTS]; /* how many elements each part gives */
-    CvlStatus told;                /* what the call answers, where its parts are done */
+    CvlStatus told;                /* what the call answers if its parts are done */
     bool left_out;                 /* whether the pool left a part out */
-    char *kept;                    /* what stood in the room before, where it may have to be put back, or the parts' texts */
+    char *kept;                    /* what stood in the room before, if it may have to be put back, or the parts' texts */
     bool *copies;                  /* copies of flags that are neither 0 nor 1 */
     /* the call */
     const CvlRow *row;
@@ -68,7 +68,7 @@ static inline CvlSlot cvl_range(const CvlWork *w, CvlAs as, size_t from, size_t 
     return range;
 }
 
-/* Where the call tells a number beside its room. */
+/* The number beside the room. */
 static inline size_t *cvl_told_at(const CvlWork *w) { return (size_t *)w->in[CVL_AS_TOLD].at; }
 
 /* The number at a place, wrapped: where a part starts. */
@@ -79,8 +79,8 @@ static inline int32_t cvl_number_at(int32_t init, int32_t stride, size_t place) 
 /* ---- cutting, and the steps: cut.c ---- */
 
 /*
- * Cuts a call: at places; a text at white space; and where there are segments, at places, so that each part knows the segments that start
- * in it. Whether there is more than one part, and a pool that runs each.
+ * Cuts a call: at places; a text at white space; with segments at places, so that each part knows the segments that start in it. Answers
+ * whether there is more than one part, and a pool that runs each.
  */
 /*@ assigns *w; */
 CVL_HIDDEN bool cvl_cut(const CvlPool *pool, CvlWork *w, const CvlRow *row, const CvlSlot *s);
@@ -89,8 +89,8 @@ CVL_HIDDEN bool cvl_cut(const CvlPool *pool, CvlWork *w, const CvlRow *row, cons
 typedef enum CvlKind { CVL_READS, CVL_COPIES, CVL_WRITES } CvlKind;
 
 /*
- * Runs a step in all parts, and answers whether all are done. A part that the pool leaves out of a step that only reads ends the call;
- * one of a step that writes is run by the thread that calls, so that no room is half written. Flags are copied before a room is written.
+ * Runs a step in all parts, and answers whether all are done. A part that the pool leaves out of a step that only reads ends the call; in a
+ * step that writes, the thread that calls runs it, so that no room is half written. Flags are copied before a room is written.
  */
 /*@ requires kind == CVL_WRITES ==> made != 0;
     assigns *w, rooms;
@@ -99,23 +99,23 @@ typedef enum CvlKind { CVL_READS, CVL_COPIES, CVL_WRITES } CvlKind;
 CVL_HIDDEN bool cvl_step(const CvlPool *pool, CvlWork *w, CvlKind kind, CvlStepPart part);
 
 /*
- * A call with no room looks for the faults of its elements and writes nothing: an export asks a room last, so that 7 LengthMismatch says
+ * A call with no room looks for the faults of its elements and writes nothing: an export checks the room last, so 7 LengthMismatch says
  * that there is no other fault.
  */
 static inline CvlStatus cvl_looked(CvlStatus status) { return status.number == CVL_LENGTH_MISMATCH ? cvl_done() : status; }
 
-/* The first of three statuses that isn't done. */
+/* The first of three statuses that is a fault. */
 static inline CvlStatus cvl_first_of(CvlStatus first, CvlStatus second, CvlStatus third) {
     if (first.number != CVL_DONE) return first;
     return second.number != CVL_DONE ? second : third;
 }
 
-/* Copies the flags that are to be 0 and 1 and are not, all at once, and answers whether there was memory for that. */
+/* Copies the flags that have to be 0 and 1 and are not, and answers whether there was memory. */
 /*@ assigns *w, made;
     ensures (\result ==> made != 0) && w->parts == \old(w->parts); */
 CVL_HIDDEN bool cvl_make_all(const CvlPool *pool, CvlWork *w);
 
-/* Takes memory for so many bytes, and answers whether there is some. What parts keep there is what the rooms hold now. */
+/* Takes memory for so many bytes of what the rooms hold now, and answers whether there is some. */
 /*@ assigns *w, kept;
     ensures \result ==> kept == rooms; */
 CVL_HIDDEN bool cvl_keep(CvlWork *w, size_t bytes);
@@ -125,13 +125,13 @@ CVL_HIDDEN bool cvl_keep(CvlWork *w, size_t bytes);
     ensures rooms == kept; */
 CVL_HIDDEN void cvl_put_back(CvlWork *w);
 
-/* Runs a step that may be refused, whose parts keep what stood in their ranges of the room; it is put back where one isn't done. */
+/* Runs a step that may fail, whose parts keep what stood in their ranges of the room; it is put back if one is not done. */
 /*@ requires made != 0 && kept == rooms;
     assigns *w, rooms;
     ensures !\result ==> rooms == kept; */
 CVL_HIDDEN bool cvl_writes_kept(const CvlPool *pool, CvlWork *w, CvlStepPart part);
 
-/* Lets go of the memory of a call. */
+/* Frees the memory of a call. */
 /*@ assigns \nothing; */
 CVL_HIDDEN void cvl_let_go(CvlWork *w);
 
@@ -145,11 +145,11 @@ typedef struct CvlPiece {
 CVL_HIDDEN CvlPiece cvl_piece(const CvlWork *w, size_t k);
 
 /*
- * ---- each way to cut a call: whether its parts are done, and then w->told is the answer; else the rooms are as they were, as is proved of
- * ---- the ways that keep what stood in them ----
+ * ---- each way to cut a call: if its parts are done, w->told is the answer; else the rooms are as they were, which is proved of the ways
+ * that keep them ----
  */
 
-/* Each part is a range of places; the faults of elements are looked at in all parts before one is written. */
+/* Each part is a range of places; all parts look for the faults of elements before one is written. */
 /*@ assigns *w, rooms, made; */
 CVL_HIDDEN bool cvl_places_in_parts(const CvlPool *pool, CvlWork *w);
 CVL_HIDDEN bool cvl_replace_in_parts(const CvlPool *pool, CvlWork *w);
@@ -194,11 +194,11 @@ CVL_HIDDEN bool cvl_read_in_parts(const CvlPool *pool, CvlWork *w);
 /* The rows of what parts call beside their own. */
 extern CVL_HIDDEN const CvlRow cvl_int_scan_after_row, cvl_bool_scan_after_row, cvl_seg_int_scan_row, cvl_seg_bool_scan_row;
 
-/* Makes the call on what a part has of each operand; and the boundaries by which parts have it. */
+/* Makes the call on what a part has of each operand; and the boundaries of its parts. */
 CVL_HIDDEN CvlStatus cvl_make_part(CvlWork *w, size_t k);
 CVL_HIDDEN const size_t *cvl_boundaries(const CvlWork *w, CvlBy by);
 
-/* What one element, or a part's elements, join to: for reduces and scans of segments too. */
+/* What one element, or a part's elements, join to. */
 /*@ assigns *sum; */
 CVL_HIDDEN CvlStatus cvl_reduce_of(const CvlWork *w, size_t from, size_t to, CvlItem *sum);
 /*@ assigns *joined; */

@@ -1,6 +1,5 @@
 /*
- * The pools of the library: the thread that calls, and POSIX threads, which end if they wait in vain and start again if a call
- * needs them.
+ * The pools of the library: the thread that calls, and POSIX threads, which end if they wait in vain and start again if a call needs them.
  */
 #include "pools.h"
 #include "process.h"
@@ -10,7 +9,7 @@
 #include <signal.h>
 #include <time.h>
 
-/* How many seconds a thread waits for parts before it ends, so that it keeps no process alive that would have ended. */
+/* How many seconds a thread waits for parts before it ends. */
 enum { PATIENCE = 1 };
 
 struct CvlThreads {
@@ -37,7 +36,7 @@ CvlPool cvl_pool_alone(size_t parts) {
     return pool;
 }
 
-/* Takes parts until none is left. The lock is held before and after, and not while a part runs. */
+/* Takes parts until none is left. The lock is held, but not while a part runs. */
 static void take_parts(CvlThreads *t) {
     while (t->taken < t->parts) {
         const size_t k = t->taken++;
@@ -66,10 +65,7 @@ static void leave(CvlThreads *t) {
     pthread_detach(pthread_self());
 }
 
-/*
- * A signal that a thread gets for what it does, as touching a page that the program guards, kills the process if the thread
- * blocks it.
- */
+/* Signals that a thread gets for what it does, such as touching a guarded page: the process would be killed if the thread blocked them. */
 static void take_own_faults(void) {
     static const int own[] = {SIGSEGV, SIGBUS, SIGFPE, SIGILL, SIGTRAP, SIGSYS};
     sigset_t faults;
@@ -94,8 +90,8 @@ static void *wait_for_parts(void *threads) {
 }
 
 /*
- * Starts threads until there are as many as so many parts need, and answers 0 or the number of an error. The lock is held. A
- * thread begins with all signals blocked, since those that are sent to the process go to the program's own threads.
+ * Starts as many threads as so many parts need, and answers 0 or the number of an error. The lock is held. A thread begins with all signals
+ * blocked, since those that are sent to the process go to the program's own threads.
  */
 static int start_missing(CvlThreads *t, size_t parts) {
     const size_t needed = parts < t->most ? parts : t->most;
@@ -113,8 +109,8 @@ static int start_missing(CvlThreads *t, size_t parts) {
 }
 
 /*
- * The threads are those of one process, and serve one call at a time: any other runs alone. A thread that can't be started leaves
- * its parts to the others. No call is cancelled while it waits, since the threads would be taken for ever.
+ * The threads are those of one process, and serve one call at a time: any other runs alone. A thread that cannot be started leaves its
+ * parts to the others. No call is cancelled while it waits, since the threads would be taken for ever.
  */
 void cvl_run_posix(void *state, CvlPart part, void *work, size_t parts) {
     CvlThreads *t = state;
@@ -157,8 +153,8 @@ static void end_all(CvlThreads *t) {
 }
 
 /*
- * A thread that were cancelled while it waits would leave the threads half ended. The child of a fork takes the lock, unless it
- * was held at the fork, so that the thread sanitizer knows that the parent's threads have done what they did.
+ * A thread that is cancelled while it waits would leave the threads half ended. The child of a fork takes the lock, unless it was held at
+ * the fork, so that the thread sanitizer knows what the parent's threads have done.
  */
 void cvl_threads_stop(CvlThreads *t) {
     int cancels;

@@ -7,7 +7,7 @@
 CVL_HIDDEN void cvl_run_alone(void *state, CvlPart part, void *work, size_t parts);
 CVL_HIDDEN void cvl_run_posix(void *state, CvlPart part, void *work, size_t parts);
 
-/* Threads, so many with the one that calls, each of which is started if a call needs it; or null if there is no memory. */
+/* Threads, so many with the one that calls, each started when a call needs it; or null if there is no memory. */
 CVL_HIDDEN CvlThreads *cvl_threads_made(size_t threads);
 
 #endif

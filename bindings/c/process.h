@@ -15,9 +15,8 @@
 enum { CVL_PROCESS_FROM = 16 };
 
 /*
- * Which process this is, by its number and by how many forks it comes from: the first process of a namespace has the number 1,
- * and so has a child of it that is the first of another one. After _Fork or clone, which run no handlers, the number alone tells
- * them apart.
+ * Which process this is, by its number and by how many forks it comes from, since in different namespaces processes share numbers. After
+ * _Fork or clone, which run no handlers, by the number alone.
  */
 CVL_HIDDEN uint64_t cvl_process(void);
 

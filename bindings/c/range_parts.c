@@ -1,11 +1,11 @@
-/* Permutes, first senders and combining permutes in parts: the result is cut, and each part reads all indices and writes what goes to its own range. */
+/* Permutes, first senders and combining permutes in parts: each part reads all indices and writes its own range of the result. */
 #include "parts.h"
 
-/* How many bytes are kept of a room, up to whole words. The marks stand behind them, a bit a place, and each part has words of its own. */
+/* How many bytes of a room are kept, up to whole words. The marks stand behind them, and each part has words of its own. */
 /*@ assigns \nothing; */
 static size_t kept_bytes(const CvlWork *w) { return (w->in[CVL_AS_OUT].number * cvl_size(w) + 3) / 4 * 4; }
 
-/* The part's range of the result, over its defaults where there are any, by its own marks. */
+/* The part's range of the result, over its defaults if there are any, by its own marks. */
 static CvlStatus range_part(CvlWork *w, size_t k) {
     const size_t from = w->from[k], n = w->from[k + 1] - from, len = w->in[CVL_AS_INDEX].number, words = (n + 31) / 32;
     const int32_t *const ints = w->in[CVL_AS_A].at, *const index = w->in[CVL_AS_INDEX].at;
@@ -26,7 +26,7 @@ static CvlStatus range_part(CvlWork *w, size_t k) {
     return cvl_proved_permute_int_range(ints, len, index, len, from, CVL_INT_ROOM(w, from), n, marks, words, count);
 }
 
-/* A range moves bytes as they are, so that those of booleans are made 0 and 1 in the room. */
+/* Copies bytes, which are then made 0 and 1 in the room. */
 static CvlStatus permute_part(CvlWork *w, size_t k) {
     const size_t from = w->from[k], n = w->from[k + 1] - from, size = cvl_size(w);
     const char *const defaults = w->in[CVL_AS_B].at;
@@ -36,13 +36,13 @@ static CvlStatus permute_part(CvlWork *w, size_t k) {
     return status;
 }
 
-/* Of the flags of a select permute each part counts another share. */
+/* Each part counts another share of the flags. */
 static CvlStatus trues_part(CvlWork *w, size_t k) {
     const size_t from = w->in[CVL_AS_FLAGS].number * k / w->parts, to = w->in[CVL_AS_FLAGS].number * (k + 1) / w->parts;
     return cvl_proved_count(CVL_BOOLS(w, CVL_AS_FLAGS, from), to - from, &w->sums[k].number);
 }
 
-/* How many flags are true, or how many indices there are where no flags are given. Whether the parts have counted. */
+/* How many flags are true, or how many indices there are without flags; and whether the parts have counted. */
 /*@ assigns *w, *sent, rooms;
     ensures rooms == \old(rooms); */
 static bool count_sent(const CvlPool *pool, CvlWork *w, size_t *sent) {
@@ -55,7 +55,7 @@ static bool count_sent(const CvlPool *pool, CvlWork *w, size_t *sent) {
     return 1;
 }
 
-/* Whether the parts count as much as is wanted. Else what stood in the room is put back. */
+/* Whether the parts count as much as is wanted; else the room is put back. */
 /*@ assigns rooms;
     ensures !\result ==> rooms == kept; */
 static bool are_all(CvlWork *w, size_t wanted) {
@@ -66,10 +66,7 @@ static bool are_all(CvlWork *w, size_t wanted) {
     return counted == wanted;
 }
 
-/*
- * Where the parts wrote as many places as take part, no index is out of range or repeated, and the room holds the permute. Else what
- * stood there is put back.
- */
+/* If the parts wrote as many places as take part, no index is bad, and the room holds the permute; else it is put back. */
 bool cvl_ranges_in_parts(const CvlPool *pool, CvlWork *w) {
     const size_t bytes = kept_bytes(w) + (w->in[CVL_AS_OUT].number / 32 + w->parts) * sizeof(uint32_t);
     size_t wanted;
@@ -88,7 +85,7 @@ static CvlStatus senders_part(CvlWork *w, size_t k) {
     return cvl_proved_first_senders_range(index, len, from, out, n, &w->counts[k]);
 }
 
-/* Where as many indices name a place of a range as take part, none is out of range. */
+/* If as many indices name a place of a range as take part, none is out of range. */
 bool cvl_senders_in_parts(const CvlPool *pool, CvlWork *w) {
     size_t wanted;
     w->rooms = w->from, w->told = cvl_done();
@@ -96,7 +93,7 @@ bool cvl_senders_in_parts(const CvlPool *pool, CvlWork *w) {
         cvl_writes_kept(pool, w, senders_part) && are_all(w, wanted);
 }
 
-/* ---- combining permutes: the indices are looked at before any element is joined, so that a large room need not be kept ---- */
+/* ---- combining permutes: all indices are checked before any element is joined, so that a large room need not be kept ---- */
 
 /* Whether so many indices each name one of so many places. */
 /*@ requires \valid_read(index + (0 .. n - 1)) && places <= CVL_MOST_ELEMENTS;
@@ -112,7 +109,7 @@ static bool are_places(const int32_t *index, size_t n, size_t places) {
     return all;
 }
 
-/* Of the indices each part looks at another share, as its boundaries say before the room is cut. */
+/* Each part checks another share of the indices, by its boundaries before the room is cut. */
 static CvlStatus look_part(CvlWork *w, size_t k) {
     const int32_t *const index = w->in[CVL_AS_INDEX].at;
     const bool all = are_places(index + w->from[k], w->from[k + 1] - w->from[k], w->in[CVL_AS_OUT].number);
@@ -142,7 +139,7 @@ static void sort_some(const int32_t *index, size_t n, int32_t *some, size_t coun
     }
 }
 
-/* Cuts the room so that about as many elements go to each part: few places have many, and no part waits for the one that has them. */
+/* Cuts the room so that about as many elements go to each part, also if few places have many. */
 /*@ requires \valid(w) && 0 < w->parts <= CVL_MOST_PARTS && places <= CVL_MOST_ELEMENTS;
     requires n > 0 && \valid_read(index + (0 .. n - 1)) && \separated(w, index + (0 .. n - 1));
     assigns w->from[0 .. CVL_MOST_PARTS];
@@ -165,7 +162,7 @@ static void cut_room(CvlWork *w, const int32_t *index, size_t n, size_t places) 
     w->from[w->parts] = places;
 }
 
-/* Joins what is sent to the part's range of the room; or counts it, where a call has no operator. */
+/* Joins what is sent to the part's range of the room, or counts it if the call has no operator. */
 static CvlStatus combine_part(CvlWork *w, size_t k) {
     const size_t from = w->from[k], n = w->from[k + 1] - from, len = w->in[CVL_AS_INDEX].number;
     const int32_t *const index = w->in[CVL_AS_INDEX].at;

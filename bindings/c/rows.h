@@ -1,6 +1,6 @@
 /*
- * rows.h: a family as a row that the driver walks: what its operands are, which of them have to be as long as others, which may be
- * the room, how it is cut into parts, and the function that calls its export.
+ * rows.h: a family as a row that the driver walks: its operands, which of them have to be as long as others, which may be the room, how it
+ * is cut into parts, and the function that calls its export.
  */
 #ifndef CVL_ROWS_H
 #define CVL_ROWS_H
@@ -39,8 +39,8 @@ enum {
     CVL_WRITTEN = 2,   /* a room, or one value that is written */
     CVL_IN_PLACE = 4,  /* an array that may be the room */
     CVL_BOUNDED = 8,   /* has no more elements than a vector may have, */
-    CVL_TOO_MANY = 16, /* and more are told as such */
-    CVL_COPIED = 32,   /* flags that are copied if a byte is neither 0 nor 1; of a room that holds what stands before back, too */
+    CVL_TOO_MANY = 16, /* and more are reported */
+    CVL_COPIED = 32,   /* flags that are copied if a byte is neither 0 nor 1, and in a room that holds what stands before copied back */
     CVL_COPIED_IN_PARTS = 64 /* in parts too */
 };
 
@@ -56,9 +56,9 @@ typedef struct CvlOperand {
 
 /* How the driver makes the calls of a family. */
 enum {
-    CVL_ASKED = 1,        /* the driver looks for what the export would tell behind other faults, or behind memory */
-    CVL_LATE = 2,         /* and once more where the export tells a fault of elements or of memory */
-    CVL_READS_TEXT = 4,   /* a text that is too long is told before that there is no memory */
+    CVL_ASKED = 1,        /* the driver checks what the export would report after other faults, or after memory */
+    CVL_LATE = 2,         /* and once more if the export reports a fault of elements or of memory */
+    CVL_READS_TEXT = 4,   /* a text that is too long is reported before 100 */
     CVL_COUNTED = 8,      /* a count says how long the room is */
     CVL_BY_TRUES = 16,    /* true flags do, */
     CVL_WRITES_TEXT = 32, /* or the text of the elements; */

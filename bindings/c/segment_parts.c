@@ -1,9 +1,9 @@
-/* Calls in parts on segments: cut at places, where pieces of a cut segment are joined, or between segments. */
+/* Calls in parts on segments: cut at places, and the pieces of a cut segment are joined; or cut between segments. */
 #include "parts.h"
 
-/* ---- scans: what stands before a part is the join since the last start, and the parts before tell it ---- */
+/* ---- scans: what stands before a part is the join since the last start ---- */
 
-/* What the elements of the part since the last start in it join to, or all of them where none starts. */
+/* What the elements of the part since its last start join to, or all of them if none starts. */
 static CvlStatus since_part(CvlWork *w, size_t k) {
     const CvlPiece p = cvl_piece(w, k);
     return cvl_reduce_of(w, p.starts ? p.tail : p.from, p.to, &w->sums[k]);
@@ -32,7 +32,7 @@ bool cvl_seg_scan_in_parts(const CvlPool *pool, CvlWork *w) {
     return done && cvl_step(pool, w, CVL_WRITES, scan_part);
 }
 
-/* ---- reduces: each part writes those of its whole segments, and then those that are cut are joined ---- */
+/* ---- reduces: each part writes those of its whole segments; then the pieces of cut ones are joined ---- */
 
 static CvlStatus reduce_whole(const CvlWork *w, CvlPiece p) {
     const int32_t *lengths = w->lengths + p.first;
@@ -113,7 +113,7 @@ bool cvl_seg_checked_scan_in_parts(const CvlPool *pool, CvlWork *w) {
     return cvl_step(pool, w, CVL_READS, checked_look) && cvl_seg_scan_in_parts(pool, w);
 }
 
-/* The sums of the part's whole segments are looked at, and those of its pieces of others are told. */
+/* Checks the sums of the part's whole segments, and reports those of its pieces of others. */
 static CvlStatus checked_sums_look(CvlWork *w, size_t k) {
     const CvlPiece p = cvl_piece(w, k);
     const int32_t *a = w->in[CVL_AS_A].at, *lengths = w->lengths + p.first;
@@ -146,7 +146,7 @@ static CvlStatus copies(const CvlWork *w, size_t segment, size_t from, size_t to
     return cvl_proved_distribute_int(*CVL_INTS(w, CVL_AS_A, segment), (int32_t)n, CVL_INT_ROOM(w, from), n);
 }
 
-/* Segment by segment, since a call on several takes memory, which may be refused, so that the room would have to be kept. */
+/* Segment by segment, since a call on several takes memory, which may be refused. */
 static CvlStatus copies_part(CvlWork *w, size_t k) {
     const CvlPiece p = cvl_piece(w, k);
     CvlStatus status = copies(w, p.first - 1, p.from, p.head);
@@ -216,7 +216,7 @@ static size_t operand_by(const CvlRow *row, CvlBy by) {
     return k;
 }
 
-/* Where each part's segments stand in another vector, whose length is known: by what each part counts, into the boundaries of that vector. */
+/* Where each part's segments stand in another vector, by what each part counts: the boundaries of that vector. */
 /*@ requires w->parts <= CVL_MOST_PARTS && (by == CVL_BY_OTHER || by == CVL_BY_THIRD);
     assigns *w, rooms;
     ensures rooms == \old(rooms) && w->parts == \old(w->parts); */
@@ -233,7 +233,7 @@ static bool cut_by(const CvlPool *pool, CvlWork *w, CvlBy by, CvlStepPart counts
     return from[w->parts] == len && len <= CVL_MOST_ELEMENTS;
 }
 
-/* Where each part's segments stand in a room that has those of two vectors, whose length is known. */
+/* Where each part's segments stand in a room for those of two vectors. */
 /*@ requires w->parts <= CVL_MOST_PARTS;
     assigns *w;
     ensures w->parts == \old(w->parts); */
@@ -245,7 +245,7 @@ static bool cut_both(CvlWork *w) {
     return w->third[w->parts] == len && len <= CVL_MOST_ELEMENTS;
 }
 
-/* Where each part's segments stand in the second vector and the third one of a call that has some. */
+/* Where each part's segments stand in the second and the third vector of a call. */
 /*@ requires w->parts <= CVL_MOST_PARTS;
     assigns *w, rooms;
     ensures rooms == \old(rooms); */

@@ -1,4 +1,4 @@
-/* Descriptors are made, told of and let go, and the version is told. */
+/* Descriptors, and the version. */
 #include "proved.h"
 #include "segments.h"
 
@@ -54,7 +54,7 @@ int32_t *cvl_lengths_between(const int32_t *offsets, size_t offsets_len) {
     return NULL;
 }
 
-/* Each length is the difference of two offsets from 0 on that don't fall, and so fits 32 bits. */
+/* Each length is the difference of two offsets that do not fall, and so fits 32 bits. */
 CvlStatus cvl_segments_from_offsets(const int32_t *offsets, size_t offsets_len, int32_t *lengths, size_t lengths_len,
                                     CvlSegments *segments) {
     const CvlLengths made = {lengths, lengths_len};
@@ -79,7 +79,7 @@ CvlStatus cvl_segments_total(const CvlSegments *segments, size_t *total) {
     return cvl_make_descriptor(cvl_lengths_of(segments), total);
 }
 
-/* The lengths of a descriptor and what they add up to, where a room shares memory with neither; or the first fault. */
+/* The lengths of a descriptor and their total, if the room shares memory with neither; or the first fault. */
 static CvlStatus lengths_told(const CvlSegments *segments, const int32_t *out, size_t out_len, CvlLengths *lengths,
                               size_t *total) {
     if (CVL_MEET(out, out_len, segments, 1)) return cvl_overlap();

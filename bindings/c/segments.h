@@ -15,7 +15,7 @@ static inline CvlLengths cvl_lengths_of(const CvlSegments *segments) {
 /* The first fault of offsets: there are too many, there is none or the first is not 0, or one is less than the one before it. */
 CVL_HIDDEN CvlStatus cvl_offsets_told(const int32_t *offsets, size_t offsets_len);
 
-/* The lengths of the rows between offsets, which are to be freed; or none where the offsets have a fault, or there is no memory. */
+/* The lengths of the rows between offsets, which the caller frees; or null if the offsets have a fault, or there is no memory. */
 CVL_HIDDEN int32_t *cvl_lengths_between(const int32_t *offsets, size_t offsets_len);
 
 #endif

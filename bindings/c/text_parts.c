@@ -1,9 +1,9 @@
-/* Texts in parts: each part has a text, or integers, of its own, and then they are put one after another. */
+/* Texts in parts: each part has a text, or integers, of its own, which are then put one after another. */
 #include "parts.h"
 
 /*
- * Where a part's text begins in the memory for all of them, which are as long as they can be: an element has 12 bytes with its sign and a
- * space, or 2, a segment 3 more, and a text 2 brackets.
+ * Where a part's text begins in the memory for all, each as long as it can be: an element has 12 bytes with its sign and a space, or 2, a
+ * segment 3 more, and a text 2 brackets.
  */
 /*@ requires \valid_read(w) && \valid_read(w->row) && k <= w->parts <= CVL_MOST_PARTS && w->from[k] <= CVL_MOST_ELEMENTS;
     requires w->start[k] <= CVL_MOST_ELEMENTS && w->first[k] <= CVL_MOST_ELEMENTS;
@@ -33,7 +33,7 @@ static CvlStatus seg_write_part(CvlWork *w, size_t k) {
     return cvl_proved_seg_write_ints(CVL_INTS(w, CVL_AS_A, start), n, lengths, count, text_room(w, place), room, &w->counts[k]);
 }
 
-/* Puts the text of a part where it stands: without its last bracket, and with a space for its first but where it is the first of all. */
+/* Puts the text of a part where it stands, without its last bracket, and with a space for its first unless it is the first of all. */
 static CvlStatus put_text_part(CvlWork *w, size_t k) {
     char *out = (char *)w->in[CVL_AS_OUT].at + w->other[k];
     if (w->counts[k] == 0) return cvl_done();
@@ -75,7 +75,7 @@ static CvlStatus put_read_part(CvlWork *w, size_t k) {
     return cvl_done();
 }
 
-/* Where a part has a fault, or there are too many integers, the whole text is read again, and tells it. */
+/* If a part has a fault, or there are too many integers, the whole text is read again to report it. */
 bool cvl_read_in_parts(const CvlPool *pool, CvlWork *w) {
     if (!cvl_keep(w, read_place(w, w->parts) * sizeof(int32_t)) || !cvl_step(pool, w, CVL_COPIES, read_part)) return 0;
     for (size_t k = 0; k < w->parts; k++) w->other[k + 1] = w->other[k] + w->counts[k];

@@ -1,6 +1,6 @@
 /*
- * The threads of the process. One word says whose they are, whether somebody has them, who waits to set another number, and how
- * many there are. It is changed by single steps, so that a child of a fork, or a handler of signals, finds each done or not done.
+ * The threads of the process. One word says whose they are, whether somebody has them, who waits to set another number, and how many there
+ * are. It changes by single steps, so that a child of a fork, or a handler of signals, finds each done or not done.
  */
 #include "threads.h"
 #include "pools.h"
@@ -11,10 +11,7 @@
 #include <stdatomic.h>
 #include <time.h>
 
-/*
- * The parts of the word: how many threads there are; whether somebody has them; how many wait to set a number; and above these
- * the process.
- */
+/* The parts of the word: how many threads there are, whether somebody has them, how many wait to set a number, and the process. */
 enum { COUNT = 0x7f, TAKEN = 0x80, WAITER = 0x100, WAITING = 0xff00 };
 
 /* It is 0 until somebody asks. */
@@ -47,8 +44,8 @@ static void have(CvlThreads *next) {
 }
 
 /*
- * Has so many threads instead of those that there are. The answer is 0, or the number of an error, and then these stay. They are
- * freed once others are there: the child of a fork that comes between the two would free them again.
+ * Has so many threads instead of those that there are, and answers 0, or the number of an error, and then these stay. They are freed once
+ * others are there, since the child of a fork in between would free them again.
  */
 static int start(size_t count) {
     CvlThreads *const before = threads, *next = NULL;
@@ -59,7 +56,7 @@ static int start(size_t count) {
     return 0;
 }
 
-/* A number from 1 to 64 that a text says, in digits alone, else 1. */
+/* A number from 1 to 64 in digits alone, else 1. */
 /*@ requires valid_read_string(text) && strlen(text) < SIZE_MAX;
     assigns \nothing;
     ensures is_number(text, strlen(text)) && 1 <= number_in(text, strlen(text)) <= CVL_MOST_PARTS ?
@@ -83,7 +80,7 @@ static size_t asked_for(void) {
     return text == NULL ? 1 : number_of(text);
 }
 
-/* The word, once somebody has asked: the first that does reads the variable. A call starts the threads that it asks for. */
+/* The word: the first that asks for it reads the variable. A call starts the threads that it asks for. */
 static uint64_t asked(void) {
     const uint64_t seen = look();
     if (seen != 0) return seen;
@@ -96,7 +93,7 @@ static size_t count_here(uint64_t seen) { return is_here(seen) ? count_of(seen) 
 
 size_t cvl_threads(void) { return count_here(asked()); }
 
-/* Takes the threads to set another number of them, and answers how many there are. Calls that come while this waits run alone. */
+/* Takes the threads to set another number of them, and answers how many there are. Calls meanwhile run alone. */
 static size_t take_to_set(void) {
     uint64_t waits = 0;
     for (;;) {

@@ -1,7 +1,6 @@
 /*
- * threads.h: the threads of the process, which calls under their own names take where they are long, and how long that is. Each
- * checked function of a family that is cut asks for them; the function beneath it, cvl_int2_alone of cvl_int2, never does, and neither
- * does anything that a part calls.
+ * threads.h: the threads of the process, which long calls under their own names take. Each checked function of a family that is cut asks
+ * for them; the function beneath it, cvl_int2_alone of cvl_int2, never does, and neither does anything that a part calls.
  */
 #ifndef CVL_THREADS_H
 #define CVL_THREADS_H
@@ -31,12 +30,12 @@
 #endif
 
 /*
- * Takes the threads of the process for one call, and answers a pool of them; or null where there is one thread, in the child of a fork, and
+ * Takes the threads of the process for one call, and answers a pool of them; or null if there is one thread, in the child of a fork, and
  * while another call or cvl_set_threads has them. It waits for nobody.
  */
 CVL_HIDDEN const CvlPool *cvl_take_threads(void);
 
-/* Gives them back, and hands on what the call answers. */
+/* Gives them back, and returns what the call answers. */
 CVL_HIDDEN CvlStatus cvl_give_threads(CvlStatus status);
 
 #endif
