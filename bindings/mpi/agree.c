@@ -1,18 +1,17 @@
 /*
- * How ranks agree on one status, by one collective of 16 bytes. Each tells how many elements it has, which call it makes, and its first
- * fault with its place and its turn: the order in which the plain call looks for faults. What two neighbours tell is joined to what the
- * two parts one behind the other would tell: the fault of the earlier turn, of the same turn the one of the rank before, with its place
- * counted from the start of both.
+ * How ranks agree on one status, by one collective of 16 bytes. Each rank sends how many elements it has, which call it makes, and its
+ * first fault with its place and its turn: the order in which the plain call looks for faults. Of two neighbours the fault of the earlier
+ * turn is kept, of the same turn that of the rank before, with its place counted from the start of both.
  */
 #include "ranks.h"
 
-/* The turn of a fault: what a call looks at first comes first. */
+/* The turn of a fault, in the order in which a call looks for them. */
 typedef enum CvlTurn {
     CVL_TURN_DESCRIPTOR, CVL_TURN_OVERLAP, CVL_TURN_UNKNOWN, CVL_TURN_LENGTHS, CVL_TURN_LONG, CVL_TURN_MISMATCH, CVL_TURN_ROOM, CVL_TURN_MEMORY,
     CVL_TURN_ELEMENTS, CVL_TURN_NONE
 } CvlTurn;
 
-/* 48 bits of elements and 16 of the call; 8 of the turn, 8 of the number and 48 of the place, or all of them set where there is none. */
+/* 48 bits of elements and 16 of the call; 8 of the turn, 8 of the number and 48 of the place, or all of them set if there is none. */
 typedef struct CvlVote {
     uint64_t elements, fault;
 } CvlVote;

@@ -1,6 +1,6 @@
 /*
- * Segments appended to segments over ranks: each rank finds where its pieces of both vectors stand in the result, and sends them there, a run for
- * each rank that has a part of a piece. The places ascend, so that elements are sent as they stand.
+ * Segments appended to segments over ranks: each rank finds where its pieces of both vectors stand in the result, and sends them there, a
+ * run for each rank that has a part of a piece.
  */
 #include "permutes.h"
 #include "runs.h"
@@ -13,14 +13,17 @@ typedef struct Side {
     int64_t *starts;                /* of each piece, where its segment of the other vector starts; then where the piece begins in the result */
     int64_t *lengths;               /* and how long that segment is */
     int32_t *from, *counts;         /* of each run: where it begins in the part of the rank that has it, and its elements */
-    int32_t *got_from, *got_counts; /* the same of those that this rank is sent */
+    int32_t *got_from, *got_counts; /* the same of those that this rank gets */
     size_t runs, got_runs;
     void *got;                      /* their elements */
 } Side;
 
 /* ---- where pieces stand in the result ---- */
 
-/* Behind the pieces before them, and as much of the other vector as stands before: of the second one also the segment that it is appended to. */
+/*
+ * A piece stands behind the pieces before it, and as much of the other vector as stands before: of the second one also the segment that it
+ * is appended to.
+ */
 static void place_pieces(Side *side, bool is_second) {
     uint64_t own = side->held->offset;
     for (size_t p = 0; p < side->held->pieces; p++) {
@@ -44,7 +47,7 @@ static bool find_places(CvlCall *c, Side *side, bool is_second) {
 
 /* ---- runs ---- */
 
-/* Tells each rank how many runs it is sent, and takes memory for them. */
+/* Sends each rank the number of runs that it gets, and takes memory for them. */
 static void count_runs(CvlCall *c, Side *side) {
     CvlRanks *const ranks = c->ranks;
     CvlRun run = {0};

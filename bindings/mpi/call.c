@@ -1,4 +1,4 @@
-/* A call over ranks: what a rank looks at before it asks others, its memory, and the call of the plain family. */
+/* A call over ranks: what a rank checks before it asks others, its memory, and the call of the plain family. */
 #include "driver.h"
 #include "ranks.h"
 
@@ -9,7 +9,7 @@ bool cvl_are_ranks(const CvlRanks *ranks) {
     return !ended;
 }
 
-/* ---- what a rank sees by itself, in the order in which a plain call looks ---- */
+/* ---- what a rank checks by itself, in the order of a plain call ---- */
 
 /* Where a call keeps the descriptor of an operand. */
 static const CvlRankSegments **held_as(CvlCall *c, unsigned char as) {
@@ -49,7 +49,7 @@ static bool is_too_long(const CvlCall *c) {
     return 0;
 }
 
-/* Whether operands are as long as others say, and as the rank's pieces add up to. Segments of two descriptors agree where all ranks are. */
+/* Whether operands are as long as others say, and as the rank's pieces add up to. Segments of two descriptors agree if all ranks are. */
 static bool do_agree(const CvlCall *c) {
     const CvlRow *const row = &c->family->row;
     for (size_t k = 0; k < row->operands; k++) {
@@ -125,7 +125,7 @@ void cvl_move_in(CvlCall *c) {
     if (c->aside != NULL && bytes > 0) memcpy((void *)c->in[CVL_AS_OUT].at, c->aside, bytes);
 }
 
-/* Whether all ranks make the same call: asked first in a library that is built to find programs' mistakes, and else with the status. */
+/* Whether all ranks make the same call: compared first in a library that is built to find programs' mistakes, and else with the status. */
 #ifdef CVL_COMPARE_CALLS
 static bool is_one_call(const CvlCall *c) {
     bool short_room = 0;

@@ -1,6 +1,6 @@
 /*
- * Where sorted pieces are cut, so that each rank gets exactly as many elements of a sorted vector as it has room for, whatever the keys are:
- * the key at each boundary is found by halving its range, with the counts of all ranks, and equal keys are shared in the order of the ranks.
+ * Cuts sorted pieces so that each rank gets exactly as many elements as it has room for, whatever the keys are: the key at each boundary is
+ * found by halving its range, with the counts of all ranks, and equal keys are shared in the order of the ranks.
  */
 #include "shares.h"
 #include "sorts.h"

@@ -1,7 +1,7 @@
 /* Segments over ranks: what a rank knows of the pieces in its range, and of the segments that go on from it and to it. */
 #include "ranks.h"
 
-/* The fault of this rank's lengths, and what they add up to. */
+/* The fault of this rank's lengths, and their total. */
 static CvlStatus look(CvlLengths pieces, size_t *total) {
     *total = 0;
     const CvlStatus status = cvl_make_descriptor(pieces, total);

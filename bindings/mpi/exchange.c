@@ -11,7 +11,7 @@ uint64_t cvl_offsets(CvlRanks *ranks, uint64_t number) {
 
 int cvl_owner(const CvlRanks *ranks, uint64_t place) { return cvl_owner_of(ranks->offsets, ranks->size, place); }
 
-/* Whether counts add up to what an exchange can hold, whose places are of 32 bits. */
+/* Whether counts add up to what an exchange can hold: its places have 32 bits. */
 static bool is_held(const int *counts, int size) {
     uint64_t all = 0;
     for (int r = 0; r < size; r++) all += (uint64_t)counts[r];

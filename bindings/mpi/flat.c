@@ -108,7 +108,7 @@ CvlStatus cvl_checked_reduce_over_ranks(CvlCall *c) {
     return c->status;
 }
 
-/* Looks for the first place whose sum does not fit, a block at a time, and writes no room. */
+/* Looks for the first place whose sum does not fit, a block at a time. */
 static void look_at_sums(CvlCall *c, CvlFold before) {
     int32_t sums[CVL_BLOCK];
     const int32_t *const a = c->in[CVL_AS_A].at;
@@ -151,7 +151,7 @@ CvlStatus cvl_count_over_ranks(CvlCall *c) {
     return c->status;
 }
 
-/* What a rank packs stays with it, so that no element moves; segments change nothing of it, once their lengths are those of the vector. */
+/* What a rank packs stays with it. Segments change nothing of it, once their lengths are those of the vector. */
 CvlStatus cvl_pack_over_ranks(CvlCall *c) {
     size_t *const told = (size_t *)c->in[CVL_AS_TOLD].at, kept = 0;
     const CvlSlot a = c->in[CVL_AS_A], out = c->in[CVL_AS_OUT];
@@ -173,7 +173,7 @@ CvlStatus cvl_pack_over_ranks(CvlCall *c) {
 
 /* ---- single elements ---- */
 
-/* Where the place stands that the call names, from this rank's first element on, or nothing where another rank has it; 10 where none has. */
+/* Where the call's place stands, from this rank's first element on, or nothing if another rank has it; 10 if none has. */
 static bool is_own_place(CvlCall *c, size_t *at) {
     const size_t n = c->in[CVL_AS_A].number;
     const int64_t place = (int64_t)c->in[CVL_AS_PLACE].number;

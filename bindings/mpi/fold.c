@@ -23,7 +23,7 @@ static CvlStatus join_bools(uint32_t op, const bool *flags, size_t count, int64_
     return status;
 }
 
-/* Adds exactly; where 64 bits don't do, or didn't do before, `high` says so. */
+/* Adds exactly; `high` says whether 64 bits are too few, or were before. */
 static void add_exactly(CvlFold first, CvlFold second, CvlFold *joined) {
     joined->high = first.high != 0 || second.high != 0 || cvl_is_past(first.low, second.low);
     joined->low = joined->high ? 0 : first.low + second.low;
@@ -42,14 +42,14 @@ static void join_places(CvlFold first, CvlFold second, CvlFold *joined) {
     joined->low = first.low >= 0 ? first.low : second.low < 0 ? -1 : first.high + second.low;
 }
 
-/* Where an automaton of at most eight states ends that begins in each of them, a byte a state: the second text's behind the first's. */
+/* Where an automaton of at most eight states ends that begins in each of them, a byte a state. */
 static int64_t joined_states(uint64_t first, uint64_t second) {
     uint64_t joined = 0;
     for (unsigned state = 0; state < 8; state++) joined |= (second >> 8 * (first >> 8 * state & 7) & 0xff) << 8 * state;
     return (int64_t)joined;
 }
 
-/* Two values; whether a segment starts in one of them is not looked at. An operator that is none of the family joins nothing. */
+/* Joins two values, without looking whether a segment starts in one. An operator that is none of the family joins nothing. */
 static CvlFold joined_values(CvlFold first, CvlFold second) {
     CvlFold joined = first;
     CvlStatus status = cvl_done();
@@ -81,7 +81,7 @@ CvlFold cvl_nothing(CvlJoin join, uint32_t op) {
     return fold;
 }
 
-/* ---- the functions of MPI's operators, of which the first argument is the ranks before ---- */
+/* ---- the functions of MPI's operators, whose first argument is the ranks before ---- */
 
 /* What stands before a place: since the last start. */
 void cvl_fold_before(void *in, void *inout, int *count, MPI_Datatype *type) {

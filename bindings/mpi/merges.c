@@ -1,6 +1,6 @@
 /*
- * Merges by flags over ranks: the two vectors are spread as each rank's flags take them, and merged there by the plain family. By segments they are
- * merged as without, once each segment has as many true and false flags as its two sides have elements.
+ * Merges by flags over ranks: the two vectors are spread as each rank's flags take them, and merged there by the plain family. By segments
+ * they are merged as a whole, once each segment has as many true and false flags as its two sides have elements.
  */
 #include "permutes.h"
 
@@ -10,7 +10,7 @@ typedef struct Sides {
     void *when_true, *when_false;
 } Sides;
 
-/* Counts the flags; where the vectors have not as many elements in all it is said. */
+/* Counts the flags; it is a fault if the vectors have not as many elements in all. */
 static Sides look_at_sides(CvlCall *c) {
     const size_t n = c->in[CVL_AS_FLAGS].number;
     int32_t count = 0;
@@ -51,7 +51,7 @@ CvlStatus cvl_merge_over_ranks(CvlCall *c) {
 
 /* ---- by segments ---- */
 
-/* How many flags of each piece are true; of the last segment that starts in the rank also those in ranks behind. */
+/* How many flags of each piece are true; for the last segment that starts in the rank, those in later ranks too. */
 static void count_trues(CvlCall *c, int64_t *trues) {
     const CvlRankSegments *const s = c->segments;
     const bool *flags = c->in[CVL_AS_FLAGS].at;
@@ -63,7 +63,7 @@ static void count_trues(CvlCall *c, int64_t *trues) {
     if (s->starts > 0) trues[s->pieces - 1] += after.low;
 }
 
-/* The first segment that starts in the rank and has other counts than its two sides have elements, or -1. */
+/* The first segment that starts in the rank and has other counts than its two sides, or -1. */
 static int64_t first_miscount(const CvlRankSegments *s, const int64_t *trues, const int64_t *when_true, const int64_t *when_false) {
     const size_t skipped = s->goes_on;
     for (size_t k = 0; k < s->starts; k++) {
@@ -74,7 +74,7 @@ static int64_t first_miscount(const CvlRankSegments *s, const int64_t *trues, co
     return -1;
 }
 
-/* How many elements the segments of another descriptor have that are as many as the rank's pieces go on or start. */
+/* How many elements another descriptor's segments have, as many as go on or start in the rank. */
 static int64_t *lengths_of(CvlCall *c, const CvlRankSegments *other) {
     CvlTargets targets = {0};
     const CvlRankSegments *const kept = c->other;

@@ -1,6 +1,7 @@
 /*
- * Nested texts over ranks. What a rank makes of its part depends only on where the ranks before it left off, which is one of five states: so
- * each tells where it leads from each of them, one Exscan of 32 bytes tells it where it begins, and it reads its words by the plain function.
+ * Nested texts over ranks. What a rank makes of its part depends only on the state, one of five, in which the ranks before end. So each
+ * rank finds where it leads from each state, one Exscan of 32 bytes gives the state in which it begins, and it reads its words by the plain
+ * function.
  */
 #include "texts.h"
 
@@ -63,7 +64,9 @@ static CvlStatus read_words(Nested *n) {
     return cvl_read_pieces(n->without, n->text_len, 0, n->numbers);
 }
 
-/* The pieces of the lists, from the state on in which the ranks before end; 15 at the first word or bracket that cannot stand where it does. */
+/*
+ * The pieces of the lists, from the state in which the ranks before end; 15 at the first word or bracket that cannot stand where it does.
+ */
 static CvlStatus read_lists(Nested *n, State state, CvlStatus words) {
     int64_t token = 0, word = 0;
     if (state == AT_FAULT) return cvl_done();
@@ -81,7 +84,7 @@ static CvlStatus read_lists(Nested *n, State state, CvlStatus words) {
 
 static State state_in(CvlFold ends, State from) { return (State)((uint64_t)ends.low >> 8 * from & 0xff); }
 
-/* The first fault of the whole, as far as this rank has it: also that the text ends too early, which the last rank tells. */
+/* The first fault of the whole that this rank has; the last rank reports a text that ends too early. */
 static CvlStatus fault_of(CvlRanks *ranks, Nested *n, CvlStatus words) {
     const CvlFold mine = cvl_fold(CVL_JOIN_STATES, 0, 0, (int64_t)n->ends, 0);
     const State state = state_in(cvl_before(ranks, mine), BEFORE);
@@ -114,7 +117,7 @@ CvlStatus cvl_seg_read_ints_mpi(CvlRanks *ranks, const char *text, size_t text_l
     if (do_meet(text, text_len, out, out_len, lengths, lengths_len)) status = cvl_overlap();
     status = cvl_agreed(ranks, status, CVL_CALL_NEST_READ, n.tokens, UINT64_MAX, &short_room, &none);
     if (status.number == CVL_DONE) {
-        /* the rooms are asked last, since the text alone says how long the results are */
+        /* the rooms are compared last, since only the text says how long the results are */
         short_room = n.words > out_len || n.pieces > lengths_len;
         const CvlStatus room = short_room ? cvl_status(CVL_LENGTH_MISMATCH, -1) : cvl_done();
         status = cvl_agreed(ranks, room, CVL_CALL_NEST_READ + 1, 0, UINT64_MAX, &short_room, &none);
@@ -128,8 +131,8 @@ CvlStatus cvl_seg_read_ints_mpi(CvlRanks *ranks, const char *text, size_t text_l
 /* ---- writing ---- */
 
 /*
- * A rank's pieces as lists of its own, of which the first one's opening bracket may stand in a rank before, and the last one's closing bracket
- * in one behind: where its segment has its last element, or, if it has none, where it starts.
+ * A rank's pieces as lists of its own. The first one's opening bracket may stand in an earlier rank, and the last one's closing bracket in
+ * a later one: where its segment has its last element, or, if it has none, where it starts.
  */
 static void cut_brackets(const CvlRankSegments *s, CvlWritten *w) {
     const bool open = s->pieces > 0 && s->last_after > 0;

@@ -1,7 +1,7 @@
 /*
  * Permutes, first senders and combining permutes over ranks: each element goes to the rank that has its place, in the order of the vector,
- * and that rank makes the plain call of what it is sent. A place that is named twice is named twice at one rank, so that the first repeated
- * index is the least of those that ranks find; its sender knows where it stands.
+ * and that rank makes the plain call of what it gets. A place that is named twice is named twice at one rank, so the first repeated index
+ * is the least of those that ranks find; its sender knows where it stands.
  */
 #include "permutes.h"
 
@@ -9,8 +9,8 @@
 
 /* A permute in which a rank has its part. */
 typedef struct Sending {
-    int32_t *places;      /* of each index, the place in the whole; -1 where none is sent, also of one that is out of range */
-    int64_t out_of_range; /* the first index that is, or -1 */
+    int32_t *places;      /* of each index, the place in the whole; -1 if none is sent, also for one that is out of range */
+    int64_t out_of_range; /* the first index that is out of range, or -1 */
     int32_t *sent_places, *got_places; /* within the rank that has them */
     void *sent, *got;                  /* the elements */
     size_t count, received;
@@ -24,7 +24,7 @@ static bool has(const CvlCall *c, CvlAs as) {
     return 0;
 }
 
-/* Whether all indices go somewhere, so that the result has as many places; or those whose flags are true. */
+/* Whether all indices go somewhere, so that the result has as many places; or only those whose flags are true. */
 static bool is_simple(const CvlCall *c) { return has(c, CVL_AS_A) && !has(c, CVL_AS_B) && !has(c, CVL_AS_FLAGS) && !c->combines; }
 static bool is_select(const CvlCall *c) { return has(c, CVL_AS_A) && has(c, CVL_AS_FLAGS); }
 
@@ -37,13 +37,13 @@ static const void *defaults_of(const CvlCall *c) {
 
 static size_t element_size(const CvlCall *c) { return has(c, CVL_AS_A) && cvl_has_bools(c) ? sizeof(bool) : sizeof(int32_t); }
 
-/* Whether the places alone say what is done, which is where they are counted. */
+/* Whether only places are sent, to be counted. */
 static bool are_places_enough(const CvlCall *c) { return c->combines && !has(c, CVL_AS_A); }
 
 /* Whether an index may be named twice. */
 static bool may_repeat(const CvlCall *c) { return c->combines || !has(c, CVL_AS_A); }
 
-/* Finds the place of each index, and counts for each rank how many it is sent. */
+/* Finds the place of each index, and counts what each rank gets. */
 static void find_places(CvlCall *c, Sending *s) {
     const int32_t *index = c->in[CVL_AS_INDEX].at;
     const bool *flags = has(c, CVL_AS_FLAGS) ? c->in[CVL_AS_FLAGS].at : NULL;
@@ -89,7 +89,7 @@ static void fill(CvlCall *c, Sending *s) {
 
 /* ---- what is received ---- */
 
-/* Writes what the rank is sent: at its place, the first of those that name it; or where nothing is sent what stands there else. */
+/* Writes at each place the first element sent there, or, if none is, what stands there else. */
 static CvlStatus place_received(CvlCall *c, Sending *s) {
     const CvlSlot out = c->in[CVL_AS_OUT];
     const void *const before = defaults_of(c);
@@ -102,7 +102,7 @@ static CvlStatus place_received(CvlCall *c, Sending *s) {
     return cvl_default_permute_int(s->got, s->received, s->got_places, s->received, before, out.number, c->aside, out.number);
 }
 
-/* Of what the rank is sent, the first sender of each of its places; what is sent is where each sender stands. */
+/* The first sender of each place of the rank; what is sent is where each sender stands. */
 static CvlStatus name_senders(CvlCall *c, Sending *s) {
     const CvlSlot out = c->in[CVL_AS_OUT];
     int32_t *const first = c->aside;
@@ -113,7 +113,7 @@ static CvlStatus name_senders(CvlCall *c, Sending *s) {
     return status;
 }
 
-/* Joins what the rank is sent with what stands in its room, or counts it. */
+/* Joins what the rank gets with what stands in its room, or counts it. */
 static CvlStatus combine_received(CvlCall *c, Sending *s) {
     const CvlSlot out = c->in[CVL_AS_OUT];
     if (are_places_enough(c)) return cvl_counts(s->got_places, s->received, c->aside, out.number);
@@ -130,7 +130,7 @@ static CvlStatus write_received(CvlCall *c, Sending *s) {
 
 /* ---- the first fault ---- */
 
-/* Tells the sender of the first repeated place which of those that it sent here it is. */
+/* Reports to the sender of the first repeated place which of its elements it is. */
 static void tell_sender(CvlRanks *ranks, int64_t repeated) {
     int sender = -1;
     for (int r = 0; r < ranks->size; r++) {
@@ -152,7 +152,7 @@ static int64_t first_repeated(CvlCall *c, const Sending *s) {
     return -1;
 }
 
-/* Has the ranks find the first bad index of the whole, where there is one. */
+/* Has the ranks find the first bad index of the whole, if there is one. */
 static void find_first(CvlCall *c, const Sending *s, CvlStatus own) {
     tell_sender(c->ranks, own.number == CVL_INDEX_REPEATED ? own.place : -1);
     const int64_t repeated = first_repeated(c, s);
@@ -165,7 +165,7 @@ static void find_first(CvlCall *c, const Sending *s, CvlStatus own) {
 
 /* ---- the call ---- */
 
-/* Where nothing is written that is not sent, as many are sent as the result has places. Else 7, before there is no memory. */
+/* Whether as many are sent as the result has places, if nothing else is written; else 7, before 100. */
 static void look_at_room(CvlCall *c, uint64_t room) {
     const bool select = is_select(c);
     int32_t trues = 0;
@@ -197,7 +197,7 @@ static void let_go(Sending *s) {
     free(s->targets.starts), free(s->targets.places);
 }
 
-/* Sends, and writes aside what is received. Where an index is bad the ranks agree on the first one. */
+/* Sends, and writes aside what is received. If an index is bad, the ranks agree on the first one. */
 static void exchange(CvlCall *c, Sending *s) {
     cvl_offsets(c->ranks, c->in[CVL_AS_OUT].number);
     find_places(c, s);

@@ -4,19 +4,24 @@
 
 #include "ranks.h"
 
-/* Segments of two descriptors are as many, and whole vectors of a call by an index no longer than a vector may be; else it is said. */
+/*
+ * Segments of two descriptors are as many, and a whole vector of a call by an index is no longer than a vector may be; else it is a fault.
+ */
 CVL_HIDDEN void cvl_look_at_targets(CvlCall *c);
 
 /* Takes memory for where the indices of the rank lead. */
 CVL_HIDDEN void cvl_take_targets(CvlCall *c, CvlTargets *targets);
 
-/* Finds it: of an index without segments, all of the `places`; of a select, where what it keeps stands. All ranks agree whether it is found. */
+/*
+ * Finds where they lead, and all ranks agree whether it is found: of an index without segments, to all of the `places`; of a select, to
+ * where what it keeps stands.
+ */
 CVL_HIDDEN bool cvl_find_targets(CvlCall *c, CvlTargets *targets, uint64_t places, bool is_select);
 
-/* Of each piece, where the segment of the other descriptor with its number starts in the whole, and how many places that has. All ranks agree. */
+/* Where the segment of the other descriptor with each piece's number starts in the whole, and how many places it has. All ranks agree. */
 CVL_HIDDEN void cvl_fetch_segments(CvlCall *c, CvlTargets *targets);
 
-/* ---- who asks whom for what: routes.c ---- */
+/* ---- which ranks ask which for what: routes.c ---- */
 
 struct CvlRoute {
     CvlRanks *ranks;
@@ -29,11 +34,13 @@ struct CvlRoute {
     CvlStatus permute;            /* what a simple permute by the index answers */
 };
 
-/* Finds who asks whom for the elements at places of a vector of which this rank has `source_len`. All ranks agree whether there is memory,
- * and on 10 where one has a bad index, at that of `bad` or none. */
+/*
+ * Finds which ranks have the elements at places of a vector of which this rank has `source_len`. All ranks agree whether there is memory,
+ * and on 10 at the first bad index.
+ */
 CVL_HIDDEN bool cvl_make_route(CvlCall *c, CvlRoute *route, const int32_t *places, size_t places_len, size_t source_len, int64_t bad);
 
-/* Fetches elements: what the rank asked for, each once, is then in route->got. */
+/* Fetches elements into route->got, each once. */
 CVL_HIDDEN CvlStatus cvl_fetch(CvlRoute *route, const void *source, size_t size);
 
 CVL_HIDDEN void cvl_clear_route(CvlRoute *route);

@@ -1,6 +1,6 @@
 /*
- * Sparse products over ranks: each rank asks for the elements of the vector that its columns name, each once, multiplies its entries by the
- * plain family, and a row that crosses ranks is joined as a segmented reduce is.
+ * Sparse products over ranks: each rank asks once for each element of the vector that its columns name, multiplies its entries by the plain
+ * family, and joins rows that cross ranks as a segmented reduce does.
  */
 #include "permutes.h"
 #include "shares.h"
@@ -31,7 +31,7 @@ static void multiply(CvlCall *c, const Entries *e) {
 
 /* ---- exact sums ---- */
 
-/* The exact sum of entries: no sum of their products' low words, or of their high ones, is past 64 bits. */
+/* The exact sum of entries: neither the sum of their products' low words nor that of the high ones is past 64 bits. */
 static CvlFold exact_product(const Entries *e, size_t from, size_t to, bool starts) {
     int64_t all = 0, high;
     uint64_t low = 0;
@@ -49,7 +49,7 @@ static bool fits(CvlFold sum, int32_t *number) {
     return 1;
 }
 
-/* The rows that start in the rank: all but the last by the plain family, and the last with what it has in ranks behind. */
+/* The rows that start in the rank: all but the last by the plain family, the last joined with what later ranks have of it. */
 static void multiply_starting(CvlCall *c, const Entries *e, CvlFold after) {
     const size_t starts = e->rows->starts, head = cvl_head_of(e->rows), last = e->count - (size_t)e->rows->lengths[e->rows->pieces - 1];
     const CvlLengths rows = {e->rows->goes_on ? e->rows->lengths + 1 : e->rows->lengths, starts - 1};
@@ -81,7 +81,7 @@ static void multiply_fetched(CvlCall *c, const CvlRoute *route) {
     free(e.sums);
 }
 
-/* The columns of a rank, and the first that none is of x, or -1; such a one is column 0 here. */
+/* The columns of a rank, and the first that is no place of x, or -1; it is column 0 here. */
 static int64_t find_columns(CvlSlot columns, uint64_t x_len, int32_t *found) {
     const int32_t *const named = columns.at;
     int64_t bad = -1;
@@ -146,7 +146,7 @@ CvlStatus cvl_rows_over_ranks(CvlCall *c) {
 
 static const CvlRankRow route_family = {.call = (CVL_CALL_ROUTE >> 8) + 1}, checked_route_family = {.call = (CVL_CALL_ROUTE >> 8) + 2, .checked = 1};
 
-/* What a plain call would look at first. */
+/* The faults that a plain call reports first. */
 static void look(CvlCall *c, const CvlRoute *route) {
     const CvlSlot values = c->in[CVL_AS_A], x = c->in[CVL_AS_B], out = c->in[CVL_AS_OUT];
     const CvlRankSegments *const rows = c->segments;

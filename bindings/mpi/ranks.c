@@ -17,7 +17,7 @@ static bool do_all(MPI_Comm comm, bool mine) {
     return all != 0;
 }
 
-/* The ranks without what MPI keeps for them, or nothing where there is no memory. */
+/* The ranks without what MPI keeps for them, or nothing if there is no memory. */
 static CvlRanks *ranks_of(int size) {
     CvlRanks *const ranks = malloc(sizeof *ranks);
     if (ranks == NULL) return NULL;

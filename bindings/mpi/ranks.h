@@ -1,10 +1,8 @@
 /*
- * ranks.h: what the functions of cvl_mpi.h share. A function puts its arguments into slots, as those of cvl.h do, and hands them to the
- * way of its family, which makes each rank's own part by the plain family and has the ranks tell one another what a part needs of others.
- *
- * Each call has the ranks agree on one status before any rank writes a room: a part that may be refused is made in memory of the
- * library's own and moved into the room after that. So a fault of one rank leaves the rooms of all ranks as they were, and no rank goes on
- * alone.
+ * ranks.h: what the functions of cvl_mpi.h share. A function puts its arguments into slots and hands them to the way of its family, which
+ * makes each rank's own part by the plain family and exchanges what a part needs of others. The ranks agree on one status before any of
+ * them writes a room: a part that may be refused is made in memory of the library's own first. So a fault of one rank leaves the rooms of
+ * all ranks as they were, and no rank goes on alone.
  */
 #ifndef CVL_MPI_RANKS_H
 #define CVL_MPI_RANKS_H
@@ -21,15 +19,15 @@
 typedef enum CvlJoin {
     CVL_JOIN_INTS,   /* by an operator on integers */
     CVL_JOIN_BOOLS,  /* by one on booleans */
-    CVL_JOIN_EXACT,  /* added in 64 bits; `high` says that this did not do */
+    CVL_JOIN_EXACT,  /* added in 64 bits; `high` says whether these were too few */
     CVL_JOIN_WIDE,   /* added in 96 bits: high * 2^32 + low */
     CVL_JOIN_COUNTS, /* high and low are two counts, each added */
     CVL_JOIN_PLACES, /* high is how many elements, and low the place of the first of some among them, or -1 */
-    CVL_JOIN_STATES, /* where an automaton is that begins in each of its states */
+    CVL_JOIN_STATES, /* where an automaton ends that begins in each of its states */
     CVL_JOIN_FIRST   /* the first, as where a value stands until the next segment starts */
 } CvlJoin;
 
-/* A value that ranks join, and whether a segment starts in the ranks that it comes from, so that what stands before is not joined. */
+/* A value that ranks join, and whether a segment starts in the ranks that it comes from: then what stands before is not joined. */
 typedef struct CvlFold {
     int64_t high, low;
     uint32_t join, op;
@@ -64,7 +62,7 @@ struct CvlRankSegments {
     uint64_t all, segments; /* elements of the whole, and segments */
 };
 
-/* The pieces that a rank has, and their lengths behind the one that goes on from a rank before; and the length of that. */
+/* The pieces of a rank, their lengths behind the one that goes on from a rank before, and the length of that. */
 static inline size_t cvl_head_of(const CvlRankSegments *segments) { return segments->goes_on ? (size_t)segments->lengths[0] : 0; }
 
 /* ---- a call ---- */
@@ -90,8 +88,8 @@ struct CvlCall {
     CvlSlot in[CVL_ROLES]; /* the same by what they are to the call */
     const CvlRankSegments *segments, *other, *third;
     bool *copies[CVL_MOST_OPERANDS]; /* of flags that are neither 0 nor 1 */
-    void *aside;                     /* the room where it may be refused, or nothing */
-    CvlStatus status;                /* what this rank has to say */
+    void *aside;                     /* the room if it may be refused, or nothing */
+    CvlStatus status;                /* this rank's status */
     uint64_t total;                  /* how many elements all ranks have, once they agree */
     bool by_segment;                 /* whether an index stands for each segment that starts in the rank */
     bool replaces;                   /* whether values replace elements of a vector: the second array goes into the first */
@@ -99,18 +97,18 @@ struct CvlCall {
     bool short_room;                 /* whether this rank's, or, once they agree, a rank's room is too short */
 };
 
-/* Makes a call: opens it, runs its way, and lets go of its memory. */
+/* Makes a call: opens it, runs its way, and frees its memory. */
 CVL_HIDDEN CvlStatus cvl_over_ranks(CvlRanks *ranks, const CvlRankRow *family, uint32_t op, const CvlSlot *s);
 
 /* Whether there are ranks, and MPI goes on. */
 CVL_HIDDEN bool cvl_are_ranks(const CvlRanks *ranks);
 
-/* Keeps the first fault of a call: what has a status already keeps that. */
+/* Keeps the first fault of a call. */
 static inline void cvl_say(CvlCall *c, CvlStatus status) {
     if (c->status.number == CVL_DONE) c->status = status;
 }
 
-/* Takes memory for a call, or says that there is none. */
+/* Takes memory for a call, or keeps 100. */
 CVL_HIDDEN void *cvl_take(CvlCall *c, size_t number, size_t size);
 
 /* Has a rank make its part in memory of the library's own. */
@@ -120,12 +118,12 @@ CVL_HIDDEN void cvl_set_aside(CvlCall *c);
 CVL_HIDDEN void cvl_clean(CvlCall *c);
 
 /*
- * Has the ranks agree: whether all are done so far. Else c->status is the fault that the plain call tells of the whole. `number` is how
- * many of what places count this rank has.
+ * Has the ranks agree, and answers whether all are done so far; else c->status is the fault that the plain call reports for the whole.
+ * `number` is how many of what places count this rank has.
  */
 CVL_HIDDEN bool cvl_agree(CvlCall *c, uint64_t number);
 
-/* Agrees on a status of this rank, of `number` elements, with the place in the whole; how many there are in all, of at most `most`. */
+/* Agrees on a status of this rank, of `number` elements, with the place in the whole, which has at most `most`. */
 CVL_HIDDEN CvlStatus cvl_agreed(
     CvlRanks *ranks, CvlStatus status, uint32_t call, uint64_t number, uint64_t most, bool *short_room, uint64_t *total);
 
@@ -133,7 +131,7 @@ CVL_HIDDEN CvlStatus cvl_agreed(
 CVL_HIDDEN void cvl_make_own(CvlCall *c);
 CVL_HIDDEN void cvl_move_in(CvlCall *c);
 
-/* Whether all ranks have the same numbers beside their vectors: the value, the stride, the place. Else 2 UnknownCall. */
+/* Whether all ranks have the same value, stride or place beside their vectors; else 2 UnknownCall. */
 CVL_HIDDEN bool cvl_agree_on_numbers(CvlCall *c);
 
 static inline bool cvl_has_bools(const CvlCall *c) { return (c->family->row.is & CVL_OF_BOOLS) != 0; }
@@ -150,7 +148,7 @@ CVL_HIDDEN CvlFold cvl_joined(CvlFold first, CvlFold second);
 /* What joins to nothing. */
 CVL_HIDDEN CvlFold cvl_nothing(CvlJoin join, uint32_t op);
 
-/* What the ranks before this one join to since the last start; what those behind it do up to the next; and what all do. */
+/* What the ranks before this one join to since the last start; what those behind it join to up to the next; and what all join to. */
 CVL_HIDDEN CvlFold cvl_before(CvlRanks *ranks, CvlFold mine);
 CVL_HIDDEN CvlFold cvl_after(CvlRanks *ranks, CvlFold mine);
 CVL_HIDDEN CvlFold cvl_all(CvlRanks *ranks, CvlFold mine);
@@ -168,10 +166,10 @@ CVL_HIDDEN uint64_t cvl_offsets(CvlRanks *ranks, uint64_t number);
 /* The rank that has a place, by these offsets: the last one whose part begins at it or before. */
 CVL_HIDDEN int cvl_owner(const CvlRanks *ranks, uint64_t place);
 
-/* Tells each rank how many elements it is sent, from ranks->sends; and how many this rank is. More than an exchange holds are said: 100. */
+/* Sends each rank the number of elements that it gets, from ranks->sends. More than an exchange holds is 100. */
 CVL_HIDDEN size_t cvl_exchange_counts(CvlCall *c);
 
-/* Sends elements to and fro; and what was received back to where it came from. */
+/* Sends elements, or sends back what was received. */
 CVL_HIDDEN void cvl_send(CvlRanks *ranks, const void *from, void *to, size_t size);
 CVL_HIDDEN void cvl_send_back(CvlRanks *ranks, const void *from, void *to, size_t size);
 
@@ -179,8 +177,8 @@ CVL_HIDDEN void cvl_send_back(CvlRanks *ranks, const void *from, void *to, size_
 CVL_HIDDEN bool cvl_send_spread(CvlRanks *ranks, const void *a, size_t a_len, void *out, size_t out_len, size_t size);
 
 /*
- * Where the pieces of an index lead: the place at which each piece's segment of the target starts, and how many places that has. Without
- * segments there is one piece, and where a segment has one index each is a piece.
+ * Where the pieces of an index lead: the place at which each piece's segment of the target starts, and how many places it has. Without
+ * segments there is one piece; if a segment has one index, each is a piece.
  */
 typedef struct CvlTargets {
     size_t pieces;

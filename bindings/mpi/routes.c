@@ -1,6 +1,6 @@
 /*
- * Who asks whom for what: back permutes over ranks, and routes, which keep it for an index. Each rank asks for each element that it needs
- * once, in the order of the places, so that those who answer read their parts from the front to the back.
+ * Which ranks ask which for what: back permutes over ranks, and routes, which keep it for an index. Each rank asks once for each element
+ * that it needs, in the order of the places, so that those who answer read their parts from the front to the back.
  */
 #include "permutes.h"
 
@@ -17,7 +17,7 @@ static uint32_t ones(uint32_t bits) {
     return ((bits + (bits >> 4)) & 0x0f0f0f0fu) * 0x01010101u >> 24;
 }
 
-/* Marks the places, writes those that are marked in order, and tells each index which of them it takes. */
+/* Marks the places, writes those that are marked in order, and gives each index its number among them. */
 static size_t unique_by_marks(Word *words, size_t count, const int32_t *places, size_t n, int32_t lowest, int32_t *asked, int32_t *slots) {
     uint32_t all = 0;
     memset(words, 0, count * sizeof *words);
@@ -44,7 +44,7 @@ static int compare(const void *a, const void *b) {
     return (first > second) - (first < second);
 }
 
-/* The same by sorting, where the places lie far apart. */
+/* The same by sorting, if the places lie far apart. */
 static size_t unique_by_sorting(const int32_t *places, size_t n, int32_t *asked, int32_t *slots) {
     size_t all = 0;
     if (n == 0) return 0;
@@ -60,7 +60,7 @@ static size_t unique_by_sorting(const int32_t *places, size_t n, int32_t *asked,
     return all;
 }
 
-/* Finds them; whether there is memory for it. */
+/* Finds them; answers whether there is memory for it. */
 static size_t find_asked(CvlCall *c, const int32_t *places, size_t n, int32_t *asked, int32_t *slots) {
     int32_t lowest = INT32_MAX, highest = 0;
     for (size_t k = 0; k < n; k++) {
@@ -81,7 +81,7 @@ void cvl_clear_route(CvlRoute *route) {
     free(route->counts), free(route->slots), free(route->answered), free(route->sent), free(route->got);
 }
 
-/* Counts for each rank what this one asks it for, and makes places of the whole places of the rank that has them. */
+/* Counts what this rank asks each rank for, and makes the whole places those of the rank that has them. */
 static void by_owner(CvlRanks *ranks, int32_t *asked, size_t asks) {
     int r = 0;
     memset(ranks->sends, 0, (size_t)ranks->size * sizeof *ranks->sends);
@@ -117,7 +117,7 @@ bool cvl_make_route(CvlCall *c, CvlRoute *route, const int32_t *places, size_t p
     return done;
 }
 
-/* What this rank is asked for goes to those that ask; or, back, what it sends goes to those that it would ask. */
+/* Sends what others ask this rank for; or, back, what goes to those that it asks. */
 static void answer(CvlRoute *route, const void *from, void *to, size_t size, bool back) {
     const int n = route->ranks->size, *const asks = route->counts, *const answers = asks + 2 * n;
     const MPI_Datatype type = size == sizeof(bool) ? MPI_UINT8_T : MPI_INT32_T;
@@ -146,7 +146,7 @@ static CvlStatus write_fetched(const CvlRoute *route, void *out, size_t size) {
 
 /* ---- back permutes ---- */
 
-/* The place of each index; the first that is out of range, or -1. Such a one is place 0 here. */
+/* The place of each index; the first that is out of range, or -1, is place 0 here. */
 static int64_t find_places(const int32_t *index, const CvlTargets *targets, int32_t *places) {
     int64_t bad = -1;
     size_t k = 0;
@@ -187,7 +187,7 @@ CvlStatus cvl_seg_extract_over_ranks(CvlCall *c) {
     return cvl_back_over_ranks(c);
 }
 
-/* ---- routes of the program's ---- */
+/* ---- the program's own routes ---- */
 
 static const CvlRankRow route_family = {.call = CVL_CALL_ROUTE >> 8, .named = 1};
 
@@ -211,7 +211,7 @@ static bool is_each_once(CvlCall *c, const CvlRoute *route) {
     return once;
 }
 
-/* What a simple permute by the index answers. Where an index is repeated a permute of the indices tells the first. */
+/* The status of a simple permute by the index. If an index is repeated, a permute of the indices finds the first. */
 static void look_at_permute(CvlCall *c, CvlRoute *route, const int32_t *index) {
     const bool once = route->asks == route->index_len && is_each_once(c, route);
     const int64_t more = (int64_t)route->index_len - (int64_t)route->source_len;
@@ -278,7 +278,7 @@ CvlStatus cvl_route_back_bool(CvlRoute *route, const bool *source, size_t source
     return back_by(route, source, source_len, out, out_len, sizeof *source);
 }
 
-/* Each element goes to the rank that would be asked for it, which writes it at its place. */
+/* Each element goes to the rank that has its place. */
 static void send_elements(CvlRoute *route, const void *source, void *out, size_t size) {
     for (size_t k = 0; k < route->index_len; k++) {
         if (size == sizeof(bool)) ((bool *)route->got)[route->slots[k]] = ((const bool *)source)[k] != 0;

@@ -11,7 +11,7 @@ typedef struct CvlRun {
     size_t count;
 } CvlRun;
 
-/* The next run of pieces that begin at these places; whether there is one. */
+/* The next run of pieces that begin at these places; answers whether there is one. */
 static inline bool cvl_next_run(const CvlRanks *ranks, const CvlRankSegments *held, const uint64_t *places, CvlRun *run) {
     run->place += run->count;
     while (run->left == 0) {

@@ -13,8 +13,8 @@
     logic integer counted{L}(int *counts, integer n) = n <= 0 ? 0 : counted(counts, n - 1) + counts[n - 1]; */
 
 /*
- * The rank that has a place, where ranks begin at these offsets: the last one that begins at it or before. Without a branch on what is found,
- * since the places of a permute at random would mislead it.
+ * The rank that has a place, where ranks begin at these offsets: the last one that begins at it or before. Without a branch on what is
+ * found, since random places would mislead it.
  */
 /*@ requires 1 <= size && \valid_read(offsets + (0 .. size)) && ascend(offsets, size) && offsets[0] <= place;
     assigns \nothing;
@@ -104,7 +104,7 @@ static inline size_t cvl_up_to(const int32_t *keys, size_t n, int64_t most) {
     return low;
 }
 
-/* Of keys that equal the one at a cut, how many of a rank's own go before it, where ranks before have some: theirs go first. */
+/* Of keys that equal the one at a cut, how many of a rank's own go before it: those of earlier ranks go first. */
 /*@ assigns \nothing;
     ensures \result == \max(0, \min(own, wanted - before)); */
 static inline uint64_t cvl_taken(uint64_t wanted, uint64_t before, uint64_t own) {

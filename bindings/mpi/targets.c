@@ -24,7 +24,7 @@ void cvl_take_targets(CvlCall *c, CvlTargets *targets) {
 
 /* ---- the segments themselves ---- */
 
-/* Where the segments of the rank's pieces start in the whole, and how many places they have, from one of the pieces on. */
+/* Where the segments of the rank's pieces start in the whole, and how many places they have. */
 static void own_segments(const CvlRankSegments *s, size_t from, int64_t *starts, int64_t *places) {
     int64_t start = (int64_t)s->offset;
     for (size_t p = 0; p < s->pieces; p++) {
@@ -45,7 +45,7 @@ static void count_trues(const CvlCall *c, int64_t *trues) {
     }
 }
 
-/* The segments of what is kept stand one behind the other, as long as they have true flags. */
+/* The segments of what is kept stand one behind another. */
 static void kept_segments(CvlCall *c, int64_t *starts, int64_t *places) {
     const CvlRankSegments *const s = c->segments;
     const bool some = s->starts > 0;
@@ -66,7 +66,7 @@ static void kept_segments(CvlCall *c, int64_t *starts, int64_t *places) {
 
 /* ---- the segments of another descriptor by their numbers, which other ranks may have ---- */
 
-/* What the rank tells of the segments that start in it, and the numbers of those that it asks for. */
+/* What the rank sends of the segments that start in it, and the numbers of those that it asks for. */
 typedef struct Asked {
     int64_t *wide;             /* starts and places, one after another */
     int32_t *starts, *places;  /* the same */

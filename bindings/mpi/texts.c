@@ -12,7 +12,7 @@ static size_t words_in(const char *text, size_t text_len) {
     return words;
 }
 
-/* Where a piece ends that has no more words than are read at once. */
+/* Where a piece ends that has no more words than one call reads. */
 static size_t piece_end(const char *text, size_t from, size_t text_len) {
     size_t end = text_len - from < CVL_MOST_OF_TEXT ? text_len : from + CVL_MOST_OF_TEXT;
     while (end < text_len && !cvl_is_white(text[end])) end++;
@@ -32,7 +32,7 @@ CvlStatus cvl_read_pieces(const char *text, size_t text_len, uint64_t before, in
     return cvl_done();
 }
 
-/* Agrees on a status whose place, where there is one, is that in the whole. */
+/* Agrees on a status whose place, if there is one, is that in the whole. */
 static CvlStatus agree(CvlRanks *ranks, CvlStatus status, uint32_t call, bool *short_room) {
     uint64_t none;
     return cvl_agreed(ranks, status, CVL_CALL_TEXT + call, 0, UINT64_MAX, short_room, &none);
@@ -53,7 +53,7 @@ CvlStatus cvl_read_ints_mpi(CvlRanks *ranks, const char *text, size_t text_len, 
     if (cvl_meet(text, text_len, 1, out, out_len, sizeof *out)) status = cvl_overlap();
     status = agree(ranks, status, 1, &short_room);
     if (status.number == CVL_DONE) {
-        /* the room is asked last, since the text alone says how long the result is */
+        /* the room is compared last, since only the text says how long the result is */
         short_room = words > out_len;
         status = agree(ranks, short_room ? cvl_status(CVL_LENGTH_MISMATCH, -1) : cvl_done(), 2, &short_room);
         *count = words;
@@ -126,7 +126,7 @@ static bool read_at(MPI_File file, uint64_t from, char *bytes, size_t count) {
     return 1;
 }
 
-/* The first place from another one on that stands behind white space, or the end: neighbours find the same one. */
+/* The first place behind white space, from another place on, or the end: neighbours find the same one. */
 static bool find_cut(MPI_File file, uint64_t size, uint64_t *place) {
     char chunk[CVL_CHUNK];
     if (*place == 0 || *place >= size) return 1;

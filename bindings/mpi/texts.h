@@ -4,7 +4,7 @@
 
 #include "ranks.h"
 
-/* The number of calls on texts, by which ranks see that they make the same one: each adds its own. */
+/* The number of calls on texts, by which ranks see that they make the same one. */
 enum { CVL_CALL_TEXT = 0xfa00, CVL_CALL_NEST_READ = CVL_CALL_TEXT + 7, CVL_CALL_NEST_WRITE = CVL_CALL_TEXT + 9 };
 
 static inline bool cvl_is_white(char byte) { return byte == ' ' || byte == '\t' || byte == '\n' || byte == '\r'; }

@@ -1,6 +1,6 @@
 /*
- * Transposes over ranks: from the places alone each rank knows what goes where, so that each element moves once and nothing else does. Senders and
- * receivers walk the result in the order of its places.
+ * Transposes over ranks: from the places alone each rank knows what goes where, so only elements move, each once. Senders and receivers
+ * walk the result in the order of its places.
  */
 #include "ranks.h"
 #include "shares.h"
@@ -23,7 +23,7 @@ static void put(void *to, size_t k, const void *from, uint64_t place, size_t siz
     else ((int32_t *)to)[k] = ((const int32_t *)from)[place];
 }
 
-/* Puts the elements into the order of the result, which is that of the ranks, and counts what each rank is sent. ranks->offsets are the result's. */
+/* Puts the elements into the order of the result, and counts what each rank gets. ranks->offsets are the result's. */
 static void fill(CvlRanks *ranks, const Matrix *m, const void *source, void *sent, size_t size) {
     size_t k = 0;
     int owner = 0;
@@ -57,7 +57,7 @@ static void write(CvlRanks *ranks, const Matrix *m, const void *got, void *out, 
 
 /* ---- the call ---- */
 
-/* Whether all ranks say the same numbers; and whether these are a matrix of all elements. */
+/* Whether all ranks have the same numbers, and whether these make a matrix of all elements. */
 static void look(CvlCall *c, uint64_t total, Matrix *m) {
     int64_t mine[4], all[4];
     m->rows = c->in[CVL_AS_ROWS].number, m->columns = c->in[CVL_AS_COLUMNS].number;

@@ -16,7 +16,7 @@ CvlStatus cvl_first_true_over_ranks(CvlCall *c) {
     return c->status;
 }
 
-/* ---- by segments: the rank of a segment's start joins what it has with what ranks behind have ---- */
+/* ---- by segments: the rank of a segment's start joins what it and later ranks have ---- */
 
 /* The elements of the rank's head, how many segments but the last start in it, and where the last one begins. */
 typedef struct Shape {
@@ -52,7 +52,7 @@ CvlStatus cvl_seg_first_true_over_ranks(CvlCall *c) {
     return c->status;
 }
 
-/* A segment is no longer than a vector may be, so that its sum is within 64 bits. */
+/* A segment is no longer than a vector may be, so its sum has 64 bits. */
 static CvlFold sum_of(CvlCall *c, const int32_t *a, size_t count, bool starts) {
     CvlFold fold = cvl_nothing(CVL_JOIN_EXACT, 0);
     if (c->status.number == CVL_DONE) cvl_say(c, cvl_exact_sum(a, count, &fold.low));
