@@ -1,7 +1,7 @@
 /*
  * How ranks agree on one status, by one collective of 16 bytes. Each rank sends how many elements it has, which call it makes, and its
- * first fault with its place and its turn: the order in which the plain call looks for faults. Of two neighbours the fault of the earlier
- * turn is kept, of the same turn that of the rank before, with its place counted from the start of both.
+ * first fault with its place and its turn: the order in which the plain call looks for faults. If two neighbours have faults, the one of
+ * the earlier turn is kept, of the same turn that of the rank before, with its place counted from the start of both.
  */
 #include "ranks.h"
 
