@@ -16,15 +16,15 @@ ABOUT = (
     "Link with -lcvl, an archive and a shared object; docs/user/programs.md shows how. C99 to C23, and C++.",
     "Every call returns a CvlStatus: number 0 if it is done, else the number of the first fault, with its place or -1. The result is in your buffer, the "
     "last array, value or values that you pass. After a fault your buffers are as they were.",
-    "Arrays come in the order of the call's operands. The number of elements follows the last array that has so many; the functions of families take one "
-    "behind each array. Lengths of segments are one argument, a CvlLengths. Places and counts are int64_t, so that one outside 32 bits is a fault like any "
+    "Arrays come in the order of the call's operands. The number of elements, such as n, follows the last array that has so many; the functions of families "
+    "take one behind each array. Lengths of segments are one argument, a CvlLengths. Places and counts are int64_t, so that one outside 32 bits is a fault like any "
     "other.",
     "If the last argument is a count, the result stands at the front of your buffer, the count is its length, and the rest of the buffer stays as it was. If "
     "the buffer is too short, the status is 7 LengthMismatch and the count is the length that you need; pass a buffer of no elements to ask. After any other "
     "fault the count stays as it was.",
-    "What a function writes, counts and single values too, may share memory with no other argument, else 102 Overlap and nothing is written. Only in place, "
-    'as the line "In place" of a function allows, is an array also the buffer, from the first to the last element. Arrays that are only read may overlap. An '
-    "array of 0 elements overlaps nothing, and its pointer may be null.",
+    "No buffer may share memory with another argument, counts and single values included: the status is then 102 Overlap, and nothing is written. If a "
+    'function says "In place" of an array, that array may be the buffer, from its first to its last element. Arrays that are only read may overlap. An array '
+    "of 0 elements overlaps nothing, and its pointer may be null.",
     "A boolean is a byte, true unless it is 0; results are 0 and 1. You may pass an array of any type of bytes by a cast. If it has other bytes than 0 and 1, "
     "these calls copy it: packs, permutes, combining permutes (also the buffer that they join with), first senders, gathers of segments, appends, merges, "
     "transposes, searches for a true flag, scans, texts, and replaces and distributes in segments.",

@@ -8,17 +8,17 @@
  * Every call returns a CvlStatus: number 0 if it is done, else the number of the first fault, with its place or -1. The result
  * is in your buffer, the last array, value or values that you pass. After a fault your buffers are as they were.
  *
- * Arrays come in the order of the call's operands. The number of elements follows the last array that has so many; the
- * functions of families take one behind each array. Lengths of segments are one argument, a CvlLengths. Places and counts are
- * int64_t, so that one outside 32 bits is a fault like any other.
+ * Arrays come in the order of the call's operands. The number of elements, such as n, follows the last array that has so many;
+ * the functions of families take one behind each array. Lengths of segments are one argument, a CvlLengths. Places and counts
+ * are int64_t, so that one outside 32 bits is a fault like any other.
  *
  * If the last argument is a count, the result stands at the front of your buffer, the count is its length, and the rest of the
  * buffer stays as it was. If the buffer is too short, the status is 7 LengthMismatch and the count is the length that you need;
  * pass a buffer of no elements to ask. After any other fault the count stays as it was.
  *
- * What a function writes, counts and single values too, may share memory with no other argument, else 102 Overlap and nothing
- * is written. Only in place, as the line "In place" of a function allows, is an array also the buffer, from the first to the
- * last element. Arrays that are only read may overlap. An array of 0 elements overlaps nothing, and its pointer may be null.
+ * No buffer may share memory with another argument, counts and single values included: the status is then 102 Overlap, and
+ * nothing is written. If a function says "In place" of an array, that array may be the buffer, from its first to its last
+ * element. Arrays that are only read may overlap. An array of 0 elements overlaps nothing, and its pointer may be null.
  *
  * A boolean is a byte, true unless it is 0; results are 0 and 1. You may pass an array of any type of bytes by a cast. If it
  * has other bytes than 0 and 1, these calls copy it: packs, permutes, combining permutes (also the buffer that they join with),
@@ -827,91 +827,91 @@ void cvl_make_flags(bool *flags, size_t flags_len);
 
 /* ---- place by place: the calls of the table ---- */
 
-/* The wrapped sums. a, b and out have n elements. In place: a, b or both. */
+/* The wrapped sums. In place: a, b or both. */
 CVL_CHECKED CvlStatus cvl_add_wuz(const int32_t *a, const int32_t *b, int32_t *out, size_t n);
 
-/* The wrapped products. a, b and out have n elements. In place: a, b or both. */
+/* The wrapped products. In place: a, b or both. */
 CVL_CHECKED CvlStatus cvl_mul_wuz(const int32_t *a, const int32_t *b, int32_t *out, size_t n);
 
-/* The lesser of each two. a, b and out have n elements. In place: a, b or both. */
+/* The lesser of each two. In place: a, b or both. */
 CVL_CHECKED CvlStatus cvl_min_wuz(const int32_t *a, const int32_t *b, int32_t *out, size_t n);
 
-/* The greater of each two. a, b and out have n elements. In place: a, b or both. */
+/* The greater of each two. In place: a, b or both. */
 CVL_CHECKED CvlStatus cvl_max_wuz(const int32_t *a, const int32_t *b, int32_t *out, size_t n);
 
-/* And, bit by bit. a, b and out have n elements. In place: a, b or both. */
+/* And, bit by bit. In place: a, b or both. */
 CVL_CHECKED CvlStatus cvl_and_wuz(const int32_t *a, const int32_t *b, int32_t *out, size_t n);
 
-/* Or, bit by bit. a, b and out have n elements. In place: a, b or both. */
+/* Or, bit by bit. In place: a, b or both. */
 CVL_CHECKED CvlStatus cvl_ior_wuz(const int32_t *a, const int32_t *b, int32_t *out, size_t n);
 
-/* Exclusive or, bit by bit. a, b and out have n elements. In place: a, b or both. */
+/* Exclusive or, bit by bit. In place: a, b or both. */
 CVL_CHECKED CvlStatus cvl_xor_wuz(const int32_t *a, const int32_t *b, int32_t *out, size_t n);
 
-/* The wrapped differences. a, b and out have n elements. In place: a, b or both. */
+/* The wrapped differences. In place: a, b or both. */
 CVL_CHECKED CvlStatus cvl_sub_wuz(const int32_t *a, const int32_t *b, int32_t *out, size_t n);
 
 /*
- * The quotients, truncated toward zero; -2147483648 by -1 is -2147483648. a, b and out have n elements. Faults: 8 DivideByZero
- * at the first divisor that is 0. In place: a, b or both.
+ * The quotients, truncated toward zero; -2147483648 by -1 is -2147483648. Faults: 8 DivideByZero at the first divisor that is
+ * 0. In place: a, b or both.
  */
 CVL_CHECKED CvlStatus cvl_div_wuz(const int32_t *a, const int32_t *b, int32_t *out, size_t n);
 
 /*
- * The remainders of the quotients, with the dividends' signs. a, b and out have n elements. Faults: 8 DivideByZero at the first
- * divisor that is 0. In place: a, b or both.
+ * The remainders of the quotients, with the dividends' signs. Faults: 8 DivideByZero at the first divisor that is 0. In place:
+ * a, b or both.
  */
 CVL_CHECKED CvlStatus cvl_mod_wuz(const int32_t *a, const int32_t *b, int32_t *out, size_t n);
 
 /*
- * The elements of a, shifted left by those of b. a, b and out have n elements. Faults: 9 ShiftOutOfRange at the first element
- * of b outside 0 to 31. In place: a, b or both.
+ * The elements of a, shifted left by those of b. Faults: 9 ShiftOutOfRange at the first element of b outside 0 to 31. In place:
+ * a, b or both.
  */
 CVL_CHECKED CvlStatus cvl_lsh_wuz(const int32_t *a, const int32_t *b, int32_t *out, size_t n);
 
 /*
- * The elements of a, shifted right by those of b, with their signs. a, b and out have n elements. Faults: 9 ShiftOutOfRange at
- * the first element of b outside 0 to 31. In place: a, b or both.
+ * The elements of a, shifted right by those of b, with their signs. Faults: 9 ShiftOutOfRange at the first element of b outside
+ * 0 to 31. In place: a, b or both.
  */
 CVL_CHECKED CvlStatus cvl_rsh_wuz(const int32_t *a, const int32_t *b, int32_t *out, size_t n);
 
-/* Each bit inverted. a and out have n elements. In place: a. */
+/* Each bit inverted. In place: a. */
 CVL_CHECKED CvlStatus cvl_not_wuz(const int32_t *a, int32_t *out, size_t n);
 
-/* Each boolean inverted. a and out have n elements. In place: a. */
+/* Each boolean inverted. In place: a. */
 CVL_CHECKED CvlStatus cvl_not_wub(const bool *a, bool *out, size_t n);
 
-/* Each integer copied. a and out have n elements. In place: a. */
+/* Each integer copied. In place: a. */
 CVL_CHECKED CvlStatus cvl_cpy_wuz(const int32_t *a, int32_t *out, size_t n);
 
-/* Each boolean copied. a and out have n elements. In place: a. */
+/* Each boolean copied. In place: a. */
 CVL_CHECKED CvlStatus cvl_cpy_wub(const bool *a, bool *out, size_t n);
 
-/* True if a is greater. a, b and out have n elements. */
+/* True if a is greater. */
 CVL_CHECKED CvlStatus cvl_grt_wuz(const int32_t *a, const int32_t *b, bool *CVL_RESTRICT out, size_t n);
 
-/* True if a is less. a, b and out have n elements. */
+/* True if a is less. */
 CVL_CHECKED CvlStatus cvl_les_wuz(const int32_t *a, const int32_t *b, bool *CVL_RESTRICT out, size_t n);
 
-/* True if a is greater, or they are equal. a, b and out have n elements. */
+/* True if a is greater, or they are equal. */
 CVL_CHECKED CvlStatus cvl_geq_wuz(const int32_t *a, const int32_t *b, bool *CVL_RESTRICT out, size_t n);
 
-/* True if a is less, or they are equal. a, b and out have n elements. */
+/* True if a is less, or they are equal. */
 CVL_CHECKED CvlStatus cvl_leq_wuz(const int32_t *a, const int32_t *b, bool *CVL_RESTRICT out, size_t n);
 
-/* True if they are equal. a, b and out have n elements. */
+/* True if they are equal. */
 CVL_CHECKED CvlStatus cvl_eql_wuz(const int32_t *a, const int32_t *b, bool *CVL_RESTRICT out, size_t n);
 
-/* True if they are not equal. a, b and out have n elements. */
+/* True if they are not equal. */
 CVL_CHECKED CvlStatus cvl_neq_wuz(const int32_t *a, const int32_t *b, bool *CVL_RESTRICT out, size_t n);
 
-/* Whether both are true. a, b and out have n elements. In place: a, b or both. */
+/* Whether both are true. In place: a, b or both. */
 CVL_CHECKED CvlStatus cvl_and_wub(const bool *a, const bool *b, bool *out, size_t n);
 
-/* Whether at least one is true. a, b and out have n elements. In place: a, b or both. */
+/* Whether at least one is true. In place: a, b or both. */
 CVL_CHECKED CvlStatus cvl_ior_wub(const bool *a, const bool *b, bool *out, size_t n);
 
-/* Whether exactly one is true. a, b and out have n elements. In place: a, b or both. */
+/* Whether exactly one is true. In place: a, b or both. */
 CVL_CHECKED CvlStatus cvl_xor_wub(const bool *a, const bool *b, bool *out, size_t n);
 
 /*
@@ -920,73 +920,69 @@ CVL_CHECKED CvlStatus cvl_xor_wub(const bool *a, const bool *b, bool *out, size_
 CVL_CHECKED CvlStatus cvl_sel_wuz(const bool *flags, const int32_t *a, const int32_t *b, int32_t *out, size_t n);
 CVL_CHECKED CvlStatus cvl_sel_wub(const bool *flags, const bool *a, const bool *b, bool *out, size_t n);
 
-/* 1 for true and 0 for false. a and out have n elements. */
+/* 1 for true and 0 for false. */
 CVL_CHECKED CvlStatus cvl_int_wub(const bool *a, int32_t *CVL_RESTRICT out, size_t n);
 
-/* True if the integer is not 0. a and out have n elements. */
+/* True if the integer is not 0. */
 CVL_CHECKED CvlStatus cvl_boo_wuz(const int32_t *a, bool *CVL_RESTRICT out, size_t n);
 
 /* ---- scans and reduces: the calls of the table ---- */
 
-/* For each integer the sum of those before it, wrapped; 0 at place 0. a and out have n elements. In place: a. */
+/* For each integer the sum of those before it, wrapped; 0 at place 0. In place: a. */
 CVL_CHECKED CvlStatus cvl_add_suz(const int32_t *a, int32_t *out, size_t n);
 
 /* The sum of the n integers, wrapped; 0 if there are none. */
 CVL_CHECKED CvlStatus cvl_add_ruz(const int32_t *a, size_t n, int32_t *out) CVL_NONNULL(3);
 
-/* For each integer the product of those before it, wrapped; 1 at place 0. a and out have n elements. In place: a. */
+/* For each integer the product of those before it, wrapped; 1 at place 0. In place: a. */
 CVL_CHECKED CvlStatus cvl_mul_suz(const int32_t *a, int32_t *out, size_t n);
 
 /* The product of the n integers, wrapped; 1 if there are none. */
 CVL_CHECKED CvlStatus cvl_mul_ruz(const int32_t *a, size_t n, int32_t *out) CVL_NONNULL(3);
 
-/* For each integer the least of those before it; 2147483647 at place 0. a and out have n elements. In place: a. */
+/* For each integer the least of those before it; 2147483647 at place 0. In place: a. */
 CVL_CHECKED CvlStatus cvl_min_suz(const int32_t *a, int32_t *out, size_t n);
 
 /* The least of the n integers; 2147483647 if there are none. */
 CVL_CHECKED CvlStatus cvl_min_ruz(const int32_t *a, size_t n, int32_t *out) CVL_NONNULL(3);
 
-/* For each integer the greatest of those before it; -2147483648 at place 0. a and out have n elements. In place: a. */
+/* For each integer the greatest of those before it; -2147483648 at place 0. In place: a. */
 CVL_CHECKED CvlStatus cvl_max_suz(const int32_t *a, int32_t *out, size_t n);
 
 /* The greatest of the n integers; -2147483648 if there are none. */
 CVL_CHECKED CvlStatus cvl_max_ruz(const int32_t *a, size_t n, int32_t *out) CVL_NONNULL(3);
 
-/* For each integer those before it joined by and, bit by bit; -1 at place 0. a and out have n elements. In place: a. */
+/* For each integer those before it joined by and, bit by bit; -1 at place 0. In place: a. */
 CVL_CHECKED CvlStatus cvl_and_suz(const int32_t *a, int32_t *out, size_t n);
 
 /* The n integers joined by and, bit by bit; -1 if there are none. */
 CVL_CHECKED CvlStatus cvl_and_ruz(const int32_t *a, size_t n, int32_t *out) CVL_NONNULL(3);
 
-/* For each integer those before it joined by or, bit by bit; 0 at place 0. a and out have n elements. In place: a. */
+/* For each integer those before it joined by or, bit by bit; 0 at place 0. In place: a. */
 CVL_CHECKED CvlStatus cvl_ior_suz(const int32_t *a, int32_t *out, size_t n);
 
 /* The n integers joined by or, bit by bit; 0 if there are none. */
 CVL_CHECKED CvlStatus cvl_ior_ruz(const int32_t *a, size_t n, int32_t *out) CVL_NONNULL(3);
 
-/*
- * For each integer those before it joined by exclusive or, bit by bit; 0 at place 0. a and out have n elements. In place: a.
- */
+/* For each integer those before it joined by exclusive or, bit by bit; 0 at place 0. In place: a. */
 CVL_CHECKED CvlStatus cvl_xor_suz(const int32_t *a, int32_t *out, size_t n);
 
 /* The n integers joined by exclusive or, bit by bit; 0 if there are none. */
 CVL_CHECKED CvlStatus cvl_xor_ruz(const int32_t *a, size_t n, int32_t *out) CVL_NONNULL(3);
 
-/* For each boolean whether all those before it are true; true at place 0. a and out have n elements. In place: a. */
+/* For each boolean whether all those before it are true; true at place 0. In place: a. */
 CVL_CHECKED CvlStatus cvl_and_sub(const bool *a, bool *out, size_t n);
 
 /* Whether all n booleans are true; true if there are none. */
 CVL_CHECKED CvlStatus cvl_and_rub(const bool *a, size_t n, bool *out) CVL_NONNULL(3);
 
-/* For each boolean whether any of those before it is true; false at place 0. a and out have n elements. In place: a. */
+/* For each boolean whether any of those before it is true; false at place 0. In place: a. */
 CVL_CHECKED CvlStatus cvl_ior_sub(const bool *a, bool *out, size_t n);
 
 /* Whether any of the n booleans is true; false if there are none. */
 CVL_CHECKED CvlStatus cvl_ior_rub(const bool *a, size_t n, bool *out) CVL_NONNULL(3);
 
-/*
- * For each boolean whether an odd number of those before it is true; false at place 0. a and out have n elements. In place: a.
- */
+/* For each boolean whether an odd number of those before it is true; false at place 0. In place: a. */
 CVL_CHECKED CvlStatus cvl_xor_sub(const bool *a, bool *out, size_t n);
 
 /* Whether an odd number of the n booleans is true; false if there are none. */
@@ -995,8 +991,8 @@ CVL_CHECKED CvlStatus cvl_xor_rub(const bool *a, size_t n, bool *out) CVL_NONNUL
 /* ---- sums that never wrap: the calls of the table ---- */
 
 /*
- * For each integer the sum of those before it. a and out have n elements. Faults: 18 Overflow at the first place whose sum does
- * not fit 32 bits. In place: a.
+ * For each integer the sum of those before it. Faults: 18 Overflow at the first place whose sum does not fit 32 bits. In place:
+ * a.
  */
 CVL_CHECKED CvlStatus cvl_tot_suz(const int32_t *a, int32_t *out, size_t n);
 
@@ -1044,8 +1040,8 @@ CVL_CHECKED CvlStatus cvl_ind_luz(int32_t init, int32_t stride, int64_t count, i
 CVL_CHECKED CvlStatus cvl_mke_fov(CvlLengths lengths, size_t *total) CVL_NONNULL(2);
 
 /*
- * For each integer the sum of those before it in its segment. a and out have n elements. Faults: 18 Overflow at the first place
- * whose sum does not fit 32 bits. In place: a.
+ * For each integer the sum of those before it in its segment. Faults: 18 Overflow at the first place whose sum does not fit 32
+ * bits. In place: a.
  */
 CVL_CHECKED CvlStatus cvl_tot_sez(const int32_t *a, CvlLengths lengths, int32_t *out, size_t n);
 
@@ -1089,63 +1085,44 @@ CVL_CHECKED CvlStatus cvl_ind_lez(const int32_t *inits, const int32_t *strides, 
 
 /* ---- scans and reduces of segments: the calls of the table ---- */
 
-/*
- * For each integer the sum of those before it in its segment, wrapped; 0 at the start of a segment. a and out have n elements.
- * In place: a.
- */
+/* For each integer the sum of those before it in its segment, wrapped; 0 at the start of a segment. In place: a. */
 CVL_CHECKED CvlStatus cvl_add_sez(const int32_t *a, CvlLengths lengths, int32_t *out, size_t n);
 
 /* The sum of the integers of each segment, wrapped; 0 if it is empty. a has n elements, out one for each segment. */
 CVL_CHECKED CvlStatus cvl_add_rez(const int32_t *a, size_t n, CvlLengths lengths, int32_t *CVL_RESTRICT out);
 
-/*
- * For each integer the product of those before it in its segment, wrapped; 1 at the start of a segment. a and out have n
- * elements. In place: a.
- */
+/* For each integer the product of those before it in its segment, wrapped; 1 at the start of a segment. In place: a. */
 CVL_CHECKED CvlStatus cvl_mul_sez(const int32_t *a, CvlLengths lengths, int32_t *out, size_t n);
 
 /* The product of the integers of each segment, wrapped; 1 if it is empty. a has n elements, out one for each segment. */
 CVL_CHECKED CvlStatus cvl_mul_rez(const int32_t *a, size_t n, CvlLengths lengths, int32_t *CVL_RESTRICT out);
 
-/*
- * For each integer the least of those before it in its segment; 2147483647 at the start of a segment. a and out have n
- * elements. In place: a.
- */
+/* For each integer the least of those before it in its segment; 2147483647 at the start of a segment. In place: a. */
 CVL_CHECKED CvlStatus cvl_min_sez(const int32_t *a, CvlLengths lengths, int32_t *out, size_t n);
 
 /* The least of the integers of each segment; 2147483647 if it is empty. a has n elements, out one for each segment. */
 CVL_CHECKED CvlStatus cvl_min_rez(const int32_t *a, size_t n, CvlLengths lengths, int32_t *CVL_RESTRICT out);
 
-/*
- * For each integer the greatest of those before it in its segment; -2147483648 at the start of a segment. a and out have n
- * elements. In place: a.
- */
+/* For each integer the greatest of those before it in its segment; -2147483648 at the start of a segment. In place: a. */
 CVL_CHECKED CvlStatus cvl_max_sez(const int32_t *a, CvlLengths lengths, int32_t *out, size_t n);
 
 /* The greatest of the integers of each segment; -2147483648 if it is empty. a has n elements, out one for each segment. */
 CVL_CHECKED CvlStatus cvl_max_rez(const int32_t *a, size_t n, CvlLengths lengths, int32_t *CVL_RESTRICT out);
 
-/*
- * For each integer those before it in its segment joined by and, bit by bit; -1 at the start of a segment. a and out have n
- * elements. In place: a.
- */
+/* For each integer those before it in its segment joined by and, bit by bit; -1 at the start of a segment. In place: a. */
 CVL_CHECKED CvlStatus cvl_and_sez(const int32_t *a, CvlLengths lengths, int32_t *out, size_t n);
 
 /* The integers of each segment joined by and, bit by bit; -1 if it is empty. a has n elements, out one for each segment. */
 CVL_CHECKED CvlStatus cvl_and_rez(const int32_t *a, size_t n, CvlLengths lengths, int32_t *CVL_RESTRICT out);
 
-/*
- * For each integer those before it in its segment joined by or, bit by bit; 0 at the start of a segment. a and out have n
- * elements. In place: a.
- */
+/* For each integer those before it in its segment joined by or, bit by bit; 0 at the start of a segment. In place: a. */
 CVL_CHECKED CvlStatus cvl_ior_sez(const int32_t *a, CvlLengths lengths, int32_t *out, size_t n);
 
 /* The integers of each segment joined by or, bit by bit; 0 if it is empty. a has n elements, out one for each segment. */
 CVL_CHECKED CvlStatus cvl_ior_rez(const int32_t *a, size_t n, CvlLengths lengths, int32_t *CVL_RESTRICT out);
 
 /*
- * For each integer those before it in its segment joined by exclusive or, bit by bit; 0 at the start of a segment. a and out
- * have n elements. In place: a.
+ * For each integer those before it in its segment joined by exclusive or, bit by bit; 0 at the start of a segment. In place: a.
  */
 CVL_CHECKED CvlStatus cvl_xor_sez(const int32_t *a, CvlLengths lengths, int32_t *out, size_t n);
 
@@ -1155,27 +1132,21 @@ CVL_CHECKED CvlStatus cvl_xor_sez(const int32_t *a, CvlLengths lengths, int32_t 
  */
 CVL_CHECKED CvlStatus cvl_xor_rez(const int32_t *a, size_t n, CvlLengths lengths, int32_t *CVL_RESTRICT out);
 
-/*
- * For each boolean whether all those before it in its segment are true; true at the start of a segment. a and out have n
- * elements. In place: a.
- */
+/* For each boolean whether all those before it in its segment are true; true at the start of a segment. In place: a. */
 CVL_CHECKED CvlStatus cvl_and_seb(const bool *a, CvlLengths lengths, bool *out, size_t n);
 
 /* Whether all the booleans of each segment are true; true if it is empty. a has n elements, out one for each segment. */
 CVL_CHECKED CvlStatus cvl_and_reb(const bool *a, size_t n, CvlLengths lengths, bool *CVL_RESTRICT out);
 
-/*
- * For each boolean whether any of those before it in its segment is true; false at the start of a segment. a and out have n
- * elements. In place: a.
- */
+/* For each boolean whether any of those before it in its segment is true; false at the start of a segment. In place: a. */
 CVL_CHECKED CvlStatus cvl_ior_seb(const bool *a, CvlLengths lengths, bool *out, size_t n);
 
 /* Whether any of the booleans of each segment is true; false if it is empty. a has n elements, out one for each segment. */
 CVL_CHECKED CvlStatus cvl_ior_reb(const bool *a, size_t n, CvlLengths lengths, bool *CVL_RESTRICT out);
 
 /*
- * For each boolean whether an odd number of those before it in its segment is true; false at the start of a segment. a and out
- * have n elements. In place: a.
+ * For each boolean whether an odd number of those before it in its segment is true; false at the start of a segment. In place:
+ * a.
  */
 CVL_CHECKED CvlStatus cvl_xor_seb(const bool *a, CvlLengths lengths, bool *out, size_t n);
 

@@ -82,9 +82,11 @@ def example_text(row):
 
 
 def comment_of(row):
-    """The comment before a function. The faults of lengths stand once at the top, and examples in the manual."""
+    """The comment before a function. The faults of lengths stand once at the top, and examples in the manual; and the arguments show arrays of
+    one length."""
     family, call = row.family, row.call
-    said = [call.sentence, family.shape, family.told] if call else [family.sentence]
+    shape = "" if family.shape in (table.SHAPE_ONE, table.SHAPE_TWO) else family.shape
+    said = [call.sentence, shape, family.told] if call else [family.sentence]
     faults = "; ".join(fault.said for fault in row.faults if fault not in table.OF_LENGTHS) if call or row.example else ""
     said.append(f"Faults: {faults}." if faults else "")
     said.append(f"In place: {rows.in_place_words(family)}".replace(" may be out", "") if call and family.in_place else "")
