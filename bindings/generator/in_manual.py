@@ -16,8 +16,7 @@ DATE = "2026-11-28"
 
 INTRODUCTION = (
     "The library has the vector calls of CVL, the C Vector Library, on your own memory: elementwise calls, scans, "
-    "reduces, permutes, packs and texts, flat and by segments, on integers of 32 bits and on booleans. Each result, and the "
-    "first fault, is exactly what one thread over plain lists of lists would give.",
+    "reduces, permutes, packs and texts, flat and by segments, on integers of 32 bits and on booleans.",
     about.FROM_C,
 )
 CALLS = ("Each call takes its operands in the order of a script, see cvl(1). Each of these pages has several calls, and the families that make them.",)
