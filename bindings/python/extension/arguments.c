@@ -29,7 +29,7 @@ static int take_text(PyObject *object, const Operand *operand, Given *given) {
 
 /* ---- single values ---- */
 
-/* The whole number that an object is. One beyond 64 bits is the least or the greatest of these, and `beyond` says so. */
+/* The whole number that an object is. One beyond 64 bits is the least or the greatest of these, and sets `beyond`. */
 static int whole_number(PyObject *object, const char *name, int64_t *number, int *beyond) {
     if (!PyIndex_Check(object)) {
         PyErr_Format(PyExc_TypeError, PyFloat_Check(object) ? "%s is no whole number but a %s; int(%s) would cut its fraction"
@@ -66,7 +66,7 @@ static int take_flag(PyObject *object, const char *name, Given *given) {
 
 /* ---- all ---- */
 
-/* Lengths of segments, which a `Segments` has or an array. */
+/* Lengths of segments, of a `Segments` or an array. */
 static int take_lengths(PyObject *object, const Operand *operand, Given *given) {
     if (!PyObject_TypeCheck(object, &cvl_lengths_type)) return cvl_take_array(object, operand, given);
     const CvlLengths lengths = cvl_cut_of(object);
@@ -82,7 +82,7 @@ static int take_spread(PyObject *object, const Operand *operand, Given *given) {
     return take_number(object, operand->name, INT32_MIN, INT32_MAX, "32 bits", given);
 }
 
-/* The operator of a number; one that is no operator of any family is told by the call. */
+/* The operator of a number; the call reports one that no family has. */
 static int take_operator(PyObject *object, const char *name, Given *given) {
     int beyond = 0;
     if (whole_number(object, name, &given->number, &beyond) < 0) return -1;

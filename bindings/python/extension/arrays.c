@@ -1,4 +1,4 @@
-/* Arrays that a call reads, and rooms: kept as they are taken, and looked at once nothing runs that may change them. */
+/* Arrays that a call reads, and rooms: kept as they are taken, and read once nothing runs that may change them. */
 #include "calls.h"
 
 Element cvl_ints = {NPY_INT32, "int32", "numpy.int32", NULL};
@@ -41,7 +41,7 @@ int cvl_learn_kinds(void) {
 
 static int is_room(const Operand *operand) { return cvl_needs[operand->kind].flags == TO_WRITE; }
 
-/* What to write instead of an object that is no array. A copy of a room would be another room, so none is advised. */
+/* What to write instead of an object that is no array. A copy of a room would be another room, so the message suggests none. */
 static PyObject *advice_for(const Operand *operand) {
     const Element *element = cvl_needs[operand->kind].element;
     if (is_room(operand)) {
@@ -63,15 +63,17 @@ static int refuse_mask(PyObject *object, const char *name) {
     return masked == 0 ? 0 : -1;
 }
 
-/* Whether numpy has elements of a format of buffers, as it has those of one letter. */
+/* Whether numpy knows the elements of a format of buffers. */
 static int is_of_numpy(const char *format) {
     if (format == NULL) return 1;
     if (strchr("@=<>!", *format) != NULL && *format != 0) format++;
     return *format != 0 && strchr("?bBhHiIlLqQfd", *format) != NULL && format[1] == 0;
 }
 
-/* An array over the memory of what is no array. What numpy would copy is none; it also copies where it has no memory for the
-   array. */
+/*
+ * An array over the memory of what is no array, or nothing if numpy would have to copy it, which it also does if it has no memory for the
+ * array.
+ */
 static PyObject *over_memory(PyObject *object, const char *name, PyObject *advice) {
     PyObject *view = PyMemoryView_FromObject(object);
     if (view == NULL) {
@@ -116,7 +118,7 @@ int cvl_take_array(PyObject *object, const Operand *operand, Given *given) {
     return given->held == NULL ? -1 : 0;
 }
 
-/* ---- whether it is as a call takes it ---- */
+/* ---- whether it is as a call needs it ---- */
 
 static int has_elements(PyArrayObject *array, const Element *element) {
     return PyArray_DESCR(array) == element->descr || PyArray_EquivTypes(PyArray_DESCR(array), element->descr);
@@ -155,7 +157,7 @@ static void refuse_room(PyArrayObject *array, const char *name, const Element *e
     }
 }
 
-/* Raises why an array is not as a call takes it. */
+/* Raises why an array is not as a call needs it. */
 static int refuse(PyArrayObject *array, const Operand *operand) {
     const Element *element = cvl_needs[operand->kind].element;
     if (element == NULL) {

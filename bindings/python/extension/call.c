@@ -1,4 +1,4 @@
-/* A call from Python: arguments are bound and taken, a room is found, the family is called, and its result is given. */
+/* A call from Python: binds and takes arguments, finds a room, calls the family, and returns its result. */
 #include "calls.h"
 
 /* ---- arguments by place and by name ---- */
@@ -24,7 +24,7 @@ int cvl_keywords_ready(void) {
 
 static int takes_out(const Family *family) { return family->gives <= GIVES_FRONT_FLAGS || family->gives == GIVES_READ; }
 
-/* Whether the room holds what stands before. Then a caller has to have one, and may give it by its place. */
+/* Whether the room holds what stands before. Then the caller has to give one, also by its place. */
 static int is_over(const Family *family) { return family->gives == GIVES_OVER_INTS || family->gives == GIVES_OVER_FLAGS; }
 
 static const Operand *out_of(const Family *family) {
@@ -99,14 +99,14 @@ static int spread(Frame *frame) {
     return 0;
 }
 
-/* Takes an argument. One that is an array of numpy's own type, as most are, is only looked at later. */
+/* Takes an argument. An array of numpy's own type, as most are, is read later. */
 static int take_one(PyObject *object, const Operand *operand, int spreads, Given *given) {
     if (!PyArray_CheckExact(object) || cvl_needs[operand->kind].flags == 0) return cvl_take(object, operand, spreads, given);
     given->array = (PyArrayObject *)object;
     return 0;
 }
 
-/* Takes all arguments, and the caller's room, before an array is looked at. */
+/* Takes all arguments, and the caller's room, before an array is read. */
 static int take(Frame *frame, PyObject **bound, PyObject *out) {
     const Family *family = frame->row->family;
     for (int k = 0; k < family->count; k++) frame->given[k] = (Given){.at = NULL};
@@ -125,8 +125,7 @@ static void let_go(Frame *frame) {
 
 /* ---- the call itself ---- */
 
-/* Calls the family, which gives a status, or -1 with an exception. Other threads of the interpreter run meanwhile where there is
-   much to do. */
+/* Calls the family, which gives a status, or -1 with an exception. Other threads of the interpreter run meanwhile if the call is long. */
 static int make(Frame *frame) {
     const Family *family = frame->row->family;
     if (cvl_look(frame) < 0) return -1;
@@ -138,8 +137,10 @@ static int make(Frame *frame) {
     return 0;
 }
 
-/* Raises why a call isn't made for which there is no memory: what comes before that in the order of the library. The family is
-   called so that it has a fault at the latest where lengths are compared, and touches no element. */
+/*
+ * Raises the first fault of a call for which there is no memory. The family is called so that it has a fault at the latest when lengths are
+ * compared, and touches no element.
+ */
 static void refuse(Frame *frame, int has_room) {
     const Family *family = frame->row->family;
     size_t counts[MOST_OPERANDS], needed;
@@ -160,7 +161,7 @@ static void refuse(Frame *frame, int has_room) {
     }
 }
 
-/* Makes a call. Whether it is done; else there is an exception. */
+/* Makes a call, and answers whether it is done; else there is an exception. */
 static int done(Frame *frame, int has_room) {
     if (make(frame) < 0) return 0;
     if (frame->status.number == CVL_DONE) return 1;
@@ -191,8 +192,10 @@ static int fill(Frame *frame, PyObject *out) {
 
 /* ---- texts ---- */
 
-/* Makes a call whose result is as long as it tells itself: first without a room, and then with one. Whether there is one to be
-   filled, or -1. A count that was not told was no count. */
+/*
+ * Makes a call that reports how long its result is: first without a room, and then with one. Answers whether there is one to be filled, or
+ * -1. A count that was not reported was no count.
+ */
 static int ask(Frame *frame) {
     frame->told = frame->told_second = SIZE_MAX;
     if (make(frame) < 0) return -1;
@@ -202,8 +205,10 @@ static int ask(Frame *frame) {
     return -1;
 }
 
-/* Makes a call again whose rooms are as long as it asked for. If another thread writes its argument meanwhile, it tells other
-   counts, and there may be memory in the rooms that nobody wrote. */
+/*
+ * Makes a call again with rooms as long as it needs. If another thread writes its argument meanwhile, it reports other counts, and there
+ * may be memory in the rooms that nobody wrote.
+ */
 static int fill_asked(Frame *frame) {
     const size_t told = frame->told, told_second = frame->told_second;
     if (frame->no_memory) PyErr_NoMemory();
@@ -239,7 +244,7 @@ static PyObject *write_text(Frame *frame) {
     return !more || fill_asked(frame) ? Py_NewRef(frame->room.held) : NULL;
 }
 
-/* ---- what is given ---- */
+/* ---- what is returned ---- */
 
 static PyObject *array_result(Frame *frame, PyObject *out) {
     if (!fill(frame, out)) return NULL;

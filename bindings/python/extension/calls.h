@@ -1,13 +1,11 @@
 /*
- * calls.h: what the files of the extension share.
+ * calls.h: what the files of the extension share. A call from Python binds its arguments, takes each as its family in C needs it, finds a
+ * room for the result, and calls the family, which reports the first fault in the order of cvl.h. Only what Python alone knows is reported
+ * here: what is no array of the kind, and what does not fit.
  *
- * A call from Python binds its arguments, takes each of them as its family in C takes it, finds a room for the result, and calls
- * the family, which tells the first fault in the order of cvl.h. So nothing is told here but what Python alone knows: what is no
- * array of the kind, and what does not fit.
- *
- * Taking an argument may run code in Python: an `__index__`, a finalizer, another thread. That code may resize an array that was
- * taken before. So an array that is taken is only kept, and `cvl_look` reads what it is, where its elements lie and how many there
- * are, after all arguments are taken, and again after anything else that may run such code.
+ * Taking an argument may run code in Python: an `__index__`, a finalizer, another thread. That code may resize an array that was taken
+ * before. So an array that is taken is only kept, and `cvl_look` reads where its elements lie and how many there are, after all arguments
+ * are taken, and again after anything else that may run such code.
  */
 #ifndef CVL_CALLS_H
 #define CVL_CALLS_H
@@ -58,7 +56,7 @@ typedef enum Kind {
     KIND_ROOM_MARKS
 } Kind;
 
-/* How many elements an array has, and what lengths add up to; offsets are one more than segments, and both are n and m. Arrays of one extent are equally long. */
+/* How many elements an array has, and what lengths add up to; offsets are one more than segments, and both are n and m. */
 typedef enum Extent {
     EXTENT_NONE,
     EXTENT_N,
@@ -132,8 +130,10 @@ typedef struct Element {
 
 extern Element cvl_ints, cvl_flags, cvl_bytes, cvl_marks, cvl_sums;
 
-/* What an array needs that is taken for an operand: the kind of its elements, or none if it is a text, which has any of one byte;
-   and flags of numpy, of which one value needs none. */
+/*
+ * What an array needs to be an operand: the kind of its elements, or none if it is a text, which has any of one byte; and flags of numpy,
+ * of which one value needs none.
+ */
 typedef struct Need {
     const Element *element;
     int flags;
@@ -164,20 +164,22 @@ struct Frame {
         uint8_t flag;
         int64_t sum;
     } single;
-    int no_memory; /* whether there was none for the room, or for an argument; or the room is known to be too long */
+    int no_memory; /* whether there was no memory for the room or an argument, or the room is known to be too long */
 };
 
 /* ---- arrays.c ---- */
 
-/* The only way from here is an exception, where one of these is -1. */
+/* Each answers -1 if it has set an exception. */
 int cvl_take_array(PyObject *object, const Operand *operand, Given *given);
 int cvl_learn_kinds(void);
 
 /* Whether an object is a number, and no array of one. */
 int cvl_is_number(PyObject *object);
 
-/* Reads where the elements of all arrays lie and how many there are, if they are of the right kind. If not, that is -1 and an
-   exception. It runs no code in Python. */
+/*
+ * Reads where the elements of all arrays lie and how many there are, or -1 with an exception if one is of the wrong kind. It runs no code
+ * in Python.
+ */
 int cvl_look(Frame *frame);
 
 /* Raises that an argument was changed during the call. */
@@ -190,10 +192,10 @@ int cvl_take(PyObject *object, const Operand *operand, int spreads, Given *given
 
 /* ---- results.c ---- */
 
-/* A new room for so many elements. Where there is no memory the frame says so. */
+/* A new room for so many elements; the frame says if there is no memory. */
 int cvl_new_room(Frame *frame, Given *room, size_t count, const Element *element);
 
-/* An array of a number in each of so many places, for an argument. Where there is no memory the frame says so. */
+/* An array with a number in each of so many places, for an argument; the frame says if there is no memory. */
 int cvl_spread(Frame *frame, int k, size_t count);
 
 /* The elements at the front of a room. */
@@ -201,13 +203,13 @@ PyObject *cvl_front(const Given *room, PyObject *out, size_t count);
 
 /* ---- told.c ---- */
 
-/* Raises what a status tells of a call. */
+/* Raises the exception of a status. */
 void cvl_tell(Frame *frame, CvlStatus status, int has_room);
 
-/* How long the room of a call has to be. Whether that is known. */
+/* How long the room of a call has to be, and whether that is known. */
 int cvl_measure(const Frame *frame, size_t *needed);
 
-/* What is told of a count by which Python alone says how long the result is, and of a room that is not so long. */
+/* Raises for a count by which Python alone knows how long the result is, and for a room of another length. */
 CvlStatus cvl_sized(const Frame *frame, int k);
 
 /* Whether arguments are as long as they have to be. */

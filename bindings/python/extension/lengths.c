@@ -2,7 +2,7 @@
 #include "calls.h"
 #include <structmember.h>
 
-/* Calls read the lengths here, and not from an array: the shape, the kind and the memory of an array are a program's to change. */
+/* Calls read the lengths here, since a program may change the shape, the kind and the memory of an array. */
 typedef struct Lengths {
     PyObject_HEAD
     PyObject *bytes;    /* whose memory has the lengths */

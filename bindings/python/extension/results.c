@@ -1,7 +1,7 @@
 /* Rooms that are made, and what a call gives. */
 #include "calls.h"
 
-/* An array for so many elements. Nothing and no exception where there is no memory for it. */
+/* An array for so many elements. Nothing and no exception if there is no memory for it. */
 static PyObject *new_array(size_t count, const Element *element) {
     npy_intp places = (npy_intp)count;
     if (count > (size_t)(NPY_MAX_INTP / 8)) return NULL;

@@ -39,7 +39,7 @@ static PyObject *set_threads(PyObject *self, PyObject *count) {
     Given given = {.at = NULL};
     (void)self;
     if (cvl_take(count, &operand, 0, &given) < 0) return NULL;
-    /* a call of another thread, which may have the interpreter's lock, is waited for */
+    /* this waits for a call of another thread, which may have the interpreter's lock */
     PyThreadState *state = PyEval_SaveThread();
     const size_t before = cvl_threads();
     const int failed = cvl_set_threads((size_t)given.number);

@@ -1,4 +1,4 @@
-/* What is told where a call has no value. */
+/* Messages for calls that have no value. */
 #include "calls.h"
 
 static int is_array(const Operand *operand) { return operand->kind == KIND_INTS || operand->kind == KIND_FLAGS || operand->kind == KIND_BYTES; }
@@ -44,7 +44,7 @@ CvlStatus cvl_sized(const Frame *frame, int k) {
     return (CvlStatus){(size_t)count == frame->room.count ? CVL_DONE : CVL_LENGTH_MISMATCH, -1};
 }
 
-/* A text that says how long two arguments are that have to be equally long, or nothing. `number` is that of the one. */
+/* A text on two arguments that have to be equally long, or nothing. `number` is that of the one. */
 static PyObject *differ(const char *form, const char *name, size_t number, const char *other, size_t wanted) {
     return number == wanted ? NULL : PyUnicode_FromFormat(form, name, (Py_ssize_t)number, other, (Py_ssize_t)wanted);
 }
@@ -130,7 +130,7 @@ static int is_about(uint32_t number, const Operand *operand) {
     }
 }
 
-/* Whether an index counts from the start of a segment, or of the whole result of which a range is written; then its bound takes a walk. */
+/* Whether an index counts from the start of a segment, or of the whole result of a range; then its bound takes a walk. */
 static int counts_elsewhere(const Family *family, const Operand *index) {
     for (int k = 0; k < family->count; k++) {
         const Kind kind = family->operands[k].kind;
@@ -139,7 +139,7 @@ static int counts_elsewhere(const Family *family, const Operand *index) {
     return 0;
 }
 
-/* How many places an index may name: those of an array that is not as long as the indices are, or else of the result. */
+/* How many places an index may name: those of an array of another length than the indices, or else of the result. */
 static PyObject *bound_said(const Frame *frame, const Operand *index) {
     const Family *family = frame->row->family;
     int into = -1;
@@ -156,7 +156,7 @@ static int is_one(const Given *given, const Operand *operand) {
     return given->spread || !(is_array(operand) || operand->kind == KIND_LENGTHS);
 }
 
-/* An element, or a number that stands for one. Whether it is known: of a number beyond 64 bits the least or the greatest is kept. */
+/* An element, or a number that stands for one, and whether it is known: of a number beyond 64 bits the least or the greatest is kept. */
 static int value_at(const Given *given, const Operand *operand, int64_t place, int64_t *value) {
     if (is_one(given, operand)) {
         *value = given->number;
@@ -184,7 +184,7 @@ static PyObject *index_said(const Frame *frame, int k, int64_t place, int64_t va
     return both;
 }
 
-/* The value that is at fault, or nothing; then an exception may be set. A negative length is looked for among all lengths. */
+/* The value at fault, or nothing; then an exception may be set. A negative length is looked for among all lengths. */
 static PyObject *value_at_fault(const Frame *frame, CvlStatus status) {
     const Family *family = frame->row->family;
     int64_t value;
@@ -230,14 +230,14 @@ static PyObject *shared_said(const Frame *frame) {
     return NULL;
 }
 
-/* ---- what more is said of a fault ---- */
+/* ---- details of a fault ---- */
 
 static PyObject *lengths_said(const Frame *frame, int has_room) {
     PyObject *said = arguments_differ(frame);
     return said == NULL && !PyErr_Occurred() && has_room ? room_differs(frame) : said;
 }
 
-/* What more is said of a fault, or None. */
+/* The details of a fault, or None. */
 static PyObject *said_of(Frame *frame, CvlStatus status, int has_room) {
     PyObject *said;
     if (cvl_look(frame) < 0) {
