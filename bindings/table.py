@@ -184,7 +184,7 @@ OF_FAMILIES = {
         "The faults by the lengths come first, then 7 LengthMismatch, without a place, if the lengths of arrays do not fit.",
     ),
     "transposes, and integers of a byte": (
-        "No script calls these. A transpose moves a matrix block by block, which takes less time than a back permute, and runs on the calling thread. Widen "
+        "No script calls these. A transpose moves a matrix block by block, so it reads neighbours while they are in cache; it runs on the calling thread. Widen "
         "bytes before calls on integers, and narrow what fits. For a signed type of bytes subtract 256 from the integers above 127 once they are widened, and add "
         "256 to the negative ones before they are narrowed.",
     ),
@@ -673,7 +673,7 @@ FAMILIES = (
     # ---- orders, ranks and sorts ----
     family(
         "order", "orders, ranks and sorts", (ints("keys"), room("ints")),
-        "The places in ascending order of their keys. A back permute by them sorts whatever belongs to the keys.",
+        "The places in ascending order of their keys, equal keys in the order of their places. A back permute by them sorts whatever belongs to the keys.",
         asks=True, cut=("whole", None), shape="keys and out have n elements.", example={"keys": "3 1 2 1", "out": "1 3 2 0"},
     ),
     family(
@@ -707,8 +707,8 @@ FAMILIES = (
     *twins(
         ("gather_segments_int", "gather_segments_bool"), "slices and merges",
         lambda kind: (items(kind, "source"), ints("starts", "segments"), lengths(extent="total"), room(kind, "total")),
-        "For each segment the elements of the source from its start on, as many as the segment is long. Slices may overlap, come in any order and be empty; an "
-        "empty one may start where the source ends.",
+        "For each segment the elements of the source from the place `starts` on, as many as the segment is long. Slices may overlap, come in any order and be "
+        "empty; an empty one may start where the source ends.",
         limit="segments", faults=(BAD_SLICE,), cut=("segments", "total"), shape="There is one start for each segment; out has the total of the lengths.",
         example=lambda kind: {
             "ints": {"source": "10 20 30 40", "starts": "2 4 1", "lengths": "2 0 3", "out": "30 40 20 30 40"},

@@ -516,7 +516,10 @@ CVL_CHECKED CvlStatus cvl_seg_counts(const int32_t *index, size_t index_len, Cvl
  * up to 4 (by segments, for the keys of the longest one), and all up to 8192 bytes more, else 100 NoResources.
  */
 
-/* The places in ascending order of their keys. A back permute by them sorts whatever belongs to the keys. */
+/*
+ * The places in ascending order of their keys, equal keys in the order of their places. A back permute by them sorts whatever
+ * belongs to the keys.
+ */
 CVL_CHECKED CvlStatus cvl_order(const int32_t *keys, size_t keys_len, int32_t *out, size_t out_len);
 
 /*
@@ -547,9 +550,9 @@ CVL_CHECKED CvlStatus cvl_seg_sort(const int32_t *keys, size_t keys_len, CvlLeng
  */
 
 /*
- * For each segment the elements of the source from its start on, as many as the segment is long. Slices may overlap, come in
- * any order and be empty; an empty one may start where the source ends. Faults: 10 IndexOutOfRange at the first segment that
- * starts below 0 or ends behind the source.
+ * For each segment the elements of the source from the place `starts` on, as many as the segment is long. Slices may overlap,
+ * come in any order and be empty; an empty one may start where the source ends. Faults: 10 IndexOutOfRange at the first segment
+ * that starts below 0 or ends behind the source.
  */
 CVL_CHECKED CvlStatus cvl_gather_segments_int(const int32_t *source, size_t source_len, const int32_t *starts,
     size_t starts_len, CvlLengths lengths, int32_t *out, size_t out_len);
@@ -595,9 +598,9 @@ CVL_CHECKED CvlStatus cvl_seg_exact_sums(const int32_t *a, size_t a_len, CvlLeng
 /* ---- transposes, and integers of a byte: families ---- */
 
 /*
- * No script calls these. A transpose moves a matrix block by block, which takes less time than a back permute, and runs on the
- * calling thread. Widen bytes before calls on integers, and narrow what fits. For a signed type of bytes subtract 256 from the
- * integers above 127 once they are widened, and add 256 to the negative ones before they are narrowed.
+ * No script calls these. A transpose moves a matrix block by block, so it reads neighbours while they are in cache; it runs on
+ * the calling thread. Widen bytes before calls on integers, and narrow what fits. For a signed type of bytes subtract 256 from
+ * the integers above 127 once they are widened, and add 256 to the negative ones before they are narrowed.
  */
 
 /*
