@@ -95,7 +95,7 @@ def text(record, builds, folder, names):
         "In a checkout of that revision, with the kit on the path, `./release --check FOLDER` builds this release again and compares each byte.", "",
         "## The theorems", "", _table(("What", "By the contract of", "It says"), THEOREMS), "", "No proof covers:", "",
         *(f"- {said}." for said in UNCOVERED), "",
-        "In the sources `docs/user/proved.md` has a row for each crate.", "",
+        "In the sources `docs/user/proved.md` says what is proved of each crate.", "",
         "## What was compiled", "", _table(("What", "For", "SHA-256"), compiled), "",
         "## The files", "", _table(("File", "Made of", "SHA-256"), files), "",
         "## The sources", "", _table(("Folder or file", "SHA-256, of a folder that of the lines `SUM  NAME` of its files, sorted by name"), [(f"`{name}`", f"`{found}`") for name, found in sources().items()]), "",
