@@ -262,6 +262,20 @@ SECTIONS = (
     ),
 )
 
+# What the functions do that no script calls, by their sections in `table.py`.
+BESIDE = {
+    "First senders": "For each place of a result the least place whose index names it, or -1; `select_` only of places whose flag is true.",
+    "Combining permutes": "Join each element with what stands at the place that its index names: sums by key, or the least of each; `counts` counts keys.",
+    "Orders, ranks and sorts": "The places in ascending order of their keys, equal keys in their order; how many keys come before each; the keys.",
+    "Slices and merges": "Slices one behind another, by starts and lengths; segments behind segments; the next element of one vector or another, by a flag; the "
+    "place of the first true flag, or -1; sums in 64 bits.",
+    "Transposes, and integers of a byte": "A matrix stored by rows, transposed; bytes as integers from 0 to 255, and back, or fault 18.",
+    "Texts": "Integers read from a text, and vectors written as one.",
+    "Scans in parts, by threads of the caller's": "A scan after what stands before it.",
+    "Calls in parts": "What a part needs if you [cut a call](parallel.md#how-each-call-is-cut) yourself.",
+    "Sparse products": "A matrix in rows times a vector, in one pass; `checked_` never wraps.",
+}
+
 # What a reader of an entry may want instead: the first call of the entry, and calls of others.
 ALSO = {
     "add_wuz": "add_suz add_ruz",

@@ -23,7 +23,7 @@ READING = """## Reading an entry
 
 BESIDE = """## Functions that no script calls
 
-C, Fortran, Python and Rust have them, in C and Fortran with `cvl_` before the name: see `man 3 cvl`, `help(cvl)` and `cargo doc`."""
+C, Fortran, Python and Rust have them, in C and Fortran with `cvl_` before the name: see `man 3 cvl`, `help(cvl)` and `cargo doc`. With `seg_` they work in each segment, or on nested texts."""
 
 
 def anchor(entry):
@@ -86,8 +86,8 @@ def _entry(entry, found):
 
 def _beside():
     """The functions that no script calls, by their sections."""
-    lines = [f"| {title} | {' '.join(_names(entry) for entry in found)} |" for title, _, found in reference.beside()]
-    return "\n".join(["| Kind | Functions |", "|---|---|", *lines])
+    lines = [f"| {' '.join(_names(entry) for entry in found)} | {entries.BESIDE[title]} |" for title, _, found in reference.beside()]
+    return "\n".join(["| Functions | What they do |", "|---|---|", *lines])
 
 
 def page():
