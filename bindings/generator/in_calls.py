@@ -19,7 +19,7 @@ READING = """## Reading an entry
 - *Integers* and *booleans* are vectors, an *integer* and a *boolean* single values. *Elements* are either, by the last letter of the name. Arguments come in the order of `Takes`.
 - A descriptor is the lengths of the segments of a vector; its *total* is their sum. A segmented call does in each segment what the flat call does on a whole vector, and its results lie one after another.
 - Places count from 0, and the place of a fault is that in the whole vector. A fault of an element is reported at the least place that has one.
-- If lengths that must agree do not, the fault is 7 LengthMismatch, without a place, before all others of the entry. An entry without a line `Faults` has no others. `script.md` has those of the line, of its arguments and of new names, which come first."""
+- Lengths that are not equal are fault 7 LengthMismatch, without a place, before all others of the entry. An entry without a line `Faults` has no others. `script.md` has those of the line, of its arguments and of new names, which come first."""
 
 BESIDE = """## Functions that no script calls
 
@@ -41,9 +41,9 @@ def index(found, leads_to):
 
 
 def said(entry):
-    """What an entry takes and gives, what it does, which lengths must agree, and its other faults."""
-    lines = [f"Takes: {entry.takes}. Gives: {entry.gives}.", entry.said.said]
-    lines += [f"Lengths that must agree: {entry.agree}."] if entry.agree else []
+    """What an entry takes and gives, which lengths must agree, and its other faults."""
+    lines = [f"Takes: {entry.takes}. Gives: {entry.gives}."]
+    lines += [f"Equal lengths: {entry.agree}."] if entry.agree else []
     others = re.sub(r"^7 LengthMismatch(?:\.|; )", "", entry.faults)
     lines += [f"Faults: {others}"] if others not in ("", "none.") else []
     return "\n".join(f"- {line}" for line in lines)
@@ -81,7 +81,7 @@ def _elsewhere(entry, found):
 def _entry(entry, found):
     others = also(entry, _elsewhere(entry, found), _leads_to)
     lines = "\n".join([said(entry), *([f"- See also: {others}."] if others else [])])
-    return "\n\n".join([f"### {entry.heading}", lines, example(entry), *picture(entry)])
+    return "\n\n".join([f"### {entry.heading}", entry.said.said, lines, example(entry), *picture(entry)])
 
 
 def _beside():
