@@ -43,7 +43,6 @@ SECTIONS = (
                 ("div_wuz", "mod_wuz"), "quotient, remainder",
                 "The quotient truncated toward zero; the remainder, with the sign of the dividend. -2147483648 divided by -1 is -2147483648, with remainder 0.",
                 costs=("divide",),
-                shows="-7 divided by 2 is -3, with remainder -1.",
             ),
             Entry(
                 ("lsh_wuz", "rsh_wuz"), "shift left, shift right",
@@ -52,7 +51,7 @@ SECTIONS = (
                 shows="3 shifted left by 31 keeps one bit, that of the sign; -7 shifted right by 1 is -4, the floor of -3.5.",
             ),
             Entry(("not_wuz", "not_wub"), "the opposite", "All bits of each integer inverted; the opposite of each boolean.", costs=("not, on booleans",)),
-            Entry(("cpy_wuz", "cpy_wub"), "a copy", "A copy, which stays the same if the first name is bound again.", costs=("copy",), shows="`c` keeps what `a` was before."),
+            Entry(("cpy_wuz", "cpy_wub"), "a copy", "A copy, which stays the same if the first name is bound again.", costs=("copy",)),
             Entry(
                 ("grt_wuz", "les_wuz", "geq_wuz", "leq_wuz", "eql_wuz", "neq_wuz"), "comparisons: greater, less, at least, at most, equal, unequal",
                 "T if the element of a is greater than, less than, at least, at most, equal to or unequal to that of b, in the order of the names. Numbers are signed.",
@@ -82,7 +81,6 @@ SECTIONS = (
             Entry(
                 _each(JOINING, "se", OF_FLAGS), "exclusive scan of each segment", "The scan of each segment; it starts from the identity in each.",
                 ("scan_segments", "Each element is added to the sums after it in its segment"), costs=("add scan, segments of 1,000",),
-                shows="Each segment starts anew, and the empty one has no element.",
             ),
             Entry(
                 _each(JOINING, "ru", OF_FLAGS), "reduce", "All elements, joined by the operator; the identity if there are none.", costs=("add reduce",),
@@ -112,7 +110,6 @@ SECTIONS = (
             Entry(
                 ("tot_ruz",), "sum that never wraps", "The sum of all elements; 0 if there are none. Only the whole sum has to fit.",
                 costs=("checked add reduce",),
-                shows="The sum of the first two does not fit, and is no result.",
             ),
             Entry(
                 ("tot_rez",), "sum of each segment that never wraps", "The sum of each segment; 0 for an empty one.",
@@ -151,7 +148,6 @@ SECTIONS = (
                 ("sel_puz", "sel_pub"), "select permute: the elements whose flag is true go to their indices",
                 "The simple permute of the elements whose flag is T. Indices whose flag is F are ignored.",
                 ("select_permute", "Each element whose flag is true leads to the place that its index names"), ("select permute, at random",),
-                shows="The index 9 is outside, and ignored, since its flag is F.",
             ),
             Entry(
                 ("sel_pez", "sel_peb"), "select permute of each segment",
@@ -187,7 +183,6 @@ SECTIONS = (
                 takes="number (integer)", gives="integers, to the first name; their descriptor, to the second",
                 faults=f"{NO_INPUT} other than brackets, or more than 4,194,305 `[`; else 15 BadInput at the first token that cannot stand there, or at the "
                 "number of tokens if the input ends too early.",
-                shows="`write v d` prints the input again.",
             ),
         ),
     ),
@@ -239,13 +234,12 @@ SECTIONS = (
             Entry(
                 ("ext_vez", "ext_veb"), "one element of each segment",
                 "The element of each segment at its index, which counts from the start of the segment. An index for an empty segment is always outside.",
-                ("extract_segments", "The element that each segment's index names"), shows="Index 2 is the third element of the second segment.",
+                ("extract_segments", "The element that each segment's index names"),
             ),
             Entry(("rep_vuz", "rep_vub"), "one element replaced", "The vector with the value at the index."),
             Entry(
                 ("rep_vez", "rep_veb"), "one element of each segment replaced",
                 "The vector with each segment's value at its index, which counts from the start of the segment. An index for an empty segment is always outside.",
-                shows="Index 1 is the second element of the second segment.",
             ),
         ),
     ),
