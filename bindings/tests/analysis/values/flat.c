@@ -101,14 +101,32 @@ static void combine_bools(size_t n) {
     (void)cvl_combine_permute_bool_on(&pool, CVL_XOR, bools[n], n, others[n], n, bool_room[n], n);
 }
 
+/*
+ * Indices that fall, but for one. The room is cut where sorted ones say, so that their numbers have to be known: of any numbers each order
+ * would be followed, and none would say that a part ends behind its beginning.
+ */
+static int32_t odd;
+
+static void put_indices(size_t n) {
+    for (size_t k = 0; k < n; k++) others[n][k] = (int32_t)(n - k) - 1;
+    if (n > 0) others[n][n / 2] = odd;
+}
+
+static void combine_known_ints(size_t n) { put_indices(n), combine_ints(n); }
+static void combine_known_bools(size_t n) { put_indices(n), combine_bools(n); }
+
 void combines(void) {
-    fill(5, 1);
+    static const int32_t odds[] = {INT32_MIN, 0, 2, INT32_MAX};
     fill_ints(room);
-    each_length(combine_ints, 1, 0);
-    clean_room = 1;
-    each_length(combine_bools, 1, 0);
-    clean_room = 0;
-    each_pattern(combine_bools, 4, 0);
+    for (size_t k = 0; k < sizeof odds / sizeof *odds; k++) {
+        odd = odds[k];
+        fill(5, 1);
+        each_length(combine_known_ints, 1, 0);
+        clean_room = 1;
+        each_length(combine_known_bools, 1, 0);
+        clean_room = 0;
+        each_pattern(combine_known_bools, 4, 0);
+    }
 }
 
 void senders(void) {
