@@ -37,7 +37,7 @@ Operator = namedtuple("Operator", "name number sentence fault")
 #
 #   exported   its name in crates/cvl_c, without cvl_proved_
 #   operators  the names of those that it takes
-#   limit      the extent that has a limit, beside that of lengths: MOST_ELEMENTS, or MOST_OF_TEXT where a text is read or written
+#   limit      the extent that has a limit, beside that of lengths: MOST_ELEMENTS, or MOST_OF_TEXT of a nested text that is read
 #   in_place   which operands may be the room, each a tuple: alone, or together
 #   faults     beside that of the operator and those of lengths, in their order
 #   asks       whether the export asks for memory
@@ -83,7 +83,7 @@ CUTS = {
     "read": "cut at white space",
 }
 
-# The most elements of a vector; and of one whose text is read or written at once.
+# The most elements of a vector; and of one with segments whose text is read at once, and the most of its segments.
 MOST_ELEMENTS = 2147483647
 MOST_OF_TEXT = 4194304
 
@@ -799,7 +799,7 @@ FAMILIES = (
         "bits.",
         limit=None,
         faults=(
-            Fault((13,), f"13 TooLong, without a place, if there are more than {MOST_OF_TEXT} words between white space, whatever they are", False),
+            Fault((13,), f"13 TooLong, without a place, if there are more than {MOST_ELEMENTS} words between white space, whatever they are", False),
             Fault((15,), "else 15 BadInput at the first word that is no such integer", False),
         ),
         asks=True, cut=("read", "n"), example={"text": '"5 -1\\n007 -0"', "out": "5 -1 7 0", "count": "4"},
@@ -947,7 +947,7 @@ FAMILIES = (
         "fault's place is that in the whole text.",
         limit=None,
         faults=(
-            Fault((13,), f"13 TooLong, without a place, if `before` is more than {MOST_ELEMENTS}, or the piece itself has more than {MOST_OF_TEXT} words", False),
+            Fault((13,), f"13 TooLong, without a place, if `before` is more than {MOST_ELEMENTS}, or the piece itself has more words than that", False),
             Fault(
                 (15,), "else 15 BadInput at the first word of the piece that is no integer. You must check that all pieces together have at most "
                 f"{MOST_ELEMENTS} words", False),

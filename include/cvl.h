@@ -627,7 +627,7 @@ CVL_CHECKED CvlStatus cvl_bytes_from_ints(const int32_t *a, size_t a_len, uint8_
 
 /*
  * The integers of a text, between white space (space, tab, line feed, carriage return), each an optional minus sign and at
- * least one digit, inside 32 bits. Faults: 13 TooLong, without a place, if there are more than 4194304 words between white
+ * least one digit, inside 32 bits. Faults: 13 TooLong, without a place, if there are more than 2147483647 words between white
  * space, whatever they are; else 15 BadInput at the first word that is no such integer.
  */
 CVL_CHECKED CvlStatus cvl_read_ints(const char *text, size_t text_len, int32_t *out, size_t out_len, size_t *count);
@@ -772,7 +772,7 @@ CVL_CHECKED CvlStatus cvl_counts_range(const int32_t *index, size_t index_len, s
 /*
  * The integers of one piece of a text that is cut at white space, as cvl_read_ints reads them. `before` is how many words the
  * pieces before it have; a fault's place is that in the whole text. Faults: 13 TooLong, without a place, if `before` is more
- * than 2147483647, or the piece itself has more than 4194304 words; else 15 BadInput at the first word of the piece that is no
+ * than 2147483647, or the piece itself has more words than that; else 15 BadInput at the first word of the piece that is no
  * integer. You must check that all pieces together have at most 2147483647 words.
  */
 CVL_CHECKED CvlStatus cvl_read_ints_after(size_t before, const char *text, size_t text_len, int32_t *out, size_t out_len,

@@ -36,7 +36,7 @@ static size_t digits(int32_t number) {
     return count;
 }
 
-/*@ requires \valid_read(a + (0 .. count - 1)) && count <= CVL_MOST_OF_TEXT;
+/*@ requires \valid_read(a + (0 .. count - 1)) && count <= CVL_MOST_ELEMENTS;
     assigns \nothing;
     ensures \result == written_in(a, count) <= 11 * count; */
 static size_t all_digits(const int32_t *a, size_t count) {
@@ -49,7 +49,7 @@ static size_t all_digits(const int32_t *a, size_t count) {
 }
 
 /*@ requires \valid_read(lengths + (0 .. segments - 1));
-    requires segments <= CVL_MOST_OF_TEXT && \forall integer s; 0 <= s < segments ==> 0 <= lengths[s];
+    requires segments <= CVL_MOST_ELEMENTS && \forall integer s; 0 <= s < segments ==> 0 <= lengths[s];
     assigns \nothing;
     ensures \result == around_in(lengths, segments) <= (CVL_MOST_ELEMENTS + 1) * segments; */
 static size_t around_all(const int32_t *lengths, size_t segments) {
@@ -63,8 +63,8 @@ static size_t around_all(const int32_t *lengths, size_t segments) {
 }
 
 /* How long the text of integers or booleans is, in segments or in none. */
-/*@ requires count <= CVL_MOST_OF_TEXT && (ints == \null || \valid_read(ints + (0 .. count - 1)));
-    requires lengths == \null || (\valid_read(lengths + (0 .. segments - 1)) && segments <= CVL_MOST_OF_TEXT &&
+/*@ requires count <= CVL_MOST_ELEMENTS && (ints == \null || \valid_read(ints + (0 .. count - 1)));
+    requires lengths == \null || (\valid_read(lengths + (0 .. segments - 1)) && segments <= CVL_MOST_ELEMENTS &&
       \forall integer s; 0 <= s < segments ==> 0 <= lengths[s]);
     assigns \nothing;
     ensures \let elements = ints == \null ? count : written_in(ints, count);
@@ -201,7 +201,8 @@ static bool is_late(CvlStatus status) {
 
 /*@ requires \valid_read(text + (0 .. text_len - 1));
     assigns \nothing;
-    ensures \result <==> words_in(text, nested, text_len) > CVL_MOST_OF_TEXT || lists_in(text, nested, text_len) > CVL_MOST_OF_TEXT + 1; */
+    ensures \let most = nested ? CVL_MOST_OF_TEXT : CVL_MOST_ELEMENTS;
+      \result <==> words_in(text, nested, text_len) > most || lists_in(text, nested, text_len) > most + 1; */
 bool cvl_many_words(const char *text, size_t text_len, bool nested) {
     size_t words = 0, lists = 0;
     bool inside = 0;
@@ -210,6 +211,7 @@ bool cvl_many_words(const char *text, size_t text_len, bool nested) {
         loop assigns k, words, lists, inside;
         loop variant text_len - k; */
     for (size_t k = 0; k < text_len; k++) {
+    const size_t most = nested ? CVL_MOST_OF_TEXT : CVL_MOST_ELEMENTS;
         const char byte = text[k];
         const bool bracket = nested && (byte == '[' || byte == ']');
         const bool white = byte == ' ' || byte == '\t' || byte == '\n' || byte == '\r';
@@ -217,7 +219,7 @@ bool cvl_many_words(const char *text, size_t text_len, bool nested) {
         if (nested && byte == '[') lists++;
         inside = !bracket && !white;
     }
-    return words > CVL_MOST_OF_TEXT || lists > (size_t)CVL_MOST_OF_TEXT + 1;
+    return words > most || lists > most + 1;
 }
 
 /* Whether a text is too long, or too many words come before it. */

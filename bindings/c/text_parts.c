@@ -80,7 +80,7 @@ bool cvl_read_in_parts(const CvlPool *pool, CvlWork *w) {
     if (!cvl_keep(w, read_place(w, w->parts) * sizeof(int32_t)) || !cvl_step(pool, w, CVL_COPIES, read_part)) return 0;
     for (size_t k = 0; k < w->parts; k++) w->other[k + 1] = w->other[k] + w->counts[k];
     const size_t count = w->other[w->parts];
-    if (count > CVL_MOST_OF_TEXT) return 0;
+    if (count > CVL_MOST_ELEMENTS) return 0;
     w->told = count > w->in[CVL_AS_OUT].number ? cvl_status(CVL_LENGTH_MISMATCH, -1) : cvl_done();
     if (count <= w->in[CVL_AS_OUT].number && !cvl_step(pool, w, CVL_WRITES, put_read_part)) return 0;
     *cvl_told_at(w) = count;

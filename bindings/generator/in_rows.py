@@ -222,8 +222,7 @@ def row_of(found):
     """The row of a family."""
     family = found.family
     numbers = [o.number for o in table.OPERATORS if o.name in family.operators]
-    most = "CVL_MOST_OF_TEXT" if any(o.kind == "text" for o in family.operands) else "CVL_MOST_ELEMENTS"
-    lines = [f".operands = {len(found.operands)}, .out = {found.out}, .is = {flags_of(found.words)}, .most = {most},"]
+    lines = [f".operands = {len(found.operands)}, .out = {found.out}, .is = {flags_of(found.words)}, .most = CVL_MOST_ELEMENTS,"]
     if numbers:
         lines.append(f".operators = {bits_of(numbers)},")
     if found.faulty:

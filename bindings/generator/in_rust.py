@@ -195,21 +195,13 @@ def _alike(function, extent):
     return [*found, *(f"{name_of(cut)}.total()" for cut in function.cuts if cut.extent == extent)]
 
 
-def _limit(function):
-    """What looks whether there are too many elements: for a text, or for a vector."""
-    return "text_limit" if any(operand.kind == "text" for operand in function.row.operands) else "limit"
-
-
 def _checks(function):
     """The lines that tell a length that is too great, and then those that do not agree, before memory is asked for."""
     if function.alike("offsets"):
         # the library tells the faults of offsets first
         return
     if function.limited:
-        yield f"{_limit(function)}({function.limited.name}.len())?;"
-    elif function.cuts and _limit(function) != "limit":
-        # segments may be more, and longer, than a text can have
-        yield from (f"{_limit(function)}({name_of(cut)}.{of}())?;" for cut in function.cuts for of in ("len", "total"))
+        yield f"limit({function.limited.name}.len())?;"
     for extent in dict.fromkeys([*function.extents, *(["segments"] if function.cuts else [])]):
         if len(_alike(function, extent)) > 1:
             yield f"same(&[{', '.join(_alike(function, extent))}])?;"
@@ -369,7 +361,7 @@ def families():
     about = "The functions that are no call of a script: texts, and what a part of a call needs that the whole does not, among others."
     uses = (
         "use alloc::string::String;\nuse alloc::vec::Vec;\n\n"
-        "use crate::fault::{Fault, NOT_TOLD};\nuse crate::lengths::{counted, limit, most_words, places, same, text_limit, text_of, zeros};\n"
+        "use crate::fault::{Fault, NOT_TOLD};\nuse crate::lengths::{counted, limit, most_words, places, same, text_of, zeros};\n"
         "use crate::numbers::Operator;\nuse crate::pool::call;\nuse crate::segments::Segments;"
     )
     return HEAD.format(about=about, note=rows.NOTE, uses=uses) + "".join(map(_written, FAMILIES))

@@ -93,7 +93,7 @@ def constants():
         lines += _constant(f"VERSION_{name}", "u32", number, f"The {name.lower()} number of the version.")
     said = "The most elements of a vector, and the greatest total of segments."
     lines += _constant("MOST_ELEMENTS", "usize", f"{table.MOST_ELEMENTS:_}", said)
-    said = "The most elements whose text is read or written at once."
+    said = "The most elements of a nested text that is read at once, and the most of its lists."
     lines += _constant("MOST_OF_TEXT", "usize", f"{table.MOST_OF_TEXT:_}", said)
     said = "The most bytes of its stack that a thread needs for a call."
     lines += _constant("MOST_STACK", "usize", f"{table.MOST_STACK:_}", said)

@@ -7,7 +7,7 @@ import table
 
 SOURCE = "crates/cvl_base/specs/Limits.antt"
 
-# The limits of the table, and the definition of each: what has to do with a text keeps the limit of scripts.
+# The limits of the table, and the definition of each: a nested text that is read has the limit of scripts.
 DEFINITIONS = {"MOST_ELEMENTS": "most_places", "MOST_OF_TEXT": "most_elements"}
 
 THRESHOLDS, IN_C = "crates/sharing/src/lib.rt", "bindings/c/threads.h"

@@ -1,14 +1,16 @@
 /*
  * Calls each function of cvl.h on vectors of 4,194,304, 4,194,305, 8,388,613 and 67,108,864 elements, by one thread and by four, without a fault
- * and with one in the last places, and holds what it answers and writes against plain loops. Texts end at 4,194,304 elements, and more
- * are told. Then some calls on 2,147,483,647 booleans, the most of a vector, and on one more, of which nothing may be read; and faults in the
- * last places of as many integers, zeros that the system has at hand, of which a page alone is written. It takes up to 6 GB of memory. It prints what differs, and its status is then 1. `tests/c/run lengths` builds and runs it; the functions
+ * and with one in the last places, and holds what it answers and writes against plain loops. Nested texts that are read end at 4,194,304 elements,
+ * and more are told. Then some calls on 2,147,483,647 booleans, the most of a vector, and on one more, of which nothing may be read; faults in
+ * the last places of as many integers, zeros that the system has at hand, of which a page alone is written; and a text of as many words, and of
+ * one more, whose bytes are one page, mapped again and again. It takes up to 6 GB of memory. It prints what differs, and its status is then 1. `tests/c/run lengths` builds and runs it; the functions
  * are those of calls.h, and the loops those of plain.h. One of the lengths may be named alone.
  */
-#define _DEFAULT_SOURCE
+#define _GNU_SOURCE
 #include "plain.h"
 
 #include <sys/mman.h>
+#include <unistd.h>
 
 enum { THREADS = 4, SEGMENT = 400, LEAST_LAST = 8, WAYS = 4 };
 
@@ -112,7 +114,7 @@ static void with_faults(const Row *row, const char *call) {
 }
 
 static void without_fault(const Row *row, const char *call) {
-    const CvlStatus right = has_some(row, is_text) && n > CVL_MOST_OF_TEXT ? status_at(CVL_TOO_LONG, SIZE_MAX) : status_at(CVL_DONE, SIZE_MAX);
+    const CvlStatus right = has(row, NESTED_TEXT) && n > CVL_MOST_OF_TEXT ? status_at(CVL_TOO_LONG, SIZE_MAX) : status_at(CVL_DONE, SIZE_MAX);
     void *p[MOST_ARRAYS];
     for (size_t threads = 1; threads <= THREADS; threads += THREADS - 1) {
         if (cvl_set_threads(threads) != 0) abort();
@@ -190,10 +192,12 @@ static void most_booleans(bool *flags, size_t most) {
 /* Nothing of a vector that is too long is read. */
 static void one_more(const bool *far, size_t count) {
     int32_t *ints = (int32_t *)(void *)(uintptr_t)far;
+    size_t length = 7;
     bool found;
     check("a count of too many", is(cvl_cnt_lub(far, count, ints), CVL_OVERLAP, -1) && is(cvl_cnt_lub(far, count, (int32_t *)memory[0]), CVL_TOO_LONG, -1));
     check("a reduce of too many", is(cvl_xor_rub(far, count, &found), CVL_TOO_LONG, -1));
     check("a scan of too many", is(cvl_xor_sub(far, (bool *)(uintptr_t)far, count), CVL_TOO_LONG, -1));
+    check("a text of too many", is(cvl_write_bools(far, count, (char *)memory[0], 9, &length), CVL_TOO_LONG, -1) && length == 7);
     check("copies of too many", is(cvl_dis_vub(true, (int64_t)count, (bool *)(uintptr_t)far), CVL_TOO_LONG, -1));
 }
 
@@ -247,6 +251,37 @@ static void last_places(void) {
     printf("%zu integers\n", most);
 }
 
+/* ---- a text of as many words as a vector has elements ---- */
+
+/* So many bytes of a text whose words are one byte each: one piece of memory, mapped as often as it takes. */
+static char *far_text(size_t bytes, char word, size_t piece) {
+    const int file = memfd_create("words", 0);
+    char *const found = (char *)mmap(NULL, bytes + piece, PROT_NONE, MAP_PRIVATE | MAP_ANONYMOUS | MAP_NORESERVE, -1, 0);
+    if (file < 0 || found == MAP_FAILED || ftruncate(file, (off_t)piece) != 0) abort();
+    for (size_t from = 0; from < bytes; from += piece) {
+        if (mmap(found + from, piece, PROT_READ | PROT_WRITE, MAP_SHARED | MAP_FIXED, file, 0) == MAP_FAILED) abort();
+    }
+    memset(found, ' ', piece);
+    for (size_t k = 0; k < piece; k += 2) found[k] = word;
+    close(file);
+    return found;
+}
+
+static void most_words(void) {
+    const size_t most = CVL_MOST_ELEMENTS, piece = (size_t)1 << 24;
+    char *const text = far_text(2 * (most + 1), 'x', piece);
+    int32_t number = 7;
+    size_t count = 7;
+    for (size_t threads = 1; threads <= THREADS; threads += THREADS - 1) {
+        if (cvl_set_threads(threads) != 0) abort();
+        check("the first of as many words", is(cvl_read_ints(text, 2 * most, &number, 1, &count), CVL_BAD_INPUT, 0));
+        check("one word more", is(cvl_read_ints(text, 2 * (most + 1), &number, 1, &count), CVL_TOO_LONG, -1));
+    }
+    check("a room and a count after a fault", number == 7 && count == 7);
+    munmap(text, 2 * (most + 1) + piece);
+    printf("%zu words\n", most);
+}
+
 int main(int words, char **word) {
     static const size_t all[] = {4194304, 4194305, 8388613, 67108864};
     const size_t named = words > 1 ? (size_t)atol(word[1]) : 0, longest_one = named > 0 && named < CVL_MOST_ELEMENTS ? named : all[3];
@@ -255,6 +290,6 @@ int main(int words, char **word) {
     make_arrays(longest_one, longest_one / SEGMENT + 10);
     for (size_t k = 0; k < sizeof all / sizeof *all && named == 0; k++) each_call(all[k]);
     if (named > 0 && named < CVL_MOST_ELEMENTS) each_call(named);
-    else most_of_all(), last_places();
+    else most_of_all(), last_places(), most_words();
     return failed ? EXIT_FAILURE : EXIT_SUCCESS;
 }

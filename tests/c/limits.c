@@ -1,6 +1,7 @@
 /*
- * Calls on texts, lists, vectors and counts that are exactly as long as may be, and longer by one: whole and in parts, with
- * memory and without. The first are taken; the others are 13 TooLong, with all rooms as they were. It prints what differs, and
+ * Calls on nested texts, lists, vectors and counts that are exactly as long as may be, and longer by one: whole and in parts, with
+ * memory and without. The first are taken; the others are 13 TooLong, with all rooms as they were. Other texts are taken at both lengths,
+ * and tell their last word if it is wrong. It prints what differs, and
  * its status is then 1. `tests/c/run limits` builds and runs it.
  */
 #define _DEFAULT_SOURCE
@@ -138,20 +139,21 @@ static const struct Row {
     void (*put)(size_t most);
     CvlStatus (*call)(size_t most);
     size_t each, more;
+    bool ends; /* whether a text may be no longer */
 } rows[] = {
-    {"cvl_read_ints", put_words, read_words, 1, 0},
-    {"cvl_read_ints_on", put_words, read_words_on, 1, 0},
-    {"cvl_read_ints_after", put_words, read_words_after, 1, 0},
-    {"cvl_seg_read_ints, many lists", put_lists, read_lists, 0, 0},
-    {"cvl_seg_read_ints, one list", put_one_list, read_list, 1, 0},
-    {"cvl_write_ints", put_halves, write_ints, 2, 1},
-    {"cvl_write_ints_on", put_halves, write_ints_on, 2, 1},
-    {"cvl_write_bools", put_halves, write_bools, 2, 1},
-    {"cvl_write_bools_on", put_halves, write_bools_on, 2, 1},
-    {"cvl_seg_write_ints, many segments", put_segments, write_segments, 3, 2 * FEW},
-    {"cvl_seg_write_ints_on, many segments", put_segments, write_segments_on, 3, 2 * FEW},
-    {"cvl_seg_write_bools, two segments", put_halves, write_halves, 2, 5},
-    {"cvl_seg_write_bools_on, two segments", put_halves, write_halves_on, 2, 5},
+    {"cvl_read_ints", put_words, read_words, 1, 0, false},
+    {"cvl_read_ints_on", put_words, read_words_on, 1, 0, false},
+    {"cvl_read_ints_after", put_words, read_words_after, 1, 0, false},
+    {"cvl_seg_read_ints, many lists", put_lists, read_lists, 0, 0, true},
+    {"cvl_seg_read_ints, one list", put_one_list, read_list, 1, 0, true},
+    {"cvl_write_ints", put_halves, write_ints, 2, 1, false},
+    {"cvl_write_ints_on", put_halves, write_ints_on, 2, 1, false},
+    {"cvl_write_bools", put_halves, write_bools, 2, 1, false},
+    {"cvl_write_bools_on", put_halves, write_bools_on, 2, 1, false},
+    {"cvl_seg_write_ints, many segments", put_segments, write_segments, 3, 2 * FEW, false},
+    {"cvl_seg_write_ints_on, many segments", put_segments, write_segments_on, 3, 2 * FEW, false},
+    {"cvl_seg_write_bools, two segments", put_halves, write_halves, 2, 5, false},
+    {"cvl_seg_write_bools_on, two segments", put_halves, write_halves_on, 2, 5, false},
 };
 
 static void with_memory(const struct Row *row, size_t most, uint32_t right) {
@@ -175,11 +177,26 @@ static void without_memory(const struct Row *row, size_t most, uint32_t right) {
 static void texts(void) {
     for (size_t k = 0; k < sizeof rows / sizeof *rows; k++) {
         for (size_t most = MOST; most <= MANY; most++) {
-            const uint32_t right = most == MOST ? CVL_DONE : CVL_TOO_LONG;
+            const uint32_t right = most == MOST || !rows[k].ends ? CVL_DONE : CVL_TOO_LONG;
             rows[k].put(most);
             with_memory(&rows[k], most, right);
             without_memory(&rows[k], most, right);
         }
+    }
+}
+
+/* The last word of a text is wrong, behind as many as a nested text may have. */
+static void last_words(void) {
+    static CvlStatus (*const calls_of[])(size_t) = {read_words, read_words_on, read_words_after};
+    for (size_t k = 0; k < sizeof calls_of / sizeof *calls_of; k++) {
+        put_words(MANY);
+        text[2 * MOST] = 'x';
+        reset();
+        const CvlStatus status = calls_of[k](MANY);
+        const long long place = k == 2 ? MOST + 3 : MOST;
+        calls++;
+        if (status.number != CVL_BAD_INPUT || status.place != place) fail("the last word", "another place", (long long)status.place, place);
+        if (!are_untouched()) fail("the last word", "something was written", 1, 0);
     }
 }
 
@@ -271,6 +288,7 @@ int main(void) {
     setvbuf(stdout, NULL, _IONBF, 0);
     pool = cvl_pool_alone(PARTS);
     texts();
+    last_words();
     numbers();
     vectors();
     printf("%d calls at the limits\n", calls);

@@ -1212,7 +1212,7 @@ static char many_words[2 * (CVL_MOST_OF_TEXT + 1)];
 static void texts(void) {
     const int32_t *a = I(0, -3, 4);
     const bool *f = B(true, false);
-    const size_t most = CVL_MOST_OF_TEXT, many = CVL_MOST_OF_TEXT + 1;
+    const size_t most = CVL_MOST_OF_TEXT, many = CVL_MOST_OF_TEXT + 1, too_many = (size_t)CVL_MOST_ELEMENTS + 1;
     FRONT_INTS(read_ints("5 -1\n007 -0", ROOM), 5, -1, 7, 0);
     FRONT_INTS(read_ints("\t-2147483648\r\n2147483647 ", 2), INT32_MIN, 2147483647);
     FRONT_INTS(cvl_read_ints("12345", 3, ints, ROOM, &total), 123);
@@ -1232,7 +1232,7 @@ static void texts(void) {
     many_words[2 * most] = '7';
     many_words[2 * most - 1] = ' ';
     many_words[0] = 'x';
-    FAULT(cvl_read_ints(many_words, 2 * many, ints, ROOM, &total), CVL_TOO_LONG, -1);
+    FAULT(cvl_read_ints(many_words, 2 * many, ints, ROOM, &total), CVL_BAD_INPUT, 0);
     TEXT(cvl_write_ints(a, 3, bytes, TEXT_ROOM, &total), "[0 -3 4]");
     TEXT(cvl_write_ints(a, 3, bytes, 8, &total), "[0 -3 4]");
     TEXT(cvl_write_ints(I(INT32_MIN, 2147483647), 2, bytes, TEXT_ROOM, &total), "[-2147483648 2147483647]");
@@ -1244,8 +1244,9 @@ static void texts(void) {
     TOO_SHORT(cvl_write_ints(a, 0, bytes, 1, &total), 2);
     TOO_SHORT(cvl_write_bools(f, 2, bytes, 0, &total), 5);
     TOO_SHORT(cvl_write_bools(too_many_bools, most, bytes, TEXT_ROOM, &total), 2 * most + 1);
-    FAULT(cvl_write_ints(too_many_ints, many, bytes, TEXT_ROOM, &total), CVL_TOO_LONG, -1);
-    FAULT(cvl_write_bools(too_many_bools, many, bytes, TEXT_ROOM, &total), CVL_TOO_LONG, -1);
+    TOO_SHORT(cvl_write_bools(too_many_bools, many, bytes, TEXT_ROOM, &total), 2 * many + 1);
+    FAULT(cvl_write_ints(too_many_ints, too_many, bytes, TEXT_ROOM, &total), CVL_TOO_LONG, -1);
+    FAULT(cvl_write_bools(too_many_bools, too_many, bytes, TEXT_ROOM, &total), CVL_TOO_LONG, -1);
 }
 
 /* No words, and the text of many integers read again. */
@@ -1478,7 +1479,7 @@ static void nest_fault(const char *text, int64_t place) {
 static void nested_texts(void) {
     const int32_t *a = I(5, 1, 7), *lengths = I(0, 2, 1);
     const bool *f = B(true, false);
-    const size_t many = (size_t)CVL_MOST_OF_TEXT + 1;
+    const size_t many = (size_t)CVL_MOST_OF_TEXT + 1, too_many = (size_t)CVL_MOST_ELEMENTS + 1;
     reads_nest("[[1 2] [] [3]]", I(1, 2, 3), 3, I(2, 0, 1), 3);
     reads_nest("[[5][1]]", I(5, 1), 2, I(1, 1), 2);
     reads_nest(" [[-2147483648\n2147483647]\t] ", I(INT32_MIN, 2147483647), 2, I(2), 1);
@@ -1508,13 +1509,14 @@ static void nested_texts(void) {
     TOO_SHORT(cvl_seg_write_bools(f, 2, S(I(1, 1), 2), bytes, 0, &total), 9);
     FAULT(cvl_seg_write_ints(a, 3, S(I(1, 1), 2), bytes, TEXT_ROOM, &total), CVL_LENGTH_MISMATCH, -1);
     FAULT(cvl_seg_write_ints(a, 3, S(I(4, -1), 2), bytes, TEXT_ROOM, &total), CVL_NEGATIVE_LENGTH, 1);
-    FAULT(cvl_seg_write_ints(a, 3, S(too_many_ints, many), bytes, TEXT_ROOM, &total), CVL_TOO_LONG, -1);
+    FAULT(cvl_seg_write_ints(a, 3, S(too_many_ints, too_many), bytes, TEXT_ROOM, &total), CVL_TOO_LONG, -1);
     FAULT(cvl_seg_write_bools(f, 2, S(I(2, -2), 2), bytes, TEXT_ROOM, &total), CVL_NEGATIVE_LENGTH, 1);
-    FAULT(cvl_seg_write_bools(too_many_bools, many, S(I(CVL_MOST_OF_TEXT, 1), 2), bytes, TEXT_ROOM, &total), CVL_TOO_LONG, -1);
+    FAULT(cvl_seg_write_bools(too_many_bools, too_many, S(I(CVL_MOST_ELEMENTS, 1), 2), bytes, TEXT_ROOM, &total), CVL_TOO_LONG, -1);
+    TOO_SHORT(cvl_seg_write_bools(too_many_bools, many, S(I(CVL_MOST_OF_TEXT, 1), 2), bytes, TEXT_ROOM, &total), 2 * many + 4);
 }
 
 /*
- * Each call that takes memory once more, on 4,194,304 elements, the most of a text, and over a million segments, beyond each length at which its
+ * Each call that takes memory once more, on 4,194,304 elements, the most of a nested text, and over a million segments, beyond each length at which its
  * body changes its way. A row says for each place of the result where its element stands; the call is read against that.
  */
 enum { MOST = CVL_MOST_OF_TEXT, LONG_SEGMENT = 5000, SHORTER_SEGMENT = 40, LONG_TEXT = 16 * MOST };
@@ -1835,7 +1837,7 @@ static void copied_booleans(void) {
     COPIES(cvl_seg_write_bools(O(2, 0), 2, S(I(1, 1), 2), bytes, TEXT_ROOM, &total), 1);
 }
 
-/* Calls on more elements than a text may have, without a fault and with one at the last place. */
+/* Calls on more elements than a nested text may have, without a fault and with one at the last place. */
 static void longer_than_a_text(void) {
     const size_t many = MOST + 1;
     for (size_t k = 0; k < many; k++) long_ints[k] = 1, int_room[k] = UNTOUCHED;
@@ -1846,7 +1848,7 @@ static void longer_than_a_text(void) {
     }
     int_room[0] = 0;
     FAULT(cvl_permute_int(other_ints, many, int_room, many, long_ints, many), CVL_INDEX_REPEATED, MOST);
-    FAULT(cvl_write_ints(long_ints, many, bytes, TEXT_ROOM, &total), CVL_TOO_LONG, -1);
+    TOO_SHORT(cvl_write_ints(long_ints, many, bytes, TEXT_ROOM, &total), 2 * many + 1);
     calls += 2;
 }
 

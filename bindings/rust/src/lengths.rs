@@ -6,7 +6,7 @@ use alloc::vec::Vec;
 
 use crate::fault::Fault;
 use crate::numbers::faults::LENGTH_MISMATCH;
-use crate::{MOST_ELEMENTS, MOST_OF_TEXT};
+use crate::MOST_ELEMENTS;
 
 /// Elements for which zero bytes are a value.
 pub(crate) trait Zero {}
@@ -18,16 +18,7 @@ impl Zero for u8 {}
 
 /// A vector may have so many elements.
 pub(crate) fn limit(length: usize) -> Result<(), Fault> {
-    at_most(MOST_ELEMENTS, length)
-}
-
-/// A text may have so many elements.
-pub(crate) fn text_limit(length: usize) -> Result<(), Fault> {
-    at_most(MOST_OF_TEXT, length)
-}
-
-fn at_most(most: usize, length: usize) -> Result<(), Fault> {
-    if length <= most {
+    if length <= MOST_ELEMENTS {
         Ok(())
     } else {
         Err(Fault::too_long())
@@ -59,7 +50,7 @@ pub(crate) fn true_flags(flags: &[bool]) -> usize {
 
 /// At most so many words stand in a text, of those that a call reads: each has a byte, and white space behind it but the last.
 pub(crate) fn most_words(text: &[u8]) -> usize {
-    (text.len() / 2 + 1).min(MOST_OF_TEXT)
+    (text.len() / 2 + 1).min(MOST_ELEMENTS)
 }
 
 /// A room of so many zeros, if there is memory for it. The system has zeros at hand for a large one, which are then not written.
@@ -122,8 +113,6 @@ mod tests {
     fn as_many_as_a_vector_may_have_and_no_more() {
         let most = MOST_ELEMENTS as i64;
         assert_eq!(limit(MOST_ELEMENTS), Ok(()));
-        assert_eq!(text_limit(MOST_OF_TEXT), Ok(()));
-        assert_eq!(text_limit(MOST_OF_TEXT + 1), Err(Fault::too_long()));
         assert_eq!(places(most), Ok(MOST_ELEMENTS));
         for fault in [
             limit(MOST_ELEMENTS + 1).unwrap_err(),

@@ -46,7 +46,7 @@ pub use threads::{set_threads, threads};
 /// The most elements of a vector, and the greatest total of segments.
 pub const MOST_ELEMENTS: usize = cvl_sys::CVL_MOST_ELEMENTS;
 
-/// The most elements whose text is read or written at once.
+/// The most elements of a nested text that is read at once, and the most of its lists.
 pub const MOST_OF_TEXT: usize = cvl_sys::CVL_MOST_OF_TEXT;
 
 /// The version of the library.

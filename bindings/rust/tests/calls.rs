@@ -169,7 +169,7 @@ fn a_result_may_be_as_long_as_a_vector_and_no_longer() {
 }
 
 #[test]
-fn a_text_may_have_so_many_elements_and_no_more() {
+fn a_nested_text_may_have_so_many_elements_and_others_more() {
     let (numbers, flags) = (
         vec![1; cvl::MOST_OF_TEXT + 1],
         vec![true; cvl::MOST_OF_TEXT + 1],
@@ -177,33 +177,29 @@ fn a_text_may_have_so_many_elements_and_no_more() {
     let most = &numbers[1..];
     let text = cvl::write_ints(most).unwrap();
     assert_eq!(text.len(), 2 * most.len() + 1);
-    let words = &text[1..text.len() - 1];
-    assert!(cvl::read_ints(words).unwrap() == most);
     let (read, rows) = cvl::seg_read_ints(format!("[{text}]")).unwrap();
     assert!(read == most && rows.lengths() == [most.len() as i32]);
     assert_eq!(
         cvl::seg_write_ints(most, &rows).unwrap().len(),
         text.len() + 2
     );
-    for fault in [
-        cvl::write_ints(&numbers).unwrap_err(),
-        cvl::write_bools(&flags).unwrap_err(),
-        cvl::read_ints(format!("{words} x")).unwrap_err(),
-        cvl::seg_read_ints(format!("[[{words} 1]]")).unwrap_err(),
-    ] {
-        assert_eq!(told(fault), (13, None));
-    }
-    // segments may be longer where vectors may be
-    if let Ok(rows) = Segments::new(&[most.len() as i32, 1]) {
-        assert_eq!(
-            told(cvl::seg_write_ints(&numbers, &rows).unwrap_err()),
-            (13, None)
-        );
-        assert_eq!(
-            told(cvl::seg_write_bools(&flags, &rows).unwrap_err()),
-            (13, None)
-        );
-    }
+    let longer = cvl::write_ints(&numbers).unwrap();
+    assert_eq!(longer.len(), text.len() + 2);
+    let words = &longer[1..longer.len() - 1];
+    assert!(cvl::read_ints(words).unwrap() == numbers);
+    let wrong = cvl::read_ints(format!("{words} x")).unwrap_err();
+    assert_eq!(told(wrong), (15, Some(cvl::MOST_OF_TEXT as u64 + 1)));
+    let nested = cvl::seg_read_ints(format!("[[{words}]]")).unwrap_err();
+    assert_eq!(told(nested), (13, None));
+    assert_eq!(
+        cvl::write_bools(&flags).unwrap().len(),
+        2 * flags.len() + 1
+    );
+    let rows = Segments::new(&[most.len() as i32, 1]).unwrap();
+    assert_eq!(
+        cvl::seg_write_bools(&flags, &rows).unwrap().len(),
+        2 * flags.len() + 4
+    );
 }
 
 #[test]

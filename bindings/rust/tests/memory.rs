@@ -71,7 +71,7 @@ fn no_memory_is_told_after_what_needs_none() {
         (number(Segments::from_offsets(&ones)), 7),
         (number(cvl::read_ints(&text)), 100),
         (number(cvl::read_ints(&wrong)), 15),
-        (number(cvl::read_ints(&words)), 13),
+        (number(cvl::read_ints(&words)), 15),
         (number(cvl::seg_read_ints(&text)), 15),
         (number(cvl::seg_read_ints(&nested)), 100),
         (number(cvl::write_ints(&ones)), 100),

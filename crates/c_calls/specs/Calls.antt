@@ -1,21 +1,17 @@
 -- What a call means where its caller may get anything wrong: checks come first, and then the call's own definition.
 -- Source: this library's profile of CVL's calls, for callers of another language.
-use Rattle.std.specs.Prelude.{ℕ, ◌+◌, ℤ, List, length, nat_lt, sum, Result, Ok}
+use Rattle.std.specs.Prelude.{ℕ, ◌+◌, ℤ, List, length, nat_lt, Result}
 use Rattle.cvl_base.specs.declared.fault.Fault.{Fault}
 use Rattle.cvl_base.specs.declared.fault.FaultNo.TheVariants as no
 use Rattle.cvl_base.specs.Descriptors.{descriptor_within}
 use Rattle.cvl_base.specs.Faults.{fault}
 use Rattle.cvl_base.specs.Gives.{◌>>=◌, fault_if}
-use Rattle.cvl_base.specs.Limits.{most_elements, most_places}
+use Rattle.cvl_base.specs.Limits.{most_places}
 use Rattle.sparse_products.specs.Answers.{row_lengths_of}
 
 -- the call where the vector has at most 2,147,483,647 elements
 abbrev pub in_limit : {X Y : Type 0} → List X → Result Y Fault → Result Y Fault
 in_limit xs call = fault_if (nat_lt most_places (length xs)) (fault no.TooLong) call
-
--- the call that writes a text, where the text is of at most 4,194,304 elements, or of as many segments
-abbrev pub in_text_limit : {X Y : Type 0} → List X → Result Y Fault → Result Y Fault
-in_text_limit xs call = fault_if (nat_lt most_elements (length xs)) (fault no.TooLong) call
 
 -- the call by an operator, where its number is that of one
 abbrev pub by_operator : {X Y : Type 0} → Result X Fault → (X → Result Y Fault) → Result Y Fault
@@ -33,12 +29,3 @@ by_segments lengths call = lengths_of lengths >>= call
 abbrev pub by_row_offsets : {Y : Type 0} → List ℤ → (List ℤ → Result Y Fault) → Result Y Fault
 by_row_offsets offsets call =
     fault_if (nat_lt (most_places + 1) (length offsets)) (fault no.TooLong) (row_lengths_of offsets >>= call)
-
--- the descriptor of segments whose text is written: there are at most 4,194,304, with as many elements in all
-abbrev pub text_lengths_of : List ℤ → Result (List ℕ) Fault
-text_lengths_of lengths =
-    in_text_limit lengths (lengths_of lengths >>= λ d. fault_if (nat_lt most_elements (sum d)) (fault no.TooLong) (Ok d))
-
--- the text of segments with these lengths
-abbrev pub by_text_segments : {Y : Type 0} → List ℤ → (List ℕ → Result Y Fault) → Result Y Fault
-by_text_segments lengths call = text_lengths_of lengths >>= call

@@ -19,10 +19,13 @@ is_white_space b = (b == 32) || (b == 9) || (b == 10) || (b == 13)
 abbrev pub input_class : ℕ → ByteClass
 input_class b = if is_white_space b then Blank else InToken
 
--- the tokens' numbers, or the fault at the first token that is none; more tokens than a vector may have are a fault
--- whatever they are
-abbrev pub input_of : List ℕ → Result (List ℤ) Fault
-input_of bytes =
+-- the tokens' numbers, or the fault at the first token that is none; more tokens than so many are a fault whatever they are
+abbrev pub input_within : ℕ → List ℕ → Result (List ℤ) Fault
+input_within most bytes =
     let tokens = tokens_by input_class bytes in
-    fault_if (nat_lt most_elements (length tokens)) (fault TooLong)
+    fault_if (nat_lt most (length tokens)) (fault TooLong)
     (values_from BadInput 0 (map written_number tokens))
+
+-- an input of a script, which has no more tokens than a vector of a script may have elements
+abbrev pub input_of : List ℕ → Result (List ℤ) Fault
+input_of bytes = input_within most_elements bytes

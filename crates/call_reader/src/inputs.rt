@@ -5,10 +5,10 @@ ghost use Rattle.std.specs.Prelude.{MatchOption, IfSome, IfOk, vec_len};
 ghost use Rattle.cvl_base.specs.declared.fault.FaultNo.TheVariants.{TooLong, BadInput};
 ghost use Rattle.cvl_base.specs.Faults.{fault, fault_at};
 ghost use Rattle.cvl_base.specs.Gives.{Gives};
-ghost use Rattle.cvl_base.specs.Limits.{most_elements};
+ghost use Rattle.cvl_base.specs.Limits.{most_elements, most_places};
 ghost use Rattle.line_reader.specs.Tokens.{tokens_by, IsFirstToken};
 ghost use Rattle.line_reader.specs.Numbers.{written_number};
-ghost use Rattle.call_reader.specs.Inputs.{is_white_space, input_class, input_of};
+ghost use Rattle.call_reader.specs.Inputs.{is_white_space, input_class, input_of, input_within};
 ghost use Rattle.call_reader.specs.Pieces.{goes_on};
 ghost use Rattle.std.specs.Int.{from_bool};
 
@@ -87,13 +87,13 @@ pub(crate) fn token_count(bytes: &[u8]) -> usize
 }
 
 /// The fault of an input whose token at this place, counted from 0, is no number, where the bytes from that token on
-/// are the rest: `TooLong` where there are more tokens than the limit in all, and else `BadInput` at the place.
-fn fault_at_token(place: usize, rest: &[u8]) -> Fault
-    requires { place ≤ most_elements }
-    ensures { result ≡ (if nat_lt most_elements (place + length (tokens_by input_class rest.now))
+/// are the rest: `TooLong` where there are more tokens than `most` in all, and else `BadInput` at the place.
+fn fault_at_token(most: usize, place: usize, rest: &[u8]) -> Fault
+    requires within { (place ≤ most) × (most ≤ most_places) }
+    ensures { result ≡ (if nat_lt most (place + length (tokens_by input_class rest.now))
         then fault TooLong else fault_at BadInput place) }
 {
-    if token_count(rest) > MOST_ELEMENTS - place {
+    if token_count(rest) > most - place {
         Fault::new(FaultNo::TooLong)
     } else {
         Fault::at(FaultNo::BadInput, place as u32)
@@ -120,27 +120,41 @@ pub(crate) fn first_number(bytes: &[u8]) -> Option<(&[u8], Option<i32>, &[u8])>
     Some((token, number(token), others))
 }
 
+/// Reads an input of at most `most` tokens by the thread that calls, for code that has no runtime. Its answers are those of
+/// [`read_vector`](crate::read_vector), but that `TooLong` comes where there are more tokens than `most`.
+pub fn read_vector_within<A: Memory>(
+    alloc: A,
+    most: usize,
+    bytes: &[u8],
+) -> Result<Vec<i32, A>, Refused>
+    requires { most ≤ most_places }
+    ensures values { Gives (λ v. v.items) result (input_within most bytes.now) }
+    ensures in_limit { IfOk result (λ v. vec_len v ≤ most) }
+{
+    // each token but the last has white space after it
+    let room = bytes.len().div_ceil(2).min(most);
+    let mut numbers = Vec::with_capacity(alloc, room)?;
+    let mut rest = bytes;
+    while let Some((_token, number, others)) = first_number(rest) {
+        if numbers.len() == most {
+            return Err(Refused::Fault(Fault::new(FaultNo::TooLong)));
+        }
+        match number {
+            None => return Err(Refused::Fault(fault_at_token(most, numbers.len(), rest))),
+            Some(number) => numbers.push_reserved(number),
+        }
+        rest = others;
+    }
+    Ok(numbers)
+}
+
 /// Reads an input by the thread that calls, for code that has no runtime. Its answers are those of
 /// [`read_vector`](crate::read_vector).
 pub fn read_vector_alone<A: Memory>(alloc: A, bytes: &[u8]) -> Result<Vec<i32, A>, Refused>
     ensures values { Gives (λ v. v.items) result (input_of bytes.now) }
     ensures in_limit { IfOk result (λ v. vec_len v ≤ most_elements) }
 {
-    // each token but the last has white space after it
-    let room = bytes.len().div_ceil(2).min(MOST_ELEMENTS);
-    let mut numbers = Vec::with_capacity(alloc, room)?;
-    let mut rest = bytes;
-    while let Some((_token, number, others)) = first_number(rest) {
-        if numbers.len() == MOST_ELEMENTS {
-            return Err(Refused::Fault(Fault::new(FaultNo::TooLong)));
-        }
-        match number {
-            None => return Err(Refused::Fault(fault_at_token(numbers.len(), rest))),
-            Some(number) => numbers.push_reserved(number),
-        }
-        rest = others;
-    }
-    Ok(numbers)
+    read_vector_within(alloc, MOST_ELEMENTS, bytes)
 }
 
 /// Worked inputs. It does nothing: its contract is what the definition says of them.

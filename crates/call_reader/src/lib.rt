@@ -12,7 +12,7 @@ mod pieces;
 pub mod text_laws;
 mod vector_reads;
 
-pub use inputs::{read_vector_alone, worked_inputs};
+pub use inputs::{read_vector_alone, read_vector_within, worked_inputs};
 pub use line_reader::{read_line, token};
 pub use nested_reads::{read_nested, read_nested_alone};
 pub use value_texts::put_value;

@@ -2,13 +2,13 @@
 
 ghost use Rattle.std.specs.Fmt.{signed_decimal};
 ghost use Rattle.call_reader.specs.NestedTexts.{nested_of};
-ghost use Rattle.c_calls.specs.Calls.{by_text_segments};
+ghost use Rattle.c_calls.specs.Calls.{by_segments};
 ghost use Rattle.c_calls.specs.Fronts.{FrontsToldOr};
 ghost use Rattle.c_calls.specs.NestedTexts.{segments_text, with_lengths};
 ghost use Rattle.c_calls.specs.Told.{FrontToldOr};
 ghost use Rattle.value_texts.specs.Texts.{boolean_text};
 
-use c_calls::checks::text_segments;
+use c_calls::checks::segments;
 use c_calls::or_tell;
 use c_calls::status::{CvlStatus, told_in_front};
 use c_calls::told_nest::told_nest;
@@ -48,10 +48,10 @@ pub extern "C" fn cvl_proved_seg_write_ints(
     out: &mut [u8],
     count: &mut usize,
 ) -> CvlStatus
-    ensures { FrontToldOr (by_text_segments lengths.now (segments_text signed_decimal a.now))
+    ensures { FrontToldOr (by_segments lengths.now (segments_text signed_decimal a.now))
         result out.old out.new count.old count.new }
 {
-    let d = or_tell!(text_segments(lengths));
+    let d = or_tell!(segments(lengths));
     or_tell!(check_agree(d.total(), a.len()));
     told_in_front(Ok(or_tell!(nest_text_alone(alloc, &d, a))), out, count)
 }
@@ -65,10 +65,10 @@ pub extern "C" fn cvl_proved_seg_write_bools(
     out: &mut [u8],
     count: &mut usize,
 ) -> CvlStatus
-    ensures { FrontToldOr (by_text_segments lengths.now (segments_text boolean_text a.now))
+    ensures { FrontToldOr (by_segments lengths.now (segments_text boolean_text a.now))
         result out.old out.new count.old count.new }
 {
-    let d = or_tell!(text_segments(lengths));
+    let d = or_tell!(segments(lengths));
     or_tell!(check_agree(d.total(), a.len()));
     told_in_front(Ok(or_tell!(nest_text_alone(alloc, &d, a))), out, count)
 }

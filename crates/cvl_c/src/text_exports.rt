@@ -2,14 +2,16 @@
 
 ghost use Rattle.std.specs.Prelude.{Ok};
 ghost use Rattle.std.specs.Fmt.{signed_decimal};
-ghost use Rattle.call_reader.specs.Inputs.{input_of};
-ghost use Rattle.c_calls.specs.Calls.{in_text_limit};
+ghost use Rattle.cvl_base.specs.Limits.{most_places};
+ghost use Rattle.call_reader.specs.Inputs.{input_within};
+ghost use Rattle.c_calls.specs.Calls.{in_limit};
 ghost use Rattle.c_calls.specs.Told.{FrontToldOr};
 ghost use Rattle.value_texts.specs.Texts.{boolean_text, vector_text};
 
 use c_calls::status::{CvlStatus, told_in_front};
 use c_calls::text_calls::text;
-use call_reader::read_vector_alone;
+use call_reader::read_vector_within;
+use cvl_base::limits::MOST_PLACES;
 use std::alloc::Global;
 
 /// The integers that a text writes between white space.
@@ -20,9 +22,9 @@ pub extern "C" fn cvl_proved_read_ints(
     out: &mut [i32],
     count: &mut usize,
 ) -> CvlStatus
-    ensures { FrontToldOr (input_of text.now) result out.old out.new count.old count.new }
+    ensures { FrontToldOr (input_within most_places text.now) result out.old out.new count.old count.new }
 {
-    told_in_front(read_vector_alone(alloc, text), out, count)
+    told_in_front(read_vector_within(alloc, MOST_PLACES, text), out, count)
 }
 
 /// The text of the integers, in decimal between brackets.
@@ -33,7 +35,7 @@ pub extern "C" fn cvl_proved_write_ints(
     out: &mut [u8],
     count: &mut usize,
 ) -> CvlStatus
-    ensures { FrontToldOr (in_text_limit a.now (Ok (vector_text signed_decimal a.now)))
+    ensures { FrontToldOr (in_limit a.now (Ok (vector_text signed_decimal a.now)))
         result out.old out.new count.old count.new }
 {
     told_in_front(text(alloc, a), out, count)
@@ -47,7 +49,7 @@ pub extern "C" fn cvl_proved_write_bools(
     out: &mut [u8],
     count: &mut usize,
 ) -> CvlStatus
-    ensures { FrontToldOr (in_text_limit a.now (Ok (vector_text boolean_text a.now)))
+    ensures { FrontToldOr (in_limit a.now (Ok (vector_text boolean_text a.now)))
         result out.old out.new count.old count.new }
 {
     told_in_front(text(alloc, a), out, count)

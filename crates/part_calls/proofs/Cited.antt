@@ -4,7 +4,7 @@ pub use Rattle.std.proofs.Common.{Ok, Option, pos, refl, replicate, Result, rule
 pub use Rattle.cvl_base.proofs.Permutes.{length-all_destinations, length-flagged_destinations}
 pub use Rattle.cvl_base.specs.CheckedSums.{fitting}
 pub use Rattle.cvl_base.specs.Faults.{fault, fault_at}
-pub use Rattle.cvl_base.specs.Limits.{most_elements, most_places}
+pub use Rattle.cvl_base.specs.Limits.{most_places}
 pub use Rattle.cvl_base.specs.declared.fault.FaultNo.TheVariants.{BadInput, Overflow, TooLong}
 pub use Rattle.permute_walks.specs.Marks.{words_for}
 pub use Rattle.permute_walks.specs.Senders.{is_between, last_senders, sent_marks}

@@ -2,17 +2,18 @@
 
 ghost use Rattle.std.specs.Prelude.{◌≡◌, ◌+◌, ◌≤◌, IfSome, option_map};
 ghost use Rattle.cvl_base.specs.Gives.{Gives};
-ghost use Rattle.cvl_base.specs.Limits.{most_elements, most_places};
+ghost use Rattle.cvl_base.specs.Limits.{most_places};
 ghost use Rattle.part_calls.specs.Pieces.{piece_of};
 
 use crate::limits::check_few;
-use call_reader::read_vector_alone;
+use call_reader::read_vector_within;
+use cvl_base::limits::MOST_PLACES;
 use cvl_base::{Fault, Memory, Refused};
 
 /// The fault of a piece, at its place in the whole.
 fn moved(fault: Fault, before: usize) -> Fault
     requires few { before ≤ most_places }
-    requires within { IfSome fault.place (λ place. place ≤ most_elements) }
+    requires within { IfSome fault.place (λ place. place ≤ most_places) }
     ensures { result ≡ record { number = fault.number; place = option_map (λ place. before + place) fault.place } }
 {
     match fault.place {
@@ -23,14 +24,14 @@ fn moved(fault: Fault, before: usize) -> Fault
 
 /// The integers that a piece of a text writes between white space, where the pieces before it have so many words.
 ///
-/// TooLong, without a place, where these are more than 2,147,483,647, or the piece itself has more than 4,194,304; else BadInput
-/// at the first word of the piece that is no integer of 32 bits, counted from the whole text's first word on. That all pieces
+/// TooLong, without a place, where these are more than 2,147,483,647, or the words of the piece are; else BadInput at the
+/// first word of the piece that is no integer of 32 bits, counted from the whole text's first word on. That all pieces
 /// together have no more words than a vector may have elements is the caller's to see.
 pub fn read_piece<A: Memory>(alloc: A, before: usize, text: &[u8]) -> Result<Vec<i32, A>, Refused>
     ensures { Gives (λ v. v.items) result (piece_of before text.now) }
 {
     check_few(before)?;
-    match read_vector_alone(alloc, text) {
+    match read_vector_within(alloc, MOST_PLACES, text) {
         Ok(numbers) => Ok(numbers),
         Err(Refused::Fault(fault)) => Err(Refused::Fault(moved(fault, before))),
         Err(Refused::NoResources) => Err(Refused::NoResources),
