@@ -66,6 +66,7 @@ CUTS = {
     "ranges": "the result is cut; each part reads all indices",
     "senders": "the result is cut; each part reads all indices",
     "combine": "the room is cut; each part reads all indices",
+    "turns": "the result is cut; each part reads its elements of the whole matrix",
     "merge": "cut at places; each part goes on in both vectors behind those that the flags before it take",
     "replace": "the copy is cut at places",
     "lengths": "the lengths are cut; the parts' totals are added",
@@ -384,6 +385,10 @@ SUMS_OF_SIDES = Fault(
 MISCOUNT = Fault(
     (7,), "7 LengthMismatch at the first segment whose true flags are not as many as its elements of when_true, or the false ones as those of when_false", False)
 NO_MATRIX = Fault((7,), "7 LengthMismatch if rows times columns is not n", False)
+RANGE_OF_MATRIX_FAULTS = (
+    Fault((13,), f"13 TooLong, by the source, and if the range ends behind place {MOST_ELEMENTS}", False), NO_MATRIX,
+    Fault((7,), "7 LengthMismatch if the range ends behind place n", False),
+)
 NO_BYTE = Fault((18,), "18 Overflow at the first integer below 0 or above 255", False)
 NO_SIDES = Fault((7,), "7 LengthMismatch if when_true does not have one element for each true flag, or when_false for each false one", False)
 OVERFLOW_AT_PLACE = Fault((18,), "18 Overflow at the first place whose sum does not fit 32 bits", False)
@@ -778,7 +783,7 @@ FAMILIES = (
         ("transpose_int", "transpose_bool"), "transposes, and integers of a byte",
         lambda kind: (items(kind, "source"), value("rows", "size"), value("columns", "size"), room(kind)),
         "The transpose of a matrix whose rows lie one behind another: element r of row c of the result is element c of row r.",
-        faults=(TOO_LONG, NO_MATRIX), shape="source and out have n elements.",
+        faults=(TOO_LONG, NO_MATRIX), cut=("turns", "n"), shape="source and out have n elements.",
         example=lambda kind: {
             "ints": {"source": "1 2 3 4 5 6", "rows": "2", "columns": "3", "out": "1 4 2 5 3 6"},
             "flags": {"source": "true false false true true true", "rows": "3", "columns": "2", "out": "true false true false true true"},
@@ -940,6 +945,17 @@ FAMILIES = (
         "counts_range", "calls in parts", (ints("index"), value("lowest", "size"), room("ints", "range"), told("named")),
         "One range of the counts by place: how many indices name each of the out_len places from place `lowest` on, and as named how many name one of them.",
         faults=(COMBINE_RANGE_FAULTS[0],), example={"index": "2 0 2 3", "lowest": "1", "out_len": "2", "out": "0 2", "named": "2"},
+    ),
+    *twins(
+        ("transpose_int_range", "transpose_bool_range"), "calls in parts",
+        lambda kind: (items(kind, "source"), value("rows", "size"), value("columns", "size"), value("lowest", "size"), room(kind, "m")),
+        "One range of a transpose: its places from place `lowest` on, as many as out has. Each part has another range, and all of source. The ranges, one "
+        "after another, are the transpose.",
+        faults=RANGE_OF_MATRIX_FAULTS,
+        example=lambda kind: {
+            "ints": {"source": "1 2 3 4 5 6", "rows": "2", "columns": "3", "lowest": "1", "out": "4 2 5"},
+            "flags": {"source": "true false false true true true", "rows": "3", "columns": "2", "lowest": "2", "out": "true false"},
+        }[kind],
     ),
     family(
         "read_ints_after", "calls in parts", (value("before", "size"), text("text"), room("ints", "room"), told()),

@@ -770,6 +770,16 @@ CVL_CHECKED CvlStatus cvl_counts_range(const int32_t *index, size_t index_len, s
     size_t *named);
 
 /*
+ * One range of a transpose: its places from place `lowest` on, as many as out has. Each part has another range, and all of
+ * source. The ranges, one after another, are the transpose. Faults: 13 TooLong, by the source, and if the range ends behind
+ * place 2147483647; 7 LengthMismatch if rows times columns is not n; 7 LengthMismatch if the range ends behind place n.
+ */
+CVL_CHECKED CvlStatus cvl_transpose_int_range(const int32_t *source, size_t source_len, size_t rows, size_t columns,
+    size_t lowest, int32_t *out, size_t out_len);
+CVL_CHECKED CvlStatus cvl_transpose_bool_range(const bool *source, size_t source_len, size_t rows, size_t columns,
+    size_t lowest, bool *out, size_t out_len);
+
+/*
  * The integers of one piece of a text that is cut at white space, as cvl_read_ints reads them. `before` is how many words the
  * pieces before it have; a fault's place is that in the whole text. Faults: 13 TooLong, without a place, if `before` is more
  * than 2147483647, or the piece itself has more words than that; else 15 BadInput at the first word of the piece that is no

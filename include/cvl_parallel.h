@@ -292,6 +292,12 @@ CVL_CHECKED CvlStatus cvl_seg_first_true_on(const CvlPool *pool, const bool *fla
 CVL_CHECKED CvlStatus cvl_seg_exact_sums_on(const CvlPool *pool, const int32_t *a, size_t a_len, CvlLengths lengths,
     int64_t *out, size_t out_len);
 
+/* The result is cut; each part reads its elements of the whole matrix. */
+CVL_CHECKED CvlStatus cvl_transpose_int_on(const CvlPool *pool, const int32_t *source, size_t source_len, size_t rows,
+    size_t columns, int32_t *out, size_t out_len);
+CVL_CHECKED CvlStatus cvl_transpose_bool_on(const CvlPool *pool, const bool *source, size_t source_len, size_t rows,
+    size_t columns, bool *out, size_t out_len);
+
 /* Cut at places. */
 CVL_CHECKED CvlStatus cvl_ints_from_bytes_on(const CvlPool *pool, const uint8_t *bytes, size_t bytes_len, int32_t *out,
     size_t out_len);

@@ -111,11 +111,18 @@ static CvlStatus appended_told(const CvlRow *row, const CvlSlot *s) {
     return room == a + b ? cvl_done() : cvl_status(CVL_LENGTH_MISMATCH, -1);
 }
 
-/* The fault of rows and columns that do not have as many elements as there are. */
+/* Whether a room that begins at a place, or at the first one, ends within so many. */
+static bool ends_within(const CvlSlot *lowest, size_t room, size_t places) {
+    return lowest == NULL || (lowest->number <= places && room <= places - lowest->number);
+}
+
+/* The fault of rows and columns that do not have as many elements as there are, or of a range of their transpose. */
 static CvlStatus matrix_told(const CvlRow *row, const CvlSlot *s) {
-    const size_t elements = slot_of(row, s, CVL_AS_A)->number, rows = slot_of(row, s, CVL_AS_ROWS)->number, columns = slot_of(row, s, CVL_AS_COLUMNS)->number;
-    const bool are_all = rows == 0 || columns == 0 ? elements == 0 : elements % rows == 0 && elements / rows == columns;
-    return are_all ? cvl_done() : cvl_status(CVL_LENGTH_MISMATCH, -1);
+    const CvlSlot *const lowest = slot_of(row, s, CVL_AS_LOWEST);
+    const size_t elements = slot_of(row, s, CVL_AS_A)->number, room = slot_of(row, s, CVL_AS_OUT)->number;
+    if (!ends_within(lowest, room, row->most)) return cvl_status(CVL_TOO_LONG, -1);
+    const bool are_all = cvl_is_matrix(elements, slot_of(row, s, CVL_AS_ROWS)->number, slot_of(row, s, CVL_AS_COLUMNS)->number);
+    return are_all && ends_within(lowest, room, elements) ? cvl_done() : cvl_status(CVL_LENGTH_MISMATCH, -1);
 }
 
 /* The fault of a room or of vectors whose length depends on elements, or of the shape of a matrix. */
@@ -204,6 +211,7 @@ static bool is_late(CvlStatus status) {
     ensures \let most = nested ? CVL_MOST_OF_TEXT : CVL_MOST_ELEMENTS;
       \result <==> words_in(text, nested, text_len) > most || lists_in(text, nested, text_len) > most + 1; */
 bool cvl_many_words(const char *text, size_t text_len, bool nested) {
+    const size_t most = nested ? CVL_MOST_OF_TEXT : CVL_MOST_ELEMENTS;
     size_t words = 0, lists = 0;
     bool inside = 0;
     /*@ loop invariant 0 <= k <= text_len && words == words_in(text, nested, k) <= k && lists == lists_in(text, nested, k) <= k;
@@ -211,7 +219,6 @@ bool cvl_many_words(const char *text, size_t text_len, bool nested) {
         loop assigns k, words, lists, inside;
         loop variant text_len - k; */
     for (size_t k = 0; k < text_len; k++) {
-    const size_t most = nested ? CVL_MOST_OF_TEXT : CVL_MOST_ELEMENTS;
         const char byte = text[k];
         const bool bracket = nested && (byte == '[' || byte == ']');
         const bool white = byte == ' ' || byte == '\t' || byte == '\n' || byte == '\r';

@@ -59,7 +59,13 @@ static inline int32_t cvl_place_of(int64_t place) { return place < 0 || place > 
     ensures \result == (0 <= count ? count : 0); */
 static inline size_t cvl_room_of(int64_t count) { return count < 0 ? 0 : (size_t)count; }
 
-/* Whether a text has more words than a vector may have elements; brackets do not count if the text is nested. */
+/* Whether a matrix has so many elements. */
+/*@ assigns \nothing; */
+static inline bool cvl_is_matrix(size_t elements, size_t rows, size_t columns) {
+    return rows == 0 || columns == 0 ? elements == 0 : elements % rows == 0 && elements / rows == columns;
+}
+
+/* Whether a text has more words than may be read at once; brackets do not count if the text is nested. */
 CVL_HIDDEN bool cvl_many_words(const char *text, size_t text_len, bool nested);
 
 #endif

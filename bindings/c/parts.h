@@ -173,6 +173,9 @@ CVL_HIDDEN bool cvl_senders_in_parts(const CvlPool *pool, CvlWork *w);
 CVL_HIDDEN bool cvl_combine_in_parts(const CvlPool *pool, CvlWork *w);
 /*@ requires w->parts <= CVL_MOST_PARTS;
     assigns *w, rooms, made; */
+CVL_HIDDEN bool cvl_turns_in_parts(const CvlPool *pool, CvlWork *w);
+/*@ requires w->parts <= CVL_MOST_PARTS;
+    assigns *w, rooms, made; */
 CVL_HIDDEN bool cvl_merge_in_parts(const CvlPool *pool, CvlWork *w);
 /*@ requires w->parts <= CVL_MOST_PARTS;
     assigns *w, rooms, kept, made;

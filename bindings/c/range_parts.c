@@ -1,4 +1,4 @@
-/* Permutes, first senders and combining permutes in parts: each part reads all indices and writes its own range of the result. */
+/* Permutes, first senders, combining permutes and transposes in parts: each part writes its own range of the result, for which it reads all indices. */
 #include "parts.h"
 
 /* How many bytes of a room are kept, up to whole words. The marks stand behind them, and each part has words of its own. */
@@ -180,4 +180,19 @@ bool cvl_combine_in_parts(const CvlPool *pool, CvlWork *w) {
     if (!cvl_step(pool, w, CVL_READS, look_part) || !cvl_make_all(pool, w)) return 0;
     cut_room(w, index.at, index.number, w->in[CVL_AS_OUT].number);
     return cvl_step(pool, w, CVL_WRITES, combine_part);
+}
+
+/* ---- transposes: a part reads what its range of the result takes from the whole matrix ---- */
+
+static CvlStatus turn_part(CvlWork *w, size_t k) {
+    const size_t from = w->from[k], n = w->from[k + 1] - from, len = w->in[CVL_AS_A].number;
+    const size_t rows = w->in[CVL_AS_ROWS].number, columns = w->in[CVL_AS_COLUMNS].number;
+    if (cvl_of_bools(w)) return cvl_proved_transpose_bool_range(w->in[CVL_AS_A].at, len, rows, columns, from, CVL_BOOL_ROOM(w, from), n);
+    return cvl_proved_transpose_int_range(w->in[CVL_AS_A].at, len, rows, columns, from, CVL_INT_ROOM(w, from), n);
+}
+
+bool cvl_turns_in_parts(const CvlPool *pool, CvlWork *w) {
+    w->told = cvl_done();
+    if (!cvl_is_matrix(w->in[CVL_AS_A].number, w->in[CVL_AS_ROWS].number, w->in[CVL_AS_COLUMNS].number)) return 0;
+    return cvl_make_all(pool, w) && cvl_step(pool, w, CVL_WRITES, turn_part);
 }

@@ -1,13 +1,15 @@
-//! Transposes of matrices whose rows lie one behind another.
+//! Transposes of matrices whose rows lie one behind another, and one range of their places.
 
 ghost use Rattle.std.specs.Prelude.{length};
 ghost use Rattle.c_calls.specs.Calls.{in_limit};
 ghost use Rattle.c_calls.specs.Told.{Told, in_room};
+ghost use Rattle.part_calls.specs.TransposeRanges.{few_turned_of};
 ghost use Rattle.transposes.specs.Transposes.{transpose_of};
 
 use c_calls::checks::check_limit;
 use c_calls::or_tell;
 use c_calls::status::{CvlStatus, told_over};
+use part_calls::transpose_ranges::transpose_range_checked;
 use transposes::transpose_over;
 
 /// The transpose of a matrix of integers whose rows lie one behind another.
@@ -38,4 +40,32 @@ pub extern "C" fn cvl_proved_transpose_bool(
 {
     or_tell!(check_limit(source));
     told_over::<bool>(transpose_over(source, rows, columns, out))
+}
+
+/// The places of the transpose of a matrix of integers from place `lowest` on, as many as the room has.
+#[unsafe(no_mangle)]
+pub extern "C" fn cvl_proved_transpose_int_range(
+    source: &[i32],
+    rows: usize,
+    columns: usize,
+    lowest: usize,
+    out: &mut [i32],
+) -> CvlStatus
+    ensures { Told (few_turned_of rows columns lowest (length out.old) source.now) result out.old out.new }
+{
+    told_over::<i32>(transpose_range_checked(source, rows, columns, lowest, out))
+}
+
+/// The places of the transpose of a matrix of booleans from place `lowest` on, as many as the room has.
+#[unsafe(no_mangle)]
+pub extern "C" fn cvl_proved_transpose_bool_range(
+    source: &[bool],
+    rows: usize,
+    columns: usize,
+    lowest: usize,
+    out: &mut [bool],
+) -> CvlStatus
+    ensures { Told (few_turned_of rows columns lowest (length out.old) source.now) result out.old out.new }
+{
+    told_over::<bool>(transpose_range_checked(source, rows, columns, lowest, out))
 }

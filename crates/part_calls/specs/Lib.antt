@@ -5,3 +5,4 @@ pub mod Pieces
 pub mod Ranges
 pub mod SenderRanges
 pub mod Sums
+pub mod TransposeRanges

@@ -1,3 +1,4 @@
+mod ColumnRuns
 mod Moved
 mod Shapes
 mod Sources

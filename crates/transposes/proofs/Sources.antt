@@ -1,10 +1,12 @@
 -- The back permute that the definition names, where each element stands at its place.
 use Rattle.std.proofs.Common.{◌≡◌, ◌∙◌, ℕ, suc, ◌+◌, ◌*◌, ◌/◌, ◌%◌, ◌<◌, not, List, [], ◌∷◌, length, get_or, inl, inr, map, refl, sym, ap, arith, eq-eqb, pos, slice_get, Option, Some, None}
-use Rattle.std.proofs.Common.{Result, Ok}
+use Rattle.std.proofs.Common.{Result, Ok, ◌≤◌, drop, take, get_or-drop, get_or-take, length-drop, length-take-le}
+use Rattle.std.specs.List.{range_with_len}
 use Rattle.std.specs.Option.{ok_or}
 use Rattle.std.proofs.Math.Nat.{div-add-mod, mul-le-mul_left}
 use Rattle.std.proofs.lemmas.Bool.Decides.{leb_tells}
-use Rattle.std.proofs.lemmas.List.{get_or-map, length-map}
+use Rattle.std.proofs.lemmas.Bool.{le-ltb}
+use Rattle.std.proofs.lemmas.List.{get_or-map, get_or_default, length-map, same_lists}
 use Rattle.std.proofs.lemmas.List.FromFn.{get_or-map-range_with_len, length-map-range_with_len}
 use Rattle.std.proofs.lemmas.Nat.{mod_below}
 use Rattle.std.proofs.lemmas.Option.{slice_get-get_or}
@@ -17,7 +19,7 @@ use Rattle.cvl_base.specs.Faults.{fault, fault_at}
 use Rattle.cvl_base.specs.Gives.{◌>>=◌, fault_if}
 use Rattle.cvl_base.specs.Permutes.{back_of}
 use Rattle.cvl_base.proofs.Lists.{element}
-use Rattle.transposes.specs.Transposes.{IsTransposedIn, sources_of, transpose_of}
+use Rattle.transposes.specs.Transposes.{AreTurned, IsTransposedIn, sources_of, transpose_of, transpose_range_of}
 use Rattle.transposes.proofs.Shapes.{element_within}
 
 -- ---- values that are all there
@@ -69,6 +71,10 @@ module _ (rows columns i : ℕ) (lt : i < rows * columns) where
     | inr h ↦ h.1
   ]
 
+nothing : {X : Type 0} (xs : List X) → length xs ≡ 0 → xs ≡ []
+nothing [] none = refl
+nothing (x ∷ xs) none = absurd (omega (arith, none))
+
 module _ {X : Type 0} (rows columns : ℕ) (xs : List X) (shape : rows * columns ≡ length xs) where
   abbrev source : ℕ → ℕ
   source i = i % rows * columns + i / rows
@@ -105,3 +111,53 @@ module _ {X : Type 0} (rows columns : ℕ) (xs : List X) (shape : rows * columns
       (ap (λ k. get_or xs k d) (omega arith)
       ∙ sym (to.moved (i % rows) (i / rows) d (omega arith) (row_below rows columns i below) (omega arith) (column_below rows columns i below)) ∙ ap (λ k. get_or now k d) place)
       ∙ sym (slice_get-get_or now i d lt))
+
+  -- ---- a range of its places
+
+  abbrev turned : (d : X) → List X
+  turned d = map (λ i. get_or xs (source i) d) (range_with_len 0 (rows * columns))
+
+  turned_long : (d : X) → length (turned d) ≡ rows * columns
+  turned_long d = length-map-range_with_len (λ i. get_or xs (source i) d) 0 (rows * columns)
+
+  turned_at : (d e : X) (i : ℕ) → i < rows * columns → get_or (turned d) i e ≡ get_or xs (source i) d
+  turned_at d e i lt = get_or-map-range_with_len (λ k. get_or xs (source k) d) 0 (rows * columns) i i e lt (omega arith)
+
+  transpose_turned : (d : X) → transpose_of rows columns xs ≡ Ok (turned d)
+  transpose_turned d =
+      called ∙ all_values IndexOutOfRange 0 (map (element_at xs) (sources_of rows columns)) (turned d) (sources_many ∙ sym (turned_long d))
+      (λ i lt.
+      let below : i < rows * columns = omega (arith, lt, turned_long d) in
+      source_at i below ∙ slice_get-get_or xs (source i) d (source_within i below) ∙ ap Some (sym (turned_at d d i below)) ∙ sym (slice_get-get_or (turned d) i d lt))
+
+  in_range : (lowest count : ℕ) (turned : List X) → lowest + count ≤ length xs → transpose_of rows columns xs ≡ Ok turned
+      → transpose_range_of rows columns lowest count xs ≡ Ok (take count (drop lowest turned))
+  in_range lowest count turned within is =
+      ap (λ b. fault_if b (fault LengthMismatch) (transpose_of rows columns xs >>= λ all. Ok (take count (drop lowest all))))
+      (le-ltb (length xs) (lowest + count) within)
+      ∙ ap (λ r. r >>= λ all. Ok (take count (drop lowest all))) is
+
+  -- no place
+  pub no_range : (lowest : ℕ) (now : List X) → lowest + length now ≤ length xs → length now ≡ 0 → transpose_range_of rows columns lowest (length now) xs ≡ Ok now
+  no_range lowest now within none =
+      let all = transpose_there in
+      in_range lowest (length now) all.values within all.is ∙ ap Ok (ap (λ k. take k (drop lowest all.values)) none ∙ sym (nothing now none))
+
+  pub range_is : (lowest : ℕ) (now : List X) → lowest + length now ≤ length xs → 0 < length now → AreTurned rows columns lowest xs now
+      → transpose_range_of rows columns lowest (length now) xs ≡ Ok now
+  range_is lowest now within some to =
+      let d = (element now 0 some).0 in
+      let front = drop lowest (turned d) in
+      let long : length (take (length now) front) ≡ length now =
+      length-take-le (length now) front (omega (arith, length-drop lowest (turned d), turned_long d, shape, within)) in
+      in_range lowest (length now) (turned d) within (transpose_turned d)
+      ∙ ap Ok
+      (same_lists (take (length now) front) now long (λ k e lt.
+      let below : k < length now = omega (arith, lt, long) in
+      let i = lowest + k in
+      let inside : i < rows * columns = omega (arith, below, within, shape) in
+      let place : i / rows * rows + i % rows ≡ i = omega (arith, div-add-mod i rows) in
+      get_or-take (length now) front k e below ∙ get_or-drop lowest (turned d) k e ∙ turned_at d e i inside
+      ∙ get_or_default xs (source i) d e (source_within i inside)
+      ∙ sym (to (i % rows) (i / rows) e (row_below rows columns i inside) (omega (arith, place)) (omega (arith, place, below)))
+      ∙ ap (λ j. get_or now j e) (omega (arith, place))))

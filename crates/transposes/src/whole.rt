@@ -11,7 +11,7 @@ use crate::blocks::transpose_columns;
 use cvl_base::{Fault, FaultNo, check_agree};
 
 /// `LengthMismatch` unless a matrix of so many rows and columns has so many elements.
-fn check_shape(rows: usize, columns: usize, elements: usize) -> Result<(), Fault>
+pub(crate) fn check_shape(rows: usize, columns: usize, elements: usize) -> Result<(), Fault>
     requires { elements ≤ most_places }
     ensures { MatchResult result (λ _. rows * columns ≡ elements)
         (λ f. (f ≡ fault no.LengthMismatch) × (rows * columns ≢ elements)) }

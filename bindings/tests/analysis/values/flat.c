@@ -129,6 +129,18 @@ void combines(void) {
     }
 }
 
+/* Matrices of two rows or fewer, which have as many elements or not. */
+static void turn_ints(size_t n) { (void)cvl_transpose_int_on(&pool, ints[n], n, n > 2 ? 2 : n, n > 2 ? n / 2 : 1, room[n], n); }
+static void turn_bools(size_t n) { (void)cvl_transpose_bool_on(&pool, bools[n], n, n > 2 ? 2 : n, n > 2 ? n / 2 : 1, bool_room[n], n); }
+static void turn_range(size_t n) { (void)cvl_transpose_bool_range(bools[MOST], MOST, 2, MOST / 2, n - 1, bool_room[n], n); }
+
+void turns(void) {
+    fill(5, 1);
+    each_length(turn_ints, 2, 1);
+    each_pattern(turn_bools, 4, 3);
+    each_pattern(turn_range, 2, 0);
+}
+
 void senders(void) {
     fill(5, 1);
     each_length(first_senders, 4, 2);

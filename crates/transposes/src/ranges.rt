@@ -1,0 +1,85 @@
+//! A range of the places of a transpose, as one of several callers writes it.
+
+ghost use Rattle.std.specs.Prelude.{◌≡◌, ◌+◌, ◌*◌, ◌<◌, ◌≤◌, MatchResult, length};
+ghost use Rattle.cvl_base.specs.Faults.{fault};
+ghost use Rattle.cvl_base.specs.Limits.{most_places};
+ghost use Rattle.cvl_base.specs.declared.fault.FaultNo.TheVariants as no;
+ghost use Rattle.cvl_base.specs.Rooms.{Overwrites};
+ghost use Rattle.transposes.specs.Transposes.{AreTurned, transpose_range_of};
+
+use crate::blocks::transpose_columns;
+use crate::strided::write_strided;
+use crate::whole::check_shape;
+use cvl_base::{Fault, FaultNo};
+
+/// Writes the places of the transpose from the one of this row and column of the matrix on: what is left of the column, whole
+/// columns, and the beginning of one.
+fn write_from<T: Copy>(
+    source: &[T],
+    rows: usize,
+    columns: usize,
+    column: usize,
+    row: usize,
+    out: &mut [T],
+)
+    requires long { rows * columns ≡ length source.now }
+    requires in_limit { length source.now ≤ most_places }
+    requires row { row < rows }
+    requires some { 0 < length out.old }
+    requires within { column * rows + row + length out.old ≤ length source.now }
+    ensures { AreTurned rows columns (column * rows + row) source.now out.new }
+{
+    let head = out.len().min(rows - row);
+    write_strided(source, row * columns + column, columns, head, out, 0);
+    let whole = (out.len() - head) / rows;
+    let tail = head + whole * rows;
+    transpose_columns(
+        source,
+        rows,
+        columns,
+        column + 1,
+        whole,
+        &mut out[head..tail],
+    );
+    write_strided(
+        source,
+        column + 1 + whole,
+        columns,
+        out.len() - tail,
+        out,
+        tail,
+    );
+}
+
+/// `LengthMismatch` if so many places from place `lowest` on end behind the last of so many elements.
+fn check_range(lowest: usize, count: usize, elements: usize) -> Result<(), Fault>
+    ensures { MatchResult result (λ _. lowest + count ≤ elements)
+        (λ f. (f ≡ fault no.LengthMismatch) × (elements < lowest + count)) }
+{
+    if lowest > elements || count > elements - lowest {
+        return Err(Fault::new(FaultNo::LengthMismatch));
+    }
+    Ok(())
+}
+
+/// The places of a transpose from place `lowest` on, as many as the room has.
+///
+/// The matrix has `rows` rows of `columns` elements each, at most 2,147,483,647 in all. `LengthMismatch`, without a place, if
+/// that is not the length of the source, or if the range ends behind its last place; the room is then as it was.
+pub fn transpose_range_over<T: Copy>(
+    source: &[T],
+    rows: usize,
+    columns: usize,
+    lowest: usize,
+    out: &mut [T],
+) -> Result<(), Fault>
+    requires in_limit { length source.now ≤ most_places }
+    ensures { Overwrites (transpose_range_of rows columns lowest (length out.old) source.now) result out.old out.new }
+{
+    check_shape(rows, columns, source.len())?;
+    check_range(lowest, out.len(), source.len())?;
+    if !out.is_empty() {
+        write_from(source, rows, columns, lowest / rows, lowest % rows, out);
+    }
+    Ok(())
+}
