@@ -2,6 +2,7 @@ mod Cuts
 pub mod BackPermutes
 pub mod ByRanges
 pub mod Carries
+pub mod CombinedRanges
 pub mod CutResults
 pub mod ElementPlaces
 pub mod FirstBadPlaces

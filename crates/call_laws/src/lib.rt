@@ -5,6 +5,7 @@
 #![tactic(auto)]
 
 pub mod checked_sums;
+pub mod combining_ranges;
 pub mod cut_segments;
 pub mod cut_vectors;
 pub mod descriptors;
