@@ -28,6 +28,7 @@ mod segment_permutes;
 mod segments;
 mod senders;
 mod slices;
+mod sort_steps;
 mod sorts;
 mod text_exports;
 mod tiles;

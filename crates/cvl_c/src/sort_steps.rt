@@ -1,0 +1,130 @@
+//! What one of several threads does of an order or a sort: keys beside their places, a block by a digit, one range of a pass's result,
+//! and places alone. The driver runs them. A step whose operands do not agree tells LengthMismatch, without a place, and writes
+//! nothing.
+
+ghost use Rattle.std.specs.Prelude.{◌≡◌, ◌≢◌, ◌+◌, ◌^◌, ◌≤◌, false, length, map, IsTrue};
+ghost use Rattle.std.specs.List.{enumerate_from, flat_map, range_with_len};
+ghost use Rattle.c_calls.specs.Told.{done, status_of_fault};
+ghost use Rattle.cvl_base.specs.declared.fault.FaultNo.TheVariants as no;
+ghost use Rattle.cvl_base.specs.Faults.{fault};
+ghost use Rattle.cvl_base.specs.Limits.{most_places};
+ghost use Rattle.digit_partitions.specs.Ends.{digit_ends};
+ghost use Rattle.digit_partitions.specs.Partitions.{partitioned};
+ghost use Rattle.digit_partitions.specs.Pieces.{IsRange, digit_piece};
+ghost use Rattle.stable_sorts.specs.Placed.{with_key};
+ghost use Rattle.stable_sorts.specs.Steps.{IsBlock, digit_of_pass};
+
+use c_calls::status::{CvlStatus, done, status_of};
+use cvl_base::{Fault, FaultNo};
+use digit_partitions::gather_pieces;
+use stable_sorts::{DIGITS, Placed, key_block, placed_from, places_of};
+
+/// Tells whether the operands of a step agree.
+fn told_step(agree: bool) -> CvlStatus
+    ensures done { IsTrue agree → result ≡ done }
+    ensures refused { agree ≡ false → result ≡ status_of_fault (fault no.LengthMismatch) }
+    ensures agree { result ≡ done → IsTrue agree }
+    ensures differ { result ≢ done → agree ≡ false }
+{
+    if agree {
+        done()
+    } else {
+        status_of(Fault::new(FaultNo::LengthMismatch).into())
+    }
+}
+
+/// Each key of a block beside its place, where the first of them stands at place `first`.
+#[unsafe(no_mangle)]
+pub extern "C" fn cvl_proved_placed_from(
+    first: usize,
+    keys: &[i32],
+    placed: &mut [Placed],
+) -> CvlStatus
+    ensures done { (length placed.old ≡ length keys.now) × (first + length keys.now ≤ most_places) → result ≡ done }
+    ensures written { result ≡ done → placed.new ≡ map with_key (enumerate_from first keys.now) }
+    ensures as_before { result ≢ done → placed.new ≡ placed.old }
+{
+    told_step(placed_from(first, keys, placed))
+}
+
+/// A block of keys, which begins at place `first` of all, in the order of the digit of a pass, and where each digit ends.
+#[unsafe(no_mangle)]
+pub extern "C" fn cvl_proved_key_block(
+    pass: u32,
+    first: usize,
+    block: &[i32],
+    room: &mut [i32],
+    ends: &mut [u32],
+) -> CvlStatus
+    ensures done { IsBlock pass first (length block.now) (length room.old) (length ends.old) → result ≡ done }
+    ensures room { result ≡ done → room.new ≡ partitioned (digit_of_pass pass) (2 ^ 11) block.now }
+    ensures ends { result ≡ done → ends.new ≡ map (λ e. first + e) (digit_ends (digit_of_pass pass) (2 ^ 11) block.now) }
+    ensures as_before { result ≢ done → (room.new ≡ room.old) × (ends.new ≡ ends.old) }
+{
+    told_step(key_block::<i32>(pass, first, block, room, ends))
+}
+
+/// The same of keys beside their places.
+#[unsafe(no_mangle)]
+pub extern "C" fn cvl_proved_placed_block(
+    pass: u32,
+    first: usize,
+    block: &[Placed],
+    room: &mut [Placed],
+    ends: &mut [u32],
+) -> CvlStatus
+    ensures done { IsBlock pass first (length block.now) (length room.old) (length ends.old) → result ≡ done }
+    ensures room { result ≡ done → room.new ≡ partitioned (λ p. digit_of_pass pass p.key) (2 ^ 11) block.now }
+    ensures ends { result ≡ done
+        → ends.new ≡ map (λ e. first + e) (digit_ends (λ p. digit_of_pass pass p.key) (2 ^ 11) block.now) }
+    ensures as_before { result ≢ done → (room.new ≡ room.old) × (ends.new ≡ ends.old) }
+{
+    told_step(key_block::<Placed>(pass, first, block, room, ends))
+}
+
+/// `count` pieces of the blocks, of 2,048 digits each, from the one numbered `from` on: digit by digit, and of each digit block by
+/// block.
+#[unsafe(no_mangle)]
+pub extern "C" fn cvl_proved_gather_keys(
+    elements: &[i32],
+    ends: &[u32],
+    blocks: usize,
+    from: usize,
+    count: usize,
+    out: &mut [i32],
+) -> CvlStatus
+    ensures done { IsRange elements.now ends.now 2048 blocks from count (length out.old) → result ≡ done }
+    ensures written { result ≡ done → out.new
+        ≡ flat_map (digit_piece elements.now ends.now 2048 blocks) (range_with_len from count) }
+    ensures as_before { result ≢ done → out.new ≡ out.old }
+{
+    told_step(gather_pieces(elements, ends, DIGITS, blocks, from, count, out))
+}
+
+/// The same of keys beside their places.
+#[unsafe(no_mangle)]
+pub extern "C" fn cvl_proved_gather_placed(
+    elements: &[Placed],
+    ends: &[u32],
+    blocks: usize,
+    from: usize,
+    count: usize,
+    out: &mut [Placed],
+) -> CvlStatus
+    ensures done { IsRange elements.now ends.now 2048 blocks from count (length out.old) → result ≡ done }
+    ensures written { result ≡ done → out.new
+        ≡ flat_map (digit_piece elements.now ends.now 2048 blocks) (range_with_len from count) }
+    ensures as_before { result ≢ done → out.new ≡ out.old }
+{
+    told_step(gather_pieces(elements, ends, DIGITS, blocks, from, count, out))
+}
+
+/// The places alone.
+#[unsafe(no_mangle)]
+pub extern "C" fn cvl_proved_places_of(placed: &[Placed], out: &mut [i32]) -> CvlStatus
+    ensures done { length out.old ≡ length placed.now → result ≡ done }
+    ensures written { result ≡ done → out.new ≡ map (λ p. p.place) placed.now }
+    ensures as_before { result ≢ done → out.new ≡ out.old }
+{
+    told_step(places_of(placed, out))
+}
