@@ -67,6 +67,9 @@ CUTS = {
     "senders": "the result is cut; each part reads all indices",
     "combine": "the room is cut; each part reads all indices",
     "turns": "the result is cut; each part reads its elements of the whole matrix",
+    "order": "cut at places; each part sorts its own keys by a digit, and gathers a range of the result",
+    "rank": "cut at places; each part sorts its own keys by a digit, and gathers a range of the result",
+    "sort": "cut at places; each part sorts its own keys by a digit, and gathers a range of the result",
     "merge": "cut at places; each part goes on in both vectors behind those that the flags before it take",
     "replace": "the copy is cut at places",
     "lengths": "the lengths are cut; the parts' totals are added",
@@ -90,6 +93,9 @@ MOST_OF_TEXT = 4194304
 
 # The most bytes of its stack that a thread needs for a call: what tests/c/stack.c measures stays below it.
 MOST_STACK = 32768
+
+# The exports that only the driver calls: the steps of orders and sorts in parts.
+STEPS = ("placed_from", "key_block", "placed_block", "gather_keys", "gather_placed", "places_of")
 
 # The faults that calls share.
 TOO_LONG = Fault((13,), "13 TooLong", False)
@@ -679,17 +685,17 @@ FAMILIES = (
     family(
         "order", "orders, ranks and sorts", (ints("keys"), room("ints")),
         "The places in ascending order of their keys, equal keys in the order of their places. A back permute by them sorts whatever belongs to the keys.",
-        asks=True, cut=("whole", None), shape="keys and out have n elements.", example={"keys": "3 1 2 1", "out": "1 3 2 0"},
+        asks=True, cut=("order", "n"), shape="keys and out have n elements.", example={"keys": "3 1 2 1", "out": "1 3 2 0"},
     ),
     family(
         "rank", "orders, ranks and sorts", (ints("keys"), room("ints")),
         "For each place how many keys come before its key: the lesser ones, and the equal ones of earlier places. A simple permute by them sorts whatever "
         "belongs to the keys.",
-        asks=True, cut=("whole", None), shape="keys and out have n elements.", example={"keys": "3 1 2 1", "out": "3 0 2 1"},
+        asks=True, cut=("rank", "n"), shape="keys and out have n elements.", example={"keys": "3 1 2 1", "out": "3 0 2 1"},
     ),
     family(
         "sort", "orders, ranks and sorts", (ints("keys"), room("ints")), "The keys in ascending order.",
-        in_place=(("keys",),), asks=True, cut=("whole", None), shape="keys and out have n elements.", example={"keys": "3 1 2 1", "out": "1 1 2 3"},
+        in_place=(("keys",),), asks=True, cut=("sort", "n"), shape="keys and out have n elements.", example={"keys": "3 1 2 1", "out": "1 1 2 3"},
     ),
     family(
         "seg_order", "orders, ranks and sorts", (ints("keys"), lengths(), room("ints")),

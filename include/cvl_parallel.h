@@ -252,7 +252,7 @@ CVL_CHECKED CvlStatus cvl_seg_combine_permute_bool_on(const CvlPool *pool, uint3
 CVL_CHECKED CvlStatus cvl_seg_counts_on(const CvlPool *pool, const int32_t *index, size_t index_len, CvlLengths lengths,
     CvlLengths result_lengths, int32_t *out, size_t out_len);
 
-/* Not cut. */
+/* Cut at places; each part sorts its own keys by a digit, and gathers a range of the result. */
 CVL_CHECKED CvlStatus cvl_order_on(const CvlPool *pool, const int32_t *keys, size_t keys_len, int32_t *out, size_t out_len);
 CVL_CHECKED CvlStatus cvl_rank_on(const CvlPool *pool, const int32_t *keys, size_t keys_len, int32_t *out, size_t out_len);
 CVL_CHECKED CvlStatus cvl_sort_on(const CvlPool *pool, const int32_t *keys, size_t keys_len, int32_t *out, size_t out_len);

@@ -59,6 +59,11 @@ static inline int32_t cvl_place_of(int64_t place) { return place < 0 || place > 
     ensures \result == (0 <= count ? count : 0); */
 static inline size_t cvl_room_of(int64_t count) { return count < 0 ? 0 : (size_t)count; }
 
+/* A key beside its place, as the proved steps of orders read and write them. */
+typedef struct CvlPlaced {
+    int32_t key, place;
+} CvlPlaced;
+
 /* Whether a matrix has so many elements. */
 /*@ assigns \nothing; */
 static inline bool cvl_is_matrix(size_t elements, size_t rows, size_t columns) {

@@ -44,6 +44,11 @@ struct CvlWork {
     size_t segments;
     const size_t *rooms;     /* the first place of each part in the room */
     CvlStepPart part;         /* what each part does after it kept its range of the room */
+    /* a sort */
+    uint32_t pass;            /* the number of the digit that it goes by */
+    const int32_t *keys;      /* what it reads */
+    CvlPlaced *placed;        /* or, of an order, keys beside their places */
+    void *blocks;             /* each part's elements in the order of the digit */
 };
 
 /* Elements of an argument from a place on. */
@@ -171,6 +176,11 @@ CVL_HIDDEN bool cvl_senders_in_parts(const CvlPool *pool, CvlWork *w);
 /*@ requires 0 < w->parts <= CVL_MOST_PARTS;
     assigns *w, rooms, made; */
 CVL_HIDDEN bool cvl_combine_in_parts(const CvlPool *pool, CvlWork *w);
+/*@ requires 0 < w->parts <= CVL_MOST_PARTS;
+    assigns *w, rooms, kept, made; */
+CVL_HIDDEN bool cvl_sort_in_parts(const CvlPool *pool, CvlWork *w);
+CVL_HIDDEN bool cvl_order_in_parts(const CvlPool *pool, CvlWork *w);
+CVL_HIDDEN bool cvl_rank_in_parts(const CvlPool *pool, CvlWork *w);
 /*@ requires w->parts <= CVL_MOST_PARTS;
     assigns *w, rooms, made; */
 CVL_HIDDEN bool cvl_turns_in_parts(const CvlPool *pool, CvlWork *w);

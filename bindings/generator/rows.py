@@ -223,7 +223,7 @@ def _export_differences(name, wanted, family, found):
 
 def export_differences(exports):
     """In what the rows differ from the exports."""
-    named = {"are_flags", "make_flags"}
+    named = {"are_flags", "make_flags", *table.STEPS}
     for row in FAMILIES.values():
         family = row.family
         named.add(family.exported)

@@ -80,6 +80,11 @@ static size_t memory_of(const Row *row, const char *call) {
     return descriptors;
 }
 
+/* The same in parts: room for all keys, or twice for all beside their places, and 2,048 counts for each part. */
+static size_t memory_of_keys_in_parts(const char *call) {
+    return (begins(call, "srt") ? sizeof(int32_t) : 4 * sizeof(int32_t)) * n + 2048 * sizeof(uint32_t) * PARTS;
+}
+
 /* Whether a call in parts keeps what stood in its room. */
 static bool keeps_room(const Row *row, const char *call) {
     if (strstr(row->name, "exact_sums") != NULL) return true;
@@ -101,6 +106,7 @@ static size_t memory_in_parts(const Row *row, const char *call) {
     const size_t in_brackets = by_segments(call) ? segments : 0;
     if (has(row, ROOM_FOR_TEXT)) return (is_bool(call) ? 2 : 12) * n + 3 * in_brackets + 2 * PARTS;
     if (has(row, TEXT)) return (text_length + PARTS) / 2 * sizeof(int32_t);
+    if (orders(call) && !by_segments(call)) return memory_of_keys_in_parts(call);
     if (!keeps_room(row, call)) return 0;
     if (has(row, OFFSETS)) return bytes_of(room) + sizeof(int32_t) * segments; /* the rows' lengths, too */
     if (!has_marks) return bytes_of(room);
@@ -126,7 +132,7 @@ static void check(const Row *row, bool odd) {
     put_all(row, odd, p);
     asked = asked_by_parts = 0;
     const CvlStatus status = row->call(p);
-    const size_t needed = !is_known(row, odd) ? asked : in_parts(row) && !(orders(call) && !by_segments(call)) ? memory_in_parts(row, call) : memory_of(row, call);
+    const size_t needed = !is_known(row, odd) ? asked : in_parts(row) ? memory_in_parts(row, call) : memory_of(row, call);
     if (status.number != CVL_DONE || status.place != -1) {
         fail(row, "another status", status.number, CVL_DONE);
         return;
