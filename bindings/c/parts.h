@@ -48,7 +48,8 @@ struct CvlWork {
     uint32_t pass;            /* the number of the digit that it goes by */
     const int32_t *keys;      /* what it reads */
     CvlPlaced *placed;        /* or, of an order, keys beside their places */
-    void *blocks;             /* each part's elements in the order of the digit */
+    void *blocks;             /* each part's elements in the order of the digit, */
+    uint32_t *ends;           /* and where each digit of each part ends */
 };
 
 /* Elements of an argument from a place on. */
@@ -121,7 +122,7 @@ static inline CvlStatus cvl_first_of(CvlStatus first, CvlStatus second, CvlStatu
 CVL_HIDDEN bool cvl_make_all(const CvlPool *pool, CvlWork *w);
 
 /* Takes memory for so many bytes of what the rooms hold now, and answers whether there is some. */
-/*@ assigns *w, kept;
+/*@ assigns w->kept, kept;
     ensures \result ==> kept == rooms; */
 CVL_HIDDEN bool cvl_keep(CvlWork *w, size_t bytes);
 
@@ -179,7 +180,11 @@ CVL_HIDDEN bool cvl_combine_in_parts(const CvlPool *pool, CvlWork *w);
 /*@ requires 0 < w->parts <= CVL_MOST_PARTS;
     assigns *w, rooms, kept, made; */
 CVL_HIDDEN bool cvl_sort_in_parts(const CvlPool *pool, CvlWork *w);
+/*@ requires 0 < w->parts <= CVL_MOST_PARTS;
+    assigns *w, rooms, kept, made; */
 CVL_HIDDEN bool cvl_order_in_parts(const CvlPool *pool, CvlWork *w);
+/*@ requires 0 < w->parts <= CVL_MOST_PARTS;
+    assigns *w, rooms, kept, made; */
 CVL_HIDDEN bool cvl_rank_in_parts(const CvlPool *pool, CvlWork *w);
 /*@ requires w->parts <= CVL_MOST_PARTS;
     assigns *w, rooms, made; */

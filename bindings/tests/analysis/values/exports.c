@@ -81,6 +81,32 @@ CvlStatus cvl_proved_pack_bool(const bool *values, size_t values_len, const bool
     return cvl_done();
 }
 
+/* ---- blocks of a sort: half of the elements have the first digit, and the others the last ---- */
+
+static void writes_ends(size_t first, size_t n, uint32_t *ends, size_t ends_len) {
+    for (size_t k = 0; k < ends_len; k++) ends[k] = (uint32_t)(first + (k + 1 < ends_len ? n / 2 : n));
+}
+
+CvlStatus cvl_proved_key_block(
+    uint32_t pass, size_t first, const int32_t *block, size_t block_len, int32_t *room, size_t room_len, uint32_t *ends, size_t ends_len) {
+    (void)pass;
+    if (is_refused()) return told_fault();
+    reads_ints(block, block_len);
+    writes_ints(room, room_len);
+    writes_ends(first, block_len, ends, ends_len);
+    return cvl_done();
+}
+
+CvlStatus cvl_proved_placed_block(uint32_t pass, size_t first, const CvlPlaced *block, size_t block_len, CvlPlaced *room, size_t room_len,
+    uint32_t *ends, size_t ends_len) {
+    (void)pass;
+    if (is_refused()) return told_fault();
+    reads_placed(block, block_len);
+    writes_placed(room, room_len);
+    writes_ends(first, block_len, ends, ends_len);
+    return cvl_done();
+}
+
 /* ---- texts ---- */
 
 static size_t list_length(size_t count, size_t each) { return 2 + count * each + (count == 0 ? 0 : count - 1); }

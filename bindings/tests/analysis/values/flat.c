@@ -147,6 +147,20 @@ void senders(void) {
     each_pattern(select_first_senders, 7, 4);
 }
 
+static void sort(size_t n) { (void)cvl_sort_on(&pool, ints[n], n, room[n], n); }
+static void sort_in_place(size_t n) { (void)cvl_sort_on(&pool, room[n], n, room[n], n); }
+static void order(size_t n) { (void)cvl_order_on(&pool, ints[n], n, room[n], n); }
+static void rank(size_t n) { (void)cvl_rank_on(&pool, ints[n], n, room[n], n); }
+
+void sorts(void) {
+    fill(5, 1);
+    fill_ints(room);
+    each_length(sort, 8, 4);
+    each_length(sort_in_place, 1, 1);
+    each_length(order, 8, 5);
+    each_length(rank, 8, 6);
+}
+
 /* Numbers by a stride, and copies of one, whose parts begin with numbers of their own. */
 static void index_room(size_t n) { (void)cvl_index_on(&pool, any_int(), any_int(), (int64_t)n, room[n], n); }
 static void copy_number(size_t n) { (void)cvl_distribute_int_on(&pool, any_int(), (int64_t)n, room[n], n); }

@@ -35,6 +35,14 @@ void reads_ints(const int32_t *a, size_t count);
     assigns \nothing; */
 void reads_bytes(const bool *bytes, size_t count);
 
+/*@ requires count == 0 || \initialized(marks + (0 .. count - 1));
+    assigns \nothing; */
+void reads_marks(const uint32_t *marks, size_t count);
+
+/*@ requires count == 0 || \initialized(placed + (0 .. count - 1));
+    assigns \nothing; */
+void reads_placed(const CvlPlaced *placed, size_t count);
+
 /* Booleans of Rattle are 0 or 1. */
 static inline void reads_flags(const bool *flags, size_t count) {
     for (size_t k = 0; k < count; k++) {
@@ -50,6 +58,10 @@ static inline void writes_ints(int32_t *out, size_t count) {
 
 static inline void writes_marks(uint32_t *out, size_t count) {
     for (size_t k = 0; k < count; k++) out[k] = Frama_C_unsigned_int_interval(0, UINT32_MAX);
+}
+
+static inline void writes_placed(CvlPlaced *out, size_t count) {
+    for (size_t k = 0; k < count; k++) out[k].key = any_int(), out[k].place = any_int();
 }
 
 static inline void writes_bytes(bool *out, size_t count) {
