@@ -182,8 +182,8 @@ OF_FAMILIES = {
     "orders, ranks and sorts": (
         "No script calls these. Keys are signed integers, and equal ones keep the order of their places (a stable sort). For descending order use CVL_NOT on "
         "the keys before a call, and on the result of a sort. A sort may be in place.",
-        "Without segments these calls run on the calling thread. An order and a rank take up to 16 bytes a key while they run, a sort up to 4 (by segments, for "
-        "the keys of the longest one), and all up to 8192 bytes more, else 100 NoResources.",
+        "An order and a rank take up to 16 bytes a key while they run, a sort up to 4 (by segments, for the keys of the longest one), and all up to 8192 bytes "
+        "more for each thread, else 100 NoResources.",
     ),
     "slices and merges": (
         "No script calls these. They ask for memory only for booleans that are neither 0 nor 1, and on several threads for a copy of the buffer. A search for "

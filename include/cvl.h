@@ -170,9 +170,8 @@ const char *cvl_fault_name(uint32_t number);
  * Calls run on the thread that calls. If cvl_set_threads or the variable CVL_NUM_THREADS asks for more threads, for the whole
  * process, long calls run on them: from 262144 elements on, from 131072 bytes of a text that is read, and from 32768 elements
  * whose text is written. Results and faults are the same. These calls stay on the calling thread: those that read one element,
- * read a nested text or a text behind another, scan after a carry, add up exactly, make a range of another call, sort without
- * segments, transpose, or look for one true flag. On several threads a call may copy its buffer; if there is no memory for
- * that, it runs on the calling thread.
+ * read a nested text or a text behind another, scan after a carry, add up exactly, make a range of another call, or look for
+ * one true flag. On several threads a call may copy its buffer; if there is no memory for that, it runs on the calling thread.
  *
  * One call at a time has the threads. No other call waits for it, or for cvl_set_threads: it runs on its own thread. A call in
  * parts on a pool of yours (cvl_parallel.h) uses only the threads of that pool.
@@ -512,8 +511,8 @@ CVL_CHECKED CvlStatus cvl_seg_counts(const int32_t *index, size_t index_len, Cvl
  * No script calls these. Keys are signed integers, and equal ones keep the order of their places (a stable sort). For
  * descending order use CVL_NOT on the keys before a call, and on the result of a sort. A sort may be in place.
  *
- * Without segments these calls run on the calling thread. An order and a rank take up to 16 bytes a key while they run, a sort
- * up to 4 (by segments, for the keys of the longest one), and all up to 8192 bytes more, else 100 NoResources.
+ * An order and a rank take up to 16 bytes a key while they run, a sort up to 4 (by segments, for the keys of the longest one),
+ * and all up to 8192 bytes more for each thread, else 100 NoResources.
  */
 
 /*
