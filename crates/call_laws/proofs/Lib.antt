@@ -19,6 +19,7 @@ pub mod Segments
 pub mod SegmentsInTwo
 pub mod Selecting
 pub mod Sending
+pub mod SortedOverRanks
 pub mod Destinations
 pub mod TwoParts
 pub mod Cited

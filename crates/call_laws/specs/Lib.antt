@@ -6,3 +6,4 @@ pub mod OverRanks
 pub mod Owned
 pub mod Permuted
 pub mod Senders
+pub mod SortedOverRanks

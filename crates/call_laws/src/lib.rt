@@ -21,4 +21,5 @@ pub mod permutes_in_parts;
 pub mod scans;
 pub mod segmented;
 pub mod senders;
+pub mod sorts;
 pub mod text_laws;
