@@ -1,10 +1,9 @@
 -- Sorts of vectors whose keys lie on ranks.
-use Rattle.std.proofs.Common.{◌≡◌, ◌∙◌, ℕ, ◌+◌, ◌<◌, ◌&&◌, ◌||◌, not, ℤ, pos, Bool, true, false, cond, List, [], ◌∷◌, ◌++◌, append_assoc, ap, arith, count_by, drop, get_or, length, map, refl, subst, sym}
-use Rattle.std.proofs.Common.{take, ltb, lt-ltb, ltb-true, length-take-le, take-append-drop, suc, zero, append-nil}
+use Rattle.std.proofs.Common.{◌≡◌, ◌∙◌, ℕ, ◌+◌, ◌<◌, ◌&&◌, ◌||◌, not, ℤ, pos, Bool, true, false, cond, List, [], ◌∷◌, ◌++◌, ap, arith, count_by, drop, get_or, length, map, refl, subst, sym}
+use Rattle.std.proofs.Common.{take, ltb, lt-ltb, ltb-true, length-take-le, take-append-drop, suc, append-nil}
 use Rattle.std.specs.Prelude.{int_lt}
 use Rattle.std.specs.Cmp.{IsStrictWeakOrder}
 use Rattle.std.specs.List.{AllByRecursion, enumerate_from, filter}
-use Rattle.std.proofs.lemmas.List.{length-drop}
 use Rattle.std.proofs.lemmas.List.Elements.{filter-append}
 use Rattle.std.proofs.lemmas.List.Sums.{count_by-le-length, sum_by-cons}
 use Rattle.operators.specs.Lists.{joined}

@@ -4,8 +4,9 @@
 -- Source: Blelloch, Leiserson, Maggs, Plaxton, Smith and Zagha, A Comparison of Sorting Algorithms for the Connection Machine CM-2, 1991,
 -- sample sort; Cheng, Shah, Gilbert and Edelman, A Novel Parallel Sorting Algorithm for Contemporary Architectures, 2007, splitters that
 -- cut exactly.
-use Rattle.std.specs.Prelude.{ℕ, ◌+◌, ℤ, Bool, not, ◌&&◌, ◌||◌, nat_lt, List, [], ◌∷◌, count_by, drop, length, map, take}
+use Rattle.std.specs.Prelude.{ℕ, ◌+◌, ◌-◌, min, ℤ, Bool, int_lt, not, ◌&&◌, ◌||◌, nat_lt, List, [], ◌∷◌, count_by, drop, length, map, take}
 use Rattle.std.specs.List.{enumerate_from}
+use Rattle.std.specs.Ordering.{int_eq}
 use Rattle.operators.specs.Lists.{joined}
 use Rattle.orders.specs.Orders.{has_lesser_key}
 use Rattle.orders.specs.StableSorts.{stably_sorted}
@@ -39,3 +40,17 @@ exchanged_at (splitter ∷ others) pieces =
 
 abbrev pub sorted_over_ranks : List (ℕ × ℤ) → List (List ℤ) → List (List (ℕ × ℤ))
 sorted_over_ranks splitters parts = exchanged_at splitters (map (stably_sorted has_lesser_key) (with_places 0 parts))
+
+-- ---- where a rank cuts its own keys
+
+-- how many keys are less than another, and how many equal it
+abbrev pub lesser_keys : ℤ → List ℤ → ℕ
+lesser_keys k keys = count_by (λ key. int_lt key k) keys
+
+abbrev pub equal_keys : ℤ → List ℤ → ℕ
+equal_keys k keys = count_by (λ key. int_eq key k) keys
+
+-- how many of a rank's own keys go before a splitter with the key k, before which n of the whole go: the lesser ones, and of the equal
+-- ones what the ranks before leave
+abbrev pub cut_in_rank_order : ℤ → ℕ → List ℤ → List ℤ → List ℤ → ℕ
+cut_in_rank_order k n whole before own = lesser_keys k own + min (equal_keys k own) (n - lesser_keys k whole - equal_keys k before)
