@@ -125,17 +125,15 @@ void cvl_move_in(CvlCall *c) {
     if (c->aside != NULL && bytes > 0) memcpy((void *)c->in[CVL_AS_OUT].at, c->aside, bytes);
 }
 
-/* Whether all ranks make the same call: compared first in a library that is built to find programs' mistakes, and else with the status. */
 #ifdef CVL_COMPARE_CALLS
-static bool is_one_call(const CvlCall *c) {
+bool cvl_is_one_call(CvlRanks *ranks, uint32_t call) {
     bool short_room = 0;
     uint64_t none;
-    const uint32_t call = (uint32_t)c->family->call << 8;
-    return cvl_agreed(c->ranks, cvl_done(), call, 0, UINT64_MAX, &short_room, &none).number == CVL_DONE;
+    return cvl_agreed(ranks, cvl_done(), call, 0, UINT64_MAX, &short_room, &none).number == CVL_DONE;
 }
 #else
-static bool is_one_call(const CvlCall *c) {
-    (void)c;
+bool cvl_is_one_call(CvlRanks *ranks, uint32_t call) {
+    (void)ranks, (void)call;
     return 1;
 }
 #endif
@@ -143,10 +141,10 @@ static bool is_one_call(const CvlCall *c) {
 CvlStatus cvl_over_ranks(CvlRanks *ranks, const CvlRankRow *family, uint32_t op, const CvlSlot *s) {
     CvlCall c;
     if (!cvl_are_ranks(ranks)) return cvl_status(CVL_NO_DESCRIPTOR, -1);
+    if (!cvl_is_one_call(ranks, (uint32_t)family->call << 8)) return cvl_status(CVL_UNKNOWN_CALL, -1);
     memset(&c, 0, sizeof c);
     c.ranks = ranks, c.family = family, c.op = op, c.status = cvl_done();
     memcpy(c.s, s, family->row.operands * sizeof *s);
-    if (!is_one_call(&c)) return cvl_status(CVL_UNKNOWN_CALL, -1);
     name_slots(&c);
     look(&c);
     name_slots(&c);

@@ -47,6 +47,7 @@ CvlStatus cvl_rank_segments_new(CvlRanks *ranks, CvlLengths pieces, bool goes_on
     bool short_room = 0;
     uint64_t none;
     if (!cvl_are_ranks(ranks)) return cvl_status(CVL_NO_DESCRIPTOR, -1);
+    if (!cvl_is_one_call(ranks, CVL_CALL_SEGMENTS)) return cvl_status(CVL_UNKNOWN_CALL, -1);
     CvlStatus status = look(pieces, &s.total);
     s.ranks = ranks, s.lengths = pieces.lengths, s.pieces = pieces.segments;
     s.goes_on = goes_on && pieces.segments > 0;

@@ -90,6 +90,7 @@ CvlStatus cvl_even_share(CvlRanks *ranks, uint64_t total, uint64_t *from, size_t
 
 CvlStatus cvl_share(CvlRanks *ranks, size_t count, uint64_t *from, uint64_t *total) {
     if (!cvl_are_ranks(ranks)) return cvl_status(CVL_NO_DESCRIPTOR, -1);
+    if (!cvl_is_one_call(ranks, CVL_CALL_SHARE)) return cvl_status(CVL_UNKNOWN_CALL, -1);
     *total = cvl_offsets(ranks, count);
     *from = ranks->offsets[ranks->rank];
     return cvl_done();

@@ -112,6 +112,7 @@ CvlStatus cvl_seg_read_ints_mpi(CvlRanks *ranks, const char *text, size_t text_l
     bool short_room = 0;
     uint64_t none;
     if (!cvl_are_ranks(ranks)) return cvl_status(CVL_NO_DESCRIPTOR, -1);
+    if (!cvl_is_one_call(ranks, CVL_CALL_NEST_READ)) return cvl_status(CVL_UNKNOWN_CALL, -1);
     look(&n);
     CvlStatus status = fault_of(ranks, &n, read_words(&n));
     if (do_meet(text, text_len, out, out_len, lengths, lengths_len)) status = cvl_overlap();

@@ -45,8 +45,8 @@ struct CvlRanks {
     int *sends, *send_from, *receives, *receive_from; /* of an exchange: the elements for and of each rank */
 };
 
-/* The numbers of what is no family, by which ranks see that they make the same call. */
-enum { CVL_CALL_SEGMENTS = 0xf900, CVL_CALL_SPREAD = 0xfb00, CVL_CALL_ROUTE = 0xfc00 };
+/* The numbers of what is no family, by which ranks see that they make the same call. A spread adds the size of an element. */
+enum { CVL_CALL_SEGMENTS = 0xf900, CVL_CALL_SHARE = 0xfb00, CVL_CALL_SPREAD = 0xfb00, CVL_CALL_ROUTE = 0xfc00 };
 
 /* ---- the descriptor ---- */
 
@@ -102,6 +102,12 @@ CVL_HIDDEN CvlStatus cvl_over_ranks(CvlRanks *ranks, const CvlRankRow *family, u
 
 /* Whether there are ranks, and MPI goes on. */
 CVL_HIDDEN bool cvl_are_ranks(const CvlRanks *ranks);
+
+/*
+ * Whether all ranks make the call with this number. A library that is built with -DCVL_COMPARE_CALLS asks it before ranks exchange anything
+ * else; without, ranks see it when they agree on a status.
+ */
+CVL_HIDDEN bool cvl_is_one_call(CvlRanks *ranks, uint32_t call);
 
 /* Keeps the first fault of a call. */
 static inline void cvl_say(CvlCall *c, CvlStatus status) {

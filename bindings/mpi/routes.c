@@ -226,6 +226,7 @@ static void look_at_permute(CvlCall *c, CvlRoute *route, const int32_t *index) {
 
 CvlStatus cvl_route_new(CvlRanks *ranks, const int32_t *index, size_t index_len, size_t source_len, CvlRoute **made) {
     if (!cvl_are_ranks(ranks)) return cvl_status(CVL_NO_DESCRIPTOR, -1);
+    if (!cvl_is_one_call(ranks, CVL_CALL_ROUTE)) return cvl_status(CVL_UNKNOWN_CALL, -1);
     CvlCall c = call_of(ranks);
     int64_t bad = -1;
     const uint64_t total = cvl_offsets(ranks, source_len);

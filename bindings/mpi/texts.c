@@ -4,6 +4,9 @@
 
 enum { CVL_CHUNK = 1 << 12, CVL_MOST_READ = 1 << 30 };
 
+/* What each call, or its room, adds to the number of calls on texts. */
+enum { READ = 1, READ_ROOM, WRITE_INTS, WRITE_BOOLS, READ_FILE, WRITE_FILE };
+
 /* ---- the integers of a text ---- */
 
 static size_t words_in(const char *text, size_t text_len) {
@@ -47,15 +50,16 @@ static CvlStatus read_aside(CvlRanks *ranks, const char *text, size_t text_len, 
 CvlStatus cvl_read_ints_mpi(CvlRanks *ranks, const char *text, size_t text_len, int32_t *out, size_t out_len, size_t *count) {
     bool short_room = 0;
     if (!cvl_are_ranks(ranks)) return cvl_status(CVL_NO_DESCRIPTOR, -1);
+    if (!cvl_is_one_call(ranks, CVL_CALL_TEXT + READ)) return cvl_status(CVL_UNKNOWN_CALL, -1);
     const size_t words = words_in(text, text_len);
     int32_t *const aside = malloc((words + 1) * sizeof *aside);
     CvlStatus status = read_aside(ranks, text, text_len, words, aside);
     if (cvl_meet(text, text_len, 1, out, out_len, sizeof *out)) status = cvl_overlap();
-    status = agree(ranks, status, 1, &short_room);
+    status = agree(ranks, status, READ, &short_room);
     if (status.number == CVL_DONE) {
         /* the room is compared last, since only the text says how long the result is */
         short_room = words > out_len;
-        status = agree(ranks, short_room ? cvl_status(CVL_LENGTH_MISMATCH, -1) : cvl_done(), 2, &short_room);
+        status = agree(ranks, short_room ? cvl_status(CVL_LENGTH_MISMATCH, -1) : cvl_done(), READ_ROOM, &short_room);
         *count = words;
         if (status.number == CVL_DONE && words > 0) memcpy(out, aside, words * sizeof *out);
     }
@@ -87,8 +91,10 @@ static CvlStatus write_own(const void *a, size_t a_len, bool are_bools, CvlWritt
 
 static CvlStatus write_text(CvlRanks *ranks, const void *a, size_t a_len, bool are_bools, char *text, size_t text_len, size_t *count) {
     CvlWritten w = {NULL, 2, 0, 0, 0, 0, 0};
+    const uint32_t call = are_bools ? WRITE_BOOLS : WRITE_INTS;
     bool short_room = 0;
     if (!cvl_are_ranks(ranks)) return cvl_status(CVL_NO_DESCRIPTOR, -1);
+    if (!cvl_is_one_call(ranks, CVL_CALL_TEXT + call)) return cvl_status(CVL_UNKNOWN_CALL, -1);
     CvlStatus status = cvl_meet(a, a_len, are_bools ? 1 : sizeof(int32_t), text, text_len, 1) ? cvl_overlap() : write_own(a, a_len, are_bools, &w);
     const int64_t before = cvl_before(ranks, cvl_fold(CVL_JOIN_COUNTS, 0, 0, (int64_t)a_len, 0)).low;
     w.first = ranks->rank == 0, w.last = ranks->rank + 1 == ranks->size, w.follows = before > 0 && a_len > 0;
@@ -96,7 +102,7 @@ static CvlStatus write_text(CvlRanks *ranks, const void *a, size_t a_len, bool a
         status = cvl_status(CVL_LENGTH_MISMATCH, -1);
         short_room = 1;
     }
-    status = agree(ranks, status, are_bools ? 4 : 3, &short_room);
+    status = agree(ranks, status, call, &short_room);
     if (status.number == CVL_DONE || short_room) *count = cvl_length_of(&w);
     if (status.number == CVL_DONE) cvl_put_text(&w, text);
     free(w.whole);
@@ -162,10 +168,11 @@ CvlStatus cvl_rank_text_read(CvlRanks *ranks, const char *path, char **text, siz
     size_t own_len = 0;
     bool none = 0;
     if (!cvl_are_ranks(ranks)) return cvl_status(CVL_NO_DESCRIPTOR, -1);
+    if (!cvl_is_one_call(ranks, CVL_CALL_TEXT + READ_FILE)) return cvl_status(CVL_UNKNOWN_CALL, -1);
     const bool opened = MPI_File_open(ranks->comm, path, MPI_MODE_RDONLY, MPI_INFO_NULL, &file) == MPI_SUCCESS;
     CvlStatus status = opened ? read_share(ranks, file, &own, &own_len) : cvl_status(CVL_BAD_INPUT, -1);
     if (opened) MPI_File_close(&file);
-    status = agree(ranks, status, 5, &none);
+    status = agree(ranks, status, READ_FILE, &none);
     if (status.number == CVL_DONE) *text = own, *text_len = own_len;
     else free(own);
     return status;
@@ -186,6 +193,7 @@ CvlStatus cvl_rank_text_write(CvlRanks *ranks, const char *path, const char *tex
     MPI_File file;
     bool none = 0;
     if (!cvl_are_ranks(ranks)) return cvl_status(CVL_NO_DESCRIPTOR, -1);
+    if (!cvl_is_one_call(ranks, CVL_CALL_TEXT + WRITE_FILE)) return cvl_status(CVL_UNKNOWN_CALL, -1);
     const uint64_t from = (uint64_t)cvl_before(ranks, cvl_fold(CVL_JOIN_COUNTS, 0, 0, (int64_t)text_len, 0)).low;
     const uint64_t all = (uint64_t)cvl_all(ranks, cvl_fold(CVL_JOIN_COUNTS, 0, 0, (int64_t)text_len, 0)).low;
     bool done = MPI_File_open(ranks->comm, path, MPI_MODE_WRONLY | MPI_MODE_CREATE, MPI_INFO_NULL, &file) == MPI_SUCCESS;
@@ -193,5 +201,5 @@ CvlStatus cvl_rank_text_write(CvlRanks *ranks, const char *path, const char *tex
         done = MPI_File_set_size(file, (MPI_Offset)all) == MPI_SUCCESS && write_at(file, from, text, text_len);
         done = MPI_File_close(&file) == MPI_SUCCESS && done;
     }
-    return agree(ranks, done ? cvl_done() : cvl_status(CVL_BAD_INPUT, -1), 6, &none);
+    return agree(ranks, done ? cvl_done() : cvl_status(CVL_BAD_INPUT, -1), WRITE_FILE, &none);
 }

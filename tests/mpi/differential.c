@@ -442,6 +442,8 @@ static void take_array(const Case *c, int k, int rank, Own *own) {
     const size_t from = c->cut[extent][rank], n = c->cut[extent][rank + 1] - from + (o->extent == OFFSETS), size = size_of(o->kind);
     Slot *s = &own->slots[k];
     own->from[k] = from, s->number = n;
+    /* an array of no elements may be null */
+    if (n == 0 && (rank + k) % 2 == 0) return;
     s->at = malloc((n + 1) * size);
     const char *whole = o->role == OVER_ROOM ? c->before[k] : c->whole[k].at;
     if (o->role == ROOM_OF) memset(s->at, 0x5a, (n + 1) * size);
@@ -545,7 +547,7 @@ static void fail(const Case *c, const Own *own, CvlStatus expected, CvlStatus st
     for (int k = 0; k < c->tried->operands; k++) {
         if (!is_written(c, k)) continue;
         fprintf(stderr, "  own %s:", c->tried->operand[k].name);
-        for (size_t j = 0; j < own->slots[k].number || j < 1; j++) {
+        for (size_t j = 0; own->slots[k].at != NULL && (j < own->slots[k].number || j < 1); j++) {
             fprintf(stderr, " %d", c->tried->operand[k].kind == INTS ? ((int32_t *)own->slots[k].at)[j] : ((uint8_t *)own->slots[k].at)[j]);
         }
         fprintf(stderr, "\n");

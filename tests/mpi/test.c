@@ -1,7 +1,8 @@
 /*
  * Calls over ranks that the differential test leaves out: arrays that overlap, ranks that ask for different things, null descriptors and
- * routes, routes beside the calls without them, vectors that are spread otherwise, texts, and communicators that are none. Every rank checks
- * its status. Values are worked by hand, or those of the plain call on the whole.
+ * routes, routes beside the calls without them, vectors that are spread otherwise or have fewer elements than there are ranks, texts,
+ * communicators that are none, and calls before MPI begins and after it has ended. Every rank checks its status. Values are worked by hand,
+ * or those of the plain call on the whole.
  */
 #include <mpi.h>
 
@@ -76,7 +77,9 @@ static void try_none(void) {
     CvlRankSegments *segments = NULL;
     CvlRoute *route = NULL;
     const CvlLengths lengths = {a, 2};
+    const MPI_Fint null = MPI_Comm_c2f(MPI_COMM_NULL);
     check("no communicator has no ranks", is(cvl_ranks_new(MPI_COMM_NULL, &made), CVL_NO_DESCRIPTOR, -1) && made == NULL);
+    check("nor has Fortran's", is(cvl_ranks_of_fortran(null, &made), CVL_NO_DESCRIPTOR, -1) && made == NULL);
     check("no ranks make no call", is(cvl_add_suz_mpi(NULL, a, out, 2), CVL_NO_DESCRIPTOR, -1));
     check("no ranks make no descriptor", is(cvl_rank_segments_new(NULL, lengths, 0, &segments), CVL_NO_DESCRIPTOR, -1));
     check("no ranks make no route", is(cvl_route_new(NULL, a, 2, 2, &route), CVL_NO_DESCRIPTOR, -1));
@@ -160,6 +163,53 @@ static void try_differences(void) {
     check("a whole that is too long", is(cvl_dis_vuz_mpi(ranks, 5, INT32_MAX, out), CVL_TOO_LONG, -1));
     check("where ranks differ nothing is written", is_filled(out, n, 0) && one == 9);
 }
+
+/* Calls that tell one another something before they agree on a status: one rank makes each of them, and the others the one behind it. */
+#ifdef CVL_COMPARE_CALLS
+static int32_t some_ints[2] = {1, 0}, some_room[4];
+static bool some_bools[2], goes;
+static char some_text[64] = "1";
+static size_t some_count, some_pieces;
+
+static CvlStatus a_share(void) {
+    uint64_t from, total;
+    return cvl_share(ranks, 2, &from, &total);
+}
+static CvlStatus a_descriptor(void) {
+    CvlRankSegments *segments;
+    return cvl_rank_segments_new(ranks, (CvlLengths){some_ints, 2}, 0, &segments);
+}
+static CvlStatus a_route(void) {
+    CvlRoute *route;
+    return cvl_route_new(ranks, some_ints, 2, 2, &route);
+}
+static CvlStatus a_file_read(void) {
+    char *text;
+    return cvl_rank_text_read(ranks, "no_such_file", &text, &some_count);
+}
+static CvlStatus a_file_written(void) { return cvl_rank_text_write(ranks, "no_such_file", some_text, 1); }
+static CvlStatus ints_read(void) { return cvl_read_ints_mpi(ranks, some_text, 1, some_room, 4, &some_count); }
+static CvlStatus ints_written(void) { return cvl_write_ints_mpi(ranks, some_ints, 2, some_text + 8, 56, &some_count); }
+static CvlStatus bools_written(void) { return cvl_write_bools_mpi(ranks, some_bools, 2, some_text + 8, 56, &some_count); }
+static CvlStatus a_nest_read(void) {
+    return cvl_seg_read_ints_mpi(ranks, some_text, 1, some_room, 2, &some_count, some_room + 2, 2, &some_pieces, &goes);
+}
+static CvlStatus a_spread(void) { return cvl_spread_ints(ranks, some_ints, 2, some_room, 2); }
+static CvlStatus a_checked_sum(void) { return cvl_tot_ruz_mpi(ranks, some_ints, 2, some_room); }
+static CvlStatus a_sort(void) { return cvl_sort_mpi(ranks, some_ints, 2, some_room, 2); }
+
+static void try_other_calls(void) {
+    static CvlStatus (*const calls[])(void) = {a_share, a_descriptor, a_route, a_file_read, a_file_written, ints_read, ints_written, bools_written,
+        a_nest_read, a_spread, a_checked_sum, a_sort};
+    const size_t count = sizeof calls / sizeof *calls;
+    for (size_t k = 0; k < count && size > 1; k++) {
+        check("another call", is(calls[rank == 1 ? k : (k + 1) % count](), CVL_UNKNOWN_CALL, -1));
+    }
+    check("by other calls nothing is written", is_filled(some_room, 4, 0) && some_count == 0 && some_text[8] == 0);
+}
+#else
+static void try_other_calls(void) {}
+#endif
 
 /* ---- routes ---- */
 
@@ -292,6 +342,49 @@ static void try_spreads(void) {
     for (size_t k = 0; k < all; k++) check("the whole", back[k] == of_place((int64_t)k));
 }
 
+/* ---- fewer elements than ranks ---- */
+
+/* A vector of so few elements, 0, 1 and so on, of which the first ranks have one each; the arrays of the others are null. */
+static void try_few_elements(int few) {
+    const int has = rank < few, last = few - 1 - rank;
+    const size_t n = has ? 1 : 0;
+    int32_t a = rank, index = last, length = 1, first = 9, count = 9;
+    int32_t *const own = has ? &a : NULL, *const to = has ? &index : NULL, *const out = has ? &first : NULL;
+    CvlRankSegments *segments = NULL;
+    CvlRoute *route = NULL;
+    const CvlLengths pieces = {has ? &length : NULL, n};
+    check("a scan of few", is(cvl_add_suz_mpi(ranks, own, out, n), CVL_DONE, -1) && (!has || first == rank * (rank - 1) / 2));
+    check("a sum of few", is(cvl_tot_ruz_mpi(ranks, own, n, &count), CVL_DONE, -1) && count == few * (few - 1) / 2);
+    check("a permute of few", is(cvl_smp_puz_mpi(ranks, own, to, out, n), CVL_DONE, -1) && (!has || first == last));
+    check("a sort of few", is(cvl_sort_mpi(ranks, to, n, out, n), CVL_DONE, -1) && (!has || first == rank));
+    check("an order of few", is(cvl_order_mpi(ranks, to, n, out, n), CVL_DONE, -1) && (!has || first == last));
+    check("a transpose of few", is(cvl_transpose_int_mpi(ranks, own, n, (size_t)few, 1, out, n), CVL_DONE, -1) && (!has || first == rank));
+    check("a spread of few", is(cvl_spread_ints(ranks, own, n, out, n), CVL_DONE, -1) && (!has || first == rank));
+    check("a route of few", is(cvl_route_new(ranks, to, n, n, &route), CVL_DONE, -1));
+    check("back by it", is(cvl_route_back_int(route, own, n, out, n), CVL_DONE, -1) && (!has || first == last));
+    check("segments of few", is(cvl_rank_segments_new(ranks, pieces, 0, &segments), CVL_DONE, -1) && cvl_rank_segments_all(segments) == (uint64_t)few);
+    check("their sums", is(cvl_add_rez_mpi(ranks, own, n, segments, out), CVL_DONE, -1) && (!has || first == rank));
+    cvl_route_free(route), cvl_rank_segments_free(segments);
+}
+
+/* The text of so few elements, read by ranks of which the last one has all of it, and the others none. */
+static void try_text_of_few(int few) {
+    char text[64] = "";
+    int32_t a = rank, back[MOST];
+    size_t length = 0, count = 9;
+    check("a text of few", is(cvl_write_ints_mpi(ranks, rank < few ? &a : NULL, rank < few, text, sizeof text, &length), CVL_DONE, -1));
+    check("brackets alone", few > 0 || length == (size_t)(rank == 0) + (size_t)(rank == size - 1));
+    length = 0;
+    for (int k = 0; k < few && rank == size - 1; k++) length += (size_t)sprintf(text + length, "%d ", k);
+    check("read by one", is(cvl_read_ints_mpi(ranks, length > 0 ? text : NULL, length, length > 0 ? back : NULL, length > 0 ? MOST : 0, &count), CVL_DONE, -1));
+    check("as many as there are", count == (rank == size - 1 ? (size_t)few : 0));
+    for (size_t k = 0; k < count; k++) check("each of them", back[k] == (int32_t)k);
+}
+
+static void try_few(void) {
+    for (int few = 0; few < 3 && few <= size; few++) try_few_elements(few), try_text_of_few(few);
+}
+
 /* ---- texts ---- */
 
 static void try_texts(void) {
@@ -359,8 +452,60 @@ static void try_some_ranks(void) {
     MPI_Comm_free(&some);
 }
 
+/* Two groups of ranks that a communicator joins are no ranks. */
+static void try_two_groups(void) {
+    MPI_Comm own, both;
+    CvlRanks *made = NULL;
+    if (size < 2) return;
+    MPI_Comm_split(MPI_COMM_WORLD, rank == 0, rank, &own);
+    MPI_Intercomm_create(own, 0, MPI_COMM_WORLD, rank == 0 ? 1 : 0, 1, &both);
+    check("two groups", is(cvl_ranks_new(both, &made), CVL_NO_DESCRIPTOR, -1) && made == NULL);
+    MPI_Comm_free(&both);
+    MPI_Comm_free(&own);
+}
+
+/* ---- before MPI begins, and after it has ended ---- */
+
+static void try_without_mpi(const char *what) {
+    CvlRanks *made = NULL;
+    check(what, is(cvl_ranks_new(MPI_COMM_WORLD, &made), CVL_NO_DESCRIPTOR, -1) && made == NULL);
+    check(what, is(cvl_ranks_of_fortran(0, &made), CVL_NO_DESCRIPTOR, -1) && made == NULL);
+}
+
+static void try_after_the_end(CvlRankSegments *segments, CvlRoute *route) {
+    int32_t a[1] = {0}, out[1] = {9};
+    char text[4] = "1", *read = NULL;
+    bool goes_on;
+    size_t count = 9, n = 9;
+    uint64_t from = 9, total = 9;
+    CvlRankSegments *other = NULL;
+    CvlRoute *another = NULL;
+    const CvlLengths pieces = {a, 1};
+    try_without_mpi("no ranks after the end");
+    check("no scan", is(cvl_add_suz_mpi(ranks, a, out, 1), CVL_NO_DESCRIPTOR, -1));
+    check("none by segments", is(cvl_add_sez_mpi(ranks, a, segments, out, 1), CVL_NO_DESCRIPTOR, -1));
+    check("no descriptor", is(cvl_rank_segments_new(ranks, pieces, 0, &other), CVL_NO_DESCRIPTOR, -1) && other == NULL);
+    check("no route", is(cvl_route_new(ranks, a, 1, 1, &another), CVL_NO_DESCRIPTOR, -1) && another == NULL);
+    check("none back", is(cvl_route_back_int(route, a, 1, out, 1), CVL_NO_DESCRIPTOR, -1));
+    check("no permute", is(cvl_route_permute_int(route, a, 1, out, 1), CVL_NO_DESCRIPTOR, -1));
+    check("no product", is(cvl_route_sparse_product(route, segments, a, 1, a, 1, out, 1), CVL_NO_DESCRIPTOR, -1));
+    check("no spread", is(cvl_spread_ints(ranks, a, 1, out, 1), CVL_NO_DESCRIPTOR, -1));
+    check("no share", is(cvl_share(ranks, 1, &from, &total), CVL_NO_DESCRIPTOR, -1) && is(cvl_even_share(ranks, 1, &from, &n), CVL_NO_DESCRIPTOR, -1));
+    check("no integers of a text", is(cvl_read_ints_mpi(ranks, text, 1, out, 1, &count), CVL_NO_DESCRIPTOR, -1));
+    check("no text", is(cvl_write_ints_mpi(ranks, a, 1, text, 4, &count), CVL_NO_DESCRIPTOR, -1) && text[0] == '1');
+    check("no lists", is(cvl_seg_read_ints_mpi(ranks, text, 1, out, 1, &count, a, 1, &n, &goes_on), CVL_NO_DESCRIPTOR, -1));
+    check("no text of lists", is(cvl_seg_write_ints_mpi(ranks, a, 1, segments, text, 4, &count), CVL_NO_DESCRIPTOR, -1));
+    check("no file", is(cvl_rank_text_read(ranks, "over_ranks_text", &read, &count), CVL_NO_DESCRIPTOR, -1) && read == NULL);
+    check("none written", is(cvl_rank_text_write(ranks, "over_ranks_text", text, 1), CVL_NO_DESCRIPTOR, -1));
+    check("nothing is written after the end", out[0] == 9 && count == 9 && n == 9 && from == 9 && total == 9);
+}
+
 int main(int words, char **word) {
-    int32_t a[1] = {1}, out[1] = {9};
+    CvlRankSegments *segments = NULL;
+    CvlRoute *route = NULL;
+    static const int32_t length[] = {1};
+    const int32_t *const index = &(int32_t){0};
+    try_without_mpi("no ranks before MPI begins");
     MPI_Init(&words, &word);
     MPI_Comm_rank(MPI_COMM_WORLD, &rank);
     MPI_Comm_size(MPI_COMM_WORLD, &size);
@@ -370,15 +515,20 @@ int main(int words, char **word) {
     try_bad_pieces();
     try_overlaps();
     try_differences();
+    try_other_calls();
     try_routes();
     try_spreads();
+    try_few();
     try_texts();
     try_refused_ranks();
     try_some_ranks();
+    try_two_groups();
+    check("segments to the end", is(cvl_rank_segments_new(ranks, (CvlLengths){length, 1}, 0, &segments), CVL_DONE, -1));
+    check("a route to the end", is(cvl_route_new(ranks, index, 1, 1, &route), CVL_DONE, -1));
     failed = any_rank(failed);
     if (rank == 0 && !failed) printf("calls over %d ranks: all as they should be\n", size);
     MPI_Finalize();
-    check("no call after the end", is(cvl_add_suz_mpi(ranks, a, out, 1), CVL_NO_DESCRIPTOR, -1) && out[0] == 9);
-    cvl_ranks_free(ranks);
+    try_after_the_end(segments, route);
+    cvl_rank_segments_free(segments), cvl_route_free(route), cvl_ranks_free(ranks);
     return failed ? EXIT_FAILURE : EXIT_SUCCESS;
 }

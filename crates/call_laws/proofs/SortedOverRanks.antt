@@ -81,7 +81,8 @@ module _ {X : Type 0} (less : X → X → Bool) (order : IsStrictWeakOrder less)
   kept-inserted x [] rises = refl
   kept-inserted x (y ∷ ys) rises = cases (less y x) refl (kept-inserted x ys rises.1) where
     lesser : (a b : Bool) → less y x ≡ true → filter test (inserted less x ys) ≡ cond a (inserted less x (filter test ys)) (filter test ys)
-        → cond b (y ∷ filter test (inserted less x ys)) (filter test (inserted less x ys)) ≡ cond a (inserted less x (cond b (y ∷ filter test ys) (filter test ys))) (cond b (y ∷ filter test ys) (filter test ys))
+        → cond b (y ∷ filter test (inserted less x ys)) (filter test (inserted less x ys))
+        ≡ cond a (inserted less x (cond b (y ∷ filter test ys) (filter test ys))) (cond b (y ∷ filter test ys) (filter test ys))
     lesser true true is on = simp (is) (ap (λ us. y ∷ us) on)
     lesser true false is on = on
     lesser false true is on = ap (λ us. y ∷ us) on
@@ -99,10 +100,11 @@ module _ {X : Type 0} (less : X → X → Bool) (order : IsStrictWeakOrder less)
   kept-sorted (x ∷ xs) =
       kept-inserted x (stably_sorted less xs) (Rises-stably_sorted less order xs)
       ∙ ap (λ us. cond (test x) (inserted less x us) us) (kept-sorted xs)
-      ∙ elim (test x) as (λ b. cond b (inserted less x (stably_sorted less (filter test xs))) (stably_sorted less (filter test xs)) ≡ stably_sorted less (cond b (x ∷ filter test xs) (filter test xs))) [
-        | true ↦ refl
-        | false ↦ refl
-      ]
+      ∙ kept (test x) where
+        kept : (b : Bool) → cond b (inserted less x (stably_sorted less (filter test xs))) (stably_sorted less (filter test xs))
+            ≡ stably_sorted less (cond b (x ∷ filter test xs) (filter test xs))
+        kept true = refl
+        kept false = refl
 
   kept-joined : (lists : List (List X)) → joined (map (filter test) lists) ≡ filter test (joined lists)
   kept-joined [] = refl

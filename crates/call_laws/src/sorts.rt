@@ -6,9 +6,9 @@ ghost use Rattle.operators.specs.Lists.{joined};
 ghost use Rattle.orders.specs.Orders.{by_key, sorted_of};
 ghost use Rattle.call_laws.specs.SortedOverRanks.{cut_at, cut_in_rank_order, goes_before, sorted_over_ranks, up_to};
 
-/// Each rank gets its range of the stable sort of the whole: what stands there between the same two splitters, whatever these are.
-/// So one after another the ranks have the sort. The place with its key that stands at n in the order is a splitter before which
-/// n keys go, so that each rank may get as many as it has room for.
+/// Each rank gets its range of the stable sort of the whole: what stands there between the same two splitters, whatever these
+/// are. So one after another the ranks have the sort. The place with its key that stands at n in the order is a splitter before
+/// which n keys go, so that each rank may get as many as it has room for.
 pub fn sorts_over_ranks()
     ensures ranges { (parts : List (List ℤ)) (splitters : List (ℕ × ℤ)) →
         sorted_over_ranks splitters parts ≡ cut_at splitters (by_key (joined parts)) }
