@@ -1,6 +1,6 @@
 //! Laws of sorts over ranks, each a function that takes and gives nothing and whose contract is the law.
 
-ghost use Rattle.std.specs.Prelude.{◌≡◌, ◌<◌, ◌++◌, ℕ, ℤ, pos, List, count_by, length, map, slice_index_or};
+ghost use Rattle.std.specs.Prelude.{◌≡◌, ◌<◌, ◌++◌, ◌∷◌, [], ℕ, ℤ, pos, List, count_by, length, map, slice_index_or};
 ghost use Rattle.std.specs.List.{enumerate_from};
 ghost use Rattle.operators.specs.Lists.{joined};
 ghost use Rattle.orders.specs.Orders.{by_key, sorted_of};
@@ -26,4 +26,10 @@ pub fn equal_keys_in_rank_order()
         splitter ≡ slice_index_or (by_key (before ++ (own ++ behind))) n (0, pos 0) →
         count_by (goes_before splitter) (enumerate_from (length before) own)
         ≡ cut_in_rank_order splitter.1 n (before ++ (own ++ behind)) before own }
+{}
+
+/// Two ranks with the keys 2 1 and 2 0, cut before the second of the keys 2.
+pub fn sort_over_two_ranks()
+    ensures { sorted_over_ranks ((2, pos 2) ∷ []) ((pos 2 ∷ pos 1 ∷ []) ∷ (pos 2 ∷ pos 0 ∷ []) ∷ [])
+        ≡ ((3, pos 0) ∷ (1, pos 1) ∷ (0, pos 2) ∷ []) ∷ ((2, pos 2) ∷ []) ∷ [] }
 {}
