@@ -1,6 +1,6 @@
-//! What one of several threads does of an order or a sort: keys beside their places, a block by a digit, one range of a pass's result,
-//! and places alone. The driver runs them. A step whose operands do not agree tells LengthMismatch, without a place, and writes
-//! nothing.
+//! What one of several threads does of an order or a sort: keys beside their places, a block by a digit, one range of a pass's
+//! result, and places alone. The driver runs them. A step whose operands do not agree reports LengthMismatch, without a place,
+//! and writes nothing.
 
 ghost use Rattle.std.specs.Prelude.{◌≡◌, ◌≢◌, ◌+◌, ◌^◌, ◌≤◌, false, length, map, IsTrue};
 ghost use Rattle.std.specs.List.{enumerate_from, flat_map, range_with_len};
@@ -82,8 +82,8 @@ pub extern "C" fn cvl_proved_placed_block(
     told_step(key_block::<Placed>(pass, first, block, room, ends))
 }
 
-/// `count` pieces of the blocks, of 2,048 digits each, from the one numbered `from` on: digit by digit, and of each digit block by
-/// block.
+/// `count` pieces of the blocks, of 2,048 digits each, from the one numbered `from` on: digit by digit, and of each digit block
+/// by block.
 #[unsafe(no_mangle)]
 pub extern "C" fn cvl_proved_gather_keys(
     elements: &[i32],

@@ -1,7 +1,7 @@
 //! Runs of scripts: a script is run over its inputs line by line, and its text goes to a sink.
 #![tactic(auto)]
 
-mod lines;
+pub mod lines;
 mod long_texts;
 pub mod mem_sink;
 pub mod puts;
@@ -11,6 +11,7 @@ pub mod stop;
 pub mod stop_lines;
 
 pub use crew::{Gate, OpenGate, Point};
+pub use lines::next_line;
 pub use mem_sink::MemSink;
 pub use puts::put_all;
 pub use runs::{run, run_gated, run_lines};

@@ -1,6 +1,7 @@
 -- The transpose of a matrix whose rows lie one behind another.
 -- Source: the transpose of a matrix, stored by rows, as a back permute of CVL; the fault is this library's profile.
-use Rattle.std.specs.Prelude.{◌≡◌, ℕ, ◌+◌, ◌-◌, ◌*◌, ◌/◌, ◌%◌, ◌<◌, ◌≤◌, ◌⊎◌, ◌==◌, not, ℤ, pos, List, drop, length, map, nat_lt, slice_index_or, take, Result, Ok}
+use Rattle.std.specs.Prelude.{◌≡◌, ℕ, ◌+◌, ◌-◌, ◌*◌, ◌/◌, ◌%◌, ◌<◌, ◌≤◌, ◌⊎◌, ◌==◌, not, ℤ, pos}
+use Rattle.std.specs.Prelude.{List, drop, length, map, nat_lt, slice_index_or, take, Result, Ok}
 use Rattle.std.specs.List.{range_with_len}
 use Rattle.cvl_base.specs.declared.fault.Fault.{Fault}
 use Rattle.cvl_base.specs.declared.fault.FaultNo.TheVariants.{LengthMismatch}
