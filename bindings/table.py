@@ -770,11 +770,11 @@ FAMILIES = (
         }[kind],
     ),
     family(
-        "first_true", "slices and merges", (copied("flags"), single("int")), "The place of the first true flag, or -1 if none is true.",
+        "first_true", "slices and merges", (flags("flags"), single("int")), "The place of the first true flag, or -1 if none is true.",
         example={"flags": "false false true true", "out": "2"},
     ),
     family(
-        "seg_first_true", "slices and merges", (copied("flags"), lengths(), room("ints", "segments")),
+        "seg_first_true", "slices and merges", (flags("flags"), lengths(), room("ints", "segments")),
         "For each segment the place of its first true flag, counted from its start, or -1 if none is true.",
         limit=None, faults=(SUM_OF_N,), cut=("segments", "n"), shape="flags has n elements, out one for each segment.",
         example={"flags": "false true false false true", "lengths": "2 1 0 2", "out": "1 -1 -1 1"},

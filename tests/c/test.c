@@ -1157,10 +1157,10 @@ static void first_trues(void) {
     INTS(cvl_first_true(f, 5, ints), 1);
     INTS(cvl_first_true(f + 2, 2, ints), -1);
     INTS(cvl_first_true(NULL, 0, ints), -1);
-    INTS_OF_COPIES(1, cvl_first_true(O(0, 0, 7, 1), 4, ints), 2);
+    INTS(cvl_first_true(O(0, 0, 7, 1), 4, ints), 2);
     FAULT(cvl_first_true(too_many_bools, many, ints), CVL_TOO_LONG, -1);
     INTS(cvl_seg_first_true(f, 5, S(lengths, 4), ints, 4), 1, -1, -1, 1);
-    INTS_OF_COPIES(1, cvl_seg_first_true(O(0, 2, 0, 0, 1), 5, S(lengths, 4), ints, 4), 1, -1, -1, 1);
+    INTS(cvl_seg_first_true(O(0, 2, 0, 0, 1), 5, S(lengths, 4), ints, 4), 1, -1, -1, 1);
     FAULT(cvl_seg_first_true(f, 4, S(lengths, 4), ints, 4), CVL_LENGTH_MISMATCH, -1);
     FAULT(cvl_seg_first_true(f, 5, S(lengths, 4), ints, 3), CVL_LENGTH_MISMATCH, -1);
     FAULT(cvl_seg_first_true(f, 5, S(I(2, -1, 4), 3), ints, 3), CVL_NEGATIVE_LENGTH, 1);

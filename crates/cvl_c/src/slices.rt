@@ -6,13 +6,16 @@ ghost use Rattle.c_calls.specs.Told.{Told, in_room};
 ghost use Rattle.cvl_base.specs.Exact.{total_of};
 ghost use Rattle.segment_slices.specs.Pairs.{append_segments_of};
 ghost use Rattle.segment_slices.specs.Slices.{gather_segments_of};
-ghost use Rattle.segment_values.specs.Values.{each_of, first_true_of};
+ghost use Rattle.flag_calls.specs.Flags.{flag_of};
+ghost use Rattle.segment_values.specs.Values.{each_of, first_by};
 
 use c_calls::checks::{check_limit, segments};
 use c_calls::or_tell;
 use c_calls::status::{CvlStatus, told_one, told_over};
+use cvl_base::Single;
+use flag_calls::flag_of;
 use segment_slices::{append_segments_over, gather_segments_over};
-use segment_values::{first_true, seg_exact_sums_over, seg_first_true_over};
+use segment_values::{first_that, seg_exact_sums_over, seg_first_that_over};
 
 /// The slices of integers that begin at the starts and have the lengths, one behind another.
 #[unsafe(no_mangle)]
@@ -80,27 +83,38 @@ pub extern "C" fn cvl_proved_append_segments_bool(
     told_over::<bool>(append_segments_over(a, &d, b, &other, out))
 }
 
+/// A byte that is a flag passes if it is true.
+struct IsTrue;
+
+impl Single<u8, bool> for IsTrue {
+    ghost value = { flag_of };
+
+    fn apply(byte: u8) -> bool {
+        flag_of(byte)
+    }
+}
+
 /// The place of the first true flag, or -1.
 #[unsafe(no_mangle)]
-pub extern "C" fn cvl_proved_first_true(flags: &[bool], out: &mut i32) -> CvlStatus
-    ensures { Told (in_limit flags.now (Ok (first_true_of flags.now))) result out.old out.new }
+pub extern "C" fn cvl_proved_first_true(flags: &[u8], out: &mut i32) -> CvlStatus
+    ensures { Told (in_limit flags.now (Ok (first_by flag_of flags.now))) result out.old out.new }
 {
     or_tell!(check_limit(flags));
-    told_one(Ok(first_true(flags)), out)
+    told_one(Ok(first_that::<u8, IsTrue>(flags)), out)
 }
 
 /// The place of the first true flag of each segment, counted from its start, or -1.
 #[unsafe(no_mangle)]
 pub extern "C" fn cvl_proved_seg_first_true(
-    flags: &[bool],
+    flags: &[u8],
     lengths: &[i32],
     out: &mut [i32],
 ) -> CvlStatus
-    ensures { Told (in_room (length out.old) (by_segments lengths.now (each_of first_true_of flags.now)))
+    ensures { Told (in_room (length out.old) (by_segments lengths.now (each_of (first_by flag_of) flags.now)))
         result out.old out.new }
 {
     let d = or_tell!(segments(lengths));
-    told_over::<i32>(seg_first_true_over(flags, &d, out))
+    told_over::<i32>(seg_first_that_over::<u8, IsTrue>(flags, &d, out))
 }
 
 /// The sum of each segment in 64 bits, where it always fits.

@@ -1,23 +1,33 @@
--- Flags that begin with false ones: where the first true one stands, and one block of them more.
-use Rattle.std.proofs.Common.{◌≡◌, ◌∙◌, ℕ, zero, suc, ◌+◌, ◌≤◌, Bool, true, false, not, ◌&&◌, List, [], ◌∷◌, length, take, drop, ap, arith, position, option_map}
+-- Elements that begin with some that do not pass a test: where the first that passes stands, and one block of them more.
+use Rattle.std.proofs.Common.{◌≡◌, ◌∙◌, ℕ, zero, suc, ◌+◌, ◌≤◌, Bool, true, false, not, ◌&&◌, List, [], ◌∷◌, length, take, drop, cond, refl, ap, arith, position, option_map}
 use Rattle.std.proofs.Common.{length-drop, take-add}
 use Rattle.std.proofs.lemmas.List.Folds.{list_all-append}
 use Rattle.std.specs.List.{list_all, position_or_len}
 
-abbrev pub is_true : Bool → Bool
-is_true flag = flag
+both : (a b : Bool) → (a && b) ≡ true → (a ≡ true) × (b ≡ true)
+both true b e = (refl, e)
+both false b e = absurd (cc)
 
-later : (n : ℕ) (flags : List Bool) → n ≤ length flags → list_all not (take n flags) ≡ true → position_or_len is_true flags ≡ n + position_or_len is_true (drop n flags)
-later zero flags within all = omega arith
-later (suc n) [] within all = absurd (omega (arith, within))
-later (suc n) (true ∷ flags) within all = absurd (cc)
-later (suc n) (false ∷ flags) within all = omega (arith, later n flags (omega (arith, within)) all)
+module _ {X : Type 0} (test : X → Bool) where
+  abbrev fails : X → Bool
+  fails x = not (test x)
 
-pub behind_false : (n : ℕ) (flags : List Bool) → n ≤ length flags → list_all not (take n flags) ≡ true
-    → position (λ flag. flag) flags ≡ option_map (λ place. n + place) (position (λ flag. flag) (drop n flags))
-behind_false n flags within all = grind (arith, later n flags within all, length-drop n flags)
+  one_later : (b : Bool) (n : ℕ) (later rest : ℕ) → not b ≡ true → later ≡ n + rest → cond (not b) (1 + later) 0 ≡ suc n + rest
+  one_later true n later rest fails is = absurd (cc)
+  one_later false n later rest fails is = omega (arith, is)
 
-pub one_block_more : (flags : List Bool) (passed n : ℕ) → list_all not (take passed flags) ≡ true → list_all not (take n (drop passed flags)) ≡ true
-    → list_all not (take (passed + n) flags) ≡ true
-one_block_more flags passed n before block =
-    ap (list_all not) (take-add passed n flags) ∙ list_all-append not (take passed flags) (take n (drop passed flags)) ∙ (λ i. before i && block i)
+  later : (n : ℕ) (xs : List X) → n ≤ length xs → list_all fails (take n xs) ≡ true → position_or_len test xs ≡ n + position_or_len test (drop n xs)
+  later zero xs within all = omega arith
+  later (suc n) [] within all = absurd (omega (arith, within))
+  later (suc n) (x ∷ xs) within all =
+      let parts = both (fails x) (list_all fails (take n xs)) all in
+      one_later (test x) n (position_or_len test xs) (position_or_len test (drop n xs)) parts.0 (later n xs (omega (arith, within)) parts.1)
+
+  pub behind_failing : (n : ℕ) (xs : List X) → n ≤ length xs → list_all fails (take n xs) ≡ true
+      → position test xs ≡ option_map (λ place. n + place) (position test (drop n xs))
+  behind_failing n xs within all = grind (arith, later n xs within all, length-drop n xs)
+
+  pub one_block_more : (xs : List X) (over n : ℕ) → list_all fails (take over xs) ≡ true → list_all fails (take n (drop over xs)) ≡ true
+      → list_all fails (take (over + n) xs) ≡ true
+  one_block_more xs over n before block =
+      ap (list_all fails) (take-add over n xs) ∙ list_all-append fails (take over xs) (take n (drop over xs)) ∙ (λ i. before i && block i)

@@ -15,6 +15,10 @@ abbrev pub place_or_none : Option ℕ → ℤ
 place_or_none (Some place) = pos place
 place_or_none None = negsuc 0
 
+-- the place of the first element that passes a test, or -1
+abbrev pub first_by : {X : Type 0} → (X → Bool) → List X → ℤ
+first_by test xs = place_or_none (position test xs)
+
 -- the place of the first true flag, or -1
 abbrev pub first_true_of : List Bool → ℤ
-first_true_of flags = place_or_none (position (λ flag. flag) flags)
+first_true_of flags = first_by (λ flag. flag) flags

@@ -1,61 +1,111 @@
-//! The first true flag.
+//! The first element that passes a test; the first true flag.
 
 ghost use Rattle.std.specs.Prelude.{◌≡◌, ◌<◌, ◌≤◌, IfSome, length, not, position, take, true};
 ghost use Rattle.std.specs.List.{list_all};
 ghost use Rattle.cvl_base.specs.Limits.{most_places};
 ghost use Rattle.cvl_base.specs.Rooms.{Overwrites, in_room};
-ghost use Rattle.segment_values.specs.Values.{each_of, first_true_of};
+ghost use Rattle.segment_values.specs.Values.{each_of, first_by, first_true_of};
 
 use crate::values::{SegmentValue, values_over};
-use cvl_base::Fault;
+use cvl_base::{Fault, Single};
 use segdes::SegLengths;
+use std::marker::PhantomData;
 
-/// Stands where no flag is true.
+/// Stands where none passes.
 pub const NONE: i32 = -1;
 
-/// How many flags are looked at together.
+/// How many elements are tested together.
 const BLOCK: usize = 128;
 
-/// Whether all flags are false. There is no branch between them, so that many are looked at together.
+/// Whether no element passes. There is no branch between them, so that many are tested together.
 #[inline(always)]
-fn are_all_false(flags: &[bool]) -> bool
-    ensures { result ≡ list_all not flags.now }
+fn passes_none<X: Copy, T: Single<X, bool>>(xs: &[X]) -> bool
+    ensures { result ≡ list_all (λ x. not (T.value x)) xs.now }
 {
-    let mut all = true;
-    for flag in flags {
-        all &= !*flag;
+    let mut none = true;
+    for x in xs {
+        none &= !T::apply(*x);
     }
-    all
+    none
 }
 
-/// How many flags stand in the blocks with which the flags begin and in which all are false.
-fn count_false_blocks(flags: &[bool]) -> usize
-    ensures within { result ≤ length flags.now }
-    ensures all_false { list_all not (take result flags.now) ≡ true }
+/// How many elements stand in the blocks with which they begin and in which none passes.
+fn count_passed_over<X: Copy, T: Single<X, bool>>(xs: &[X]) -> usize
+    ensures within { result ≤ length xs.now }
+    ensures none { list_all (λ x. not (T.value x)) (take result xs.now) ≡ true }
 {
-    let mut passed = 0;
-    while flags.len() - passed >= BLOCK && are_all_false(&flags[passed..passed + BLOCK]) {
-        passed += BLOCK;
+    let mut over = 0;
+    while xs.len() - over >= BLOCK && passes_none::<X, T>(&xs[over..over + BLOCK]) {
+        over += BLOCK;
     }
-    passed
+    over
 }
 
-/// The place of the first true flag, if there is one, by a walk from flag to flag.
-fn first_in_turn(flags: &[bool]) -> Option<usize>
-    ensures value { result ≡ position (λ flag. flag) flags.now }
-    ensures within { IfSome result (λ place. place < length flags.now) }
+/// The place of the first element that passes, if there is one, by a walk from element to element.
+fn first_in_turn<X: Copy, T: Single<X, bool>>(xs: &[X]) -> Option<usize>
+    ensures value { result ≡ position T.value xs.now }
+    ensures within { IfSome result (λ place. place < length xs.now) }
 {
-    flags.iter().position(|flag| *flag)
+    xs.iter().position(|x| T::apply(*x))
 }
 
-/// The place of the first true flag, if there is one, which stands in the first block that has one.
-fn first_place(flags: &[bool]) -> Option<usize>
-    ensures value { result ≡ position (λ flag. flag) flags.now }
-    ensures within { IfSome result (λ place. place < length flags.now) }
+/// The place of the first element that passes, if there is one, which stands in the first block that has one.
+fn first_place<X: Copy, T: Single<X, bool>>(xs: &[X]) -> Option<usize>
+    ensures value { result ≡ position T.value xs.now }
+    ensures within { IfSome result (λ place. place < length xs.now) }
 {
-    let passed = count_false_blocks(flags);
-    let place = first_in_turn(&flags[passed..])?;
-    Some(passed + place)
+    let over = count_passed_over::<X, T>(xs);
+    let place = first_in_turn::<X, T>(&xs[over..])?;
+    Some(over + place)
+}
+
+/// The place of the first of at most 2,147,483,647 elements that passes, or `NONE`.
+pub fn first_that<X: Copy, T: Single<X, bool>>(xs: &[X]) -> i32
+    requires { length xs.now ≤ most_places }
+    ensures { result ≡ first_by T.value xs.now }
+{
+    match first_place::<X, T>(xs) {
+        Some(place) => place as i32,
+        None => NONE,
+    }
+}
+
+/// The place of the first element that passes.
+struct FirstThat<T> {
+    test: PhantomData<T>,
+}
+
+impl<X: Copy, T: Single<X, bool>> SegmentValue<X, i32> for FirstThat<T> {
+    ghost value = { first_by T.value };
+
+    fn of(segment: &[X]) -> i32 {
+        first_that::<X, T>(segment)
+    }
+}
+
+/// The place of the first element of each segment that passes, counted from the start of the segment, or `NONE`.
+///
+/// `LengthMismatch`, without a place, if the segments do not add up to the vector, or if the room has not a place for each
+/// segment; it is then as it was.
+pub fn seg_first_that_over<X: Copy, T: Single<X, bool>>(
+    xs: &[X],
+    d: &SegLengths,
+    out: &mut [i32],
+) -> Result<(), Fault>
+    ensures { Overwrites (in_room (length out.old) (each_of (first_by T.value) xs.now d.now)) result out.old out.new }
+{
+    values_over::<X, i32, FirstThat<T>>(xs, d, out)
+}
+
+/// A flag passes if it is true.
+struct IsTrue;
+
+impl Single<bool, bool> for IsTrue {
+    ghost value = { λ flag. flag };
+
+    fn apply(flag: bool) -> bool {
+        flag
+    }
 }
 
 /// The place of the first true flag of at most 2,147,483,647, or `NONE`.
@@ -63,21 +113,7 @@ pub fn first_true(flags: &[bool]) -> i32
     requires { length flags.now ≤ most_places }
     ensures { result ≡ first_true_of flags.now }
 {
-    match first_place(flags) {
-        Some(place) => place as i32,
-        None => NONE,
-    }
-}
-
-/// The place of the first true flag.
-struct FirstTrue;
-
-impl SegmentValue<bool, i32> for FirstTrue {
-    ghost value = { first_true_of };
-
-    fn of(segment: &[bool]) -> i32 {
-        first_true(segment)
-    }
+    first_that::<bool, IsTrue>(flags)
 }
 
 /// The place of the first true flag of each segment, counted from the start of the segment, or `NONE`.
@@ -87,5 +123,5 @@ impl SegmentValue<bool, i32> for FirstTrue {
 pub fn seg_first_true_over(flags: &[bool], d: &SegLengths, out: &mut [i32]) -> Result<(), Fault>
     ensures { Overwrites (in_room (length out.old) (each_of first_true_of flags.now d.now)) result out.old out.new }
 {
-    values_over::<bool, i32, FirstTrue>(flags, d, out)
+    seg_first_that_over::<bool, IsTrue>(flags, d, out)
 }

@@ -10,4 +10,4 @@ pub mod first_trues;
 mod values;
 
 pub use exact_sums::seg_exact_sums_over;
-pub use first_trues::{NONE, first_true, seg_first_true_over};
+pub use first_trues::{NONE, first_that, first_true, seg_first_that_over, seg_first_true_over};
