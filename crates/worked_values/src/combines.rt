@@ -2,7 +2,8 @@
 //! of the places 0 and 3, and none to place 1.
 
 ghost use Rattle.std.specs.Prelude.{◌≡◌, [], Ok, Err};
-ghost use Rattle.combining_permutes.specs.CombiningPermutes.{combine_of, place_counts_of, seg_combine_of, seg_place_counts_of};
+ghost use Rattle.std.specs.List.{zip};
+ghost use Rattle.combining_permutes.specs.CombiningPermutes.{combine_of, combined, place_counts, place_counts_of, seg_combine_of, seg_place_counts_of};
 ghost use Rattle.cvl_base.specs.Integers.{difference_of};
 ghost use Rattle.cvl_base.specs.Scans.{bool_join_of, int_join_of};
 ghost use Rattle.cvl_base.specs.declared.families.BoolBinary.TheVariants as truth;
@@ -53,7 +54,7 @@ pub fn combine_segments()
 {}
 
 /// How many indices name each place, of all or of the same segment.
-pub fn place_counts()
+pub fn counts_of_places()
     ensures of_several { place_counts_of (ints "2 0 2 3") 4 ≡ Ok (ints "1 0 2 1") }
     ensures none { place_counts_of [] 2 ≡ Ok (ints "0 0") }
     ensures no_places { place_counts_of [] 0 ≡ Ok [] }
@@ -63,4 +64,12 @@ pub fn place_counts()
     ensures outside_its_segment { seg_place_counts_of (ints "1 2 0 9 0") segments (lengths "2 1 4") ≡ Err (out_of_range 1) }
     ensures other_segments { seg_place_counts_of (ints "9") (lengths "1") (lengths "1 1") ≡ Err length_mismatch }
     ensures index_short { seg_place_counts_of (ints "9 9 9 9") segments (lengths "2 1 4") ≡ Err length_mismatch }
+{}
+
+/// A range of the room, from place 1 or 2 on: what is sent elsewhere does not count.
+pub fn ranges_of_rooms()
+    ensures sums { combined (int_join_of Add) (zip (ints "2 0 2 3 2") (ints "1 2 3 4 5")) 1 (ints "20 30") ≡ ints "20 39" }
+    ensures last_place { combined (int_join_of Add) (zip (ints "2 0 2 3 2") (ints "1 2 3 4 5")) 3 (ints "40") ≡ ints "44" }
+    ensures counts { place_counts (ints "2 0 2 3 2") 2 2 ≡ ints "3 1" }
+    ensures no_places { place_counts (ints "2 0 2 3 2") 2 0 ≡ [] }
 {}
