@@ -335,6 +335,15 @@ static void fill_matrix(Given *g) {
     if (chance(20)) g->number[1] = (int64_t)1 << 33, g->number[2] = (int64_t)1 << (elements == 0 ? 31 : 33);
 }
 
+/* A range of the transpose, which mostly ends within it. */
+static void fill_turned(Given *g) {
+    const size_t elements = g->len[0], lowest = below(elements + 1);
+    fill_matrix(g);
+    g->number[3] = (int64_t)lowest;
+    g->len[4] = below(elements - lowest + 1) + (chance(12) ? 1 : 0);
+    if (chance(20)) g->number[3] = below(2) == 0 ? (int64_t)CVL_MOST_ELEMENTS : -1;
+}
+
 /* Columns of which each is a place of the vector; then sometimes with some that are not. */
 static void fill_columns(Given *g) {
     int32_t *columns = (int32_t *)g->at[1];
@@ -474,6 +483,7 @@ static void make(const Row *row, Given *g) {
     if (row->model == GATHER_SEGMENTS) fill_starts(row, g);
     if (row->model == SEG_MERGE_BY_FLAGS) fill_sides(row, g);
     if (row->model == TRANSPOSE) fill_matrix(g);
+    if (row->model == TRANSPOSE_RANGE) fill_turned(g);
     if (row->model >= SPARSE_PRODUCT && row->model <= CHECKED_SPARSE_PRODUCT_BY_OFFSETS) fill_columns(g);
     move_rooms(row, g);
     for (size_t k = 0; k < count; k++) {

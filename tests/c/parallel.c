@@ -21,7 +21,7 @@ enum { MOST_THREADS = 4, MOST_PARTS = 9 };
 
 /* What the calls read: arrays of n elements, those of segments, and those of a result with m places. */
 static struct {
-    size_t n, m, k, segments, full_segments, trues, room, text_room, text_length, number_count;
+    size_t n, m, k, segments, full_segments, trues, room, text_room, text_length, number_count, rows;
     int32_t *a, *b, *small, *divisors, *shifts, *index, *select_index, *default_index, *back_index, *defaults;
     int32_t *lengths, *full, *wide, *back_lengths, *bad_lengths, *seg_index, *seg_select_index, *seg_default_index, *seg_back_index;
     int32_t *values, *strides, *seg_places, place;
@@ -156,6 +156,8 @@ static bool is_white(char byte) { return byte == ' ' || byte == '\t' || byte == 
     X(combine, cvl_combine_permute_int, CVL_ADD, in.a, in.n, in.default_index, in.n, r->ints, in.m)                            \
     X(combine_bools, cvl_combine_permute_bool, CVL_XOR, in.p, in.n, in.default_index, in.n, r->bools, in.m)                    \
     X(counts, cvl_counts, in.back_index, in.k, r->ints, in.n)                                                                  \
+    X(transpose, cvl_transpose_int, in.a, in.n, in.rows, in.n / in.rows, r->ints, in.n)                                        \
+    X(transpose_bools, cvl_transpose_bool, in.p, in.n, in.rows, in.n / in.rows, r->bools, in.n)                                \
     X(seg_combine, cvl_seg_combine_permute_int, CVL_MUL, in.a, in.n, in.seg_default_index, in.n, BY(in.lengths, in.segments),  \
       BY(in.wide, in.segments), r->ints, in.m)                                                                                 \
     X(seg_combine_bools, cvl_seg_combine_permute_bool, CVL_XOR, in.p, in.n, in.seg_default_index, in.n, BY(in.lengths, in.segments), \
@@ -377,6 +379,7 @@ static void make(size_t n, int fault_count) {
     make_texts();
     for (int k = 0; k < fault_count && n > 0; k++) make_fault();
     in.room = below(4) == 0 ? n / 2 : n;
+    in.rows = n % 500 == 0 ? 500 : n % 2 == 0 ? 2 : 1;
     in.text_room = below(4) == 0 ? n : n * 12 + in.segments * 3 + 2;
 }
 

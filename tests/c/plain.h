@@ -452,7 +452,7 @@ static const char *const calls_of_exports[][2] = {
     {"counts_range", "nmd_luz"}, {"order", "ord_luz"}, {"rank", "rnk_luz"}, {"sort", "srt_luz"},
     {"gather_segments_int", "gth_lez"}, {"gather_segments_bool", "gth_leb"}, {"append_segments_int", "app_lez"}, {"append_segments_bool", "app_leb"},
     {"merge_by_flags_int", "mrg_luz"}, {"merge_by_flags_bool", "mrg_lub"}, {"first_true", "ftr_luz"}, {"exact_sums", "tot_ruz"},
-    {"transpose_int", "trn_luz"}, {"transpose_bool", "trn_lub"}, {"ints_from_bytes", "cpy_wuz"}, {"bytes_from_ints", "cpy_wuz"},
+    {"transpose_int", "trn_luz"}, {"transpose_bool", "trn_lub"}, {"transpose_int_range", "trn_luz"}, {"transpose_bool_range", "trn_lub"}, {"ints_from_bytes", "cpy_wuz"}, {"bytes_from_ints", "cpy_wuz"},
     {"int_scan_after", "add_suz"}, {"bool_scan_after", "xor_sub"},
     {"checked_scan_after", "tot_suz"}, {"exact_sum", "tot_ruz"}, {"read_ints", "cpy_wuz"},
     {"read_ints_after", "cpy_wuz"}, {"write_ints", "cpy_wuz"}, {"write_bools", "cpy_wub"}, {"new", "mke_fov"},

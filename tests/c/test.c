@@ -1112,14 +1112,41 @@ static void transposes(void) {
     FAULT(cvl_transpose_int(too_many_ints, many, many, 1, ints, 6), CVL_TOO_LONG, -1);
 }
 
-/* More than a block of rows and of columns, which neither divides. */
+static void ranges_of_transposes(void) {
+    const size_t many = (size_t)CVL_MOST_ELEMENTS + 1;
+    const int32_t *a = I(1, 2, 3, 4, 5, 6);
+    const bool *odd = O(7, 0, 0, 9, 1, 255);
+    INTS(cvl_transpose_int_range(a, 6, 2, 3, 1, ints, 3), 4, 2, 5);
+    INTS(cvl_transpose_int_range(a, 6, 2, 3, 0, ints, 6), 1, 4, 2, 5, 3, 6);
+    INTS(cvl_transpose_int_range(a, 6, 6, 1, 4, ints, 2), 5, 6);
+    INTS(cvl_transpose_int_range(a, 6, 1, 6, 2, ints, 1), 3);
+    FAULT(cvl_transpose_int_range(a, 6, 2, 3, 6, NULL, 0), CVL_DONE, -1);
+    FAULT(cvl_transpose_int_range(NULL, 0, 0, SIZE_MAX, 0, NULL, 0), CVL_DONE, -1);
+    BOOLS_OF_COPIES(1, cvl_transpose_bool_range(odd, 6, 3, 2, 2, bools, 2), true, false);
+    FAULT(cvl_transpose_int_range(a, 6, 2, 3, 4, ints, 3), CVL_LENGTH_MISMATCH, -1);
+    FAULT(cvl_transpose_bool_range(odd, 6, 2, 3, 4, bools, 3), CVL_LENGTH_MISMATCH, -1);
+    FAULT(cvl_transpose_int_range(a, 6, 2, 2, 0, ints, 1), CVL_LENGTH_MISMATCH, -1);
+    FAULT(cvl_transpose_bool_range(odd, 6, 2, 2, 0, bools, 1), CVL_LENGTH_MISMATCH, -1);
+    FAULT(cvl_transpose_int_range(a, 6, 2, 2, CVL_MOST_ELEMENTS, ints, 1), CVL_TOO_LONG, -1);
+    FAULT(cvl_transpose_int_range(a, 6, 2, 3, SIZE_MAX, ints, 3), CVL_TOO_LONG, -1);
+    FAULT(cvl_transpose_bool_range(odd, 6, 2, 2, SIZE_MAX, bools, 3), CVL_TOO_LONG, -1);
+    FAULT(cvl_transpose_int_range(too_many_ints, many, many, 1, 0, ints, 6), CVL_TOO_LONG, -1);
+}
+
+/* More than a block of rows and of columns, which neither divides; and ranges of their transpose. */
 static void transposes_of_blocks(void) {
     enum { MANY = 67, COLUMNS = 45 };
-    static int32_t source[MANY * COLUMNS], out[MANY * COLUMNS];
+    static int32_t source[MANY * COLUMNS], out[MANY * COLUMNS], range[MANY * COLUMNS];
     for (int32_t k = 0; k < MANY * COLUMNS; k++) source[k] = k;
     FAULT(cvl_transpose_int(source, MANY * COLUMNS, MANY, COLUMNS, out, MANY * COLUMNS), CVL_DONE, -1);
     for (int32_t k = 0; k < MANY * COLUMNS; k++) {
         if (out[k] != k % MANY * COLUMNS + k / MANY) fail("cvl_transpose_int of blocks", "another integer");
+    }
+    for (size_t lowest = 0; lowest < MANY * COLUMNS; lowest += 31) {
+        for (size_t n = 0; lowest + n <= MANY * COLUMNS; n += 41) {
+            FAULT(cvl_transpose_int_range(source, MANY * COLUMNS, MANY, COLUMNS, lowest, range, n), CVL_DONE, -1);
+            if (memcmp(range, out + lowest, n * sizeof *range) != 0) fail("cvl_transpose_int_range of blocks", "another integer");
+        }
     }
 }
 
@@ -1893,6 +1920,7 @@ int main(void) {
     merges();
     merges_of_segments();
     transposes();
+    ranges_of_transposes();
     transposes_of_blocks();
     bytes_and_integers();
     exact_sums();
