@@ -3,7 +3,8 @@
 
 ghost use Rattle.std.specs.Prelude.{◌≡◌, [], Ok, Err};
 ghost use Rattle.std.specs.List.{zip};
-ghost use Rattle.combining_permutes.specs.CombiningPermutes.{combine_of, combined, place_counts, place_counts_of, seg_combine_of, seg_place_counts_of};
+ghost use Rattle.combining_permutes.specs.CombiningPermutes.{combine_of, combined, place_counts, place_counts_of};
+ghost use Rattle.combining_permutes.specs.CombiningPermutes.{seg_combine_of, seg_place_counts_of};
 ghost use Rattle.cvl_base.specs.Integers.{difference_of};
 ghost use Rattle.cvl_base.specs.Scans.{bool_join_of, int_join_of};
 ghost use Rattle.cvl_base.specs.declared.families.BoolBinary.TheVariants as truth;
