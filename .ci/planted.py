@@ -40,6 +40,7 @@ EDITS = {
     "paths.check_links": [("README.md", "", "\nSee [a page](docs/no-such-page.md).\n")],
     "paths.check_named_pages": [("README.md", "", "\nSee `no-such-page.md`.\n")],
     "docs/dev/performance/draw": [("docs/user/performance.svg", "</svg>", "<!-- another --></svg>")],
+    "docs/dev/performance/over_ranks": [("docs/user/parallel.md", "<!-- drawn: ranks -->\n", "<!-- drawn: ranks -->\nAnother line.\n")],
     "docs/dev/pictures/draw": [("docs/user/pictures/pack.svg", "</svg>", "<!-- another --></svg>")],
     "bindings/generate": [("include/cvl.h", "", "/* another */\n")],
     # one of its files is made instead of all, which takes half a minute

@@ -5,7 +5,8 @@
  *     mpirun -np RANKS over_ranks ROUNDS ELEMENTS             a power of two
  *     mpirun -np 1 over_ranks ROUNDS ELEMENTS THREADS
  *
- * Rooms were written before. Segments have 1,000 elements and cross ranks; a permute at random is one of all places. What is called plain is a scan
+ * Rooms were written before. Segments have 1,000 elements and cross ranks; a permute at random is one of all places, and a product takes the
+ * elements of x that it names. A matrix has 1,024 columns. What is called plain is a scan
  * and a checked permute at random as shortly as MPI has them: elements are put into the order of their owners, exchanged at once, and written
  * with a bit for each place. docs/dev/performance/over_ranks builds and runs it.
  */
@@ -17,13 +18,13 @@
 
 #include "cvl_mpi.h"
 
-enum { SEGMENT = 1000, KEYS = 65536 };
+enum { SEGMENT = 1000, KEYS = 65536, COLUMNS = 1024 };
 
 static CvlRanks *ranks;
 static CvlRankSegments *segments;
 static CvlRoute *route;
 static CvlLengths cut;
-static size_t n, kept, own_keys;
+static size_t n, kept, own_keys, trues, all_rows, own_rows;
 static uint64_t total, from;
 static int rank, size;
 static int32_t *a, *b, *in_order, *at_random, *keys, *starts, *out, *sums, one;
@@ -43,6 +44,8 @@ static void *memory(size_t number, size_t bytes) {
     return found;
 }
 
+#define STARTING cvl_rank_segments_starts(segments)
+
 /* The pieces of segments that lie in this rank's range, and slices of the source, each as long as its segment. */
 static void cut_segments(void) {
     const uint64_t first = from / SEGMENT, last = n == 0 ? first : (from + n - 1) / SEGMENT;
@@ -56,11 +59,10 @@ static void cut_segments(void) {
     }
     cut.lengths = lengths, cut.segments = pieces;
     if (cvl_rank_segments_new(ranks, cut, from % SEGMENT != 0, &segments).number != CVL_DONE) MPI_Abort(MPI_COMM_WORLD, 1);
+    own_rows = STARTING;
 }
 
 /* ---- the calls: over ranks, and by the threads of the plain library ---- */
-
-#define STARTING cvl_rank_segments_starts(segments)
 
 #define CALLS(X)                                                                                                                                 \
     X(add_wuz, "add_wuz", cvl_add_wuz_mpi(ranks, a, b, out, n), cvl_add_wuz(a, b, out, n))                                                       \
@@ -77,10 +79,18 @@ static void cut_segments(void) {
     X(bck_random, "bck_puz, at random", cvl_bck_puz_mpi(ranks, a, n, at_random, out, n), cvl_bck_puz(a, n, at_random, out, n))                   \
     X(smp_order, "smp_puz, in order", cvl_smp_puz_mpi(ranks, a, in_order, out, n), cvl_smp_puz(a, in_order, out, n))                             \
     X(smp_random, "smp_puz, at random", cvl_smp_puz_mpi(ranks, a, at_random, out, n), cvl_smp_puz(a, at_random, out, n))                         \
+    X(senders, "cvl_first_senders, at random", cvl_first_senders_mpi(ranks, at_random, n, out, n), cvl_first_senders(at_random, n, out, n))      \
     X(gather, "cvl_gather_segments_int, of 1,000", cvl_gather_segments_int_mpi(ranks, a, n, starts, STARTING, segments, out, n),                 \
         cvl_gather_segments_int(a, n, starts, cut.segments, cut, out, n))                                                                        \
     X(combine, "cvl_combine_permute_int, 65,536 keys", cvl_combine_permute_int_mpi(ranks, CVL_ADD, a, n, keys, n, sums, own_keys),               \
         cvl_combine_permute_int(CVL_ADD, a, n, keys, n, sums, own_keys))                                                                         \
+    X(merge, "cvl_merge_by_flags_int", cvl_merge_by_flags_int_mpi(ranks, flags, n, a, trues, b, n - trues, out, n),                              \
+        cvl_merge_by_flags_int(flags, n, a, trues, b, n - trues, out, n))                                                                        \
+    X(transpose, "cvl_transpose_int, of 1,024 columns", cvl_transpose_int_mpi(ranks, a, n, all_rows, COLUMNS, out, n),                           \
+        cvl_transpose_int(a, n, all_rows, COLUMNS, out, n))                                                                                      \
+    X(product, "cvl_sparse_product, at random", cvl_sparse_product_mpi(ranks, segments, at_random, n, b, n, a, n, out, own_rows),                \
+        cvl_sparse_product(cut, at_random, n, b, n, a, n, out, own_rows))                                                                        \
+    X(seg_sort, "cvl_seg_sort, of 1,000", cvl_seg_sort_mpi(ranks, a, n, segments, out, n), cvl_seg_sort(a, n, cut, out, n))                      \
     X(sort, "cvl_sort", cvl_sort_mpi(ranks, a, n, out, n), cvl_sort(a, n, out, n))                                                               \
     X(order, "cvl_order", cvl_order_mpi(ranks, a, n, out, n), cvl_order(a, n, out, n))
 
@@ -182,7 +192,9 @@ static void fill(void) {
         const uint64_t place = from + k;
         a[k] = shuffled(place), b[k] = (int32_t)(place % 7) - 3 == 0 ? 1 : (int32_t)(place % 7) - 3;
         in_order[k] = (int32_t)place, at_random[k] = shuffled(place), keys[k] = a[k] % KEYS, flags[k] = (a[k] & 1) != 0;
+        trues += flags[k];
     }
+    all_rows = (size_t)(total / COLUMNS);
 }
 
 static int measure_all(int rounds, long threads) {
