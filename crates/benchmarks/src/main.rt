@@ -1,17 +1,22 @@
 //! Measures the library. It does so where its first argument is the word `measure`, and else it does nothing. The second
-//! argument names what is measured: `text`, `elementwise`, `scans`, `permutes`, `packs` or `recipes`, and all of them where
-//! there is none. The third is the number of workers, which is 4 where there is none. `docs/dev/performance/measure` puts plain
-//! loops in C++ beside the calls, `docs/dev/performance/loops.cpp`, which print the same lines.
+//! argument names what is measured: `text`, `elementwise`, `scans`, `permutes`, `packs`, `recipes` or `long`; without it all
+//! of them but the last are. The third is the number of workers, which is 4 if there is none, and the fourth the length of
+//! tiles, which is 4,096. `docs/dev/performance/measure` puts plain loops in C++ beside the calls,
+//! `docs/dev/performance/loops.cpp`, which print the same lines; `docs/dev/performance/measure_workers` measures `long` with
+//! many numbers of workers and lengths of tiles.
 #![tactic(auto)]
 
 use cvl_base::Config;
 use measured_calls::measure;
 use std::{env, io};
 
-/// How many elements a tile has.
-const TILE: u32 = 4096;
+/// How many elements a tile has if no argument says so.
+const TILE: &str = "4096";
 
-/// The words for what is measured.
+/// The number of workers if no argument gives one.
+const WORKERS: &str = "4";
+
+/// The words for what is measured if no argument names it.
 const SUBJECTS: [&str; 6] = [
     "text",
     "elementwise",
@@ -20,6 +25,14 @@ const SUBJECTS: [&str; 6] = [
     "packs",
     "recipes",
 ];
+
+/// The number that an argument or its default says; 0 if it is none.
+fn number(argument: Option<String>, default: &str) -> u32 {
+    match argument {
+        Some(text) => text.as_str().parse::<u32>().unwrap_or(0),
+        None => default.parse::<u32>().unwrap_or(0),
+    }
+}
 
 fn main(rt: HostRuntime) -> io::Result<()> {
     let mut arguments = env::args(&rt)?;
@@ -31,12 +44,10 @@ fn main(rt: HostRuntime) -> io::Result<()> {
         return Ok(());
     }
     let wanted = arguments.next();
-    let workers = match arguments.next() {
-        Some(number) => number.as_str().parse::<u32>().unwrap_or(0),
-        None => 4,
-    };
-    let Ok(config) = Config::new(TILE, workers) else {
-        println!(&rt; "the number of workers is from 1 to 64")?;
+    let workers = number(arguments.next(), WORKERS);
+    let tile = number(arguments.next(), TILE);
+    let Ok(config) = Config::new(tile, workers) else {
+        println!(&rt; "there are 1 to 64 workers, and a tile has 1 to 65536 elements")?;
         return Ok(());
     };
     let Some(subject) = wanted else {
@@ -46,7 +57,7 @@ fn main(rt: HostRuntime) -> io::Result<()> {
         return Ok(());
     };
     if !measure(&rt, rt.alloc(), config, subject.as_str())? {
-        println!(&rt; "measured are text, elementwise, scans, permutes, packs and recipes")?;
+        println!(&rt; "measured are text, elementwise, scans, permutes, packs, recipes and long")?;
     }
     Ok(())
 }

@@ -2,6 +2,7 @@
 #![tactic(auto)]
 
 mod element_calls;
+mod long_calls;
 mod measured_texts;
 mod numbers;
 mod pack_calls;
@@ -22,8 +23,8 @@ use std::thread::Threads;
 const LENGTHS: [usize; 3] = [4_194_304, 65_536, 1_000];
 
 /// Measures one subject, and prints a line for each case: texts that are written and read; the calls that work place by place;
-/// scans and reduces, the checked ones too; permutes; packs, counts, distributes and indexes; or the recipe of the sparse
-/// product. Tells whether there is such a subject.
+/// scans and reduces, the checked ones too; permutes; packs, counts, distributes and indexes; the recipe of the sparse
+/// product; or a few calls of several families on the longest vectors. Answers whether there is such a subject.
 pub fn measure<R: Print + Clock + Threads + Sync>(
     rt: &R,
     alloc: Global,
@@ -38,6 +39,7 @@ pub fn measure<R: Print + Clock + Threads + Sync>(
         "permutes" => permute_calls::measure(&bench)?,
         "packs" => pack_calls::measure(&bench)?,
         "recipes" => recipe_calls::measure(&bench)?,
+        "long" => long_calls::measure(&bench)?,
         _ => return Ok(false),
     }
     Ok(true)
