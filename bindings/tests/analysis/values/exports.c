@@ -81,7 +81,14 @@ CvlStatus cvl_proved_pack_bool(const bool *values, size_t values_len, const bool
     return cvl_done();
 }
 
-/* ---- blocks of a sort: half of the elements have the first digit, and the others the last ---- */
+/* ---- sorts: keys differ in every bit but the lowest; of a block half of the elements have the first digit, and the others the last ---- */
+
+CvlStatus cvl_proved_int_reduce(uint32_t op, const int32_t *a, size_t a_len, int32_t *out) {
+    if (is_refused()) return told_fault();
+    reads_ints(a, a_len);
+    *out = op == CVL_AND ? 0 : op == CVL_IOR ? -2 : any_int();
+    return cvl_done();
+}
 
 static void writes_ends(size_t first, size_t n, uint32_t *ends, size_t ends_len) {
     for (size_t k = 0; k < ends_len; k++) ends[k] = (uint32_t)(first + (k + 1 < ends_len ? n / 2 : n));
