@@ -1539,7 +1539,7 @@ static void nested_texts(void) {
     FAULT(cvl_seg_write_ints(a, 3, S(too_many_ints, too_many), bytes, TEXT_ROOM, &total), CVL_TOO_LONG, -1);
     FAULT(cvl_seg_write_bools(f, 2, S(I(2, -2), 2), bytes, TEXT_ROOM, &total), CVL_NEGATIVE_LENGTH, 1);
     FAULT(cvl_seg_write_bools(too_many_bools, too_many, S(I(CVL_MOST_ELEMENTS, 1), 2), bytes, TEXT_ROOM, &total), CVL_TOO_LONG, -1);
-    TOO_SHORT(cvl_seg_write_bools(too_many_bools, many, S(I(CVL_MOST_OF_TEXT, 1), 2), bytes, TEXT_ROOM, &total), 2 * many + 4);
+    TOO_SHORT(cvl_seg_write_bools(too_many_bools, many, S(I(CVL_MOST_OF_TEXT, 1), 2), bytes, TEXT_ROOM, &total), 2 * many + 5);
 }
 
 /*

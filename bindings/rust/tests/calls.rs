@@ -198,7 +198,7 @@ fn a_nested_text_may_have_so_many_elements_and_others_more() {
     let rows = Segments::new(&[most.len() as i32, 1]).unwrap();
     assert_eq!(
         cvl::seg_write_bools(&flags, &rows).unwrap().len(),
-        2 * flags.len() + 4
+        2 * flags.len() + 5
     );
 }
 
