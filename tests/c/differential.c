@@ -15,7 +15,7 @@
 #include <sys/mman.h>
 #include <unistd.h>
 
-enum { SECONDS = 60, SLOT = 1 << 11, MEMORY = (MOST_OPERANDS + 1) * SLOT, THREADS = 3 };
+enum { SECONDS = 60, SLOT = 1 << 11, MEMORY = (MOST_OPERANDS + 1) * SLOT, THREADS = 3, MOST_SHARED = 1 << 17 };
 
 /* As many bytes as the longest vector of exact sums has, and some more, which nobody may touch. */
 static const size_t far_bytes = ((size_t)CVL_MOST_ELEMENTS + 1) * 8 + (1 << 14);
@@ -31,10 +31,10 @@ static long calls, refused, faults, failed;
 static atomic_long requests;
 static long refuse_at = -1;
 
-/* What the parts of a call share: its rooms, and the memory that it asks for between its steps. */
+/* What the parts of a call share: its rooms, and the memory that it asks for between its steps, of sorts 8,192 bytes a part and more. */
 typedef struct Shared {
-    unsigned char *at, before[SLOT];
-    bool taken[SLOT]; /* which bytes a part of the step wrote */
+    unsigned char *at, before[MOST_SHARED];
+    bool taken[MOST_SHARED]; /* which bytes a part of the step wrote */
     size_t size;
 } Shared;
 
@@ -43,7 +43,7 @@ static size_t shared_count;
 static bool watches, in_part, misses;
 
 static void share(void *at, size_t size) {
-    misses = misses || size > SLOT || shared_count == sizeof shared / sizeof *shared;
+    misses = misses || size > MOST_SHARED || shared_count == sizeof shared / sizeof *shared;
     if (misses || size == 0) return;
     shared[shared_count].at = (unsigned char *)at;
     shared[shared_count++].size = size;
