@@ -16,7 +16,7 @@ EMBEDDING = "crates/embedding"
 
 def cases_of(file):
     """The cases of a file without their inputs and tiles, in a form that pages are brought to as well: a line for each part, then
-    what it holds."""
+    what it holds. What explains a stop stands right below it."""
     shown, inside = [], False
     for line in lines_of(file):
         words = line.split()
@@ -28,7 +28,7 @@ def cases_of(file):
         elif line.startswith(("== script", "== text", "== stop")):
             shown.append(f"== {words[1]}")
             inside = True
-        elif inside:
+        elif inside and line != "== explained":
             shown.append(line)
     return shown
 

@@ -43,7 +43,7 @@ def check_manual_options():
     """The manual has each option of help, with what it does."""
     shown, manual = [], lines_of(MANUAL)
     for number, line in enumerate(manual):
-        option = re.match(r'\.B[IR] (?:\\-(\w) ", " )?\\-\\-(\w+)', line)
+        option = re.match(r'\.B[IR]? (?:\\-(\w) ", " )?\\-\\-(\w+)', line)
         if option:
             shown.append((option[1] or "", option[2], manual[number + 1]))
     yield from held(MANUAL, TEST, list(map(str, shown)), list(map(str, options())))
@@ -72,7 +72,7 @@ def check_fish():
 
 def check_zsh():
     """The same for zsh, which says in small letters what an option does."""
-    shown = re.findall(r"^ +'(?:\(- \*\)'\{-(\w),)?--(\w+)(?:=|\}')\W*\[(.*?)\]", text_of(ZSH), re.M)
+    shown = re.findall(r"^ +'(?:\(- \*\)'\{-(\w),)?--(\w+)(?:=|\}')?\W*\[(.*?)\]", text_of(ZSH), re.M)
     wanted = [(letter, name, without_default(does)[0].lower() + without_default(does)[1:]) for letter, name, does in options()]
     yield from held(ZSH, TEST, list(map(str, shown)), list(map(str, wanted)))
 

@@ -12,7 +12,7 @@ _cvl() {
     --workers) mapfile -t COMPREPLY < <(compgen -W "1 2 4 8 16 32 64" -- "$word") ;;
     *)
         case $word in
-        -*) mapfile -t COMPREPLY < <(compgen -W "--tile --workers --help -h --version -V" -- "$word") ;;
+        -*) mapfile -t COMPREPLY < <(compgen -W "--tile --workers --explain --help -h --version -V" -- "$word") ;;
         *) compopt -o filenames; mapfile -t COMPREPLY < <(compgen -f -- "$word") ;;
         esac
         ;;

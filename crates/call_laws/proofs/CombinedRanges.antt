@@ -1,5 +1,5 @@
 -- Combining permutes and counts by ranges of their room.
-use Rattle.call_laws.proofs.Cited.{◌≡◌, ◌×◌, ◌∙◌, ◌↔◌, ◌+◌, ◌++◌, ◌∷◌, ℕ, Bool, ℤ, pos, true, List, [], length, map, map-append, count_by, cond, refl, sym, ap, arith, Some, None, Option, is_some}
+use Rattle.call_laws.proofs.Cited.{◌≡◌, ◌∙◌, ◌↔◌, ◌+◌, ◌++◌, ◌∷◌, ℕ, Bool, ℤ, pos, true, List, [], length, map, map-append, count_by, cond, refl, sym, ap, arith, Some, None, Option, is_some}
 use Rattle.call_laws.proofs.Cited.{count_destinations, enumerate_from, first_fault, is_between, range_both, range_with_len, sum_by-cons}
 use Rattle.call_laws.proofs.FirstSent.{named-all, named-parts}
 use Rattle.combining_permutes.specs.CombiningPermutes.{combined, names, place_counts, sent_there}
@@ -18,12 +18,12 @@ numbered low (x ∷ front) back =
 pub joined-ranges : {X : Type 0} (join : X → X → X) (sends : List (ℤ × X)) (low : ℕ) (front back : List X)
     → combined join sends low (front ++ back) ≡ combined join sends low front ++ combined join sends (low + length front) back
 joined-ranges {X} join sends low front back =
-    let at = λ (p : ℕ × X). fold_of join p.1 (sent_there sends p.0) in
+    let at : ℕ × X → X = λ p. fold_of join p.1 (sent_there sends p.0) in
     ap (map at) (numbered low front back) ∙ map-append at (enumerate_from low front) (enumerate_from (low + length front) back)
 
 pub counts-ranges : (index : List ℤ) (low m n : ℕ) → place_counts index low (m + n) ≡ place_counts index low m ++ place_counts index (low + m) n
 counts-ranges index low m n =
-    let count = λ (d : ℕ). pos (count_by (names d) index) in
+    let count : ℕ → ℤ = λ d. pos (count_by (names d) index) in
     ap (map count) (range_both low m n) ∙ map-append count (range_with_len low m) (range_with_len (low + m) n)
 
 -- ---- how many name a place

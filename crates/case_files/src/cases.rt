@@ -12,11 +12,13 @@
 //! | `== input` | an input; the first is input 1 |
 //! | `== text` | what the script writes |
 //! | `== stop` | the line that tells why the script stops, where it does not run to its end |
+//! | `== explained` | what explains that stop; it is not compared where there is no such heading |
 //! | `== each` | lines that are each a run of its own |
 //! | `== more` | what the heading before this one is of goes on with these lines |
 //! | `== refused 12` | each run makes at least so many requests for memory, each of which is refused in turn |
 //!
-//! Scripts, inputs, texts, stops and what they go on with are the lines below their heading with their line feeds. Behind the
+//! Scripts, inputs, texts, stops, explanations and what they go on with are the lines below their heading with their line
+//! feeds. Behind the
 //! word, `times 1000` takes the lines without the last line feed, a thousand times; any other word names a file beside the
 //! file of cases, whose bytes stand for the lines.
 //!
@@ -52,6 +54,8 @@ pub struct Case<'a> {
     pub text: Vec<u8>,
     /// The line that tells why the script stops; nothing where it runs to its end.
     pub stop: Vec<u8>,
+    /// What explains the stop; nothing where that is not compared.
+    pub explained: Vec<u8>,
     /// Lines that are each a run of its own; nothing where the case is one run.
     pub each: Vec<u8>,
     /// What the last section was of.
@@ -69,6 +73,7 @@ impl<'a> Case<'a> {
             inputs: Vec::new(alloc),
             text: Vec::new(alloc),
             stop: Vec::new(alloc),
+            explained: Vec::new(alloc),
             each: Vec::new(alloc),
             last: "case",
         }
@@ -81,6 +86,7 @@ impl<'a> Case<'a> {
             "input" => self.inputs.last_mut(),
             "text" => Some(&mut self.text),
             "stop" => Some(&mut self.stop),
+            "explained" => Some(&mut self.explained),
             "each" => Some(&mut self.each),
             _ => None,
         }

@@ -14,7 +14,7 @@ use Rattle.clap.specs.declared.error.Error.{Error}
 use Rattle.clap.specs.declared.error.kind.ErrorKind.TheVariants.{OutOfMemory}
 use Rattle.clap.specs.declared.builder.range.ValueRange.{ValueRange}
 use Rattle.clap.proofs.OnLiterals.{clap_on_literals}
-use Rattle.command_line.specs.Command.{cvl, inputs_rule, number_rule, script_rule, tile_rule, up_to, workers_rule}
+use Rattle.command_line.specs.Command.{cvl, explain_rule, inputs_rule, number_rule, script_rule, tile_rule, up_to, workers_rule}
 use Rattle.command_line.specs.Reads.{HasNumber, IsFaultOf, HoldsAllArguments, ReadsBy}
 use Rattle.command_line.specs.declared.fault.WordsFault.{WordsFault}
 use Rattle.command_line.specs.declared.fault.WordsFault.TheVariants as fault
@@ -63,7 +63,7 @@ all_plain (x ∷ xs) e =
 -- ---- the program's command
 
 abbrev rules : List Rule
-rules = tile_rule ∷ workers_rule ∷ script_rule ∷ inputs_rule ∷ []
+rules = tile_rule ∷ workers_rule ∷ explain_rule ∷ script_rule ∷ inputs_rule ∷ []
 
 pub simple : is_simple cvl ≡ true
 unfolding cvl clap_on_literals
@@ -77,7 +77,7 @@ rules_are : (c : Command) → app_of c ≡ cvl → map rule_of (args_of c) ≡ r
 unfolding cvl
 rules_are c e = ap (λ (a : App). a.top.rules) e
 
-count_is : (c : Command) → app_of c ≡ cvl → length (args_of c) ≡ 4
+count_is : (c : Command) → app_of c ≡ cvl → length (args_of c) ≡ 5
 count_is c e = sym (length-map (args_of c) rule_of) ∙ ap length (rules_are c e)
 
 pub plain : (c : Command) → app_of c ≡ cvl → IsPlain c
@@ -98,7 +98,7 @@ unfolding cvl
 no_negates c e = ap (λ (a : App). a.top.subcommand_negates_reqs) e
 
 -- the rule at a place
-rule_is : (c : Command) → app_of c ≡ cvl → (k : ℕ) (d : Arg) (r : Rule) → k < 4 → slice_index_or rules k inputs_rule ≡ r
+rule_is : (c : Command) → app_of c ≡ cvl → (k : ℕ) (d : Arg) (r : Rule) → k < 5 → slice_index_or rules k inputs_rule ≡ r
     → rule_of (slice_index_or (args_of c) k d) ≡ r
 rule_is c e k d r lt at =
     sym (get_or-map rule_of (args_of c) k d inputs_rule (omega (arith, count_is c e))) ∙ ap (λ rs. slice_index_or rs k inputs_rule) (rules_are c e) ∙ at
@@ -109,20 +109,20 @@ is_other k id j = not (bytes_eq (slice_index_or rules j inputs_rule).id id) || (
 
 -- no other rule has the id, which is neither empty nor one of clap's own
 abbrev is_own : ℕ → Text → Bool
-is_own k id = list_all (is_other k id) (range_with_len 0 4) && list_all (λ word. not (bytes_eq id word)) ([] ∷ codes "help" ∷ codes "version" ∷ [])
+is_own k id = list_all (is_other k id) (range_with_len 0 5) && list_all (λ word. not (bytes_eq id word)) ([] ∷ codes "help" ∷ codes "version" ∷ [])
 
 place_is : (same : Bool) (j k : ℕ) → (not same || (j == k)) ≡ true → same ≡ true → j ≡ k
 place_is true j k e h = grind (arith, nat_tests)
 place_is false j k e h = cc
 
 -- no other argument has the id of the one at a place
-alone : (c : Command) → app_of c ≡ cvl → (k : ℕ) (d : Arg) (r : Rule) → k < 4 → slice_index_or rules k inputs_rule ≡ r → is_own k r.id ≡ true → IsAlone (args_of c) k d
+alone : (c : Command) → app_of c ≡ cvl → (k : ℕ) (d : Arg) (r : Rule) → k < 5 → slice_index_or rules k inputs_rule ≡ r → is_own k r.id ≡ true → IsAlone (args_of c) k d
 alone c e k d r lt at own j other low same =
-    let few : j < 4 = omega (arith, count_is c e) in
+    let few : j < 5 = omega (arith, count_is c e) in
     let this = ap (λ (x : Rule). x.id) (rule_is c e k d r lt at) in
     let that = ap (λ (x : Rule). x.id) (rule_is c e j other (slice_index_or rules j inputs_rule) few refl) in
-    let here : slice_index_or (range_with_len 0 4) j 0 ≡ j = omega (arith, get_or-range_with_len 0 4 j 0 few) in
-    let tested = AllPass-from_list_all (is_other k r.id) (range_with_len 0 4) (both _ _ own).0 j 0 few in
+    let here : slice_index_or (range_with_len 0 5) j 0 ≡ j = omega (arith, get_or-range_with_len 0 5 j 0 few) in
+    let tested = AllPass-from_list_all (is_other k r.id) (range_with_len 0 5) (both _ _ own).0 j 0 few in
     place_is _ j k (ap (is_other k r.id) (sym here) ∙ tested) (rw (← that, ← this) same)
 
 differs : (id word : Text) → not (bytes_eq id word) ≡ true → bytes_eq word word ≡ true → id ≡ word → ⊥
@@ -153,7 +153,7 @@ some_default a v e = omega (arith, ap length e, length-map (items_of a.default_v
 
 -- an option of one number has a number in its range
 has_number : (c : Command) (m : ArgMatches) → app_of c ≡ cvl → IsParsedFrom c m → (k : ℕ) (name : Text) (greatest : ℕ) (default : Text)
-    → k < 4 → slice_index_or rules k inputs_rule ≡ number_rule name (up_to greatest) default → is_own k name ≡ true → HasNumber m name greatest
+    → k < 5 → slice_index_or rules k inputs_rule ≡ number_rule name (up_to greatest) default → is_own k name ≡ true → HasNumber m name greatest
 has_number c m e p k name greatest default lt at own =
     let d = some_arg (args_of c) (omega (arith, count_is c e)) in
     let rule = number_rule name (up_to greatest) default in
@@ -175,13 +175,13 @@ has_script : (c : Command) (m : ArgMatches) → app_of c ≡ cvl → IsParsedFro
     → is_some (first_value (found_of m) (codes "script")) ≡ true
 has_script c m e p =
     let d = some_arg (args_of c) (omega (arith, count_is c e)) in
-    let is = rule_is c e 2 d script_rule (omega arith) refl in
-    let a = slice_index_or (args_of c) 2 d in
+    let is = rule_is c e 3 d script_rule (omega arith) refl in
+    let a = slice_index_or (args_of c) 3 d in
     let id : a.id.now ≡ codes "script" = ap (λ (x : Rule). x.id) is in
     let free : IsBare a = bare a (ap (λ (x : Rule). x.is_simple) is) (ap (λ (x : Rule). x.is_free) is) in
-    let has = required_has_value c m p (plain c e) (no_globals c e) (no_negates c e) 2 d (omega (arith, count_is c e))
+    let has = required_has_value c m p (plain c e) (no_globals c e) (no_negates c e) 3 d (omega (arith, count_is c e))
     (ap (λ (x : Rule). x.required) is) (ap (λ (x : Rule). x.action) is) free.delimiter (one_at_least a.num_vals (ap (λ (x : Rule). x.range) is))
-    (alone c e 2 d script_rule (omega arith) refl refl) (λ none. named 2 (codes "script") refl (sym id ∙ none)) (not_auto 2 a (codes "script") id refl) in
+    (alone c e 3 d script_rule (omega arith) refl refl) (λ none. named 3 (codes "script") refl (sym id ∙ none)) (not_auto 3 a (codes "script") id refl) in
     subst (λ (w : Text). is_some (first_value (found_of m) w) ≡ true) id has
 
 pub whole : (c : Command) (m : ArgMatches) → app_of c ≡ cvl → IsParsedFrom c m → HoldsAllArguments m

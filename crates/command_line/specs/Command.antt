@@ -1,10 +1,10 @@
--- The command of the program, as clap's words say it: two options of one number each, with their ranges and defaults,
--- the script, and then its inputs; and a version, which can be asked for.
+-- The command of the program, as clap's words say it: two options of one number each, with their ranges and defaults, a
+-- flag, the script, and then its inputs; and a version, which can be asked for.
 -- Source: this library's program.
 use Rattle.std.specs.Prelude.{ℕ, [], ◌∷◌, Some, codes, pos, true}
 use Rattle.cvl_base.specs.Limits.{longest_tile, most_workers}
 use Rattle.clap.specs.Words.{App, Rule, Text, new_app, new_rule, with_rule}
-use Rattle.clap.specs.declared.builder.action.ArgAction.TheVariants.{Set, Append}
+use Rattle.clap.specs.declared.builder.action.ArgAction.TheVariants.{Set, SetTrue, Append}
 use Rattle.clap.specs.declared.builder.value_parser.ValueParser.{ValueParser}
 use Rattle.clap.specs.declared.builder.value_parser.ValueParser.TheVariants as vp
 
@@ -21,6 +21,11 @@ number_rule name parser default = record (new_rule name) {
   parser = Some parser;
   defaults = default ∷ [];
 }
+
+-- `--explain`
+abbrev pub explain_rule : Rule
+explain_rule =
+    record (new_rule (codes "explain")) { long = Some (codes "explain"); action = Some SetTrue }
 
 -- SCRIPT, which has to be there
 abbrev pub script_rule : Rule
@@ -42,5 +47,5 @@ abbrev pub with_version : App → App
 with_version a = record a { top = record a.top { has_version = true } }
 
 unfoldable pub cvl : App
-cvl = with_version (with_rule (with_rule (with_rule (with_rule (new_app (codes "cvl")) tile_rule) workers_rule)
-    script_rule) inputs_rule)
+cvl = with_version (with_rule (with_rule (with_rule (with_rule (with_rule (new_app (codes "cvl")) tile_rule)
+    workers_rule) explain_rule) script_rule) inputs_rule)

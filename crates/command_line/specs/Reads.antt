@@ -1,6 +1,7 @@
 -- What the words of a command line say, in the words of clap's matches for the command.
 -- Source: clap's matching of a simple command.
 use Rattle.std.specs.Prelude.{◌≡◌, ℕ, List, [], Option, Some, unwrap_or, option_map, Result, Ok, Err, IsSome, Bool, not, codes, pos}
+use Rattle.std.specs.Str.{bytes_eq}
 use Rattle.std.specs.Str.Parse.{digits_value, without_leading_plus}
 use Rattle.clap.specs.Walk.{has_row, nothing_held, settled, walk}
 use Rattle.clap.specs.Simple.{argument_words, names_of}
@@ -25,6 +26,14 @@ number_given name words = number_in name (matches_of cvl words)
 
 abbrev pub script_given : List Text → Option Text
 script_given words = first_of (codes "script") (matches_of cvl words)
+
+-- whether a flag is set: its one value is `true`
+abbrev pub is_set_in : Text → List Row → Bool
+is_set_in name rows = bytes_eq (unwrap_or (first_of name rows) []) (codes "true")
+
+-- whether the words ask for an explanation of why a run stopped
+abbrev pub explain_given : List Text → Bool
+explain_given words = is_set_in (codes "explain") (matches_of cvl words)
 
 abbrev pub inputs_given : List Text → List Text
 inputs_given words = unwrap_or (all_of (codes "inputs") (matches_of cvl words)) []

@@ -2,7 +2,7 @@
 
 ghost use Rattle.std.specs.Prelude.{◌≡◌, false, IfOk};
 ghost use Rattle.clap.specs.Words.{app_of, rule_of};
-ghost use Rattle.command_line.specs.Command.{cvl, number_rule, script_rule, inputs_rule};
+ghost use Rattle.command_line.specs.Command.{cvl, explain_rule, number_rule, script_rule, inputs_rule};
 
 use clap::builder::ValueParser;
 use clap::{Arg, ArgAction, Command};
@@ -48,6 +48,17 @@ fn number_option<'a>(
         .default_value(default)
 }
 
+/// The flag `--explain`.
+fn explain<'a>(alloc: Global) -> Arg<'a>
+    ensures rule { rule_of result ≡ explain_rule }
+    ensures own { result.global ≡ false }
+{
+    Arg::new(alloc, "explain")
+        .long("explain")
+        .action(ArgAction::SetTrue)
+        .help("Explain on standard error why the script stopped")
+}
+
 /// The name of the script's file.
 fn script<'a>(alloc: Global) -> Arg<'a>
     ensures rule { rule_of result ≡ script_rule }
@@ -71,7 +82,7 @@ fn inputs<'a>(alloc: Global) -> Arg<'a>
         .help("The file of each input, integers between white space; the first is input 1")
 }
 
-/// The command `cvl [--tile N] [--workers N] SCRIPT [INPUT ..]`, of which help and the version can be asked for.
+/// The command `cvl [--tile N] [--workers N] [--explain] SCRIPT [INPUT ..]`, of which help and the version can be asked for.
 pub(crate) fn cvl_command<'a>(alloc: Global) -> Result<Command<'a>, AllocError>
     ensures { IfOk result (λ c. app_of c ≡ cvl) }
 {
@@ -92,6 +103,7 @@ pub(crate) fn cvl_command<'a>(alloc: Global) -> Result<Command<'a>, AllocError>
     let command = Command::new(alloc, "cvl")
         .arg(tile)?
         .arg(workers)?
+        .arg(explain(alloc))?
         .arg(script(alloc))?
         .arg(inputs(alloc))?;
     Ok(command.about(ABOUT).version(VERSION).after_help(AFTER_HELP))

@@ -1,11 +1,12 @@
 //! What the words of a command line say.
 
-ghost use Rattle.std.specs.Prelude.{◌≡◌, ◌≤◌, Some, IfOk, IfErr, true, codes, unwrap_or, []};
+ghost use Rattle.std.specs.Prelude.{◌≡◌, ◌≤◌, Some, IfOk, IfErr, true, false, codes, unwrap_or, []};
 ghost use Rattle.clap.specs.Words.{all_of, fault_of, first_of, found_of, rows_of, takes};
 ghost use Rattle.clap.specs.Walk.{texts};
 ghost use Rattle.cvl_base.specs.Limits.{longest_tile, most_workers};
 ghost use Rattle.command_line.specs.Command.{cvl};
-ghost use Rattle.command_line.specs.Reads.{HoldsAllArguments, ReadsBy, inputs_given, is_left_out, number_given, number_in};
+ghost use Rattle.command_line.specs.Reads.{HoldsAllArguments, ReadsBy, explain_given, inputs_given, is_left_out};
+ghost use Rattle.command_line.specs.Reads.{is_set_in, number_given, number_in};
 ghost use Rattle.command_line.specs.Reads.{script_given};
 ghost use Rattle.command_line.specs.declared.fault.WordsFault.TheVariants as fault;
 
@@ -21,6 +22,8 @@ use std::alloc::{AllocError, Global};
 pub struct Words<'a> {
     /// The length of tiles and the number of workers.
     pub config: Config,
+    /// Whether to explain why the run stopped, where it did.
+    pub explain: bool,
     /// The name of the script's file.
     pub script: &'a str,
     /// The names of the inputs' files, in the order of the inputs' numbers.
@@ -38,6 +41,16 @@ fn inputs<'a>(alloc: Global, matches: &ArgMatches<'a>) -> Result<Vec<&'a str>, A
     }
 }
 
+/// Whether a flag is set.
+fn is_set(matches: &ArgMatches<'_>, name: &str) -> bool
+    ensures { result ≡ is_set_in name.now (rows_of (found_of matches.now)) }
+{
+    match matches.get_str(name) {
+        Some(value) => value == "true",
+        None => false,
+    }
+}
+
 /// What the matches of the command say.
 fn words_of<'a>(alloc: Global, matches: &ArgMatches<'a>) -> Result<Words<'a>, AllocError>
     requires { HoldsAllArguments matches.now }
@@ -45,6 +58,8 @@ fn words_of<'a>(alloc: Global, matches: &ArgMatches<'a>) -> Result<Words<'a>, Al
         number_in (codes "tile") (rows_of (found_of matches.now)) ≡ Some w.config.0) }
     ensures workers { IfOk result (λ w.
         number_in (codes "workers") (rows_of (found_of matches.now)) ≡ Some w.config.1) }
+    ensures explain { IfOk result (λ w.
+        w.explain ≡ is_set_in (codes "explain") (rows_of (found_of matches.now))) }
     ensures script { IfOk result (λ w.
         first_of (codes "script") (rows_of (found_of matches.now)) ≡ Some w.script.now) }
     ensures inputs { IfOk result (λ w. texts w.inputs.items
@@ -52,6 +67,7 @@ fn words_of<'a>(alloc: Global, matches: &ArgMatches<'a>) -> Result<Words<'a>, Al
 {
     Ok(Words {
         config: config(matches),
+        explain: is_set(matches, "explain"),
         script: matches.get_str("script").unwrap(),
         inputs: inputs(alloc, matches)?,
     })
@@ -59,12 +75,12 @@ fn words_of<'a>(alloc: Global, matches: &ArgMatches<'a>) -> Result<Words<'a>, Al
 
 /// Reads the words of a command line, of which the first is the program's own name.
 ///
-/// The command is `cvl [--tile N] [--workers N] SCRIPT [INPUT ..]`, which clap reads as a simple command. A tile has 1
-/// to 65,536 elements, and 4,096 where none is given; there are 1 to 64 workers, and 4 where none is given. A number is
-/// decimal digits, which may have a plus sign and leading zeros. Options may stand before and after the names of
+/// The command is `cvl [--tile N] [--workers N] [--explain] SCRIPT [INPUT ..]`, which clap reads as a simple command. A
+/// tile has 1 to 65,536 elements, and 4,096 where none is given; there are 1 to 64 workers, and 4 where none is given. A
+/// number is decimal digits, which may have a plus sign and leading zeros. Options may stand before and after the names of
 /// files, which are handed out as they are typed; after `--` a word that begins with `-` is a name too. Words that the
-/// command doesn't take are `WordsFault::Refused`, and so is a call for help. Where it takes them, the words are read,
-/// or memory ran out.
+/// command doesn't take are `WordsFault::Refused`, and so is a call for help. Where it takes them, the words are read, or
+/// memory ran out.
 pub fn read_words<'a>(alloc: Global, words: &'a [&'a str]) -> Result<Words<'a>, WordsFault>
     ensures tile { IfOk result (λ w.
         number_given (codes "tile") (texts words.entry.now) ≡ Some w.config.0) }
@@ -76,6 +92,9 @@ pub fn read_words<'a>(alloc: Global, words: &'a [&'a str]) -> Result<Words<'a>, 
         is_left_out (codes "tile") (texts words.entry.now) ≡ true → w.config.0 ≡ 4096) }
     ensures workers_default { IfOk result (λ w.
         is_left_out (codes "workers") (texts words.entry.now) ≡ true → w.config.1 ≡ 4) }
+    ensures explain { IfOk result (λ w. w.explain ≡ explain_given (texts words.entry.now)) }
+    ensures explain_default { IfOk result (λ w.
+        is_left_out (codes "explain") (texts words.entry.now) ≡ true → w.explain ≡ false) }
     ensures script { IfOk result (λ w. script_given (texts words.entry.now) ≡ Some w.script.now) }
     ensures inputs { IfOk result (λ w. texts w.inputs.items ≡ inputs_given (texts words.entry.now)) }
     ensures faults { ReadsBy (fault_of cvl (texts words.entry.now)) result }

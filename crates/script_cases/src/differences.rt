@@ -40,7 +40,9 @@ pub fn tell_difference<W: Write>(
 ) -> io::Result<()> {
     tell_run(output, single)?;
     tell_bytes(output, "came out", &outcome.shown)?;
-    tell_bytes(output, "expected", &single.shown)
+    output.write_all(&outcome.explained)?;
+    tell_bytes(output, "expected", &single.shown)?;
+    output.write_all(&single.case.explained)
 }
 
 /// Writes what is wrong with a run whose requests for memory were refused in turn, or how many requests it made.

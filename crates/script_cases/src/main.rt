@@ -8,6 +8,7 @@
 #![tactic(auto)]
 
 mod differences;
+mod explained_stops;
 mod kept_room;
 mod outcomes;
 
@@ -66,7 +67,7 @@ fn run_once<'a, R: AllocGlobal + Threads + Sync, W: Write>(
 ) -> Result<bool, Trouble<'a>> {
     let heap = Refusing::none(rt.alloc());
     let outcome = outcome_of(rt, rt.alloc(), &heap, single)?;
-    if outcome.shown != single.shown {
+    if !outcome.is_expected(single) {
         tell_difference(output, single, &outcome)?;
         return Ok(false);
     }

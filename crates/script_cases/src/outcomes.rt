@@ -1,11 +1,11 @@
 //! What comes of a run.
 
+use crate::explained_stops::{explanation_of, inputs_of};
 use case_files::SingleRun;
 use cvl_base::{Memory, NoResources};
 use script_runs::{MemSink, Stop, put_stop, run};
 use std::alloc::Global;
 use std::thread::Threads;
-use vector_handles::Input;
 
 /// What a line that writes begins with.
 const WRITES: &[u8] = b"write ";
@@ -15,19 +15,12 @@ const WRITES: &[u8] = b"write ";
 pub struct Outcome {
     /// The text, and behind it the line that tells why the script stopped, where it did.
     pub shown: Vec<u8>,
+    /// What explains that, where the case compares it.
+    pub explained: Vec<u8>,
     /// How many bytes the text has.
     written: usize,
     /// The line at which memory ran out.
     out_of_memory: Option<u32>,
-}
-
-/// The inputs with these bytes.
-fn inputs_of<A: Memory>(heap: A, files: &[&[u8]]) -> Result<Vec<Input<A>, A>, NoResources> {
-    let mut inputs = Vec::with_capacity(heap, files.len())?;
-    for file in files {
-        inputs.push(Input::Bytes(Vec::from_slice(heap, file)?))?;
-    }
-    Ok(inputs)
 }
 
 /// Makes a run on this memory. What it shows is kept in ample memory.
@@ -43,15 +36,20 @@ pub fn outcome_of<R: Threads + Sync, A: Memory>(
     let ran = run(rt, heap, single.config, script, inputs, &mut sink);
     let mut shown = sink.into_vec();
     let written = shown.len();
+    let mut explained = Vec::new(ample);
     let mut out_of_memory = None;
     if let Err(why) = ran {
         put_stop(&why, &mut shown)?;
         if let Stop::NoResources { line } = why {
             out_of_memory = Some(line);
+        } else if !single.case.explained.is_empty() {
+            let text = explanation_of(rt, ample, heap, single, &why)?;
+            explained.extend_from_slice(&text)?;
         }
     }
     Ok(Outcome {
         shown,
+        explained,
         written,
         out_of_memory,
     })
@@ -77,6 +75,11 @@ fn first_lines(bytes: &[u8], lines: usize) -> &[u8] {
 }
 
 impl Outcome {
+    /// Whether all is as expected.
+    pub fn is_expected(&self, single: &SingleRun<'_>) -> bool {
+        self.shown == single.shown && self.explained == single.case.explained
+    }
+
     /// Whether the text is that of the lines before this one, and a beginning of the text of this one.
     fn ends_in(&self, single: &SingleRun<'_>, line: u32) -> bool {
         let line = line as usize;
@@ -101,6 +104,6 @@ pub fn comes_out<R: Threads + Sync, A: Memory>(
     match outcome.out_of_memory {
         Some(line) if outcome.ends_in(single, line) => Err(NoResources),
         Some(_) => Ok(false),
-        None => Ok(outcome.shown == single.shown),
+        None => Ok(outcome.is_expected(single)),
     }
 }

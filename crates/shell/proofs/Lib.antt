@@ -1,3 +1,4 @@
+mod Explained
 mod NamedFiles
 mod Performed
 mod Streams

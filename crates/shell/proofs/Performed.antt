@@ -1,18 +1,29 @@
 -- How the parts of the program come together.
-use Rattle.std.proofs.Common.{◌≡◌, ℕ, List, [], ◌∷◌, Some, Result, Err, refl, inl, inr}
+use Rattle.std.proofs.Common.{◌≡◌, ◌∙◌, ℕ, List, [], ◌∷◌, Option, Some, Result, Err, refl, ap, subst, inl, inr}
 use Rattle.clap.specs.Words.{IsAmong, Text, fault_of}
 use Rattle.clap.specs.declared.error.kind.ErrorKind.{ErrorKind}
 use Rattle.command_line.specs.Command.{cvl}
 use Rattle.command_line.specs.Reads.{inputs_given, script_given}
 use Rattle.script_runs.specs.Ends.{EndsAs, with_answer}
-use Rattle.script_runs.specs.Hosts.{Read, Seen, Shows, read_of, with_flush, with_reads}
+use Rattle.script_runs.specs.Hosts.{Read, Seen, Shows, Tells, read_of, with_flush, with_reads}
 use Rattle.script_runs.proofs.Shown.{nothing_answered, reads_both, shows_answer, shows_flush, shows_nothing_read, shows_on, tells_after}
-use Rattle.shell.specs.ProgramParts.{Closes, Finishes, PutsShown, ReadsInputs, RunsOrMisses}
-use Rattle.shell.specs.Programs.{IsAsked, Performs, RunsFiles, Works, end_of, ended, unreadable, unreadable_line}
+use Rattle.shell.specs.ProgramParts.{Closes, EndsBy, Finishes, PutsShown, ReadsInputs, RunsOrMisses}
+use Rattle.shell.specs.Programs.{IsAsked, Performs, RunsFiles, Says, StopsAt, Works, end_of, ended, status_of, unreadable, unreadable_line}
 use Rattle.script_runs.specs.Meaning.{meaning}
 use Rattle.vector_handles.specs.declared.input.Input.{Input}
 use Rattle.script_runs.specs.declared.stop.Stop.{Stop}
 use Rattle.script_runs.specs.declared.stop.Stop.TheVariants as stop
+
+-- the end of work by its answer, with its status
+pub finishes_by : (answer : Result (Unit {0}) Stop) (before after : Seen) (status : ℕ) (end : Option Stop) → EndsBy answer before after end
+    → status ≡ status_of (ended end) → Finishes answer before after status
+finishes_by answer before after status end h is = record {
+  flushed = h.flushed;
+  told = h.told;
+  says = subst (λ (e : Option Stop). Says (ended e) h.told) h.end_is h.says;
+  status_is = is ∙ ap (λ (e : Option Stop). status_of (ended e)) h.end_is;
+  tells = h.tells;
+}
 
 -- the end of work, where the host shows at least as much before it
 finishes_after : (answer : Result (Unit {0}) Stop) (before middle after : Seen) (status : ℕ) → Shows before middle → Finishes answer middle after status → Finishes answer before after status
@@ -48,6 +59,11 @@ runs_files A script names bytes inputs before first middle after status opened r
           (record { script = bytes; input_reads = read.0; inputs = inputs; script_first = refl; then_inputs = read.1; ends = closed.works })
           (shows_answer closed.written closed.answer (with_reads reads before) middle shown) closed.finishes,
     ))
+
+-- a file cannot be read
+pub misses : (A : Type 0) (script : Text) (names : List Text) (name : Text) (reads : List Read) (before after : Seen) → StopsAt (script ∷ names) reads name
+    → Tells (Some (unreadable_line name)) (with_reads reads before) after → RunsOrMisses A script names before after 3
+misses A script names name reads before after stops tells = inr (inr (refl, name, reads, stops, tells))
 
 performs : (A : Type 0) (words : List Text) (reads : List Read) (before after : Seen) (status : ℕ) → Closes (Works A words reads) (with_reads reads before) after status
     → Performs A words before after status

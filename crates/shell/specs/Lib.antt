@@ -1,3 +1,4 @@
+pub use Rattle.explanations.specs.Explained
 pub use Rattle.script_runs.specs.Ends
 pub use Rattle.script_runs.specs.Hosts
 pub use Rattle.script_runs.specs.LineRuns

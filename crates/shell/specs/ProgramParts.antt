@@ -1,12 +1,16 @@
 -- What the parts of the program do on its host.
 -- Source: this library's program.
-use Rattle.std.specs.Prelude.{◌≡◌, ◌⊎◌, ℕ, ◌≤◌, Bool, List, ◌∷◌, Option, Some, Result, Err, length}
+use Rattle.std.specs.Prelude.{◌≡◌, ◌⊎◌, ℕ, ◌≤◌, Bool, List, ◌∷◌, map, zip, Option, Some, None, Result, Err, length}
+use Rattle.std.proofs.Common.{inl, inr}
 use Rattle.std.specs.List.{All}
 use Rattle.clap.specs.Words.{Text}
 use Rattle.vector_handles.specs.declared.input.Input.{Input}
-use Rattle.script_runs.specs.Ends.{with_answer}
-use Rattle.script_runs.specs.Hosts.{Read, Seen, Shows, Tells, with_flush, with_reads}
-use Rattle.shell.specs.Programs.{GaveInputs, IsShown, RunsFiles, Says, Starves, StopsAt, end_of, ended, status_of, unreadable_line}
+use Rattle.vector_handles.specs.declared.input.Input.TheVariants as input
+use Rattle.script_runs.specs.Ends.{EndsAs, with_answer}
+use Rattle.script_runs.specs.Hosts.{Read, Seen, Shows, Tells, read_of, with_flush, with_reads}
+use Rattle.script_runs.specs.Meaning.{meaning}
+use Rattle.shell.specs.Programs.{ExplainsStop, GaveInputs, IsShown, RunsFiles, Says, Starves, StopsAt}
+use Rattle.shell.specs.Programs.{end_of, ended, status_of, unreadable_line}
 use Rattle.script_runs.specs.declared.stop.Stop.{Stop}
 use Rattle.script_runs.specs.declared.stop.Stop.TheVariants as stop
 
@@ -23,6 +27,14 @@ abbrev pub PutsShown : Seen → Seen → Result (Unit {0}) Stop → Type 0
 PutsShown before after answer =
     (written : List ℕ) × (Starves written answer ⊎ IsShown answer)
     × Shows (with_answer written answer before) after
+
+-- after the work has given its answer, standard output is flushed and then standard error told, and this is why it ended
+pub record EndsBy (answer : Result (Unit {0}) Stop) (before after : Seen) (end : Option Stop) : Type 0 where
+  pub flushed : Bool
+  pub told : Option (List ℕ)
+  pub end_is : end ≡ end_of answer flushed
+  pub says : Says (ended end) told
+  pub tells : Tells told (with_flush flushed before) after
 
 -- after the work has given its answer, standard output is flushed and then standard error told
 pub record Finishes (answer : Result (Unit {0}) Stop) (before after : Seen) (status : ℕ) : Type 0 where
@@ -58,3 +70,47 @@ RunsOrMisses A script inputs before after status =
     ⊎ (((reads : List Read) × Closes (RunsFiles A script inputs reads) (with_reads reads before) after status)
     ⊎ ((status ≡ 3) × (name : Text) × (reads : List Read) × StopsAt (script ∷ inputs) reads name
     × Tells (Some (unreadable_line name)) (with_reads reads before) after))
+
+-- the bytes of an input; a vector has none
+abbrev pub bytes_in : {A : Type 0} → Input A → Option (List ℕ)
+bytes_in (input.Bytes bytes) = Some bytes.items
+bytes_in (input.Vector numbers) = None
+
+-- files of these names, with these bytes
+abbrev pub reads_of : List Text → List (Option (List ℕ)) → List Read
+reads_of names bytes = map (λ p. read_of p.0 p.1) (zip names bytes)
+
+-- the inputs as they were read from the files of these names
+abbrev pub reads_in : {A : Type 0} → List Text → List (Input A) → List Read
+reads_in names inputs = reads_of names (map bytes_in inputs)
+
+-- standard error is told this text, or nothing where memory for it is refused
+abbrev pub TellsExplained : List ℕ → Seen → Seen → Type 0
+TellsExplained text before after =
+    (told : Option (List ℕ)) × ((told ≡ None) ⊎ (told ≡ Some text)) × Tells told before after
+
+-- the script is run over its inputs, and then why it stopped is explained
+pub record ClosesAndExplains
+    (A : Type 0) (script : List ℕ) (reads : List Read) (inputs : List (Input A)) (before after : Seen) (status : ℕ) : Type 0 where
+  pub mid : Seen
+  pub closes : Closes (EndsAs (meaning script inputs)) before mid status
+  pub told : Option (List ℕ)
+  pub explains : ExplainsStop script inputs reads (end_of closes.answer closes.finishes.flushed) told
+  pub tells : Tells told mid after
+
+-- of the very script and inputs that were read and run; where none was run, nothing is explained
+abbrev pub ExplainsFiles : (A : Type 0) (script : Text) (inputs : List Text) (before after : Seen) (status : ℕ)
+    → RunsOrMisses A script inputs before after status → Option (List ℕ) → Type 0
+ExplainsFiles A script inputs before after status (inl starved) told = told ≡ None
+ExplainsFiles A script inputs before after status (inr (inl (reads, closes))) told =
+    let run = closes.works in
+    ExplainsStop run.script run.inputs run.input_reads (end_of closes.answer closes.finishes.flushed) told
+ExplainsFiles A script inputs before after status (inr (inr missed)) told = told ≡ None
+
+-- the same as without explanations, and then the explanation
+pub record RunsAndExplains (A : Type 0) (script : Text) (inputs : List Text) (before after : Seen) (status : ℕ) : Type 0 where
+  pub mid : Seen
+  pub runs : RunsOrMisses A script inputs before mid status
+  pub told : Option (List ℕ)
+  pub explains : ExplainsFiles A script inputs before mid status runs told
+  pub tells : Tells told mid after

@@ -2,13 +2,15 @@
 -- error.
 -- Source: this library's program.
 use Rattle.std.specs.Prelude.{◌≡◌, ◌⊎◌, ℕ, Bool, true, false, List, [], ◌∷◌, ◌++◌, map, codes, Option, Some, None, IsSome, Result, Ok, Err}
+use Rattle.std.proofs.Common.{inl, inr}
 use Rattle.std.specs.List.{All, AllZip, list_all}
 use Rattle.std.specs.Str.{is_utf8}
 use Rattle.clap.specs.Words.{IsAmong, Text, fault_of}
 use Rattle.clap.specs.declared.error.kind.ErrorKind.{ErrorKind}
 use Rattle.clap.specs.declared.error.kind.ErrorKind.TheVariants.{DisplayHelp, DisplayVersion}
 use Rattle.command_line.specs.Command.{cvl}
-use Rattle.command_line.specs.Reads.{inputs_given, script_given}
+use Rattle.command_line.specs.Reads.{explain_given, inputs_given, script_given}
+use Rattle.explanations.specs.Explained.{explained, names_of_script}
 use Rattle.vector_handles.specs.declared.input.Input.{Input}
 use Rattle.vector_handles.specs.declared.input.Input.TheVariants.{Bytes, Vector}
 use Rattle.script_runs.specs.Ends.{EndsAs, with_answer}
@@ -130,6 +132,44 @@ pub record Performs (A : Type 0) (words : List Text) (before after : Seen) (stat
   pub says : Says end told
   pub status_is : status ≡ status_of end
 
+-- ---- how it comes to its end where the words ask for explanations
+
+-- why a script stopped is explained, or nothing is told where memory for that is refused; where it did not stop, nothing is
+abbrev pub ExplainsStop : {A : Type 0} → List ℕ → List (Input A) → List Read → Option Stop → Option (List ℕ) → Type 0
+ExplainsStop script inputs reads None told = told ≡ None
+ExplainsStop script inputs reads (Some why) told =
+    (told ≡ None) ⊎ (told ≡ Some (explained (names_of_script script inputs) reads script why))
+
+-- of the very script and inputs that were read and run; where none was run, nothing is explained
+abbrev pub ExplainsWork : (A : Type 0) (words : List Text) (reads : List Read) (written : List ℕ) (answer : Result (Unit {0}) Stop)
+    → Works A words reads written answer → Option Stop → Option (List ℕ) → Type 0
+ExplainsWork A words reads written answer (inl starved) end told = told ≡ None
+ExplainsWork A words reads written answer (inr (inl shown)) end told = told ≡ None
+ExplainsWork A words reads written answer (inr (inr (taken, name, named, run))) end told =
+    ExplainsStop run.script run.inputs run.input_reads end told
+
+abbrev pub ExplainsEnd : (A : Type 0) (words : List Text) (before : Seen) (first : Option (List ℕ)) (after : Seen) (end : End)
+    → Comes A words before first after end → Option (List ℕ) → Type 0
+ExplainsEnd A words before first after (ended end) (reads, written, answer, flushed, works, is, tells) told =
+    ExplainsWork A words reads written answer works end told
+ExplainsEnd A words before first after refused comes told = told ≡ None
+ExplainsEnd A words before first after (unreadable name) comes told = told ≡ None
+
+-- the program ran on these words as without explanations, and then standard error is told the explanation
+pub record PerformsAndExplains (A : Type 0) (words : List Text) (before after : Seen) (status : ℕ) : Type 0 where
+  pub mid : Seen
+  pub performs : Performs A words before mid status
+  pub told : Option (List ℕ)
+  pub explains : ExplainsEnd A words before performs.told mid performs.end performs.comes told
+  pub tells : Tells told mid after
+
+-- the program ran on these words, as they ask for explanations or not
+pub record PerformsAsAsked (A : Type 0) (words : List Text) (before after : Seen) (status : ℕ) : Type 0 where
+  pub plain : explain_given words ≡ false → Performs A words before after status
+  pub explaining : explain_given words ≡ true → PerformsAndExplains A words before after status
+
+-- ---- the words of a process
+
 -- there is no memory for the words of the command line: that is told, and nothing else is done
 abbrev pub IsStarved : Seen → Seen → ℕ → Type 0
 IsStarved before after status = Tells (Some (stop_line (stop.NoResources 0))) before after × (status ≡ 3)
@@ -137,7 +177,7 @@ IsStarved before after status = Tells (Some (stop_line (stop.NoResources 0))) be
 -- the program ran on these words, or there is no memory for them
 abbrev pub PerformsOrStarves : Type 0 → List Text → Seen → Seen → ℕ → Type 0
 PerformsOrStarves A words before after status =
-    IsStarved before after status ⊎ Performs A words before after status
+    IsStarved before after status ⊎ PerformsAsAsked A words before after status
 
 -- a word of the command line is not UTF-8: that is told, and nothing else is done
 abbrev pub IsNoText : Seen → Seen → ℕ → Type 0

@@ -3,7 +3,7 @@
 ghost use Rattle.std.specs.Prelude.{◌≡◌, ◌+◌, ◌-◌, ◌^◌, ◌<◌, ◌≤◌, ◌++◌, [], length, Some, is_ok, vec_len, vec_capacity};
 ghost use Rattle.script_runs.specs.Hosts.{Tells};
 ghost use Rattle.script_runs.specs.StopTexts.{stop_line};
-ghost use Rattle.shell.specs.ProgramParts.{Finishes};
+ghost use Rattle.shell.specs.ProgramParts.{EndsBy, Finishes};
 ghost use Rattle.shell.specs.Programs.{end_of, stop_status, unreadable_line};
 
 use crate::host::Host;
@@ -23,7 +23,7 @@ pub const COMMAND_LINE: u8 = 2;
 pub const FAILED: u8 = 3;
 
 /// The status of a stop.
-fn status_of(stop: &Stop) -> u8
+pub(crate) fn status_of(stop: &Stop) -> u8
     ensures { result ≡ stop_status stop.now }
 {
     match stop {
@@ -79,17 +79,28 @@ pub(crate) fn tell_unreadable<A: Memory, H: Host>(name: &str, room: Vec<u8, A>, 
     host.put_error(line.as_slice());
 }
 
+/// Sends on what standard output has taken, tells on standard error why the work ended, and answers that.
+pub(crate) fn close<H: Host>(answer: Result<(), Stop>, host: &mut H) -> Option<Stop>
+    requires { (H.seen host.old).failed_flushes < 2 ^ 64 - 1 }
+    ensures { EndsBy answer (H.seen host.old) (H.seen host.new) result }
+{
+    let flushed = host.flush();
+    match end_of(answer, flushed) {
+        None => None,
+        Some(stop) => {
+            tell_stop(&stop, host);
+            Some(stop)
+        }
+    }
+}
+
 /// Sends on what standard output has taken, tells on standard error why the work ended, and answers the status.
 pub(crate) fn finish<H: Host>(answer: Result<(), Stop>, host: &mut H) -> u8
     requires { (H.seen host.old).failed_flushes < 2 ^ 64 - 1 }
     ensures { Finishes answer (H.seen host.old) (H.seen host.new) result }
 {
-    let flushed = host.flush();
-    match end_of(answer, flushed) {
+    match close(answer, host) {
         None => FINE,
-        Some(stop) => {
-            tell_stop(&stop, host);
-            status_of(&stop)
-        }
+        Some(stop) => status_of(&stop),
     }
 }

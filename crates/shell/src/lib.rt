@@ -2,6 +2,7 @@
 #![tactic(auto)]
 
 pub mod endings;
+mod explaining;
 mod files;
 pub mod host;
 pub mod process;
@@ -11,6 +12,7 @@ pub mod stream_host;
 pub mod whole_files;
 
 pub use command_line::{Words, WordsFault, read_words};
+pub use explanations::{InputFile, explain};
 pub use host::Host;
 pub use process::{SystemFiles, run_process, run_words};
 pub use programs::{program, program_gated};

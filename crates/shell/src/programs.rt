@@ -1,13 +1,15 @@
 //! The whole program, over the host that it is given.
 
-ghost use Rattle.std.specs.Prelude.{◌^◌, ◌<◌, ◌-◌};
+ghost use Rattle.std.specs.Prelude.{◌≡◌, ◌^◌, ◌<◌, ◌-◌, true, false};
 ghost use Rattle.clap.specs.Walk.{texts};
 ghost use Rattle.script_runs.specs.Ends.{EndsAs};
 ghost use Rattle.script_runs.specs.Meaning.{meaning};
-ghost use Rattle.shell.specs.ProgramParts.{Closes, PutsShown, RunsOrMisses, TellsSome};
-ghost use Rattle.shell.specs.Programs.{Performs};
+ghost use Rattle.shell.specs.ProgramParts.{Closes, ClosesAndExplains, PutsShown};
+ghost use Rattle.shell.specs.ProgramParts.{RunsAndExplains, RunsOrMisses, TellsSome, reads_in};
+ghost use Rattle.shell.specs.Programs.{PerformsAsAsked};
 
 use crate::endings::{COMMAND_LINE, FAILED, finish, tell_stop, tell_unreadable};
+use crate::explaining::run_explained;
 use crate::files::{read_inputs, room_for};
 use crate::host::Host;
 use crate::whole_files::FileRoom;
@@ -20,7 +22,7 @@ use std::thread::Threads;
 use vector_handles::Input;
 
 /// Where there is no memory before the first line runs.
-const STARVED: Stop = Stop::NoResources { line: 0 };
+pub(crate) const STARVED: Stop = Stop::NoResources { line: 0 };
 
 /// Writes clap's text of what was asked for, the help or the version, to standard output.
 fn put_shown<A: Memory, H: Host>(alloc: A, shown: &clap::Error, host: &mut H) -> Result<(), Stop>
@@ -47,7 +49,7 @@ fn tell_refused<A: Memory, H: Host>(alloc: A, error: &clap::Error, host: &mut H)
 }
 
 /// Runs the script and sends on its text, tells why the run stopped, and answers the status.
-fn run_script<R: Threads + Sync, A: Memory, H: Host, G: Gate>(
+pub(crate) fn run_script<R: Threads + Sync, A: Memory, H: Host, G: Gate>(
     rt: &R,
     alloc: A,
     config: Config,
@@ -64,6 +66,31 @@ fn run_script<R: Threads + Sync, A: Memory, H: Host, G: Gate>(
     finish(answer, host)
 }
 
+/// Runs the script over the inputs that were read, and explains why it stopped if the words ask for that.
+fn run_inputs<R: Threads + Sync, A: Memory, H: Host, G: Gate>(
+    rt: &R,
+    alloc: A,
+    words: &Words<'_>,
+    script: &[u8],
+    inputs: Vec<Input<A>, A>,
+    host: &mut H,
+    gate: &G,
+) -> u8
+    requires failures { (H.seen host.old).failed_puts < 2 ^ 64 - 1 }
+    requires flushes { (H.seen host.old).failed_flushes < 2 ^ 64 - 1 }
+    ensures plain { words.now.explain ≡ false →
+        Closes (EndsAs (meaning script.now inputs.items)) (H.seen host.old) (H.seen host.new) result }
+    ensures explaining { words.now.explain ≡ true →
+        ClosesAndExplains A script.now (reads_in (texts words.now.inputs.items) inputs.items) inputs.items
+        (H.seen host.old) (H.seen host.new) result }
+{
+    if words.explain {
+        run_explained(rt, alloc, words, script, inputs, host, gate)
+    } else {
+        run_script(rt, alloc, words.config, script, inputs, host, gate)
+    }
+}
+
 /// Reads the files of the script and of its inputs, and runs the script.
 fn run_files<R: Threads + Sync, A: Memory, H: Host, G: Gate>(
     rt: &R,
@@ -74,8 +101,10 @@ fn run_files<R: Threads + Sync, A: Memory, H: Host, G: Gate>(
 ) -> u8
     requires failures { (H.seen host.old).failed_puts < 2 ^ 64 - 1 }
     requires flushes { (H.seen host.old).failed_flushes < 2 ^ 64 - 1 }
-    ensures { RunsOrMisses A words.now.script.now (texts words.now.inputs.items)
-        (H.seen host.old) (H.seen host.new) result }
+    ensures plain { words.now.explain ≡ false →
+        RunsOrMisses A words.now.script.now (texts words.now.inputs.items) (H.seen host.old) (H.seen host.new) result }
+    ensures explaining { words.now.explain ≡ true →
+        RunsAndExplains A words.now.script.now (texts words.now.inputs.items) (H.seen host.old) (H.seen host.new) result }
 {
     let Ok(room) = room_for(alloc, words) else {
         return finish(Err(STARVED), host);
@@ -97,7 +126,7 @@ fn run_files<R: Threads + Sync, A: Memory, H: Host, G: Gate>(
                 tell_unreadable(name, room.line, host);
                 FAILED
             }
-            Ok(inputs) => run_script(rt, alloc, words.config, text.as_slice(), inputs, host, gate),
+            Ok(inputs) => run_inputs(rt, alloc, words, text.as_slice(), inputs, host, gate),
         },
     }
 }
@@ -114,6 +143,9 @@ fn run_files<R: Threads + Sync, A: Memory, H: Host, G: Gate>(
 /// `line 0: no resources`, and `line 0: write failed` where the text that is asked for or the flush fails; a run that
 /// stopped by itself keeps its own line and status.
 ///
+/// With `--explain`, standard error is then told why the script stopped, if it did, as [`explain`](crate::explain) explains
+/// it; the rest is as without it. If memory for the explanation is refused, nothing of it is told.
+///
 /// The message is always told: a stop's line takes no memory, and that of a file has its room before the first read.
 /// Where there is no memory for clap's text of a refused command line, `line 0: no resources` stands in its place.
 ///
@@ -127,7 +159,7 @@ pub fn program<'a, R: Threads + Sync + AllocGlobal, A: Memory, H: Host>(
 ) -> u8
     requires failures { (H.seen host.old).failed_puts < 2 ^ 64 - 1 }
     requires flushes { (H.seen host.old).failed_flushes < 2 ^ 64 - 1 }
-    ensures { Performs A (texts words.entry.now)
+    ensures { PerformsAsAsked A (texts words.entry.now)
         (H.seen host.old) (H.seen host.new) result }
 {
     program_gated(rt, alloc, words, host, &OpenGate)
@@ -144,7 +176,7 @@ pub fn program_gated<'a, R: Threads + Sync + AllocGlobal, A: Memory, H: Host, G:
 ) -> u8
     requires failures { (H.seen host.old).failed_puts < 2 ^ 64 - 1 }
     requires flushes { (H.seen host.old).failed_flushes < 2 ^ 64 - 1 }
-    ensures { Performs A (texts words.entry.now)
+    ensures { PerformsAsAsked A (texts words.entry.now)
         (H.seen host.old) (H.seen host.new) result }
 {
     match read_words(rt.alloc(), words) {

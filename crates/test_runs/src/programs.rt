@@ -58,6 +58,7 @@ Arguments:
 Options:
       --tile <N>     The length of a tile, in elements, from 1 to 65536 [default: 4096]
       --workers <N>  The number of workers, from 1 to 64 [default: 4]
+      --explain      Explain on standard error why the script stopped
   -h, --help         Print help
   -V, --version      Print version
 

@@ -15,6 +15,7 @@ returns c =
     let workers_own : c.help-workers.result.global ≡ false = ap (λ (a : Arg). a.global) c.help-workers.ensures ∙ c.number_option-2.ensures.own in
     let one = c.in_ok-arg.ensures.shape tile_own ∙ ap₂ with_rule c.new-3.ensures.app tile in
     let two = c.in_ok-arg-2.ensures.shape workers_own ∙ ap₂ with_rule one workers in
-    let three = c.in_ok-arg-3.ensures.shape c.script.ensures.own ∙ ap₂ with_rule two c.script.ensures.rule in
-    let four = c.in_ok-command.ensures.shape c.inputs.ensures.own ∙ ap₂ with_rule three c.inputs.ensures.rule in
-    ap app_of_fields c.after_help.ensures ∙ ap app_of_fields c.version.ensures ∙ ap with_version (ap app_of_fields c.about.ensures ∙ four)
+    let three = c.in_ok-arg-3.ensures.shape c.explain.ensures.own ∙ ap₂ with_rule two c.explain.ensures.rule in
+    let four = c.in_ok-arg-4.ensures.shape c.script.ensures.own ∙ ap₂ with_rule three c.script.ensures.rule in
+    let five = c.in_ok-command.ensures.shape c.inputs.ensures.own ∙ ap₂ with_rule four c.inputs.ensures.rule in
+    ap app_of_fields c.after_help.ensures ∙ ap app_of_fields c.version.ensures ∙ ap with_version (ap app_of_fields c.about.ensures ∙ five)

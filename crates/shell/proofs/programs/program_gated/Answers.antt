@@ -2,29 +2,39 @@ use Rattle.std.proofs.Common.{◌∙◌, Some, inl, inr, refl}
 use Rattle.clap.specs.Walk.{texts}
 use Rattle.clap.specs.Values.{kind_of}
 use Rattle.shell.specs.Programs.{IsAsked, refused}
+use Rattle.shell.proofs.Explained.{as_asked, performs_explaining}
 use Rattle.shell.proofs.Performed.{performs_files, performs_shown, performs_starved}
 use Rattle.shell.proofs.programs.program_gated.Goals as goal
 
 pub returns-in-Ok : goal.returns-in-Ok
 returns-in-Ok g c =
-    performs_files g.row.A.Denot (texts c.args.words.now) c.in-Ok.words.script.now (texts c.in-Ok.words.inputs.items) _ _ c.run_files.result
-    c.in-Ok.ensures.faults c.in-Ok.ensures.script c.in-Ok.ensures.inputs c.run_files.ensures
+    let words = texts c.args.words.now in
+    let script = c.in-Ok.words.script.now in
+    let inputs = texts c.in-Ok.words.inputs.items in
+    record {
+      plain = λ no. performs_files g.row.A.Denot words script inputs _ _ c.run_files.result
+          c.in-Ok.ensures.faults c.in-Ok.ensures.script c.in-Ok.ensures.inputs (c.run_files.ensures.plain (c.in-Ok.ensures.explain ∙ no));
+      explaining = λ yes. performs_explaining words script _ _ c.run_files.result c.in-Ok.ensures.faults c.in-Ok.ensures.script
+          (rw c.in-Ok.ensures.inputs at (c.run_files.ensures.explaining (c.in-Ok.ensures.explain ∙ yes)));
+    }
 
 pub returns-in-Err-NoResources : goal.returns-in-Err-NoResources
 returns-in-Err-NoResources g c =
-    performs_starved g.row.A.Denot (texts c.args.words.now) _ _ c.finish.result c.finish.ensures
+    as_asked (texts c.args.words.now) _ _ c.finish.result
+    (performs_starved g.row.A.Denot (texts c.args.words.now) _ _ c.finish.result c.finish.ensures)
 
 pub returns-in-DisplayHelp : goal.returns-in-DisplayHelp
 returns-in-DisplayHelp g c =
     let asked : IsAsked (kind_of c.in-Err-Refused.error) = rw c.kind.ensures at c.in-DisplayHelp.is in
     let among = rw c.in-Err-Refused.field-0-is at c.in-Err-Refused.ensures.faults in
-    performs_shown g.row.A.Denot (texts c.args.words.now) _ _ _ c.finish-in-DisplayHelp.result c.put_shown-answer.result
-    _ asked among c.put_shown-answer.ensures c.finish-in-DisplayHelp.ensures
+    as_asked (texts c.args.words.now) _ _ c.finish-in-DisplayHelp.result
+    (performs_shown g.row.A.Denot (texts c.args.words.now) _ _ _ c.finish-in-DisplayHelp.result c.put_shown-answer.result
+    _ asked among c.put_shown-answer.ensures c.finish-in-DisplayHelp.ensures)
 
 pub returns : goal.returns
 returns g c =
     let among = rw c.in-Err-Refused.field-0-is at c.in-Err-Refused.ensures.faults in
-    record {
+    as_asked {A = g.row.A.Denot} (texts c.args.words.now) _ _ 2 (record {
       end = refused;
       told = Some c.tell_refused.ensures.0;
       comes = (
@@ -38,4 +48,4 @@ returns g c =
       );
       says = refl;
       status_is = refl;
-    }
+    })

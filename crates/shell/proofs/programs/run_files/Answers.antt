@@ -1,9 +1,10 @@
-use Rattle.std.proofs.Common.{[], Some, refl, inr, arith, vec_capacity}
+use Rattle.std.proofs.Common.{[], Some, refl, inl, arith, vec_capacity}
 use Rattle.clap.specs.Walk.{texts}
 use Rattle.script_runs.proofs.Shown.{reads_both, tells_after}
 use Rattle.shell.specs.Programs.{unreadable_line}
 use Rattle.shell.proofs.NamedFiles.{missed_fits, stops_first, stops_later}
-use Rattle.shell.proofs.Performed.{runs_files}
+use Rattle.shell.proofs.Explained.{files_explained, files_unexplained}
+use Rattle.shell.proofs.Performed.{misses, runs_files}
 use Rattle.shell.proofs.programs.run_files.Goals as goal
 
 pub tell_unreadable-requires-clause-fits : goal.tell_unreadable-requires-clause-fits
@@ -15,28 +16,34 @@ tell_unreadable-requires-in-Err-clause-fits g c κs within =
     missed_fits (vec_capacity c.in-Ok.room.line) c.args.words.now.script.now (texts c.args.words.now.inputs.items) missed.0 c.in-Err.name.now missed.1 c.in-Ok.ensures.line_fits
 
 pub returns-in-None : goal.returns-in-None
-returns-in-None g c = inr (inr (
-  refl,
-  _,
-  _,
-  stops_first c.args.words.now.script.now (texts c.args.words.now.inputs.items),
-  tells_after (Some (unreadable_line c.args.words.now.script.now)) _ _ _ c.in-None.ensures c.tell_unreadable.ensures,
-))
+returns-in-None g c =
+    let script = c.args.words.now.script.now in
+    let names = texts c.args.words.now.inputs.items in
+    let missed = misses g.row.A.Denot script names _ _ _ _ (stops_first script names)
+    (tells_after (Some (unreadable_line script)) _ _ _ c.in-None.ensures c.tell_unreadable.ensures) in
+    record { plain = λ no. missed; explaining = λ yes. files_unexplained script names _ _ 3 missed }
 
 pub returns-in-Err : goal.returns-in-Err
 returns-in-Err g c =
     let missed = rw c.as_slice.ensures.value at c.in-Err.ensures.missed in
-    inr (inr (
-      refl,
-      _,
-      _,
-      stops_later c.args.words.now.script.now c.in-Some.text.items (texts c.args.words.now.inputs.items) missed.0 c.in-Err.name.now missed.1,
-      tells_after (Some (unreadable_line c.in-Err.name.now)) _ _ _ (reads_both _ missed.0 _ _ _ c.in-Some.ensures missed.2) c.tell_unreadable-in-Err.ensures,
-    ))
+    let script = c.args.words.now.script.now in
+    let names = texts c.args.words.now.inputs.items in
+    let none = misses g.row.A.Denot script names _ _ _ _ (stops_later script c.in-Some.text.items names missed.0 c.in-Err.name.now missed.1)
+    (tells_after (Some (unreadable_line c.in-Err.name.now)) _ _ _ (reads_both _ missed.0 _ _ _ c.in-Some.ensures missed.2) c.tell_unreadable-in-Err.ensures) in
+    record { plain = λ no. none; explaining = λ yes. files_unexplained script names _ _ 3 none }
 
 pub returns-in-Ok-read_inputs : goal.returns-in-Ok-read_inputs
 returns-in-Ok-read_inputs g c =
     let read = rw c.as_slice.ensures.value at c.in-Ok-read_inputs.ensures.read in
-    let closed = rw c.as_slice-in-Ok-read_inputs.ensures.value at c.run_script.ensures in
-    runs_files g.row.A.Denot c.args.words.now.script.now (texts c.args.words.now.inputs.items) c.in-Some.text.items c.in-Ok-read_inputs.inputs.items _ _ _ _ c.run_script.result
-    c.in-Some.ensures read closed
+    let closed = rw c.as_slice-in-Ok-read_inputs.ensures.value at c.run_inputs.ensures.plain in
+    let explained = rw c.as_slice-in-Ok-read_inputs.ensures.value at c.run_inputs.ensures.explaining in
+    let script = c.args.words.now.script.now in
+    let names = texts c.args.words.now.inputs.items in
+    record {
+      plain = λ no. runs_files g.row.A.Denot script names c.in-Some.text.items c.in-Ok-read_inputs.inputs.items _ _ _ _ c.run_inputs.result c.in-Some.ensures read (closed no);
+      explaining = λ yes. files_explained script names c.in-Some.text.items c.in-Ok-read_inputs.inputs.items _ _ _ _ c.run_inputs.result c.in-Some.ensures read (explained yes);
+    }
+
+pub returns-in_default-clause-explaining : goal.returns-in_default-clause-explaining
+returns-in_default-clause-explaining g c = λ yes.
+    files_unexplained c.args.words.now.script.now (texts c.args.words.now.inputs.items) _ _ c.finish.result (inl c.finish.ensures)

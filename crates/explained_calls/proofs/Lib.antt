@@ -1,0 +1,5 @@
+pub mod LineLaws
+pub mod LineTexts
+pub mod Lists
+mod PlacedWalk
+pub mod Puts

@@ -1,0 +1,121 @@
+-- What is at fault in a line, in words.
+-- Source: this library's script format.
+use Rattle.std.specs.Prelude.{ℕ, ◌+◌, Bool, not, List, [], ◌∷◌, ◌++◌, codes}
+use Rattle.std.specs.Prelude.{find, length, nat_eq, Option, Some, None, is_some, unwrap_or, if◌then◌else◌}
+use Rattle.std.specs.Cmp.Lexicographic.{pointwise}
+use Rattle.std.specs.Fmt.{decimal}
+use Rattle.std.specs.List.{after_first, position_or_len}
+use Rattle.cvl_base.specs.Calls.{binds_of, is_write, operands_of, spelling_of, takes_of}
+use Rattle.cvl_base.specs.Spellings.{op_of}
+use Rattle.cvl_base.specs.declared.fault.FaultNo.{FaultNo}
+use Rattle.cvl_base.specs.declared.fault.FaultNo.TheVariants.{BadLine, UnknownCall, WrongArgumentCount, BadNumber}
+use Rattle.cvl_base.specs.declared.operation.Op.{Op}
+use Rattle.cvl_base.specs.declared.operation.Op.TheVariants.{Write}
+use Rattle.line_reader.specs.Lines.{arg_of}
+use Rattle.explained_calls.specs.declared.wanted.Hint.{Hint}
+use Rattle.explained_calls.specs.declared.wanted.Wanted.{Wanted}
+use Rattle.explained_calls.specs.declared.wanted.Wanted.TheVariants as wanted
+use Rattle.explained_calls.specs.CallWords.{call_words}
+use Rattle.explained_calls.specs.Misplaced.{hint_of, is_equals, is_write_line}
+use Rattle.explained_calls.specs.Nearest.{call_names, nearest}
+use Rattle.explained_calls.specs.PlacedTokens.{Placed, placed_tokens}
+use Rattle.explained_calls.specs.Sentences.{counted, indented, shortened}
+
+-- ---- a line without the form of a line
+
+abbrev pub wanted_words : Wanted → List ℕ
+wanted_words wanted.Name = codes "a name"
+wanted_words wanted.EqualsOrName = codes "= or a name"
+wanted_words wanted.OtherName = codes "another name than the first"
+wanted_words wanted.Equals = codes "="
+wanted_words wanted.Call = codes "a call"
+wanted_words wanted.Argument = codes "a name, a number, T or F"
+
+abbrev pub end_words : Bool → List ℕ
+end_words ends = if ends then codes ", but the line ends" else []
+
+-- columns are bytes, counted from 1
+abbrev pub hint_words : Hint → List ℕ
+hint_words hint =
+    codes "column " ++ decimal (hint.place + 1) ++ codes ": expected " ++ wanted_words hint.wanted ++ end_words hint.ends
+
+abbrev pub hint_line : Option Hint → List ℕ
+hint_line None = []
+hint_line (Some hint) = indented (hint_words hint)
+
+-- ---- a line with the form of a line: the names before `=`, the call behind it, and its arguments
+
+pub record Parts : Type 0 where
+  pub names : ℕ
+  pub call : List ℕ
+  pub arguments : List Placed
+
+abbrev pub call_parts : ℕ → List Placed → Parts
+call_parts names [] = record { names = names; call = []; arguments = [] }
+call_parts names (call ∷ arguments) = record { names = names; call = call.bytes; arguments = arguments }
+
+abbrev pub binding_parts : List Placed → Parts
+binding_parts tokens =
+    call_parts (position_or_len (λ token. is_equals token.bytes) tokens) (after_first (λ token. is_equals token.bytes) tokens)
+
+abbrev pub parts_of : List Placed → Parts
+parts_of [] = call_parts 0 []
+parts_of (first ∷ others) = if is_write_line first.bytes others then call_parts 0 (first ∷ others) else binding_parts (first ∷ others)
+
+-- ---- a call that is unknown
+
+abbrev pub nearest_words : Option (List ℕ) → List ℕ
+nearest_words None = []
+nearest_words (Some name) = codes "; the nearest call is " ++ name
+
+abbrev pub no_call_words : List ℕ → List ℕ
+no_call_words word = word ++ codes " is no call" ++ nearest_words (nearest word call_names)
+
+abbrev pub unknown_call_words : List ℕ → List ℕ
+unknown_call_words word =
+    if pointwise nat_eq word (codes "write") then codes "write is no call: it begins a line of its own, and binds no name"
+    else no_call_words word
+
+-- ---- a call with too many or too few arguments or names
+
+-- ` takes 2 arguments, and the line has 3`
+abbrev pub counts_words : List ℕ → ℕ → List ℕ → ℕ → List ℕ
+counts_words verb wanted thing present = verb ++ counted wanted thing ++ codes ", and the line has " ++ decimal present
+
+-- how many arguments the call wants, or how many names, and how many the line has
+abbrev pub count_words : Op → ℕ → ℕ → List ℕ
+count_words op names arguments =
+    spelling_of op
+    ++ (if takes_of op arguments then counts_words (codes " binds ") (binds_of op) (codes "name") names
+    else (if is_write op then (codes " takes 1 or 2 names, and the line has " ++ decimal arguments)
+    else counts_words (codes " takes ") (length (operands_of op)) (codes "argument") arguments))
+
+-- what the call takes, and what the line has
+abbrev pub count_lines : Op → ℕ → ℕ → List ℕ
+count_lines op names arguments = indented (call_words op) ++ indented (count_words op names arguments)
+
+-- the call of this name, or `write`
+abbrev pub op_or_write : List ℕ → Op
+op_or_write word = unwrap_or (op_of word) Write
+
+-- ---- a number that is none
+
+abbrev pub is_bad_number : List ℕ → Bool
+is_bad_number token = not (is_some (arg_of token))
+
+abbrev pub number_line : Option Placed → List ℕ
+number_line None = []
+number_line (Some token) = indented (shortened token.bytes ++ codes " is no integer from -2147483648 to 2147483647")
+
+-- ---- all of them
+
+abbrev pub parts_fault_words : Parts → FaultNo → List ℕ
+parts_fault_words parts UnknownCall = indented (unknown_call_words parts.call)
+parts_fault_words parts WrongArgumentCount = count_lines (op_or_write parts.call) parts.names (length parts.arguments)
+parts_fault_words parts BadNumber = number_line (find (λ token. is_bad_number token.bytes) parts.arguments)
+parts_fault_words parts _ = []
+
+-- the line of the explanation for a fault that the line alone shows; nothing for other faults
+abbrev pub line_fault_words : List ℕ → FaultNo → List ℕ
+line_fault_words line BadLine = hint_line (hint_of (placed_tokens line))
+line_fault_words line number = parts_fault_words (parts_of (placed_tokens line)) number

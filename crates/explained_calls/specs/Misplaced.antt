@@ -1,0 +1,75 @@
+-- Where a line stops having the form of a line: the first token that may not stand where it stands, or the place behind the
+-- last token if the line ends too early, and what was expected there. The grammar is that of lines.
+-- Source: this library's script format.
+use Rattle.std.specs.Prelude.{ℕ, Bool, true, false, not, ◌&&◌, ◌||◌, nat_eq, List, [], ◌∷◌, codes, Option, Some, None, if◌then◌else◌}
+use Rattle.std.specs.Cmp.Lexicographic.{pointwise}
+use Rattle.cvl_base.specs.Words.{is_name, is_word}
+use Rattle.line_reader.specs.Lines.{is_arg}
+use Rattle.explained_calls.specs.PlacedTokens.{Placed, behind}
+use Rattle.explained_calls.specs.declared.wanted.Hint.{Hint}
+use Rattle.explained_calls.specs.declared.wanted.Wanted.{Wanted}
+use Rattle.explained_calls.specs.declared.wanted.Wanted.TheVariants.{Name, EqualsOrName, OtherName, Equals, Call, Argument}
+
+abbrev pub is_equals : List ℕ → Bool
+is_equals token = pointwise nat_eq token (codes "=")
+
+-- may the token stand where this is wanted?
+abbrev pub is_wanted : Wanted → List ℕ → Bool
+is_wanted Name token = is_name token
+is_wanted EqualsOrName token = is_equals token || is_name token
+is_wanted OtherName token = is_name token
+is_wanted Equals token = is_equals token
+is_wanted Call token = is_word token
+is_wanted Argument token = is_arg token
+
+-- the token that begins at this place, or the line's end there
+abbrev pub hint_at : ℕ → Wanted → Hint
+hint_at place wanted = record { place = place; ends = false; wanted = wanted }
+
+abbrev pub hint_at_end : ℕ → Wanted → Hint
+hint_at_end place wanted = record { place = place; ends = true; wanted = wanted }
+
+-- the next token, behind this place, has to be what is wanted; then the rest is looked at
+abbrev pub wanting : Wanted → ℕ → List Placed → (Placed → List Placed → Option Hint) → Option Hint
+wanting wanted place [] rest = Some (hint_at_end place wanted)
+wanting wanted place (token ∷ tokens) rest =
+    if is_wanted wanted token.bytes then rest token tokens else Some (hint_at token.start wanted)
+
+-- each token has to be what is wanted
+abbrev pub wanting_each : Wanted → List Placed → Option Hint
+wanting_each wanted [] = None
+wanting_each wanted (token ∷ tokens) =
+    if is_wanted wanted token.bytes then wanting_each wanted tokens else Some (hint_at token.start wanted)
+
+-- `CALL ARG ..`
+abbrev pub hint_after_equals : ℕ → List Placed → Option Hint
+hint_after_equals place tokens = wanting Call place tokens (λ call arguments. wanting_each Argument arguments)
+
+-- `= CALL ARG ..`
+abbrev pub hint_after_names : ℕ → List Placed → Option Hint
+hint_after_names place tokens = wanting Equals place tokens (λ equals others. hint_after_equals (behind equals) others)
+
+-- what stands behind the second token: `CALL ARG ..` behind `=`, and `= CALL ARG ..` behind a name, which differs from the first
+abbrev pub hint_after_second : List ℕ → Placed → List Placed → Option Hint
+hint_after_second first second tokens =
+    if is_equals second.bytes then hint_after_equals (behind second) tokens
+    else (if pointwise nat_eq first second.bytes then Some (hint_at second.start OtherName)
+    else hint_after_names (behind second) tokens)
+
+-- `= CALL ARG ..` or `NAME = CALL ARG ..`
+abbrev pub hint_after_first : List ℕ → ℕ → List Placed → Option Hint
+hint_after_first first place tokens = wanting EqualsOrName place tokens (hint_after_second first)
+
+abbrev pub begins_with_equals : List Placed → Bool
+begins_with_equals [] = false
+begins_with_equals (token ∷ tokens) = is_equals token.bytes
+
+-- does the line begin as `write NAME ..` does?
+abbrev pub is_write_line : List ℕ → List Placed → Bool
+is_write_line first others = pointwise nat_eq first (codes "write") && not (begins_with_equals others)
+
+abbrev pub hint_of : List Placed → Option Hint
+hint_of [] = None
+hint_of (first ∷ others) =
+    if is_write_line first.bytes others then wanting_each Name others
+    else (if is_name first.bytes then hint_after_first first.bytes (behind first) others else Some (hint_at first.start Name))

@@ -1,0 +1,20 @@
+-- The nearest of some known words.
+-- Source: V. I. Levenshtein, Binary codes capable of correcting deletions, insertions, and reversals, 1966.
+use Rattle.std.specs.Prelude.{ℕ, nat_lt, nat_eq, List, [], ◌∷◌, length, map, Option, Some, None}
+use Rattle.std.specs.List.{best_of}
+use Rattle.strsim.specs.Edits.{levenshtein_row}
+use Rattle.cvl_base.specs.Calls.{spelling_of}
+use Rattle.cvl_base.specs.Spellings.{calls}
+
+-- how many bytes have to be inserted, deleted or changed
+abbrev pub distance : List ℕ → List ℕ → ℕ
+distance word known = levenshtein_row nat_eq word known (length known)
+
+-- the known word at the least distance, and of several the first
+abbrev pub nearest : List ℕ → List (List ℕ) → Option (List ℕ)
+nearest word [] = None
+nearest word (first ∷ others) = Some (best_of (λ a b. nat_lt (distance word a) (distance word b)) first others)
+
+-- the names of the calls, in the order of their families
+abbrev pub call_names : List (List ℕ)
+call_names = map spelling_of calls

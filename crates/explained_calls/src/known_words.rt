@@ -1,0 +1,39 @@
+//! The nearest of some known words.
+
+ghost use Rattle.std.specs.Prelude.{◌≡◌, map, option_map, IfOk};
+ghost use Rattle.explained_calls.specs.Nearest.{distance, nearest};
+
+use cvl_base::{Memory, NoResources};
+use strsim::generic_levenshtein;
+
+/// How many bytes have to be inserted, deleted or changed.
+fn distance<A: Memory>(alloc: A, word: &[u8], known: &[u8]) -> Result<usize, NoResources>
+    ensures { IfOk result (λ apart. apart ≡ distance word.now known.now) }
+{
+    Ok(generic_levenshtein(alloc, word, known)?)
+}
+
+/// The known word that is nearest to a word by Levenshtein's distance in bytes: of several the first, and none if no word is
+/// known.
+pub fn nearest<'k, A: Memory>(
+    alloc: A,
+    word: &[u8],
+    known: &[&'k [u8]],
+) -> Result<Option<&'k [u8]>, NoResources>
+    ensures { IfOk result (λ best. option_map (λ name. name.now) best
+        ≡ nearest word.now (map (λ name. name.now) known.now)) }
+{
+    let Some((first, others)) = known.split_first() else {
+        return Ok(None);
+    };
+    let mut best = *first;
+    let mut least = distance(alloc, word, best)?;
+    for name in others {
+        let apart = distance(alloc, word, name)?;
+        if apart < least {
+            best = *name;
+            least = apart;
+        }
+    }
+    Ok(Some(best))
+}

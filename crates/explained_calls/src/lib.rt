@@ -1,0 +1,19 @@
+//! What the table of calls and the grammar of lines say of a call or of a line that is at fault, in words.
+#![tactic(auto)]
+
+pub mod call_words;
+pub mod known_words;
+pub mod line_faults;
+pub mod line_laws;
+mod line_tokens;
+mod misplaced;
+mod nearest_calls;
+pub mod pieces;
+pub mod placed_tokens;
+pub mod wanted;
+
+pub use call_words::{kind_words, put_call_words, put_spelling};
+pub use known_words::nearest;
+pub use line_faults::put_line_fault;
+pub use pieces::{ending, put_pieces, put_shortened};
+pub use placed_tokens::{Token, next_token};

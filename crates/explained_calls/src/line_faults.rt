@@ -1,0 +1,305 @@
+//! What is at fault in a line, in words.
+
+ghost use Rattle.std.specs.Prelude.{◌≡◌, ◌++◌, ◌≤◌, codes, drop, find, length, option_map, Some, OnOk};
+ghost use Rattle.std.specs.List.{after_first, position_or_len};
+ghost use Rattle.line_reader.specs.Lines.{line_class};
+ghost use Rattle.explained_calls.specs.LineFaults.{count_lines, count_words, counts_words};
+ghost use Rattle.explained_calls.specs.LineFaults.{hint_line, is_bad_number, line_fault_words};
+ghost use Rattle.explained_calls.specs.LineFaults.{nearest_words, no_call_words, number_line};
+ghost use Rattle.explained_calls.specs.LineFaults.{parts_of, unknown_call_words, wanted_words};
+ghost use Rattle.explained_calls.specs.Misplaced.{is_equals};
+ghost use Rattle.explained_calls.specs.PlacedTokens.{placed_by};
+ghost use Rattle.explained_calls.specs.Sentences.{indented};
+
+use crate::call_words::{put_call_words, put_spelling};
+use crate::line_tokens::{LineBytes, before_comment, is_boolean_token, is_equals};
+use crate::misplaced::{hint_of, is_write_line};
+use crate::nearest_calls::nearest_call;
+use crate::pieces::{ending, put_pieces, put_shortened};
+use crate::placed_tokens::next_token;
+use crate::wanted::{Hint, Wanted};
+use cvl_base::name::is_name_text;
+use cvl_base::{FaultNo, Memory, NoResources, Op, op_of};
+use itoa::Buffer;
+use line_reader::number::number;
+
+/// The words for what is wanted.
+fn wanted_words(wanted: Wanted) -> &'static [u8]
+    ensures { result.now ≡ wanted_words wanted }
+{
+    match wanted {
+        Wanted::Name => b"a name",
+        Wanted::EqualsOrName => b"= or a name",
+        Wanted::OtherName => b"another name than the first",
+        Wanted::Equals => b"=",
+        Wanted::Call => b"a call",
+        Wanted::Argument => b"a name, a number, T or F",
+    }
+}
+
+/// Appends where a line stops having the form of a line.
+fn put_hint<A: Memory>(hint: Hint, text: &mut Vec<u8, A>) -> Result<(), NoResources>
+    ensures { OnOk result (text.new.items ≡ text.old.items ++ hint_line (Some hint)) }
+{
+    let mut column = Buffer::new();
+    let column = column.format(hint.place as u128 + 1).as_bytes();
+    let end: &[u8] = if hint.ends {
+        b", but the line ends"
+    } else {
+        b""
+    };
+    put_pieces(
+        text,
+        &[
+            b"  column ",
+            column,
+            b": expected ",
+            wanted_words(hint.wanted),
+            end,
+            b"\n",
+        ],
+    )
+}
+
+/// The parts of a line that has the form of a line.
+#[derive(Clone, Copy)]
+struct Parts<'l> {
+    /// How many names stand before `=`.
+    names: usize,
+    /// The name of the call, or `write`.
+    call: &'l [u8],
+    /// The place behind it, from which on the arguments stand.
+    behind: usize,
+}
+
+/// How many tokens stand before the first `=`, and the place behind it.
+fn names_before(line: &[u8]) -> (usize, usize)
+    ensures count { result.0 ≡ position_or_len (λ token. is_equals token.bytes) (placed_by line_class 0 line.now) }
+    ensures others { placed_by line_class result.1 (drop result.1 line.now)
+        ≡ after_first (λ token. is_equals token.bytes) (placed_by line_class 0 line.now) }
+    ensures within { result.1 ≤ length line.now }
+{
+    let mut count = 0;
+    let mut place = 0;
+    while let Some((token, behind)) = next_token::<LineBytes>(line, place) {
+        if is_equals(token.bytes) {
+            return (count, behind);
+        }
+        place = behind;
+        count += 1;
+    }
+    (count, place)
+}
+
+/// The parts of a line without its comment.
+fn parts_of(line: &[u8]) -> Parts<'_>
+    ensures parts { parts_of (placed_by line_class 0 line.now) ≡ record {
+      names = result.names;
+      call = result.call.now;
+      arguments = placed_by line_class result.behind (drop result.behind line.now);
+    } }
+    ensures within { result.behind ≤ length line.now }
+{
+    let nothing = Parts {
+        names: 0,
+        call: b"",
+        behind: line.len(),
+    };
+    let Some((first, behind)) = next_token::<LineBytes>(line, 0) else {
+        return nothing;
+    };
+    if is_write_line(line, first.bytes, behind) {
+        return Parts {
+            names: 0,
+            call: first.bytes,
+            behind,
+        };
+    }
+    let (names, from) = names_before(line);
+    match next_token::<LineBytes>(line, from) {
+        Some((call, behind)) => Parts {
+            names,
+            call: call.bytes,
+            behind,
+        },
+        None => Parts { names, ..nothing },
+    }
+}
+
+/// Appends which call is the nearest, if there is one.
+fn put_nearest<A: Memory>(name: Option<&[u8]>, text: &mut Vec<u8, A>) -> Result<(), NoResources>
+    ensures { OnOk result (text.new.items ≡ text.old.items ++ nearest_words (option_map (λ name. name.now) name.entry)) }
+{
+    match name {
+        Some(name) => put_pieces(text, &[b"; the nearest call is ", name]),
+        None => Ok(()),
+    }
+}
+
+/// Appends that there is no call of this name, and the nearest that there is.
+fn put_no_call<A: Memory>(alloc: A, call: &[u8], text: &mut Vec<u8, A>) -> Result<(), NoResources>
+    ensures { OnOk result (text.new.items ≡ text.old.items ++ indented (no_call_words call.now)) }
+{
+    put_pieces(text, &[b"  ", call, b" is no call"])?;
+    put_nearest(nearest_call(alloc, call)?, text)?;
+    put_pieces(text, &[b"\n"])
+}
+
+/// Appends why a word is no call.
+fn put_unknown_call<A: Memory>(
+    alloc: A,
+    call: &[u8],
+    text: &mut Vec<u8, A>,
+) -> Result<(), NoResources>
+    ensures { OnOk result (text.new.items ≡ text.old.items ++ indented (unknown_call_words call.now)) }
+{
+    if call == b"write".as_slice() {
+        put_pieces(
+            text,
+            &[b"  write is no call: it begins a line of its own, and binds no name\n"],
+        )
+    } else {
+        put_no_call(alloc, call, text)
+    }
+}
+
+/// How many tokens the line has from a place on.
+fn count_tokens(line: &[u8], from: usize) -> usize
+    requires { from ≤ length line.now }
+    ensures { result ≡ length (placed_by line_class from (drop from line.now)) }
+{
+    let mut count = 0;
+    let mut place = from;
+    while let Some((_, behind)) = next_token::<LineBytes>(line, place) {
+        place = behind;
+        count += 1;
+    }
+    count
+}
+
+/// Appends how many things are wanted, and how many the line has.
+fn put_counts<A: Memory>(
+    verb: &'static [u8],
+    wanted: usize,
+    thing: &'static [u8],
+    present: usize,
+    text: &mut Vec<u8, A>,
+) -> Result<(), NoResources>
+    ensures { OnOk result (text.new.items ≡ text.old.items ++ (counts_words verb.now wanted thing.now present ++ codes "\n")) }
+{
+    let (mut wants, mut has) = (Buffer::new(), Buffer::new());
+    let wants = wants.format(wanted).as_bytes();
+    let has = has.format(present).as_bytes();
+    let middle = b", and the line has ";
+    put_pieces(
+        text,
+        &[verb, wants, b" ", thing, ending(wanted), middle, has, b"\n"],
+    )
+}
+
+/// Appends how many arguments or names a call wants, and how many the line has.
+fn put_count_words<A: Memory>(
+    op: Op,
+    names: usize,
+    arguments: usize,
+    text: &mut Vec<u8, A>,
+) -> Result<(), NoResources>
+    ensures { OnOk result (text.new.items ≡ text.old.items ++ indented (count_words op names arguments)) }
+{
+    put_pieces(text, &[b"  "])?;
+    put_spelling(op, text)?;
+    if op.takes(arguments) {
+        put_counts(b" binds ", op.binds(), b"name", names, text)
+    } else if op.is_write() {
+        let mut has = Buffer::new();
+        let has = has.format(arguments).as_bytes();
+        put_pieces(
+            text,
+            &[b" takes 1 or 2 names, and the line has ", has, b"\n"],
+        )
+    } else {
+        put_counts(
+            b" takes ",
+            op.operands().len(),
+            b"argument",
+            arguments,
+            text,
+        )
+    }
+}
+
+/// Appends what a call takes and gives, and how many arguments or names it wants and the line has.
+fn put_count_lines<A: Memory>(
+    op: Op,
+    names: usize,
+    arguments: usize,
+    text: &mut Vec<u8, A>,
+) -> Result<(), NoResources>
+    ensures { OnOk result (text.new.items ≡ text.old.items ++ count_lines op names arguments) }
+{
+    put_call_words(op, text)?;
+    put_count_words(op, names, arguments, text)
+}
+
+/// Whether an argument is a number that is malformed or does not fit 32 bits.
+fn is_bad_number(token: &[u8]) -> bool
+    ensures { result ≡ is_bad_number token.now }
+{
+    !is_name_text(token) && !is_boolean_token(token) && number(token).is_none()
+}
+
+/// Appends the first argument that is a bad number, and what a number has to be.
+fn put_bad_number<A: Memory>(
+    line: &[u8],
+    from: usize,
+    text: &mut Vec<u8, A>,
+) -> Result<(), NoResources>
+    requires { from ≤ length line.now }
+    ensures { OnOk result (text.new.items ≡ text.old.items
+        ++ number_line (find (λ token. is_bad_number token.bytes) (placed_by line_class from (drop from line.now)))) }
+{
+    let mut place = from;
+    while let Some((token, behind)) = next_token::<LineBytes>(line, place) {
+        if is_bad_number(token.bytes) {
+            put_pieces(text, &[b"  "])?;
+            put_shortened(text, token.bytes)?;
+            return put_pieces(text, &[b" is no integer from -2147483648 to 2147483647\n"]);
+        }
+        place = behind;
+    }
+    Ok(())
+}
+
+/// Appends the lines of an explanation for a fault that the script's line alone shows, each with two spaces before it and a line
+/// feed behind it. Of other faults it appends nothing.
+///
+/// Of a `BadLine` it tells where the line stops having the form of a line, by the column in bytes, counted from 1, and what may
+/// stand there; of an `UnknownCall` the word and the call whose name is nearest; of a `WrongArgumentCount` what the call takes,
+/// and how many arguments or names it wants and the line has; of a `BadNumber` the token.
+pub fn put_line_fault<A: Memory>(
+    alloc: A,
+    line: &[u8],
+    number: FaultNo,
+    text: &mut Vec<u8, A>,
+) -> Result<(), NoResources>
+    ensures { OnOk result (text.new.items ≡ text.old.items ++ line_fault_words line.now number) }
+{
+    let line = before_comment(line);
+    if number == FaultNo::BadLine {
+        return match hint_of(line) {
+            Some(hint) => put_hint(hint, text),
+            None => Ok(()),
+        };
+    }
+    let parts = parts_of(line);
+    match number {
+        FaultNo::UnknownCall => put_unknown_call(alloc, parts.call, text),
+        FaultNo::WrongArgumentCount => {
+            let op = op_of(parts.call).unwrap_or(Op::Write);
+            let arguments = count_tokens(line, parts.behind);
+            put_count_lines(op, parts.names, arguments, text)
+        }
+        FaultNo::BadNumber => put_bad_number(line, parts.behind, text),
+        _ => Ok(()),
+    }
+}

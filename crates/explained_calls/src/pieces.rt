@@ -1,0 +1,41 @@
+//! Texts that are put together from pieces.
+
+ghost use Rattle.std.specs.Prelude.{◌≡◌, ◌++◌, [], ◌∷◌, map, OnOk};
+ghost use Rattle.std.specs.List.{concat};
+ghost use Rattle.explained_calls.specs.Sentences.{ending, shortened};
+
+use cvl_base::{Memory, NoResources};
+
+/// Appends the pieces, one after another.
+pub fn put_pieces<A: Memory>(text: &mut Vec<u8, A>, pieces: &[&[u8]]) -> Result<(), NoResources>
+    ensures { OnOk result (text.new.items ≡ text.old.items ++ concat (map (λ piece. piece.now) pieces.now)) }
+{
+    let mut bytes: usize = 0;
+    for piece in pieces {
+        bytes = bytes.saturating_add(piece.len());
+    }
+    text.reserve(bytes)?;
+    for piece in pieces {
+        text.extend_from_slice(piece)?;
+    }
+    Ok(())
+}
+
+/// Appends a token as it stands; of a long one the first 40 bytes and `..`.
+pub fn put_shortened<A: Memory>(text: &mut Vec<u8, A>, token: &[u8]) -> Result<(), NoResources>
+    ensures { OnOk result (text.new.items ≡ text.old.items ++ shortened token.now) }
+{
+    if token.len() <= 40 {
+        put_pieces(text, &[token])
+    } else {
+        let (front, _others) = token.split_at(40);
+        put_pieces(text, &[front, b".."])
+    }
+}
+
+/// What stands behind the word for a thing that is counted: `s`, unless there is one.
+pub fn ending(count: usize) -> &'static [u8]
+    ensures { result.now ≡ ending count }
+{
+    if count == 1 { b"" } else { b"s" }
+}

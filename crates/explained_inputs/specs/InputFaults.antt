@@ -1,0 +1,81 @@
+-- What is wrong with an input, in words: where the token stands at which it is none, and what was expected there.
+-- Source: this library's input formats.
+use Rattle.std.specs.Prelude.{ℕ, ◌-◌, ◌==◌, ◌++◌, Bool, true, false, List, [], codes, count_by, drop, length, slice_get, take}
+use Rattle.std.specs.Prelude.{Option, Some, None, if◌then◌else◌}
+use Rattle.std.specs.Fmt.{decimal}
+use Rattle.call_reader.specs.Inputs.{input_class}
+use Rattle.call_reader.specs.NestedTexts.{nested_class}
+use Rattle.explained_calls.specs.Sentences.{indented, shortened}
+use Rattle.explained_inputs.specs.TokenPlaces.{column_at, first_of, line_at, token_starts}
+
+-- `numbers:3:7: `, with the line and the column of a place
+abbrev pub position_words : List ℕ → List ℕ → ℕ → List ℕ
+position_words file bytes place =
+    file ++ codes ":" ++ decimal (line_at bytes place) ++ codes ":" ++ decimal (column_at bytes place) ++ codes ": "
+
+-- a token in quotation marks
+abbrev pub quoted : List ℕ → List ℕ
+quoted token = codes "\"" ++ shortened token ++ codes "\""
+
+-- `numbers:3:7: "12x" is no integer from -2147483648 to 2147483647`
+abbrev pub flat_words : List ℕ → List ℕ → ℕ → List ℕ
+flat_words file bytes start =
+    position_words file bytes start
+    ++ quoted (first_of input_class (drop start bytes)) ++ codes " is no integer from -2147483648 to 2147483647"
+
+abbrev pub flat_words_at : List ℕ → List ℕ → Option ℕ → List ℕ
+flat_words_at file bytes None = []
+flat_words_at file bytes (Some start) = indented (flat_words file bytes start)
+
+-- how many lists are open before a place: more `[` (91) than `]` (93) stand there
+abbrev pub open_lists : List ℕ → ℕ → ℕ
+open_lists bytes place = count_by (λ b. b == 91) (take place bytes) - count_by (λ b. b == 93) (take place bytes)
+
+-- what may stand where so many lists are open, behind tokens or in the beginning
+abbrev pub expected_at : Bool → ℕ → List ℕ
+expected_at is_first lists =
+    if is_first then codes "\"[\""
+    else (if lists == 0 then codes "the end"
+    else (if lists == 1 then codes "\"[\" or \"]\""
+    else codes "an integer from -2147483648 to 2147483647 or \"]\""))
+
+abbrev pub expected_words : List ℕ → ℕ → ℕ → List ℕ
+expected_words bytes token place = expected_at (token == 0) (open_lists bytes place)
+
+-- `lists:2:5: the text ends where "[" or "]" is expected`
+abbrev pub end_words : List ℕ → List ℕ → ℕ → List ℕ
+end_words file bytes token =
+    position_words file bytes (length bytes)
+    ++ codes "the text ends where " ++ expected_words bytes token (length bytes) ++ codes " is expected"
+
+-- `lists:2:5: "x" stands where "[" or "]" is expected`
+abbrev pub stray_words : List ℕ → List ℕ → ℕ → ℕ → List ℕ
+stray_words file bytes token start =
+    position_words file bytes start ++ quoted (first_of nested_class (drop start bytes)) ++ codes " stands where "
+    ++ expected_words bytes token start ++ codes " is expected"
+
+abbrev pub nested_words_at : List ℕ → List ℕ → ℕ → Option ℕ → List ℕ
+nested_words_at file bytes token None = indented (end_words file bytes token)
+nested_words_at file bytes token (Some start) = indented (stray_words file bytes token start)
+
+-- the words on an input's token at a place, counted from 0, in a nested text or in an input of numbers alone
+abbrev pub bytes_words : Bool → List ℕ → List ℕ → ℕ → List ℕ
+bytes_words true file bytes token = nested_words_at file bytes token (slice_get (token_starts nested_class bytes) token)
+bytes_words false file bytes token = flat_words_at file bytes (slice_get (token_starts input_class bytes) token)
+
+-- the words on an input that is too long
+abbrev pub too_long_words : Bool → List ℕ → List ℕ
+too_long_words true file = indented (file ++ codes " has more than 4194304 numbers or inner lists")
+too_long_words false file = indented (file ++ codes " has more than 4194304 numbers")
+
+-- the words on an input that is a vector
+abbrev pub vector_words : Bool → List ℕ → List ℕ
+vector_words true file = indented (file ++ codes " is a vector, and nested reads a text")
+vector_words false file = []
+
+-- the line on an input, which has bytes or is a vector: a fault with a place stands at the token there, and one without is that of
+-- an input that is too long
+abbrev pub input_fault_words : Bool → List ℕ → Option (List ℕ) → Option ℕ → List ℕ
+input_fault_words is_nested file None place = vector_words is_nested file
+input_fault_words is_nested file (Some bytes) None = too_long_words is_nested file
+input_fault_words is_nested file (Some bytes) (Some token) = bytes_words is_nested file bytes token

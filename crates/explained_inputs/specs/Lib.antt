@@ -1,0 +1,2 @@
+pub mod InputFaults
+pub mod TokenPlaces

@@ -1,0 +1,208 @@
+//! What is wrong with an input, in words.
+
+ghost use Rattle.std.specs.Prelude.{◌≡◌, ◌++◌, false, true, OnOk, option_copied};
+ghost use Rattle.explained_calls.specs.Sentences.{indented};
+ghost use Rattle.explained_inputs.specs.InputFaults.{bytes_words, end_words, expected_words};
+ghost use Rattle.explained_inputs.specs.InputFaults.{flat_words, input_fault_words, position_words};
+ghost use Rattle.explained_inputs.specs.InputFaults.{quoted, stray_words, too_long_words, vector_words};
+
+use crate::classes::{FlatBytes, NestedBytes};
+use crate::token_places::{column_at, count_of, first_of, from_place, line_at, token_start};
+use cvl_base::{Memory, NoResources};
+use explained_calls::{put_pieces, put_shortened};
+use itoa::Buffer;
+
+/// Writes the file's name with the line and the column of a place: `numbers:3:7: `.
+fn put_position<B: Memory>(
+    file: &[u8],
+    bytes: &[u8],
+    place: usize,
+    text: &mut Vec<u8, B>,
+) -> Result<(), NoResources>
+    ensures { OnOk result (text.new.items ≡ text.old.items ++ position_words file.now bytes.now place) }
+{
+    let mut line = Buffer::new();
+    let mut column = Buffer::new();
+    let line = line.format(line_at(bytes, place)).as_bytes();
+    let column = column.format(column_at(bytes, place)).as_bytes();
+    put_pieces(text, &[file, b":", line, b":", column, b": "])
+}
+
+/// Writes a token in quotation marks, of a long one the first 40 bytes.
+fn put_quoted<B: Memory>(token: &[u8], text: &mut Vec<u8, B>) -> Result<(), NoResources>
+    ensures { OnOk result (text.new.items ≡ text.old.items ++ quoted token.now) }
+{
+    put_pieces(text, &[b"\""])?;
+    put_shortened(text, token)?;
+    put_pieces(text, &[b"\""])
+}
+
+/// Writes the line on the token of an input of numbers alone that begins at a place.
+fn put_flat<B: Memory>(
+    file: &[u8],
+    bytes: &[u8],
+    start: usize,
+    text: &mut Vec<u8, B>,
+) -> Result<(), NoResources>
+    ensures { OnOk result (text.new.items ≡ text.old.items ++ indented (flat_words file.now bytes.now start)) }
+{
+    put_pieces(text, &[b"  "])?;
+    put_position(file, bytes, start, text)?;
+    put_quoted(first_of::<FlatBytes>(from_place(bytes, start)), text)?;
+    put_pieces(text, &[b" is no integer from -2147483648 to 2147483647\n"])
+}
+
+/// Writes the line on a token, by its number, of an input of numbers alone.
+fn put_flat_fault<B: Memory>(
+    file: &[u8],
+    bytes: &[u8],
+    token: usize,
+    text: &mut Vec<u8, B>,
+) -> Result<(), NoResources>
+    ensures { OnOk result (text.new.items ≡ text.old.items ++ bytes_words false file.now bytes.now token) }
+{
+    match token_start::<FlatBytes>(bytes, token) {
+        None => Ok(()),
+        Some(start) => put_flat(file, bytes, start, text),
+    }
+}
+
+/// What may stand at a place of a nested text before which there are so many tokens.
+fn expected_words(bytes: &[u8], token: usize, place: usize) -> &'static [u8]
+    ensures { result.now ≡ expected_words bytes.now token place }
+{
+    if token == 0 {
+        return b"\"[\"";
+    }
+    let opened = count_of(b'[', bytes, place);
+    let closed = count_of(b']', bytes, place);
+    match opened.saturating_sub(closed) {
+        0 => b"the end",
+        1 => b"\"[\" or \"]\"",
+        _ => b"an integer from -2147483648 to 2147483647 or \"]\"",
+    }
+}
+
+/// Writes the line on a nested text that ends too early.
+fn put_end<B: Memory>(
+    file: &[u8],
+    bytes: &[u8],
+    token: usize,
+    text: &mut Vec<u8, B>,
+) -> Result<(), NoResources>
+    ensures { OnOk result (text.new.items ≡ text.old.items ++ indented (end_words file.now bytes.now token)) }
+{
+    let expected = expected_words(bytes, token, bytes.len());
+    put_pieces(text, &[b"  "])?;
+    put_position(file, bytes, bytes.len(), text)?;
+    put_pieces(
+        text,
+        &[b"the text ends where ", expected, b" is expected\n"],
+    )
+}
+
+/// Writes the line on the token of a nested text that begins at a place.
+fn put_stray<B: Memory>(
+    file: &[u8],
+    bytes: &[u8],
+    token: usize,
+    start: usize,
+    text: &mut Vec<u8, B>,
+) -> Result<(), NoResources>
+    ensures { OnOk result (text.new.items ≡ text.old.items ++ indented (stray_words file.now bytes.now token start)) }
+{
+    let expected = expected_words(bytes, token, start);
+    put_pieces(text, &[b"  "])?;
+    put_position(file, bytes, start, text)?;
+    put_quoted(first_of::<NestedBytes>(from_place(bytes, start)), text)?;
+    put_pieces(text, &[b" stands where ", expected, b" is expected\n"])
+}
+
+/// Writes the line on a token, by its number, of a nested text.
+fn put_nested_fault<B: Memory>(
+    file: &[u8],
+    bytes: &[u8],
+    token: usize,
+    text: &mut Vec<u8, B>,
+) -> Result<(), NoResources>
+    ensures { OnOk result (text.new.items ≡ text.old.items ++ bytes_words true file.now bytes.now token) }
+{
+    match token_start::<NestedBytes>(bytes, token) {
+        None => put_end(file, bytes, token, text),
+        Some(start) => put_stray(file, bytes, token, start, text),
+    }
+}
+
+/// Writes the line on a token, by its number, of a nested text or of an input of numbers alone.
+fn put_bytes_fault<B: Memory>(
+    is_nested: bool,
+    file: &[u8],
+    bytes: &[u8],
+    token: usize,
+    text: &mut Vec<u8, B>,
+) -> Result<(), NoResources>
+    ensures { OnOk result (text.new.items ≡ text.old.items ++ bytes_words is_nested file.now bytes.now token) }
+{
+    if is_nested {
+        put_nested_fault(file, bytes, token, text)
+    } else {
+        put_flat_fault(file, bytes, token, text)
+    }
+}
+
+/// Writes the line on an input that is a vector.
+fn put_vector<B: Memory>(
+    is_nested: bool,
+    file: &[u8],
+    text: &mut Vec<u8, B>,
+) -> Result<(), NoResources>
+    ensures { OnOk result (text.new.items ≡ text.old.items ++ vector_words is_nested file.now) }
+{
+    if is_nested {
+        let end = b" is a vector, and nested reads a text\n";
+        put_pieces(text, &[b"  ", file, end])
+    } else {
+        Ok(())
+    }
+}
+
+/// Writes the line on an input that is too long.
+fn put_too_long<B: Memory>(
+    is_nested: bool,
+    file: &[u8],
+    text: &mut Vec<u8, B>,
+) -> Result<(), NoResources>
+    ensures { OnOk result (text.new.items ≡ text.old.items ++ too_long_words is_nested file.now) }
+{
+    if is_nested {
+        let end = b" has more than 4194304 numbers or inner lists\n";
+        put_pieces(text, &[b"  ", file, end])
+    } else {
+        put_pieces(text, &[b"  ", file, b" has more than 4194304 numbers\n"])
+    }
+}
+
+/// Writes the line on an input at fault, which is the bytes of a file of this name, or none where it is a vector: two
+/// spaces before it, a line feed behind it. `place` is that of the fault: the number of a token, counted from 0, or none
+/// where the input is too long.
+///
+/// The line has the file's name, the line and the column of the token, counted from 1 and in bytes, and the token, of a
+/// long one the first 40 bytes; in a nested text also what was expected there.
+pub fn put_input_fault<B: Memory>(
+    is_nested: bool,
+    file: &[u8],
+    bytes: Option<&[u8]>,
+    place: Option<u32>,
+    text: &mut Vec<u8, B>,
+) -> Result<(), NoResources>
+    ensures { OnOk result (text.new.items
+        ≡ text.old.items ++ input_fault_words is_nested file.now (option_copied bytes.entry) place) }
+{
+    match bytes {
+        None => put_vector(is_nested, file, text),
+        Some(bytes) => match place {
+            None => put_too_long(is_nested, file, text),
+            Some(token) => put_bytes_fault(is_nested, file, bytes, token as usize, text),
+        },
+    }
+}

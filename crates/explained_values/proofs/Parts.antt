@@ -1,0 +1,46 @@
+-- Sentences that are written part by part.
+use Rattle.std.proofs.Common.{◌≡◌, ℕ, ℤ, List, [], ◌∷◌, ◌++◌, length, map, sum, append_assoc, append-nil, ap, sym, refl, codes, Option, Some, None, Result, OnOk, option_map}
+use Rattle.std.specs.Prelude.{unsigned_abs}
+use Rattle.std.specs.List.{concat}
+use Rattle.std.specs.Option.{option_map_or}
+use Rattle.std.proofs.lemmas.List.{length-map}
+use Rattle.explained_calls.specs.Sentences.{counted, indented}
+use Rattle.explained_values.specs.Arguments.{descriptor_words, line_of}
+
+-- the parts of the words on a descriptor
+pub descriptor_joined : (lengths : List ℤ)
+    → codes "a descriptor, " ++ counted (length lengths) (codes "segment") ++ codes ", " ++ counted (sum (map unsigned_abs lengths)) (codes "element")
+    ≡ descriptor_words (map unsigned_abs lengths)
+descriptor_joined lengths =
+    ap (λ n. codes "a descriptor, " ++ counted n (codes "segment") ++ codes ", " ++ counted (sum (map unsigned_abs lengths)) (codes "element"))
+    (sym (length-map lengths unsigned_abs))
+
+-- no line where there is nothing to be said
+pub no_line : {X : Type 0} (words : X → List ℕ) (o : Option X) (text : List ℕ) → o ≡ None → text ≡ text ++ line_of (option_map words o)
+no_line words o text none = rw none (sym (append-nil text))
+
+-- and a line where there is something
+pub a_line : {X E : Type 0} (r : Result (Unit {0}) E) (words : X → List ℕ) (o : Option X) (x : X) (old new : List ℕ) → o ≡ Some x
+    → OnOk r (new ≡ old ++ indented (words x)) → OnOk r (new ≡ old ++ line_of (option_map words o))
+a_line r words o x old new some put = rw some put
+
+-- the same of words that go on in a line
+pub no_words : {X : Type 0} (words : X → List ℕ) (o : Option X) (text : List ℕ) → o ≡ None → text ≡ text ++ option_map_or words o []
+no_words words o text none = rw none (sym (append-nil text))
+
+pub some_words : {X E : Type 0} (r : Result (Unit {0}) E) (words : X → List ℕ) (o : Option X) (x : X) (old new : List ℕ) → o ≡ Some x
+    → OnOk r (new ≡ old ++ words x) → OnOk r (new ≡ old ++ option_map_or words o [])
+some_words r words o x old new some put = rw some put
+
+pub unbound_joined : (word nearest words : List ℕ) → nearest ≡ words
+    → concat (codes "  " ∷ word ∷ codes " is not bound" ∷ []) ++ nearest ++ codes "\n" ≡ indented (word ++ codes " is not bound" ++ words)
+unbound_joined word nearest words e = rw e refl
+
+pub sum_joined : (part end : List ℕ)
+    → codes "  the sum of " ++ part ++ end ++ codes " does not fit 32 bits\n" ≡ indented (codes "the sum of " ++ part ++ end ++ codes " does not fit 32 bits")
+sum_joined part end = simp append_assoc refl
+
+pub total_joined : (word digits total : List ℕ) → digits ≡ total
+    → concat (codes "  the lengths in " ∷ word ∷ codes " add up to " ∷ digits ∷ codes ", and a vector has at most 4194304 elements\n" ∷ [])
+    ≡ indented (codes "the lengths in " ++ word ++ codes " add up to " ++ total ++ codes ", and a vector has at most 4194304 elements")
+total_joined word digits total e = rw e (simp append_assoc refl)

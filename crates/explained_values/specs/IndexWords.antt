@@ -1,0 +1,82 @@
+-- What an index counts among, and the earlier index that is the same.
+-- Source: CVL's permutes, extract and replace, in this library's profile.
+use Rattle.std.specs.Prelude.{ℕ, ℤ, Bool, true, false, ◌+◌, ◌++◌, ◌&&◌, List, [], codes, drop, position, take, slice_index, if◌then◌else◌}
+use Rattle.std.specs.Prelude.{Option, Some, None, option_and_then, option_map}
+use Rattle.std.specs.Option.{option_map_or}
+use Rattle.std.specs.List.{zip}
+use Rattle.std.specs.Ordering.{int_eq}
+use Rattle.cvl_base.specs.declared.families.Form.TheVariants.{Simple, Back, Select, Default}
+use Rattle.cvl_base.specs.declared.operation.Op.{Op}
+use Rattle.cvl_base.specs.declared.operation.Op.TheVariants as op
+use Rattle.cvl_base.specs.Packs.{count_of}
+use Rattle.bound_names.specs.Arguments.{booleans_in, integers_in, lengths_in}
+use Rattle.explained_calls.specs.Sentences.{counted}
+use Rattle.explained_values.specs.declared.index_words.Room.{Room}
+use Rattle.explained_values.specs.Arguments.{Spelled, spelled_at, element_name, elements_in, integer_at}
+use Rattle.explained_values.specs.Segments.{part_words, places_of, segment_at, segment_in, start_at}
+
+abbrev room : ℕ → ℕ → Bool → Room
+room vector descriptor true_ones = record { vector = vector; descriptor = descriptor; true_ones = true_ones }
+
+-- what the index of each call counts among: the elements of a vector, or its true flags, by the places of the arguments; the
+-- descriptor is that of the vector's segments
+abbrev pub room_of : Op → Room
+room_of (op.Permute Simple cut e) = room 0 2 false
+room_of (op.Permute Back cut e) = room 0 2 false
+room_of (op.Permute Select cut e) = room 2 3 true
+room_of (op.Permute Default cut e) = room 2 4 false
+room_of (op.Replace cut e) = room 0 3 false
+room_of _ = room 0 2 false
+
+module _ {A : Type 0} where
+  -- how many elements, or true flags, there are in the vector or in a segment of it
+  abbrev pub amount_in : Room → Option ℕ → Spelled A → List ℕ → ℕ
+  amount_in room None vector lengths = if room.true_ones then count_of (booleans_in vector.value) else elements_in vector.value
+  amount_in room (Some segment) vector lengths =
+      if room.true_ones then count_of (segment_in lengths segment (booleans_in vector.value)) else slice_index lengths segment
+
+  -- `v has 8 elements`, `segment 1 of flags has 1 true flag`
+  abbrev pub room_words : Op → List (Spelled A) → ℕ → List ℕ
+  room_words op args place =
+      let room = room_of op in
+      let segment = segment_at (places_of op) args place in
+      let vector = spelled_at args room.vector in
+      let lengths = lengths_in (spelled_at args room.descriptor).value in
+      part_words segment vector.word ++ codes " has "
+      ++ counted (amount_in room segment vector lengths) (if room.true_ones then codes "true flag" else codes "element")
+
+-- the flags by which a permute takes places, where it has some
+abbrev pub has_flags : Op → Bool
+has_flags (op.Permute Select cut e) = true
+has_flags _ = false
+
+-- how far behind the start the first place has this index, before another place
+abbrev pub same_before : List ℤ → ℕ → ℕ → ℤ → Option ℕ
+same_before index start place i = position (λ j. int_eq j i) (drop start (take place index))
+
+-- the same of the places whose flag is true
+abbrev pub same_flagged_before : List ℤ → List Bool → ℕ → ℕ → ℤ → Option ℕ
+same_flagged_before index flags start place i =
+    position (λ p. p.1 && int_eq p.0 i) (drop start (take place (zip index flags)))
+
+-- `, which index[1] sent to before`
+abbrev pub sender_words : List ℕ → ℕ → List ℕ
+sender_words index first = codes ", which " ++ element_name index first ++ codes " sent to before"
+
+module _ {A : Type 0} where
+  -- the first place of the same segment, before this one, with this index
+  abbrev pub first_sender : Op → List (Spelled A) → ℕ → ℤ → Option ℕ
+  first_sender op args place i =
+      let index = integers_in (spelled_at args 1).value in
+      let start = start_at (places_of op) args place in
+      option_map (λ k. start + k)
+      (if has_flags op then same_flagged_before index (booleans_in (spelled_at args 2).value) start place i
+      else same_before index start place i)
+
+  -- the first place that has the same index as this one
+  abbrev pub first_place : Op → List (Spelled A) → ℕ → Option ℕ
+  first_place op args place = option_and_then (first_sender op args place) (integer_at (spelled_at args 1).value place)
+
+  -- which earlier index is the same
+  abbrev pub repeated_words : Op → List (Spelled A) → ℕ → List ℕ
+  repeated_words op args place = option_map_or (sender_words (spelled_at args 1).word) (first_place op args place) []

@@ -1,0 +1,14 @@
+//! What is wrong with the arguments of a call, in words: the element, the number or the lengths at which it has no value.
+#![tactic(auto)]
+
+pub mod arguments;
+pub mod extents;
+pub mod index_words;
+mod number_words;
+pub mod segments;
+mod sentences;
+mod sum_words;
+pub mod value_faults;
+
+pub use arguments::{Argument, Holding, put_argument};
+pub use value_faults::put_value_fault;

@@ -1,0 +1,138 @@
+//! The segment in which a fault of a call stands.
+
+ghost use Rattle.std.specs.Prelude.{◌≡◌, ℕ, ◌≤◌, ◌++◌, List, OnOk, length, map, slice_index, sum, unsigned_abs};
+ghost use Rattle.cvl_base.specs.Limits.{most_elements};
+ghost use Rattle.explained_values.specs.Segments.{part_words, places_of, segment_at, segment_of, start_at, start_of};
+
+use crate::arguments::{Argument, spelled_at};
+use cvl_base::{Cut, Form, Memory, NoResources, Op};
+use explained_calls::put_pieces;
+use itoa::Buffer;
+
+/// What the place of a fault counts.
+#[derive(Clone, Copy)]
+pub enum Places {
+    /// The elements of a whole vector.
+    Whole,
+    /// Segments.
+    OfSegments,
+    /// The elements of a vector that the descriptor at this place among the arguments cuts.
+    CutBy(usize),
+}
+
+/// What the place of a call's fault counts.
+pub(crate) fn places_of(op: Op) -> Places
+    ensures { result ≡ places_of op }
+{
+    match op {
+        Op::Permute(Form::Simple, Cut::Segmented, _) => Places::CutBy(2),
+        Op::Permute(_, Cut::Segmented, _) => Places::CutBy(3),
+        Op::CheckedScan(Cut::Segmented) => Places::CutBy(1),
+        Op::CheckedReduce(Cut::Segmented)
+        | Op::Extract(Cut::Segmented, _)
+        | Op::Replace(Cut::Segmented, _) => Places::OfSegments,
+        _ => Places::Whole,
+    }
+}
+
+/// The sum of the magnitudes.
+pub(crate) fn total_of(lengths: &[i32]) -> usize
+    requires { length lengths.now ≤ most_elements }
+    ensures { result ≡ sum (map unsigned_abs lengths.now) }
+{
+    lengths
+        .iter()
+        .map(|length| length.unsigned_abs() as usize)
+        .sum()
+}
+
+/// How many elements a segment has.
+pub(crate) fn length_at(lengths: &[i32], segment: usize) -> usize
+    ensures { result ≡ slice_index (map unsigned_abs lengths.now) segment }
+{
+    match lengths.get(segment) {
+        Some(length) => length.unsigned_abs() as usize,
+        None => 0,
+    }
+}
+
+/// The segment that has a place of the whole vector.
+fn segment_of(lengths: &[i32], place: usize) -> usize
+    requires { sum (map unsigned_abs lengths.now) ≤ most_elements }
+    ensures { result ≡ segment_of (map unsigned_abs lengths.now) place }
+{
+    let mut end = 0;
+    for segment in 0..lengths.len() {
+        end += length_at(lengths, segment);
+        if place < end {
+            return segment;
+        }
+    }
+    lengths.len()
+}
+
+/// Where a segment starts in the whole vector.
+#[tactic(auto, using(crate::proofs::SegmentWalk::starts, crate::proofs::SegmentWalk::ends))]
+pub(crate) fn start_of(lengths: &[i32], segment: usize) -> usize
+    requires { length lengths.now ≤ most_elements }
+    ensures { result ≡ start_of (map unsigned_abs lengths.now) segment }
+{
+    if segment < lengths.len() {
+        total_of(&lengths[..segment])
+    } else {
+        total_of(lengths)
+    }
+}
+
+/// The segment of a fault, where the call takes its vectors by segments.
+pub(crate) fn segment_at<A: Memory>(
+    places: Places,
+    arguments: &[Argument<'_, A>],
+    place: usize,
+) -> Option<usize>
+    ensures { result ≡ segment_at places arguments.now place }
+{
+    match places {
+        Places::Whole => None,
+        Places::OfSegments => Some(place),
+        Places::CutBy(descriptor) => Some(segment_of(
+            spelled_at(arguments, descriptor).lengths(),
+            place,
+        )),
+    }
+}
+
+/// Where the segment of a fault starts, and 0 where nothing is cut.
+pub(crate) fn start_at<A: Memory>(
+    places: Places,
+    arguments: &[Argument<'_, A>],
+    place: usize,
+) -> usize
+    ensures { result ≡ start_at places arguments.now place }
+{
+    match places {
+        Places::CutBy(descriptor) => {
+            let lengths = spelled_at(arguments, descriptor).lengths();
+            start_of(lengths, segment_of(lengths, place))
+        }
+        _ => 0,
+    }
+}
+
+/// Writes the name of a vector, or of a segment of it: `segment 1 of v`.
+pub(crate) fn put_part<B: Memory>(
+    segment: Option<usize>,
+    vector: &[u8],
+    text: &mut Vec<u8, B>,
+) -> Result<(), NoResources>
+    ensures { OnOk result (text.new.items ≡ text.old.items ++ part_words segment vector.now) }
+{
+    match segment {
+        None => put_pieces(text, &[vector]),
+        Some(segment) => {
+            let mut digits = Buffer::new();
+            let number = digits.format(segment).as_bytes();
+            put_pieces(text, &[b"segment ", number, b" of ", vector])
+        }
+    }
+}

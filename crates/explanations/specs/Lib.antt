@@ -1,0 +1,3 @@
+pub mod ArgumentLines
+pub mod Bindings
+pub mod Explained

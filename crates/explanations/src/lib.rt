@@ -1,0 +1,12 @@
+//! What explains why a run of a script stopped: the script's line, what its call takes, its arguments and what bound them,
+//! and what is at fault.
+#![tactic(auto)]
+
+mod argument_lines;
+pub mod bindings;
+mod call_faults;
+pub mod input_files;
+pub mod stops;
+
+pub use input_files::InputFile;
+pub use stops::explain;

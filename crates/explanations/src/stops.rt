@@ -1,0 +1,154 @@
+//! What is explained of the stop of a script.
+
+ghost use Rattle.std.specs.Prelude.{◌≡◌, ◌++◌, IfOk, OnOk};
+ghost use Rattle.explained_calls.specs.Sentences.{indented};
+ghost use Rattle.explanations.specs.Explained.{explained, explained_call, explained_fault};
+ghost use Rattle.explanations.specs.Explained.{explained_line, quoted, shortened_line, too_long_words};
+ghost use Rattle.line_reader.specs.Lines.{call_of};
+
+use crate::argument_lines::put_arguments;
+use crate::bindings::{Binding, stopped_at};
+use crate::call_faults::put_call_fault;
+use crate::input_files::InputFile;
+use cvl_base::{Call, Fault, Memory, NoResources, Refused};
+use explained_calls::{put_call_words, put_line_fault, put_pieces};
+use itoa::Buffer;
+use line_reader::read_line;
+use script_runs::Stop;
+use vector_handles::Session;
+
+/// What to try where memory ran out.
+const MEMORY: &[u8] =
+    b"  memory ran out: try shorter vectors, bind fewer names, or allow the process more memory\n";
+
+/// What to try where a write failed.
+const WRITE: &[u8] =
+    b"  standard output took no more: is the disk full, or did the reader of a pipe close it?\n";
+
+/// How many bytes of a line are told.
+const MOST_TOLD: usize = 200;
+
+/// A line as it stands, in two pieces; of a long one the first 200 bytes and `..`.
+fn shortened_line<'l>(line: &'l [u8]) -> (&'l [u8], &'l [u8])
+    ensures { result.0.now ++ result.1.now ≡ shortened_line line.now }
+{
+    if line.len() <= MOST_TOLD {
+        return (line, b"");
+    }
+    let (front, _) = line.split_at(MOST_TOLD);
+    (front, b"..")
+}
+
+/// Appends a line of the script, with its number.
+fn put_quoted<A: Memory>(number: u32, line: &[u8], text: &mut Vec<u8, A>) -> Result<(), NoResources>
+    ensures { OnOk result (text.new.items ≡ text.old.items ++ quoted number line.now) }
+{
+    let (front, more) = shortened_line(line);
+    let mut digits = Buffer::new();
+    let number = digits.format(number).as_bytes();
+    put_pieces(text, &[b"  ", number, b" | ", front, more, b"\n"])
+}
+
+/// Appends how long a script is that is too long.
+fn put_too_long<A: Memory>(script: &[u8], text: &mut Vec<u8, A>) -> Result<(), NoResources>
+    ensures { OnOk result (text.new.items ≡ text.old.items ++ indented (too_long_words script.now)) }
+{
+    let mut digits = Buffer::new();
+    let bytes = digits.format(script.len()).as_bytes();
+    put_pieces(
+        text,
+        &[
+            b"  the script has ",
+            bytes,
+            b" bytes, and may have at most 1048576\n",
+        ],
+    )
+}
+
+/// Appends what a call takes, its arguments, and what is at fault.
+fn put_call<A: Memory>(
+    alloc: A,
+    session: &Session<A>,
+    inputs: &[InputFile<'_>],
+    bindings: &[Binding],
+    call: &Call<A>,
+    fault: Fault,
+    text: &mut Vec<u8, A>,
+) -> Result<(), NoResources>
+    ensures { OnOk result (text.new.items ≡ text.old.items
+        ++ explained_call session.now.names inputs.now bindings.now call.now fault) }
+{
+    let args = call.args.as_slice();
+    put_call_words(call.op, text)?;
+    put_arguments(session, inputs, bindings, args, text)?;
+    put_call_fault(alloc, session, inputs, bindings, call.op, args, fault, text)
+}
+
+/// Appends what is at fault in a line: in its form, or in its call.
+fn put_line<A: Memory>(
+    alloc: A,
+    session: &Session<A>,
+    inputs: &[InputFile<'_>],
+    bindings: &[Binding],
+    line: &[u8],
+    fault: Fault,
+    text: &mut Vec<u8, A>,
+) -> Result<(), NoResources>
+    ensures { OnOk result (text.new.items ≡ text.old.items
+        ++ explained_line session.now.names inputs.now bindings.now line.now (call_of line.now) fault) }
+{
+    match read_line(alloc, line) {
+        Err(Refused::NoResources) => Err(NoResources),
+        Err(Refused::Fault(_)) => put_line_fault(alloc, line, fault.number, text),
+        Ok(None) => Ok(()),
+        Ok(Some(call)) => put_call(alloc, session, inputs, bindings, &call, fault, text),
+    }
+}
+
+/// Appends what is explained of a fault of the script at a line.
+fn put_fault<A: Memory>(
+    alloc: A,
+    session: &Session<A>,
+    inputs: &[InputFile<'_>],
+    script: &[u8],
+    line: u32,
+    fault: Fault,
+    text: &mut Vec<u8, A>,
+) -> Result<(), NoResources>
+    ensures { OnOk result (text.new.items ≡ text.old.items
+        ++ explained_fault session.now.names inputs.now script.now line fault) }
+{
+    if line == 0 {
+        return put_too_long(script, text);
+    }
+    let stopped = stopped_at(alloc, script, line)?;
+    put_quoted(line, stopped.line, text)?;
+    let bindings = stopped.bindings.as_slice();
+    put_line(alloc, session, inputs, bindings, stopped.line, fault, text)
+}
+
+/// Explains why a script stopped, in lines of text that each begin with two spaces and end with a line feed.
+///
+/// `session` is that of the run, as it is at the stop, and `inputs` are its inputs in their order. Of a fault of the script
+/// it tells the script's line, which kinds of values the call takes and gives, what each name among the arguments holds and
+/// which line bound it, and what is at fault; of a script that is too long, how long it is. Where memory ran out or a write
+/// failed it tells what to try. If memory for the text is refused, it answers `NoResources`.
+pub fn explain<A: Memory>(
+    alloc: A,
+    session: &Session<A>,
+    inputs: &[InputFile<'_>],
+    script: &[u8],
+    stop: &Stop,
+) -> Result<Vec<u8, A>, NoResources>
+    ensures { IfOk result (λ text. text.items ≡ explained session.now.names inputs.now script.now stop.now) }
+{
+    let mut text = Vec::new(alloc);
+    match stop {
+        Stop::Script { line, fault } => {
+            put_fault(alloc, session, inputs, script, *line, *fault, &mut text)?;
+        }
+        Stop::NoResources { .. } => put_pieces(&mut text, &[MEMORY])?,
+        Stop::WriteFailed { .. } => put_pieces(&mut text, &[WRITE])?,
+    }
+    Ok(text)
+}

@@ -1,0 +1,8 @@
+//! Tests of the words for calls and for lines that are at fault: what is told, worked out by hand, and each request for memory
+//! refused in turn.
+#![tactic(auto)]
+
+#[cfg(test)]
+mod cases;
+#[cfg(test)]
+mod told;
