@@ -23,6 +23,7 @@ import in_map
 import limits
 import packages
 import rows
+import table
 
 # in an order in which the two behind a kind differ from it in what they are, or in how many
 KINDS = ("Integers", "Booleans", "Integer", "Boolean", "Descriptor")
@@ -81,7 +82,8 @@ class Held(unittest.TestCase):
         self.assertEqual(set(changed), {line.split()[0] for line in found})
 
     def test_each_parameter_of_each_export(self):
-        held = {name: said for name, said in self.exports.items() if name not in ("are_flags", "make_flags")}
+        # those without a row are declared as they are exported, and the compiler compares their calls
+        held = {name: said for name, said in self.exports.items() if name not in ("are_flags", "make_flags", *table.STEPS)}
         for k in range(2 * MOST_OPERANDS):
             some = {name: said for name, said in held.items() if k < len(said)}
             self.exports_told({name: said[:k] + said[k + 1 :] for name, said in some.items()})
