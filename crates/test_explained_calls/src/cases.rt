@@ -2,7 +2,7 @@
 
 use cvl_base::{BoolBinary, Cut, Element, FaultNo, Form, IntMonoid, Op};
 
-/// Lines of scripts, the fault of each, and what is told of it.
+/// Lines of scripts, the fault of each, and the words that explain it.
 pub(crate) const LINES: [(&str, FaultNo, &str); 29] = [
     (
         "x",
@@ -143,7 +143,7 @@ pub(crate) const LINES: [(&str, FaultNo, &str); 29] = [
     ("x = div_wuz v w", FaultNo::DivideByZero, ""),
 ];
 
-/// Calls, and what is told of each.
+/// Calls, and the words for what each takes.
 pub(crate) const CALLS: [(Op, &str); 8] = [
     (
         Op::Scan(IntMonoid::Add, Cut::Flat),

@@ -1,4 +1,4 @@
-//! Tests of the words for calls and for lines that are at fault: what is told, worked out by hand, and each request for memory
+//! Tests of the words for calls and for lines that are at fault: texts worked out by hand, and each request for memory
 //! refused in turn.
 #![tactic(auto)]
 

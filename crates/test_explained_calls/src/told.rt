@@ -1,4 +1,4 @@
-//! What is told of lines and of calls, with all memory and with each request refused in turn.
+//! The words for lines and for calls, with all memory and with each request refused in turn.
 
 use crate::cases::{CALLS, LINES};
 use cvl_base::{FaultNo, Memory, NoResources};
@@ -6,7 +6,7 @@ use explained_calls::{nearest, put_call_words, put_line_fault};
 use refusing_memory::withstands_refusals;
 use std::test::Fail;
 
-/// The text that is told of a line with a fault.
+/// The text that explains a line with a fault.
 fn told_of_line<A: Memory>(
     alloc: A,
     line: &str,
