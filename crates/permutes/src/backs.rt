@@ -12,10 +12,10 @@ use permute_walks::{ElementsTaken, take_in_runs, take_nothing};
 use sharing::threads_writing;
 use std::thread::Threads;
 
-/// At each place the source's element at the place's index, `d[k] = s[i[k]]`: `bck_puz` and `bck_pub`.
+/// The source's element at each index, `d[k] = s[i[k]]`: `bck_puz` and `bck_pub`.
 ///
-/// The result is as long as the index. An index that is no place of the source is `IndexOutOfRange` at its place; an index
-/// may repeat. Source: CVL's back permute.
+/// The result is as long as the index. An index that is no place of the source is `IndexOutOfRange` at its place; an index may
+/// repeat. Source: CVL's back permute.
 pub fn back<T: Copy + Send + Sync, R: Threads + Sync, A: Memory>(
     rt: &R,
     alloc: A,
@@ -30,8 +30,8 @@ pub fn back<T: Copy + Send + Sync, R: Threads + Sync, A: Memory>(
     back_gated(rt, alloc, config, source, index, &OpenGate)
 }
 
-/// `back` with a gate for workers who race for the least index outside. Each passes it at `Claimed` and `Finished` of each
-/// of its tiles.
+/// `back` with a gate for workers who race for the first bad index. Each passes it at `Claimed` and `Finished` of each of its
+/// tiles.
 pub fn back_gated<T: Copy + Send + Sync, R: Threads + Sync, A: Memory, G: Gate>(
     rt: &R,
     alloc: A,

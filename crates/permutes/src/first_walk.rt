@@ -1,4 +1,4 @@
-//! The first walk of a permute, which finds the sender of each place: by the thread that calls, or by workers who race.
+//! The first walk of a permute, which finds the sender of each place: on the calling thread, or by workers who race.
 
 ghost use Rattle.std.specs.Prelude.{◌≡◌, ◌≤◌, IfOk, IfSome, Ok, length, vec_len};
 ghost use Rattle.cvl_base.specs.Gives.{Gives, unless};
@@ -13,7 +13,7 @@ use permute_walks::{Destinations, NOBODY, send_places};
 use sharing::Pace;
 use std::thread::Threads;
 
-/// For each place of a flat result its sender.
+/// The sender of each place of a flat result.
 pub(crate) fn senders_alone<A: Memory, D: Destinations>(
     alloc: A,
     places: usize,
@@ -29,7 +29,7 @@ pub(crate) fn senders_alone<A: Memory, D: Destinations>(
     Ok(senders)
 }
 
-/// For each of so many places its sender, for which workers race at the pace, or the thread that calls walks.
+/// The sender of each of `places` places, found by workers who race at the pace, or else by this thread.
 pub(crate) fn senders_to<R: Threads + Sync, A: Memory, D: Destinations + Sync, G: Gate>(
     rt: &R,
     alloc: A,

@@ -1,20 +1,19 @@
-//! Flat permutes: simple, back, select and default permutes. Those of segments are `segmented_permutes`.
+//! Flat permutes: simple, back, select and default. Those of segments are in `segmented_permutes`.
 //!
-//! A simple, select or default permute goes in two walks. The first finds for each place of the result its sender, the place
-//! whose element goes there. The second writes the elements, by several threads where the result is long. A long one is made in
-//! one walk by threads of which each owns a range of the result, writes the elements that are sent there over what stood there
-//! before, and counts the places that it wrote. `ways` says which of these is done, of flat permutes and of those by segments. A
-//! back permute is one walk, which looks at each index and takes its element at once, by several threads where they are many.
+//! A simple, select or default permute takes two walks. The first finds the sender of each place of the result: the place whose
+//! element goes there. The second writes the elements, on several threads if the result is long. A long result takes one walk
+//! instead: each thread owns a range of it, writes the elements that are sent there over what stood there before, and counts the
+//! places that it wrote. `ways` chooses, for flat permutes and for those by segments. A back permute takes one walk, which checks
+//! each index and takes its element at once, on several threads if there are many.
 //!
-//! Each call has a gated form with the same contract for every gate. Workers race for the first walk where short tiles are
-//! asked for.
+//! Each call has a gated form with the same contract for every gate. If tiles are short, workers race for the first walk.
 //!
-//! Each call has a form without a runtime too, `.._over`: both walks by the thread that calls, the second over a room of the
-//! caller's. Nothing is written before it is known that there is no fault. A simple permute looks for senders there only where
-//! there is a fault: its first walk marks each index, and its second writes each element to its index.
+//! Each call also has a form without a runtime, `.._over`: the calling thread does both walks and writes into the caller's room,
+//! and only once it knows that there is no fault. A simple permute looks for senders there only if there is a fault: its first
+//! walk marks each index, and its second writes each element to its index.
 //!
-//! What the permutes of segments do in the same way stands here too, under its own name: the choice of a way, and the second
-//! walk, also over a room.
+//! The permutes of segments share two parts with these, which are public here: the choice of a way, and the second walk, also
+//! over a room.
 #![tactic(auto, using(permute_walks::proofs::Taken::lengths))]
 
 mod backs;

@@ -1,4 +1,4 @@
-//! A flat permute of any kind, in one walk or in two, as the way of its lengths says.
+//! A flat permute of any kind, in one walk or in two, depending on its lengths.
 
 ghost use Rattle.std.specs.Prelude.{◌≡◌, ◌≤◌, IfOk, List, Result, length, vec_len};
 ghost use Rattle.cvl_base.specs.declared.fault.Fault.{Fault};
@@ -16,8 +16,8 @@ use cvl_base::{Config, Memory, Refused};
 use permute_walks::{Before, Destinations, permuted_shared};
 use std::thread::Threads;
 
-/// The elements of a flat permute: for each place that of its sender, or what stands there before where it has none. It is made
-/// in the way of its lengths.
+/// The elements of a flat permute: at each place its sender's element, or what stood there before if it has no sender. The
+/// lengths decide the way.
 pub(crate) fn permuted<T, R, A, D, G>(
     rt: &R,
     alloc: A,

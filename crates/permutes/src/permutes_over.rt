@@ -1,10 +1,10 @@
-//! The permutes over a room of the caller's, by the thread that calls, for code that has no runtime.
+//! Permutes into the caller's room, on the calling thread, for code that has no runtime.
 //!
-//! Each tells the faults of the permute first, and then `LengthMismatch`, without a place, where the room isn't as long as the
-//! result. Only then the room is written. A back permute asks for no memory. If the index of a long permute jumps from place to
-//! place, a simple and a default permute ask for a bit for each place of the result, and only to find the first fault for the
-//! senders, 4 bytes a place. Else a simple permute asks for a byte a place, and a default permute for the senders, as a select
-//! permute always does.
+//! Each reports the faults of the permute first, and then `LengthMismatch`, without a place, if the room is not as long as the
+//! result. Only then does it write to the room. A back permute takes no memory. If the index of a long permute jumps from place
+//! to place, a simple and a default permute take a bit for each place of the result, and 4 bytes a place for the senders only to
+//! find the first fault. Else a simple permute takes a byte a place; a default permute, like every select permute, takes the 4
+//! bytes a place.
 
 ghost use Rattle.std.specs.Prelude.{◌≡◌, ◌≤◌, IfOk, IsTrue, List, None, Result, length};
 ghost use Rattle.cvl_base.specs.declared.fault.Fault.{Fault};
@@ -42,7 +42,7 @@ fn permuted_over<T: Copy, A: Memory, D: Destinations>(
     elements_of_senders_over(source, found, before, out)
 }
 
-/// Writes the defaults over the room, where there are any.
+/// Copies the defaults into the room, if there are any.
 fn let_stand<T: Copy>(before: &Before<T>, out: &mut [T])
     requires as_long { length out.old ≡ length (values_of before.now) }
     ensures stands { MayStand before.now out.new }
@@ -79,8 +79,7 @@ fn all_permuted_over<T: Copy, A: Memory>(
     permuted_over(alloc, source, &AllDestinations { index }, before, out)
 }
 
-/// Whether the index runs along and is a permutation of its own places. `NoResources` where there is no memory for a byte a
-/// place.
+/// Whether the index does not jump and is a permutation of its own places. `NoResources` without memory for a byte a place.
 fn is_permutation_along<A: Memory>(alloc: A, index: &[i32]) -> Result<bool, NoResources>
     requires in_limit { length index.now ≤ most_places }
     ensures { IfOk result (λ is. IsTrue is → None ≡ first_fault 0 (wrongs (length index.now) (all_destinations index.now))) }
@@ -91,7 +90,7 @@ fn is_permutation_along<A: Memory>(alloc: A, index: &[i32]) -> Result<bool, NoRe
     is_permutation(alloc, index)
 }
 
-/// The same as [`simple`](crate::simple), over a room.
+/// [`simple`](crate::simple) into a room.
 pub fn simple_over<T: Copy, A: Memory>(
     alloc: A,
     source: &[T],
@@ -110,7 +109,7 @@ pub fn simple_over<T: Copy, A: Memory>(
     all_permuted_over(alloc, source, index, Before::Any(source), out)
 }
 
-/// The same as [`select`](crate::select), over a room.
+/// [`select`](crate::select) into a room.
 pub fn select_over<T: Copy, A: Memory>(
     alloc: A,
     source: &[T],
@@ -128,7 +127,7 @@ pub fn select_over<T: Copy, A: Memory>(
     permuted_over(alloc, source, &destinations, Before::Any(values), out)
 }
 
-/// The same as [`default_into`](crate::default_into), over a room.
+/// [`default_into`](crate::default_into) into a room.
 pub fn default_into_over<T: Copy, A: Memory>(
     alloc: A,
     source: &[T],
@@ -143,7 +142,7 @@ pub fn default_into_over<T: Copy, A: Memory>(
     all_permuted_over(alloc, source, index, Before::Defaults(defaults), out)
 }
 
-/// The same as [`back`](crate::back), over a room.
+/// [`back`](crate::back) into a room.
 pub fn back_over<T: Copy>(source: &[T], index: &[i32], out: &mut [T]) -> Result<(), Fault>
     requires in_limit { length index.now ≤ most_places }
     ensures { Overwrites (in_room (length out.old) (back_of source.now index.now)) result out.old out.new }

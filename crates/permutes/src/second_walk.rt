@@ -1,5 +1,5 @@
-//! The second walk of a permute, which writes the element of each place's sender: by several threads where the result is long, or
-//! over a room of the caller's by the thread that calls.
+//! The second walk of a permute, which writes the element of each place's sender: on several threads if the result is long, or on
+//! the calling thread into the caller's room.
 
 ghost use Rattle.std.specs.Prelude.{◌≡◌, IfOk, List, Ok, Option, Result, length, vec_len, ℕ};
 ghost use Rattle.cvl_base.specs.declared.fault.Fault.{Fault};
@@ -13,7 +13,7 @@ use permute_walks::{Before, Elements};
 use sharing::threads_writing;
 use std::thread::Threads;
 
-/// For each sender that was found its element, or what stands before in its place where it is nobody, or why none were found.
+/// At each place its sender's element, or what stood there before if it has no sender; or why the senders were not found.
 pub fn elements_of_senders<T: Copy + Send + Sync, R: Threads + Sync, A: Memory>(
     rt: &R,
     alloc: A,
@@ -43,7 +43,7 @@ pub fn elements_of_senders<T: Copy + Send + Sync, R: Threads + Sync, A: Memory>(
     }
 }
 
-/// The same over a room. `LengthMismatch`, without a place, where the room isn't as long as the senders.
+/// The same into a room. `LengthMismatch`, without a place, if the room is not as long as the senders.
 pub fn elements_of_senders_over<T: Copy, A: Memory>(
     source: &[T],
     found: Result<Vec<u32, A>, Refused>,

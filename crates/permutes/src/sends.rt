@@ -1,5 +1,5 @@
-//! The permutes that send each element to a place of the result: the simple, the select and the default permute. They differ in
-//! which elements are sent, and in what stands before in the places of the result.
+//! The permutes that send each element to a place of the result: simple, select and default. They differ in which elements they
+//! send, and in what the result holds before.
 
 ghost use Rattle.std.specs.Prelude.{◌≡◌, ◌≤◌, IfOk, length, vec_len};
 ghost use Rattle.cvl_base.specs.Gives.{Gives};
@@ -14,9 +14,9 @@ use std::thread::Threads;
 
 /// Each element goes to its index, `d[i[k]] = s[k]`: `smp_puz` and `smp_pub`.
 ///
-/// Source and index are equally long, else `LengthMismatch`, without a place; the result is as long as they are. An index
-/// that is no place of the result is `IndexOutOfRange` at its place, and one that an earlier place has too is
-/// `IndexRepeated` at the later place. The fault of the first bad place counts. Source: CVL's permute.
+/// Source, index and result have the same length, else `LengthMismatch`, without a place. An index that is no place of the result
+/// is `IndexOutOfRange` at its place, and one that an earlier place already has is `IndexRepeated` at the later place. The first
+/// bad place is reported. Source: CVL's permute.
 pub fn simple<T: Copy + Send + Sync, R: Threads + Sync, A: Memory>(
     rt: &R,
     alloc: A,
@@ -31,8 +31,8 @@ pub fn simple<T: Copy + Send + Sync, R: Threads + Sync, A: Memory>(
     simple_gated(rt, alloc, config, source, index, &OpenGate)
 }
 
-/// `simple` with a gate for workers who race, for the senders and then for the least bad place. Each passes it at `Claimed`
-/// and `Finished` of each of its tiles.
+/// `simple` with a gate for workers who race, for the senders and then for the first bad place. Each passes it at `Claimed` and
+/// `Finished` of each of its tiles.
 pub fn simple_gated<T: Copy + Send + Sync, R: Threads + Sync, A: Memory, G: Gate>(
     rt: &R,
     alloc: A,
@@ -53,9 +53,9 @@ pub fn simple_gated<T: Copy + Send + Sync, R: Threads + Sync, A: Memory, G: Gate
 
 /// Each element whose flag is true goes to its index: `sel_puz` and `sel_pub`.
 ///
-/// Source, index and flags are equally long, else `LengthMismatch`, without a place; the result is as long as there are
-/// true flags. The faults are those of `simple`, of the places whose flag is true; no other index is looked at. Source:
-/// this library's profile of CVL's select permute.
+/// Source, index and flags have the same length, else `LengthMismatch`, without a place; the result has one place for each true
+/// flag. The faults are those of `simple`, at places whose flag is true; no other index is checked. Source: this library's
+/// profile of CVL's select permute.
 pub fn select<T: Copy + Send + Sync, R: Threads + Sync, A: Memory>(
     rt: &R,
     alloc: A,
@@ -71,8 +71,8 @@ pub fn select<T: Copy + Send + Sync, R: Threads + Sync, A: Memory>(
     select_gated(rt, alloc, config, source, index, flags, &OpenGate)
 }
 
-/// `select` with a gate for workers who race, for the senders and then for the least bad place. Each passes it at `Claimed`
-/// and `Finished` of each of its tiles.
+/// `select` with a gate for workers who race, for the senders and then for the first bad place. Each passes it at `Claimed` and
+/// `Finished` of each of its tiles.
 pub fn select_gated<T: Copy + Send + Sync, R: Threads + Sync, A: Memory, G: Gate>(
     rt: &R,
     alloc: A,
@@ -94,10 +94,10 @@ pub fn select_gated<T: Copy + Send + Sync, R: Threads + Sync, A: Memory, G: Gate
     permuted(rt, alloc, config, source, &destinations, before, gate)
 }
 
-/// Each element goes to its index, and a place to which none goes keeps its default: `def_puz` and `def_pub`.
+/// Each element goes to its index, and a place that gets none keeps its default: `def_puz` and `def_pub`.
 ///
-/// Source and index are equally long, else `LengthMismatch`, without a place; the result is as long as the defaults. The
-/// faults are those of `simple`. Source: this library's profile of CVL's default permute.
+/// Source and index have the same length, else `LengthMismatch`, without a place; the result is as long as the defaults. Faults
+/// are those of `simple`. Source: this library's profile of CVL's default permute.
 pub fn default_into<T: Copy + Send + Sync, R: Threads + Sync, A: Memory>(
     rt: &R,
     alloc: A,
@@ -113,8 +113,8 @@ pub fn default_into<T: Copy + Send + Sync, R: Threads + Sync, A: Memory>(
     default_into_gated(rt, alloc, config, source, index, defaults, &OpenGate)
 }
 
-/// `default_into` with a gate for workers who race, for the senders and then for the least bad place. Each passes it at
-/// `Claimed` and `Finished` of each of its tiles.
+/// `default_into` with a gate for workers who race, for the senders and then for the first bad place. Each passes it at `Claimed`
+/// and `Finished` of each of its tiles.
 pub fn default_into_gated<T: Copy + Send + Sync, R: Threads + Sync, A: Memory, G: Gate>(
     rt: &R,
     alloc: A,

@@ -1,4 +1,4 @@
-//! In which way a permute is made, which hangs on the configuration and on lengths alone.
+//! The ways to make a permute, chosen by the configuration and the lengths alone.
 
 ghost use Rattle.std.specs.Prelude.{◌≡◌};
 ghost use Rattle.permutes.specs.Ways.{RacesWithin, WalksWithin, flat_way, pace_of, segment_way};
@@ -8,20 +8,20 @@ use cvl_base::limits::MOST_ELEMENTS;
 use permute_races::permute_pace;
 use sharing::{LEAST_SEARCHED, LEAST_SHARED, Pace, ThreadCount, race_pace, threads_writing};
 
-/// A way in which a permute is made. No result depends on it.
+/// A way to make a permute. It does not change the result.
 #[derive(Clone, Copy)]
 pub enum Way {
-    /// Workers race for the senders, at this pace, and the elements are taken in a second walk.
+    /// Workers race for the senders, at this pace, and a second walk takes the elements.
     Race(Pace),
-    /// So many threads write the elements in one walk, which finds out whether a place is bad. Only if one is, there is a search
-    /// for the first one: workers race at the pace, or the thread that calls walks.
+    /// This many threads write the elements in one walk, which shows whether any place is bad. Only then is the first bad place
+    /// searched for: by workers who race at the pace, or by the calling thread.
     OneWalk(ThreadCount, Option<Pace>),
-    /// The thread that calls finds the senders, and the elements are taken in a second walk.
+    /// The calling thread finds the senders, and a second walk takes the elements.
     Alone,
 }
 
 impl Way {
-    /// The tiles and the workers of the race for the senders, where these are looked for, or none where one thread walks.
+    /// The tiles and the workers of the race for the senders, if there is one; none if one thread walks.
     pub fn pace(self) -> Option<Pace>
         ensures { result ≡ pace_of self }
     {
@@ -33,8 +33,8 @@ impl Way {
     }
 }
 
-/// The way of a flat permute of so many indices into so many places: in one walk where the result is so long that this is sooner
-/// done than two, by whatever number of threads.
+/// The way of a flat permute of `indices` indices into `places` places: one walk if the result is long enough that this is faster
+/// than two, with any number of threads.
 pub(crate) fn flat_way(config: Config, indices: usize, places: usize) -> Way
     ensures exact { result ≡ flat_way config indices places }
     ensures raced { RacesWithin places result }
@@ -50,8 +50,8 @@ pub(crate) fn flat_way(config: Config, indices: usize, places: usize) -> Way
     Way::OneWalk(threads_writing(config, places), search)
 }
 
-/// The way of a permute by segments, none of which has more than `widest` of the places: in one walk, each thread on whole
-/// segments, unless one segment is longer than a thread's share.
+/// The way of a permute by segments, none of which has more than `widest` of the places: one walk, each thread on whole segments,
+/// unless one segment is longer than a thread's share.
 pub fn segment_way(config: Config, indices: usize, places: usize, widest: usize) -> Way
     ensures exact { result ≡ segment_way config indices places widest }
     ensures raced { RacesWithin places result }
