@@ -14,11 +14,11 @@ use Rattle.shell.specs.Programs.{end_of, ended, status_of, unreadable_line}
 use Rattle.script_runs.specs.declared.stop.Stop.{Stop}
 use Rattle.script_runs.specs.declared.stop.Stop.TheVariants as stop
 
--- the room holds the line that tells of any of these files
+-- the room holds the line about any of these files
 abbrev pub HasRoomFor : ℕ → List Text → Type 0
 HasRoomFor room names = All (λ name. length (unreadable_line name) ≤ room) names
 
--- standard error is told some text
+-- standard error gets some text
 abbrev pub TellsSome : Seen → Seen → Type 0
 TellsSome before after = (text : List ℕ) × Tells (Some text) before after
 
@@ -28,7 +28,7 @@ PutsShown before after answer =
     (written : List ℕ) × (Starves written answer ⊎ IsShown answer)
     × Shows (with_answer written answer before) after
 
--- after the work has given its answer, standard output is flushed and then standard error told, and this is why it ended
+-- after the work has given its answer, standard output is flushed, then standard error written, and this is why it ended
 pub record EndsBy (answer : Result (Unit {0}) Stop) (before after : Seen) (end : Option Stop) : Type 0 where
   pub flushed : Bool
   pub told : Option (List ℕ)
@@ -36,7 +36,7 @@ pub record EndsBy (answer : Result (Unit {0}) Stop) (before after : Seen) (end :
   pub says : Says (ended end) told
   pub tells : Tells told (with_flush flushed before) after
 
--- after the work has given its answer, standard output is flushed and then standard error told
+-- after the work has given its answer, standard output is flushed, then standard error written
 pub record Finishes (answer : Result (Unit {0}) Stop) (before after : Seen) (status : ℕ) : Type 0 where
   pub flushed : Bool
   pub told : Option (List ℕ)
@@ -62,8 +62,7 @@ abbrev pub Misses : List Text → Seen → Text → Seen → Type 0
 Misses names before name after =
     (reads : List Read) × StopsAt names reads name × Shows (with_reads reads before) after
 
--- there is no memory for what has to be ready, or a script is run over its inputs, or the first of their files that
--- cannot be read is told
+-- there is no memory for what must be ready, or a script runs over its inputs, or the first of their files that cannot be read is reported
 abbrev pub RunsOrMisses : Type 0 → Text → List Text → Seen → Seen → ℕ → Type 0
 RunsOrMisses A script inputs before after status =
     Finishes (Err (stop.NoResources 0)) before after status
@@ -84,7 +83,7 @@ reads_of names bytes = map (λ p. read_of p.0 p.1) (zip names bytes)
 abbrev pub reads_in : {A : Type 0} → List Text → List (Input A) → List Read
 reads_in names inputs = reads_of names (map bytes_in inputs)
 
--- standard error is told this text, or nothing where memory for it is refused
+-- standard error gets this text, or nothing if memory for it is refused
 abbrev pub TellsExplained : List ℕ → Seen → Seen → Type 0
 TellsExplained text before after =
     (told : Option (List ℕ)) × ((told ≡ None) ⊎ (told ≡ Some text)) × Tells told before after
@@ -98,7 +97,7 @@ pub record ClosesAndExplains
   pub explains : ExplainsStop script inputs reads (end_of closes.answer closes.finishes.flushed) told
   pub tells : Tells told mid after
 
--- of the very script and inputs that were read and run; where none was run, nothing is explained
+-- about the very script and inputs that were read and run; if none was run, nothing is explained
 abbrev pub ExplainsFiles : (A : Type 0) (script : Text) (inputs : List Text) (before after : Seen) (status : ℕ)
     → RunsOrMisses A script inputs before after status → Option (List ℕ) → Type 0
 ExplainsFiles A script inputs before after status (inl starved) told = told ≡ None

@@ -1,5 +1,4 @@
--- How the program ends: by what is written, which files are read, which status it answers and what it tells on standard
--- error.
+-- How the program ends: what it writes, which files it reads, its status, and its message on standard error.
 -- Source: this library's program.
 use Rattle.std.specs.Prelude.{◌≡◌, ◌⊎◌, ℕ, Bool, true, false, List, [], ◌∷◌, ◌++◌, map, codes, Option, Some, None, IsSome, Result, Ok, Err}
 use Rattle.std.proofs.Common.{inl, inr}
@@ -40,14 +39,14 @@ status_of (unreadable name) = 3
 abbrev pub unreadable_line : Text → List ℕ
 unreadable_line name = codes "cannot read " ++ name ++ codes "\n"
 
--- what standard error is told at this end; of a refused command line some text, which is clap's where there is memory
+-- what standard error gets at this end; after a refused command line some text, clap's if there is memory for it
 abbrev pub Says : End → Option (List ℕ) → Type 0
 Says (ended None) told = told ≡ None
 Says (ended (Some why)) told = told ≡ Some (stop_line why)
 Says refused told = IsSome told
 Says (unreadable name) told = told ≡ Some (unreadable_line name)
 
--- the work's own stop; else a flush that failed is a write that failed
+-- the work's own stop; else a flush that failed is a failed write
 abbrev pub end_of : Result (Unit {0}) Stop → Bool → Option Stop
 end_of (Err why) flushed = Some why
 end_of (Ok done) true = None
@@ -76,15 +75,15 @@ pub record StopsAt (names : List Text) (reads : List Read) (name : Text) : Type 
 
 -- ---- the work: what it reads, what it writes on standard output, and its answer
 
--- there is no memory for the words, for the text that is asked for, or for what has to be ready before the first read
+-- there is no memory for the words, for the text that is asked for, or for what must be ready before the first read
 abbrev pub Starves : List ℕ → Result (Unit {0}) Stop → Type 0
 Starves written answer = (written ≡ []) × (answer ≡ Err (stop.NoResources 0))
 
--- what clap tells is no fault: the help or the version was asked for
+-- clap's error is no fault: the help or the version was asked for
 abbrev pub IsAsked : ErrorKind → Type 0
 IsAsked kind = (kind ≡ DisplayHelp) ⊎ (kind ≡ DisplayVersion)
 
--- clap's text of what was asked for is written, or a write of it fails
+-- clap's text of what was asked for is written, or a write fails
 abbrev pub IsShown : Result (Unit {0}) Stop → Type 0
 IsShown answer = (answer ≡ Ok tt) ⊎ (answer ≡ Err (stop.WriteFailed 0))
 
@@ -109,8 +108,8 @@ Works A words reads written answer =
 
 -- ---- how the program comes to its end
 
--- the words lead to this end: files are read, the work is written, then standard output is flushed, and then standard
--- error told; at the other ends nothing is written
+-- the words lead to this end: files are read, the work is written, standard output is flushed, then standard error written; at other ends
+-- no standard output is written
 abbrev pub Comes : Type 0 → List Text → Seen → Option (List ℕ) → Seen → End → Type 0
 Comes A words before told after (ended end) =
     (reads : List Read) × (written : List ℕ) × (answer : Result (Unit {0}) Stop) × (flushed : Bool)
@@ -132,15 +131,15 @@ pub record Performs (A : Type 0) (words : List Text) (before after : Seen) (stat
   pub says : Says end told
   pub status_is : status ≡ status_of end
 
--- ---- how it comes to its end where the words ask for explanations
+-- ---- how it comes to its end if the words ask for explanations
 
--- why a script stopped is explained, or nothing is told where memory for that is refused; where it did not stop, nothing is
+-- why a script stopped is explained, or memory for that is refused and nothing is written; if it did not stop, nothing is
 abbrev pub ExplainsStop : {A : Type 0} → List ℕ → List (Input A) → List Read → Option Stop → Option (List ℕ) → Type 0
 ExplainsStop script inputs reads None told = told ≡ None
 ExplainsStop script inputs reads (Some why) told =
     (told ≡ None) ⊎ (told ≡ Some (explained (names_of_script script inputs) reads script why))
 
--- of the very script and inputs that were read and run; where none was run, nothing is explained
+-- about the very script and inputs that were read and run; if none was run, nothing is explained
 abbrev pub ExplainsWork : (A : Type 0) (words : List Text) (reads : List Read) (written : List ℕ) (answer : Result (Unit {0}) Stop)
     → Works A words reads written answer → Option Stop → Option (List ℕ) → Type 0
 ExplainsWork A words reads written answer (inl starved) end told = told ≡ None
@@ -155,7 +154,7 @@ ExplainsEnd A words before first after (ended end) (reads, written, answer, flus
 ExplainsEnd A words before first after refused comes told = told ≡ None
 ExplainsEnd A words before first after (unreadable name) comes told = told ≡ None
 
--- the program ran on these words as without explanations, and then standard error is told the explanation
+-- the program ran on these words as without explanations, and then standard error gets the explanation
 pub record PerformsAndExplains (A : Type 0) (words : List Text) (before after : Seen) (status : ℕ) : Type 0 where
   pub mid : Seen
   pub performs : Performs A words before mid status
@@ -163,14 +162,14 @@ pub record PerformsAndExplains (A : Type 0) (words : List Text) (before after : 
   pub explains : ExplainsEnd A words before performs.told mid performs.end performs.comes told
   pub tells : Tells told mid after
 
--- the program ran on these words, as they ask for explanations or not
+-- the program ran on these words, with explanations or without
 pub record PerformsAsAsked (A : Type 0) (words : List Text) (before after : Seen) (status : ℕ) : Type 0 where
   pub plain : explain_given words ≡ false → Performs A words before after status
   pub explaining : explain_given words ≡ true → PerformsAndExplains A words before after status
 
 -- ---- the words of a process
 
--- there is no memory for the words of the command line: that is told, and nothing else is done
+-- there is no memory for the words of the command line: that is reported, nothing else is done
 abbrev pub IsStarved : Seen → Seen → ℕ → Type 0
 IsStarved before after status = Tells (Some (stop_line (stop.NoResources 0))) before after × (status ≡ 3)
 
@@ -179,7 +178,7 @@ abbrev pub PerformsOrStarves : Type 0 → List Text → Seen → Seen → ℕ �
 PerformsOrStarves A words before after status =
     IsStarved before after status ⊎ PerformsAsAsked A words before after status
 
--- a word of the command line is not UTF-8: that is told, and nothing else is done
+-- a word of the command line is not UTF-8: that is reported, nothing else is done
 abbrev pub IsNoText : Seen → Seen → ℕ → Type 0
 IsNoText before after status =
     Tells (Some (codes "the command line is not UTF-8\n")) before after × (status ≡ 2)
@@ -189,7 +188,7 @@ pub record PerformsOn (A : Type 0) (words : List (List ℕ)) (before after : See
   pub texts : list_all is_utf8 words ≡ true → PerformsOrStarves A words before after status
   pub no_text : list_all is_utf8 words ≡ false → IsNoText before after status
 
--- there is no memory for the words of the process, or the program ran on them, whichever these are
+-- there is no memory for the words of the process, or the program ran on them, whatever they are
 abbrev pub PerformsOnSome : Type 0 → Seen → Seen → ℕ → Type 0
 PerformsOnSome A before after status =
     IsStarved before after status ⊎ ((words : List (List ℕ)) × PerformsOn A words before after status)

@@ -1,4 +1,4 @@
-//! How the program ends: what it tells on standard error, and its status.
+//! How the program ends: its message on standard error, and its status.
 
 ghost use Rattle.std.specs.Prelude.{◌≡◌, ◌+◌, ◌-◌, ◌^◌, ◌<◌, ◌≤◌, ◌++◌, [], length, Some, is_ok, vec_len, vec_capacity};
 ghost use Rattle.script_runs.specs.Hosts.{Tells};
@@ -10,7 +10,7 @@ use crate::host::Host;
 use cvl_base::Memory;
 use script_runs::{SinkFault, Stop, stop_line};
 
-/// The status of work without a fault, and of help.
+/// The status of work without a fault and of help.
 pub const FINE: u8 = 0;
 
 /// The status of a script with a fault.
@@ -19,7 +19,7 @@ pub const SCRIPT_FAULT: u8 = 1;
 /// The status of a command line that is refused.
 pub const COMMAND_LINE: u8 = 2;
 
-/// The status where a file cannot be read, memory is refused or a write fails.
+/// The status if a file cannot be read, memory is refused or a write fails.
 pub const FAILED: u8 = 3;
 
 /// The status of a stop.
@@ -33,7 +33,7 @@ pub(crate) fn status_of(stop: &Stop) -> u8
     }
 }
 
-/// Why the program ends: the stop of its work, or else the output that could not be sent on.
+/// Why the program ends: the stop of its work, or else a failed flush of its output.
 fn end_of(answer: Result<(), Stop>, flushed: Result<(), SinkFault>) -> Option<Stop>
     ensures { result ≡ end_of answer (is_ok flushed) }
 {
@@ -46,7 +46,7 @@ fn end_of(answer: Result<(), Stop>, flushed: Result<(), SinkFault>) -> Option<St
     }
 }
 
-/// Tells standard error of the stop, which takes no memory.
+/// Writes the stop to standard error; takes no memory.
 pub(crate) fn tell_stop<H: Host>(stop: &Stop, host: &mut H)
     ensures { Tells (Some (stop_line stop.now)) (H.seen host.old) (H.seen host.new) }
 {
@@ -54,10 +54,10 @@ pub(crate) fn tell_stop<H: Host>(stop: &Stop, host: &mut H)
     host.put_error(line.as_bytes());
 }
 
-/// How many bytes the line that tells of a file has beside the file's name.
+/// How many bytes the line about an unreadable file has besides its name.
 pub(crate) const UNREADABLE_BYTES: usize = 13;
 
-/// Appends a piece for which there is room.
+/// Appends a piece that fits into the room.
 fn put_piece<A: Memory>(piece: &[u8], line: &mut Vec<u8, A>)
     requires { vec_len line.old + length piece.now ≤ vec_capacity line.old }
     ensures bytes { line.new.items ≡ line.old.items ++ piece.now }
@@ -66,7 +66,7 @@ fn put_piece<A: Memory>(piece: &[u8], line: &mut Vec<u8, A>)
     let _ = line.extend_from_slice(piece);
 }
 
-/// Tells standard error of a file that cannot be read, by a line for which there is room.
+/// Reports on standard error a file that cannot be read. The line fits into `room`.
 pub(crate) fn tell_unreadable<A: Memory, H: Host>(name: &str, room: Vec<u8, A>, host: &mut H)
     requires empty { room.items ≡ [] }
     requires fits { length (unreadable_line name.now) ≤ vec_capacity room }
@@ -79,7 +79,7 @@ pub(crate) fn tell_unreadable<A: Memory, H: Host>(name: &str, room: Vec<u8, A>, 
     host.put_error(line.as_slice());
 }
 
-/// Sends on what standard output has taken, tells on standard error why the work ended, and answers that.
+/// Flushes standard output, writes to standard error why the work ended, and returns that.
 pub(crate) fn close<H: Host>(answer: Result<(), Stop>, host: &mut H) -> Option<Stop>
     requires { (H.seen host.old).failed_flushes < 2 ^ 64 - 1 }
     ensures { EndsBy answer (H.seen host.old) (H.seen host.new) result }
@@ -94,7 +94,7 @@ pub(crate) fn close<H: Host>(answer: Result<(), Stop>, host: &mut H) -> Option<S
     }
 }
 
-/// Sends on what standard output has taken, tells on standard error why the work ended, and answers the status.
+/// Flushes standard output, writes to standard error why the work ended, and returns the status.
 pub(crate) fn finish<H: Host>(answer: Result<(), Stop>, host: &mut H) -> u8
     requires { (H.seen host.old).failed_flushes < 2 ^ 64 - 1 }
     ensures { Finishes answer (H.seen host.old) (H.seen host.new) result }

@@ -1,4 +1,4 @@
-//! Runs that are explained where they stop.
+//! Runs that explain why they stopped.
 
 ghost use Rattle.std.specs.Prelude.{◌≡◌, ◌^◌, ◌<◌, ◌-◌, [], IfOk, Some, map, option_map};
 ghost use Rattle.clap.specs.Walk.{texts};
@@ -92,7 +92,7 @@ fn run_on<R: Threads + Sync, A: Memory, S: Sink, G: Gate>(
     run_lines(rt, alloc, session, script, sink, gate)
 }
 
-/// Tells standard error why a script stopped, if there is memory for the text.
+/// Writes to standard error why a script stopped, if there is memory for it.
 fn tell_explained<A: Memory, H: Host>(
     alloc: A,
     session: &Session<A>,
@@ -109,7 +109,7 @@ fn tell_explained<A: Memory, H: Host>(
     }
 }
 
-/// Runs the script on a session over its inputs, tells and explains why the run stopped, and answers the status.
+/// Runs the script on a session over its inputs, reports and explains why it stopped, and returns the status.
 fn run_session<R: Threads + Sync, A: Memory, H: Host, G: Gate>(
     rt: &R,
     alloc: A,
@@ -135,8 +135,8 @@ fn run_session<R: Threads + Sync, A: Memory, H: Host, G: Gate>(
     }
 }
 
-/// Runs the script over its inputs, tells and explains why the run stopped, and answers the status. If there is no memory
-/// for what an explanation needs, the run is not explained.
+/// Runs the script over its inputs, reports and explains why the run stopped, and returns the status. Without memory for what an
+/// explanation needs, nothing is explained.
 pub(crate) fn run_explained<R: Threads + Sync, A: Memory, H: Host, G: Gate>(
     rt: &R,
     alloc: A,

@@ -13,14 +13,14 @@ use cvl_base::{Config, Memory, NoResources};
 use std::thread::Threads;
 use vector_handles::Input;
 
-/// What has to be ready before the first file is read: room for the inputs, and for the line that tells of a file.
+/// What must be ready before the first read: room for the inputs, and for the line about an unreadable file.
 #[derive(Drop)]
 pub(crate) struct Room<A: Memory> {
     pub(crate) inputs: Vec<Input<A>, A>,
     pub(crate) line: Vec<u8, A>,
 }
 
-/// The bytes of the longest of the names.
+/// The bytes of the longest name.
 fn longest_name(script: &str, inputs: &[&str]) -> usize
     ensures script { length script.now ≤ result }
     ensures inputs { All (λ name. length name ≤ result) (texts inputs.now) }
@@ -48,7 +48,7 @@ pub(crate) fn room_for<A: Memory>(alloc: A, words: &Words<'_>) -> Result<Room<A>
     })
 }
 
-/// Reads the inputs in their order, or names the first that cannot be read.
+/// Reads the inputs in order, or names the first that cannot be read.
 pub(crate) fn read_inputs<'a, R: Threads + Sync, A: Memory, H: Host>(
     rt: &R,
     alloc: A,

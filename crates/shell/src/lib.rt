@@ -1,4 +1,4 @@
-//! The shell: the whole program, over the host that it is given, and the runs of scripts below it.
+//! The shell: the whole program, over the host that you give it, and the runs of scripts below it.
 #![tactic(auto)]
 
 pub mod endings;

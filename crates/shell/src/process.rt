@@ -1,4 +1,4 @@
-//! The program on the command line of its process.
+//! The program, on its process's command line.
 
 ghost use Rattle.std.specs.Prelude.{◌^◌, ◌<◌, ◌-◌, map};
 ghost use Rattle.shell.specs.Programs.{IsNoText, IsStarved, PerformsOn, PerformsOnSome};
@@ -16,7 +16,7 @@ use std::fs::File;
 use std::rt::{Env, Files};
 use std::thread::Threads;
 
-/// The system's files, of which nothing is told.
+/// The system's files, which show nothing.
 #[derive(Drop)]
 pub struct SystemFiles<'a, R> {
     rt: &'a R,
@@ -45,7 +45,7 @@ impl<R: Files> ReadFiles for SystemFiles<'_, R> {
     }
 }
 
-/// How many bytes a file will have when it is read, as far as the system knows; 0 where it doesn't.
+/// How many bytes a read of the file will give, as far as the system knows; 0 if it doesn't.
 fn expected_bytes<R: Files>(rt: &R, name: &str) -> usize {
     match fs::metadata(rt, name) {
         Ok(metadata) if metadata.is_file() => {
@@ -55,7 +55,7 @@ fn expected_bytes<R: Files>(rt: &R, name: &str) -> usize {
     }
 }
 
-/// Tells that there is no memory for the words of the command line, and answers the status.
+/// Reports that there is no memory for the command line's words; returns the status.
 fn starved<H: Host>(host: &mut H) -> u8
     ensures { IsStarved (H.seen host.old) (H.seen host.new) result }
 {
@@ -63,7 +63,7 @@ fn starved<H: Host>(host: &mut H) -> u8
     FAILED
 }
 
-/// Tells that a word of the command line is not UTF-8, and answers the status.
+/// Reports that a word of the command line is not UTF-8; returns the status.
 fn tell_no_text<H: Host>(host: &mut H) -> u8
     ensures { IsNoText (H.seen host.old) (H.seen host.new) result }
 {
@@ -71,10 +71,10 @@ fn tell_no_text<H: Host>(host: &mut H) -> u8
     COMMAND_LINE
 }
 
-/// Runs the program on these very words, the program's own name first, and answers the status.
+/// Runs the program on these words, its own name first, and returns the status.
 ///
-/// Where a word is not UTF-8 standard error is told so, and the status is 2; where there is no memory for their list,
-/// `line 0: no resources` and 3.
+/// If a word is not UTF-8, standard error says so, and the status is 2; if there is no memory for their list, `line 0: no
+/// resources` and 3.
 pub fn run_words<R: Threads + Sync + AllocGlobal, A: Memory, H: Host>(
     rt: &R,
     alloc: A,
@@ -94,10 +94,10 @@ pub fn run_words<R: Threads + Sync + AllocGlobal, A: Memory, H: Host>(
     }
 }
 
-/// Runs the program on the words of its process's command line, and answers the status.
+/// Runs the program on its process's command line, and returns the status.
 ///
-/// Where there is no memory for the words standard error is told `line 0: no resources`, and the status is 3. Else it is
-/// [`run_words`] on these words.
+/// If there is no memory for the words, standard error says `line 0: no resources`, and the status is 3. Otherwise this is
+/// [`run_words`].
 pub fn run_process<R: Env + Threads + Sync + AllocGlobal, A: Memory, H: Host>(
     rt: &R,
     alloc: A,

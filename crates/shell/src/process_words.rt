@@ -1,4 +1,4 @@
-//! The words of a process's command line, and these as texts.
+//! The words of a process's command line, and their texts.
 
 ghost use Rattle.std.specs.Prelude.{◌≡◌, IfOk, map, true};
 ghost use Rattle.std.specs.List.{list_all};
@@ -10,10 +10,10 @@ use std::env::FillError;
 use std::rt::Env;
 use std::str;
 
-/// How many bytes there is room for where a word is first asked for.
+/// The room for a word, in bytes, when it is first asked for.
 const FIRST_ROOM: usize = 256;
 
-/// The word of the command line at this place, counted from 0; none after the last. The room is doubled until the word fits.
+/// The word at this place of the command line, counted from 0; none after the last. Doubles its room until the word fits.
 fn process_word<R: Env + AllocGlobal>(rt: &R, place: usize) -> Result<Option<Vec<u8>>, AllocError> {
     let mut room = FIRST_ROOM;
     for _ in 0..usize::BITS {
@@ -31,7 +31,7 @@ fn process_word<R: Env + AllocGlobal>(rt: &R, place: usize) -> Result<Option<Vec
 }
 
 /// The words of the command line, the program's own name first.
-// `env::args` gives no words at all where one of them is not UTF-8.
+// `env::args` gives no words at all if one of them is not UTF-8.
 pub(crate) fn process_words<R: Env + AllocGlobal>(rt: &R) -> Result<Vec<Vec<u8>>, AllocError> {
     let mut words = Vec::new(rt.alloc());
     for place in 0..usize::MAX {
@@ -62,7 +62,7 @@ pub(crate) fn are_texts(words: &[Vec<u8>]) -> bool
     true
 }
 
-/// A word that is UTF-8 as a text.
+/// A word that is UTF-8, as text.
 fn text(word: &[u8]) -> &str
     requires { is_utf8 word.now ≡ true }
     ensures { result.now ≡ word.now }
@@ -70,7 +70,7 @@ fn text(word: &[u8]) -> &str
     str::from_utf8(word).unwrap()
 }
 
-/// The words, which are UTF-8, as the program takes them.
+/// The words, all UTF-8, as the program takes them.
 pub(crate) fn borrowed(alloc: Global, words: &[Vec<u8>]) -> Result<Vec<&str>, AllocError>
     requires { list_all is_utf8 (map (λ word. word.items) words.now) ≡ true }
     ensures { IfOk result (λ borrowed. texts borrowed.items ≡ map (λ word. word.items) words.now) }

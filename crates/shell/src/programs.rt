@@ -1,4 +1,4 @@
-//! The whole program, over the host that it is given.
+//! The whole program, over the host that you give it.
 
 ghost use Rattle.std.specs.Prelude.{◌≡◌, ◌^◌, ◌<◌, ◌-◌, true, false};
 ghost use Rattle.clap.specs.Walk.{texts};
@@ -21,10 +21,10 @@ use script_runs::{Stop, put_all, run_gated};
 use std::thread::Threads;
 use vector_handles::Input;
 
-/// Where there is no memory before the first line runs.
+/// The stop without memory before the first line.
 pub(crate) const STARVED: Stop = Stop::NoResources { line: 0 };
 
-/// Writes clap's text of what was asked for, the help or the version, to standard output.
+/// Writes clap's text of the help or the version to standard output.
 fn put_shown<A: Memory, H: Host>(alloc: A, shown: &clap::Error, host: &mut H) -> Result<(), Stop>
     requires { (H.seen host.old).failed_puts < 2 ^ 64 - 1 }
     ensures { PutsShown (H.seen host.old) (H.seen host.new) result }
@@ -38,7 +38,7 @@ fn put_shown<A: Memory, H: Host>(alloc: A, shown: &clap::Error, host: &mut H) ->
     }
 }
 
-/// Tells standard error clap's text of a refused command line, or that there is no memory for it.
+/// Writes to standard error clap's text of a refused command line, or that memory ran out.
 fn tell_refused<A: Memory, H: Host>(alloc: A, error: &clap::Error, host: &mut H)
     ensures { TellsSome (H.seen host.old) (H.seen host.new) }
 {
@@ -48,7 +48,7 @@ fn tell_refused<A: Memory, H: Host>(alloc: A, error: &clap::Error, host: &mut H)
     }
 }
 
-/// Runs the script and sends on its text, tells why the run stopped, and answers the status.
+/// Runs the script, flushes its text, reports why the run stopped, and returns the status.
 pub(crate) fn run_script<R: Threads + Sync, A: Memory, H: Host, G: Gate>(
     rt: &R,
     alloc: A,
@@ -131,26 +131,25 @@ fn run_files<R: Threads + Sync, A: Memory, H: Host, G: Gate>(
     }
 }
 
-/// The whole program: reads the command line, the script and its inputs, runs the script, and answers the status.
+/// The whole program: reads the command line, the script and its inputs, runs the script, and returns the status.
 ///
-/// `words` are those of the command line, as `read_words` takes them, the program's own name first. The file of the
-/// script is read whole, then that of each input, each once and in that order, before the script runs; no other file is
-/// read. What the script writes goes to standard output, which is then flushed; then a line on standard error tells why
-/// the run stopped, where it did. Help and the version go to standard output, and clap's text of a refused command line
-/// to standard error. The first file that cannot be read, or that there is no memory for, is told as `cannot read NAME`;
-/// it is the last that is read, and nothing is run. Where there is no memory for the words, for the text that is asked
-/// for, or for the list of inputs and the line of a file, which are made ready before the first read, the line is
-/// `line 0: no resources`, and `line 0: write failed` where the text that is asked for or the flush fails; a run that
-/// stopped by itself keeps its own line and status.
+/// `words` is the command line as `read_words` takes it, the program's own name first. The program reads the script's file whole,
+/// then each input's, each once and in that order, before the script runs; it reads no other file. The script writes to standard
+/// output, which is then flushed; if the run stopped, a line on standard error says why. Help and the version go to standard
+/// output, and clap's text of a refused command line to standard error. The first file that cannot be read, or that does not fit
+/// into memory, is reported as `cannot read NAME`; no file is read after it, and nothing runs. The line is `line 0: no resources`
+/// if there is no memory for the words, for the text of help or version, or for the list of inputs and the line about a file,
+/// which are made ready before the first read. It is `line 0: write failed` if that text cannot be written or the flush fails;
+/// but a run that stopped by itself keeps its own line and status.
 ///
-/// With `--explain`, standard error is then told why the script stopped, if it did, as [`explain`](crate::explain) explains
-/// it; the rest is as without it. If memory for the explanation is refused, nothing of it is told.
+/// With `--explain`, an explanation of the stop follows on standard error, as [`explain`](crate::explain) gives it; nothing else
+/// changes. If memory for the explanation is refused, none of it is written.
 ///
-/// The message is always told: a stop's line takes no memory, and that of a file has its room before the first read.
-/// Where there is no memory for clap's text of a refused command line, `line 0: no resources` stands in its place.
+/// There is always a message: a stop's line takes no memory, and that of a file has its room before the first read. Without
+/// memory for clap's text of a refused command line, it is `line 0: no resources`.
 ///
-/// The status is 0 where there is no fault, and after help and the version; 1 at a fault of the script; 2 where the
-/// command line is refused; and 3 where a file cannot be read, memory is refused or a write fails.
+/// The status is 0 without a fault, and after help and the version; 1 after a fault of the script; 2 if the command line is
+/// refused; and 3 if a file cannot be read, memory is refused or a write fails.
 pub fn program<'a, R: Threads + Sync + AllocGlobal, A: Memory, H: Host>(
     rt: &R,
     alloc: A,
@@ -165,8 +164,8 @@ pub fn program<'a, R: Threads + Sync + AllocGlobal, A: Memory, H: Host>(
     program_gated(rt, alloc, words, host, &OpenGate)
 }
 
-/// The same as [`program`], by workers that pass a gate at the points of their way through a tile, in each call that races for
-/// tiles.
+/// The same as [`program`], but in each call that races for tiles, the workers pass a gate at the points of their way through a
+/// tile.
 pub fn program_gated<'a, R: Threads + Sync + AllocGlobal, A: Memory, H: Host, G: Gate>(
     rt: &R,
     alloc: A,

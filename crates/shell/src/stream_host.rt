@@ -12,18 +12,18 @@ use script_runs::{Sink, SinkFault};
 use std::io::Write;
 use std::thread::Threads;
 
-/// What reads files whole.
+/// Reads files whole.
 pub trait ReadFiles {
     ghost use Rattle.std.specs.Prelude.{List, Option};
     ghost use Rattle.script_runs.specs.Hosts.{Read};
 
-    /// The reads so far; none where the reader does not tell them.
+    /// The reads so far; none if the reader does not record them.
     ghost reads: { Self → Option (List Read) };
 
-    /// The whole of a file; none where it cannot be read, or there is no memory for it. Either is a read.
+    /// The whole of a file; none if it cannot be read or memory for it is refused. Either is a read.
     ///
-    /// `room` reads it, and is told how many bytes the file is expected to have, as far as that is known.
-    // That the runtime may be shared is said by a clause too, since a bound of a method is assumed of the calling thread alone.
+    /// `room` reads it, and takes the number of bytes that the file should have, if that is known.
+    // A clause too says that the runtime may be shared, since a bound of a method is assumed of the calling thread alone.
     fn read_file<R: Threads + Sync, A: Memory>(
         &mut self,
         name: &str,
@@ -35,8 +35,8 @@ pub trait ReadFiles {
             (reads self.new) };
 }
 
-/// A host over a reader of files, a writer for standard output and one for standard error. It tells what these tell: all
-/// of it where they keep what they take in memory, and nothing where they are the system's.
+/// A host over a reader of files, a writer for standard output and one for standard error. It shows what these show: everything
+/// if they keep what they take in memory, and nothing if they are the system's.
 #[derive(Drop)]
 pub struct StreamHost<F, O, E> {
     /// The reader of files.
@@ -51,15 +51,15 @@ pub struct StreamHost<F, O, E> {
     pub failed_flushes: u64,
     /// Whether standard output was flushed after its last byte.
     pub sent: bool,
-    /// Whether it was when standard error was last told something.
+    /// Whether it was, when standard error last took a message.
     pub told_sent: bool,
     /// Whether a part of a message was lost.
     pub lost: bool,
 }
 
 impl<F, O, E> StreamHost<F, O, E> {
-    /// A host over these files, this output and these errors, on which nothing was done: there is nothing to send on, nothing
-    /// was told, and nothing failed or was lost.
+    /// A new host over these files, this output and these errors: it has nothing to flush, no message was written, and nothing
+    /// failed or was lost.
     pub fn new(files: F, output: O, errors: E) -> StreamHost<F, O, E>
         ensures files { result.files ≡ files }
         ensures output { result.output ≡ output }
@@ -83,8 +83,8 @@ impl<F, O, E> StreamHost<F, O, E> {
     }
 }
 
-/// Writes on until the writer has taken all the bytes, and says whether it has. A write that fails, or takes none of some
-/// bytes, is the last.
+/// Writes until the writer has taken all the bytes, and returns whether it has. Stops at a write that fails, or takes none of
+/// some bytes.
 fn write_whole<W: Write>(bytes: &[u8], writer: &mut W) -> bool
     ensures { WritesWhole (W.contents writer.old) bytes.now result (W.contents writer.new) }
 {
@@ -100,7 +100,7 @@ fn write_whole<W: Write>(bytes: &[u8], writer: &mut W) -> bool
     true
 }
 
-/// A write that takes none of some bytes is a failure.
+/// A write that takes none of some bytes has failed.
 impl<F: ReadFiles, O: Write, E: Write> Sink for StreamHost<F, O, E> {
     ghost seen = { λ h. record {
       output = O.contents h.output;

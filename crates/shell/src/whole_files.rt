@@ -1,4 +1,4 @@
-//! Files that are read whole, into memory that several threads make ready while the bytes come.
+//! Files that are read whole, into memory that several threads touch ahead of the bytes.
 
 ghost use Rattle.std.specs.Prelude.{◌≡◌, ◌+◌, ◌-◌, ◌^◌, ◌<◌, ◌≤◌, List, Option, ℕ, IfSome, IsTrue, length, max, min, take};
 ghost use Rattle.std.specs.Io.KnownBytes.{Consumes, IsAtEnd};
@@ -10,11 +10,11 @@ use std::alloc::Allocator;
 use std::io::{ErrorKind, Read};
 use std::thread::Threads;
 
-/// How many bytes of memory are made ready for a long file before any byte was read.
+/// How many bytes of memory to make ready for a long file before its first read.
 const FIRST_STEP: usize = 1_048_576;
 
-/// Reads into the places of a room, from the one of this number on, until there is no place left, no byte, or a read is
-/// interrupted. Tells how many places are filled then, and whether no byte is left; none where a read fails.
+/// Reads into a room from this place on, until the room is full, the file ends, or a read is interrupted. Returns how many places
+/// are filled, and whether the file ended; none if a read fails.
 fn fill<F: Read>(file: &mut F, room: &mut [u8], from: usize) -> Option<(usize, bool)>
     requires { from ≤ length room.old }
     ensures within { IfSome result (λ r. (from ≤ r.0) × (r.0 ≤ length room.new)) }
@@ -36,15 +36,15 @@ fn fill<F: Read>(file: &mut F, room: &mut [u8], from: usize) -> Option<(usize, b
     Some((filled, false))
 }
 
-/// How many bytes of memory are still wanted where so many bytes were read of those that are expected: one more than there
-/// are, which shows that the file has no more.
+/// How many more bytes of memory to ask for after so many bytes of those expected were read: one more than are left, which shows
+/// that the file has ended.
 fn places_left(read: usize, expected: usize) -> usize
     ensures { result ≡ min (expected + 1) (2 ^ 64 - 1) - read }
 {
     expected.saturating_add(1).saturating_sub(read)
 }
 
-/// How many of these are written next: as many as bytes were read, or a mebibyte where these are fewer.
+/// How many of these to write next: as many as bytes were read, but at least a mebibyte.
 fn next_step(read: usize, expected: usize) -> usize
     ensures { result ≡ min (min (expected + 1) (2 ^ 64 - 1) - read) (max read 1048576) }
 {
@@ -53,9 +53,9 @@ fn next_step(read: usize, expected: usize) -> usize
 
 /// Memory for a file that is read whole.
 ///
-/// The system makes a page of fresh memory when it is first written, which takes longer than to read the page's bytes. So for
-/// a long file several threads write the memory, in steps: a mebibyte, and then as much as was read so far. A file that is
-/// shorter than it was expected to be takes at most a mebibyte, or twice its bytes.
+/// The system makes a page of fresh memory when it is first written, which takes longer than reading the page's bytes. So for a
+/// long file several threads write the memory, in steps: a mebibyte, and then as much as was read so far. A file that is shorter
+/// than expected takes at most a mebibyte, or twice its bytes.
 #[derive(Drop)]
 pub struct FileRoom<'a, R, A> {
     rt: &'a R,
@@ -69,8 +69,8 @@ impl<'a, R: Threads + Sync, A: Allocator> FileRoom<'a, R, A> {
         FileRoom { rt, alloc, config }
     }
 
-    /// All bytes that a file has left, of which so many are expected; none where a read fails, or there is no memory for them.
-    // `read_to_end` makes a read again that was interrupted.
+    /// All bytes left in a file, of which `expected` are expected; none if a read fails, or there is no memory for them.
+    // `read_to_end` repeats an interrupted read.
     pub fn read_whole<F: Read>(self, file: &mut F, expected: usize) -> Option<Vec<u8, A>>
         ensures { IfSome result (λ bytes. IfSome (F.remaining file.old) (λ left. bytes.items ≡ left)) }
     {
@@ -81,10 +81,9 @@ impl<'a, R: Threads + Sync, A: Allocator> FileRoom<'a, R, A> {
         Some(bytes)
     }
 
-    /// Reads the bytes that are expected, as far as several threads pay and memory is granted, and tells whether the file has no
-    /// more.
-    // Memory is asked for a mebibyte, and then at once for all that is expected: what isn't written costs nothing, and a block
-    // that grows is copied.
+    /// Reads the expected bytes, as far as several threads pay and memory is granted, and returns whether the file has ended.
+    // Asks for a mebibyte, and then at once for all that is expected: memory that isn't written costs nothing, while a block that
+    // grows is copied.
     fn read_expected<F: Read>(self, file: &mut F, expected: usize) -> Option<(Vec<u8, A>, bool)>
         ensures bytes { IfSome result (λ r. Consumes (F.remaining file.old) (F.remaining file.new) r.0.items) }
         ensures end { IfSome result (λ r. IsTrue r.1 → IsAtEnd (F.remaining file.new)) }
