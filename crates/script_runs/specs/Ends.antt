@@ -1,4 +1,4 @@
--- How a run may end: with the meaning of its script, or cut off within it where memory is refused or the sink fails.
+-- How a run may end: with the meaning of its script, or cut off within it if memory is refused or the sink fails.
 -- Source: this library.
 use Rattle.std.specs.Prelude.{◌≡◌, ℕ, ◌-◌, ◌≤◌, ◌<◌, ◌==◌, List, [], ◌++◌, length, take, slice_get, Some, None, unwrap_or, option_map}
 use Rattle.std.specs.Prelude.{Result, Ok, Err, if◌then◌else◌}
@@ -12,7 +12,7 @@ use Rattle.script_runs.specs.Meaning.{Meaning, text_of_script}
 abbrev pub line_text : Meaning → ℕ → List ℕ
 line_text m line = if line == 0 then [] else unwrap_or (slice_get m.texts (line - 1)) []
 
--- the meaning comes as far as this line, where line 0 is before the first
+-- the meaning comes as far as this line; line 0 is before the first
 abbrev pub Reaches : Meaning → ℕ → Type 0
 Reaches m line = line ≤ unwrap_or (option_map (λ s. s.0) m.stop) (length m.texts)
 
@@ -35,26 +35,26 @@ EndsAs m written (Err (stop.Script line f)) = (m.stop ≡ Some (line, f)) × (wr
 EndsAs m written (Err (stop.NoResources line)) = IsCutAt m line written
 EndsAs m written (Err (stop.WriteFailed line)) = IsCutShortAt m line written
 
--- what holds where a line has a fault
+-- what holds if a line has a fault
 abbrev pub AtFault : Result (Unit {0}) Stop → Type 0 → Type 0
 AtFault (Ok done) claim = Unit {0}
 AtFault (Err (stop.Script line f)) claim = claim
 AtFault (Err (stop.NoResources line)) claim = Unit {0}
 AtFault (Err (stop.WriteFailed line)) claim = Unit {0}
 
--- what holds where the run came to its end, or to a line that has a fault
+-- what holds if the run came to its end, or to a line that has a fault
 abbrev pub AtEnd : Result (Unit {0}) Stop → Type 0 → Type 0
 AtEnd (Ok done) claim = claim
 AtEnd (Err why) claim = AtFault (Err why) claim
 
--- how often the sink failed in the run: once where that is the answer, and else never
+-- how often the sink failed in the run: once if the answer says so, and else never
 abbrev pub failures_in : Result (Unit {0}) Stop → ℕ
 failures_in (Ok done) = 0
 failures_in (Err (stop.Script line f)) = 0
 failures_in (Err (stop.NoResources line)) = 0
 failures_in (Err (stop.WriteFailed line)) = 1
 
--- standard output has taken the text, and failed where that is the answer
+-- standard output has taken the text, and failed if the answer says so
 abbrev pub with_answer : List ℕ → Result (Unit {0}) Stop → Seen → Seen
 with_answer written answer s = with_failures (failures_in answer) (with_output written s)
 

@@ -1,9 +1,9 @@
--- What a host shows, and what its calls do with it. A sink is a host that has standard output alone.
+-- What a host shows, and what its calls do with it. A sink is a host that has only standard output.
 -- Source: this library's program.
 use Rattle.std.specs.Prelude.{◌≡◌, ◌⊎◌, ℕ, ◌+◌, ◌<◌, Bool, true, false, ◌&&◌, ◌||◌, List, [], ◌∷◌, ◌++◌, length, take, Option, Some, None}
 use Rattle.std.specs.Prelude.{option_map}
 
--- a file was asked for by its name, and gave these bytes; none where it could not be read
+-- a file was asked for by its name, and gave these bytes; none if it could not be read
 pub record Read : Type 0 where
   pub name : List ℕ
   pub bytes : Option (List ℕ)
@@ -11,9 +11,9 @@ pub record Read : Type 0 where
 abbrev pub read_of : List ℕ → Option (List ℕ) → Read
 read_of name bytes = record { name = name; bytes = bytes }
 
--- what a host shows: the bytes that standard output and standard error took and the files that were read, where it
--- tells these; how often a put and a flush failed; whether standard output is sent on, and whether it was when standard
--- error was last told something; and whether standard error ever lost a part of what it was told
+-- what a host shows: the bytes that standard output and standard error took and the files that were read, if it records these; how often a
+-- put and a flush failed; whether standard output is flushed, and whether it was when standard error last took a message; and whether
+-- standard error ever lost a part of one
 pub record Seen : Type 0 where
   pub output : Option (List ℕ)
   pub failed_puts : ℕ
@@ -39,7 +39,7 @@ sink_seen output failed_puts = record {
 
 -- ---- what is claimed of a host
 
--- what would be told is what is told; where nothing would be told nothing is claimed
+-- what is wanted is what is recorded; if nothing is wanted, nothing is claimed
 abbrev pub IsTold : {X : Type 0} → Option X → Option X → Type 0
 IsTold None told = Unit {0}
 IsTold (Some wanted) told = told ≡ Some wanted
@@ -64,7 +64,7 @@ abbrev pub is_empty : List ℕ → Bool
 is_empty [] = true
 is_empty (byte ∷ bytes) = false
 
--- standard output has taken the bytes, and has not sent them on
+-- standard output has taken the bytes, and is not flushed
 abbrev pub with_output : List ℕ → Seen → Seen
 with_output bytes s =
     record s { output = with_more bytes s.output; sent = s.sent && is_empty bytes }
@@ -73,7 +73,7 @@ with_output bytes s =
 abbrev pub with_failures : ℕ → Seen → Seen
 with_failures puts s = record s { failed_puts = s.failed_puts + puts }
 
--- all of standard output is sent on, or the flush fails
+-- all of standard output is flushed, or the flush fails
 abbrev pub with_flush : Bool → Seen → Seen
 with_flush true s = record s { sent = true }
 with_flush false s = record s { failed_flushes = s.failed_flushes + 1 }
@@ -81,7 +81,7 @@ with_flush false s = record s { failed_flushes = s.failed_flushes + 1 }
 abbrev pub with_reads : List Read → Seen → Seen
 with_reads reads s = record s { reads = with_more reads s.reads }
 
--- standard error has taken the bytes of a text, which are not the whole where it lost a part
+-- standard error has taken the bytes of a text, which are not the whole if it lost a part
 abbrev pub with_message : List ℕ → Bool → Seen → Seen
 with_message bytes lost s = record s {
   errors = with_more bytes s.errors;
@@ -89,7 +89,7 @@ with_message bytes lost s = record s {
   lost = s.lost || lost;
 }
 
--- standard error is told the text, if there is one: it takes the whole, or loses all but a beginning of it
+-- standard error takes the text, if there is one, or loses all but a beginning of it
 abbrev pub Tells : Option (List ℕ) → Seen → Seen → Type 0
 Tells None before after = Shows before after
 Tells (Some text) before after =

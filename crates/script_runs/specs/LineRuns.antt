@@ -12,7 +12,7 @@ use Rattle.script_runs.specs.declared.stop.Stop.TheVariants as stop
 use Rattle.script_runs.specs.Ends.{with_answer}
 use Rattle.script_runs.specs.Hosts.{Seen, Shows}
 
--- the stop at a line of which the read or the call was refused
+-- the stop at a line whose read or call was refused
 abbrev pub refused_at : ℕ → Refused → Stop
 refused_at number (refused.Fault f) = stop.Script number f
 refused_at number refused.NoResources = stop.NoResources number

@@ -1,5 +1,5 @@
--- What a sink does: of bytes that are not none it takes a front of one or more, or it fails, takes none and counts one
--- failure; of no bytes it takes none and does not fail.
+-- What a sink does: of some bytes it takes a front of one or more, or it fails, takes none and counts one failure; of no bytes it takes
+-- none and does not fail.
 -- Source: this library.
 use Rattle.std.specs.Prelude.{ℕ, ◌≤◌, ◌<◌, List, length, take, Result, Ok, Err}
 use Rattle.script_runs.specs.Hosts.{Seen, Shows, with_failures, with_output}

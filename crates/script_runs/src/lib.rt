@@ -1,4 +1,4 @@
-//! Runs of scripts: a script is run over its inputs line by line, and its text goes to a sink.
+//! Runs of scripts: a script runs over its inputs line by line, and its text goes to a sink.
 #![tactic(auto)]
 
 pub mod lines;

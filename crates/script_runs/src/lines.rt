@@ -22,7 +22,7 @@ fn without_carriage_return(line: &[u8]) -> &[u8]
     }
 }
 
-/// The first line of a script, and what stands after its line feed, where it has one.
+/// The first line of a script, and what follows its line feed, if it has one.
 pub fn next_line(script: &[u8]) -> (&[u8], Option<&[u8]>)
     ensures lines { lines_of script.now ≡ result.0.now ∷ lines_left (option_copied result.1) }
     ensures shorter { bytes_left (option_copied result.1) ≤ length script.now }

@@ -1,4 +1,4 @@
-//! The text of a write of a long vector, which is put piece by piece.
+//! Writes the text of a long vector piece by piece.
 
 ghost use Rattle.std.specs.Prelude.{◌≡◌, ◌^◌, ◌<◌, ◌≤◌, ◌-◌, ◌++◌, codes, length, take, IfOk, Ok, Some};
 ghost use Rattle.std.specs.List.{concat};
@@ -21,7 +21,7 @@ use std::thread::{Threads, join_mut};
 use value_texts::{Piece, Written, pieces_for, put_opening, threads_writing_pieces, write_first};
 use vector_handles::{FlatVector, LongWrite};
 
-/// Puts the texts of the pieces, one after another.
+/// Puts the texts of the pieces in order.
 fn put_pieces<A: Allocator, S: Sink>(sink: &mut S, pieces: &[Piece<A>]) -> Result<(), SinkFault>
     requires { (S.seen sink.old).failed_puts < 2 ^ 64 - 1 }
     ensures { PutsAll (S.seen sink.old) (concat pieces.now) result (S.seen sink.new) }
@@ -32,8 +32,8 @@ fn put_pieces<A: Allocator, S: Sink>(sink: &mut S, pieces: &[Piece<A>]) -> Resul
     Ok(())
 }
 
-/// Puts the texts of the pieces that are ready. Meanwhile other threads write those of the first of the elements, with a space
-/// before each, as many as the spare pieces have room for: how many of these they write, and the other elements.
+/// Puts the texts of the ready pieces while other threads write the first of the elements, each after a space, into the spare
+/// pieces, as far as they have room. Returns how many pieces these fill, and the other elements.
 fn put_and_write<'a, R: Threads + Sync, T: Written + Sync, A: Memory, S: Sink>(
     rt: &R,
     threads: ThreadCount,
@@ -70,8 +70,8 @@ fn put_and_write<'a, R: Threads + Sync, T: Written + Sync, A: Memory, S: Sink>(
     (put, count, others)
 }
 
-/// Puts the texts of the elements with a space before each, as many of them at a time as the pieces that are written at once have
-/// room for. There are as many pieces that are ready as there are spare ones.
+/// Puts the texts of the elements, each after a space, as many at a time as the pieces that are written at once have room for.
+/// There are as many ready pieces as spare ones.
 fn put_spaced<R: Threads + Sync, T: Written + Sync, A: Memory, S: Sink>(
     rt: &R,
     threads: ThreadCount,
@@ -97,7 +97,7 @@ fn put_spaced<R: Threads + Sync, T: Written + Sync, A: Memory, S: Sink>(
     put_pieces(sink, &ready[..count])
 }
 
-/// Puts the beginning of a vector's text, the other elements, and what ends the line.
+/// Puts the beginning of a vector's text, the other elements, and the end of the line.
 fn put_vector<R: Threads + Sync, T: Written + Sync, A: Memory, S: Sink>(
     rt: &R,
     threads: ThreadCount,
@@ -135,7 +135,7 @@ fn opened<'a, T: Written, A: Memory>(
     Ok((text, others))
 }
 
-/// Asks for all memory that the text takes, and then puts it. Where some is refused nothing is put.
+/// Asks for all memory that the text takes, and then puts it. If some is refused, puts nothing.
 fn write_vector<R: Threads + Sync, T: Written + Sync, A: Memory, S: Sink>(
     rt: &R,
     alloc: A,
@@ -165,7 +165,7 @@ fn write_vector<R: Threads + Sync, T: Written + Sync, A: Memory, S: Sink>(
     }
 }
 
-/// Puts the text of a write of a long vector, in memory for a part of it. Where that is refused nothing is put.
+/// Puts the text of a write of a long vector, in memory for a part of it. If that is refused, puts nothing.
 pub(crate) fn run_long_write<R: Threads + Sync, A: Memory, S: Sink>(
     rt: &R,
     alloc: A,

@@ -5,7 +5,7 @@ use cvl_base::NoResources;
 use std::alloc::Allocator;
 use std::marker::Model;
 
-/// A sink that keeps all bytes in memory, and fails where there is no memory for them.
+/// A sink that keeps all bytes in memory, and fails if there is no memory for them.
 #[derive(Drop)]
 #[derive_where(Debug; A)]
 pub struct MemSink<A: Allocator> {
@@ -37,7 +37,7 @@ impl<A: Allocator> MemSink<A> {
         }
     }
 
-    /// A sink that has taken nothing, with room for as many bytes: it takes these without asking for memory.
+    /// A sink that has taken nothing, with room for this many bytes: it takes these without asking for memory.
     pub fn with_room(alloc: A, room: usize) -> Result<MemSink<A>, NoResources>
         ensures room { IfOk result (λ sink. room ≤ sink.room) }
         ensures bytes { IfOk result (λ sink. sink.bytes ≡ []) }
@@ -64,7 +64,7 @@ impl<A: Allocator> MemSink<A> {
     }
 }
 
-/// It takes all the bytes or fails, and takes them where there is room for them.
+/// It takes all the bytes or fails; if there is room, it takes them.
 impl<A: Allocator> Sink for MemSink<A> {
     ghost use Rattle.std.specs.Prelude.{◌≡◌, ◌+◌, ◌-◌, ◌^◌, ◌<◌, ◌≤◌, length, Some, IfOk, IsOk};
     ghost use Rattle.script_runs.specs.Hosts.{sink_seen};

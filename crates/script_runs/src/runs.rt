@@ -20,7 +20,7 @@ use line_reader::read_line;
 use std::thread::Threads;
 use vector_handles::{Input, Session, Shown};
 
-/// The bytes of the text that a call shows, none where it shows nothing.
+/// The bytes of the text that a call shows; none if it shows nothing.
 fn shown_bytes<A: Memory>(shown: &Shown<A>) -> &[u8]
     ensures { result.now ≡ unwrap_or (text_shown shown.now) [] }
 {
@@ -42,7 +42,7 @@ fn stop_of(refused: Refused, number: u32) -> Stop
     }
 }
 
-/// Makes the call of a line, and puts its text into the sink: whole, or that of a long vector piece by piece.
+/// Makes the call of a line and puts its text into the sink: whole, or piece by piece if a vector is long.
 fn run_call<R: Threads + Sync, A: Memory, S: Sink, G: Gate>(
     rt: &R,
     alloc: A,
@@ -70,7 +70,7 @@ fn run_call<R: Threads + Sync, A: Memory, S: Sink, G: Gate>(
     }
 }
 
-/// Runs one line, with its number from 1 on.
+/// Runs the line of this number, from 1 on.
 fn run_line<R: Threads + Sync, A: Memory, S: Sink, G: Gate>(
     rt: &R,
     alloc: A,
@@ -93,12 +93,11 @@ fn run_line<R: Threads + Sync, A: Memory, S: Sink, G: Gate>(
     }
 }
 
-/// Runs the lines of a script on a session, one after the other, up to the first that stops the run, and puts their texts
-/// into the sink. Lines count from 1.
+/// Runs the lines of a script on a session, in order, up to the first that stops the run, and puts their texts into the sink.
+/// Lines count from 1.
 ///
-/// What the sink takes and the answer are as of [`run`], from the names that were bound before. At the end of the script, and
-/// where the run stops at a line with a fault, the names of the session are those that the lines leave. A script has at
-/// most 1,048,576 bytes.
+/// The sink and the answer are those of [`run`], but the run starts with the session's names. At the end of the script, or if a
+/// line has a fault, the session has the names that the lines leave. A script has at most 1,048,576 bytes.
 pub fn run_lines<R: Threads + Sync, A: Memory, S: Sink, G: Gate>(
     rt: &R,
     alloc: A,
@@ -128,10 +127,10 @@ pub fn run_lines<R: Threads + Sync, A: Memory, S: Sink, G: Gate>(
 
 /// Runs a script over its inputs and writes its text to the sink.
 ///
-/// Where memory does not run out and the sink does not fail, the sink takes exactly the text of the script's meaning, and
-/// the answer is exactly its first fault, whatever the tile length and the number of workers. Where a growth is
-/// refused, or the sink fails, all text of the lines before was taken, and a beginning of the text of the line that the
-/// answer names: one that is not the whole where the sink failed. No call is retried.
+/// If memory does not run out and the sink does not fail, the sink takes exactly the text of the script's meaning, and the answer
+/// is exactly its first fault, for any tile length and number of workers. If memory is refused, or the sink fails, it has taken
+/// all text of the lines before the one that the answer names, and a beginning of that line's text, which is not the whole if the
+/// sink failed. No call is retried.
 pub fn run<R: Threads + Sync, A: Memory, S: Sink>(
     rt: &R,
     alloc: A,
@@ -146,8 +145,8 @@ pub fn run<R: Threads + Sync, A: Memory, S: Sink>(
     run_gated(rt, alloc, config, script, inputs, sink, &OpenGate)
 }
 
-/// The same as [`run`], by workers that pass a gate at the points of their way through a tile, in each call that races for
-/// tiles. The gate changes neither the text nor the answer, so that a test may hold workers at it.
+/// The same as [`run`], but in each call that races for tiles, the workers pass a gate at the points of their way through a tile.
+/// The gate changes neither the text nor the answer, so that a test may hold workers at it.
 pub fn run_gated<R: Threads + Sync, A: Memory, S: Sink, G: Gate>(
     rt: &R,
     alloc: A,

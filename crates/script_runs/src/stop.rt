@@ -13,14 +13,14 @@ use thiserror::Error;
 pub enum Stop {
     /// A line has a fault.
     Script {
-        /// The line at fault; 0 where the script is too long.
+        /// The line at fault; 0 if the script is too long.
         line: u32,
         /// The fault, with its place.
         fault: Fault,
     },
     /// Memory ran out.
     NoResources {
-        /// The line that was run.
+        /// The line that ran.
         line: u32,
     },
     /// The sink failed.
@@ -30,7 +30,7 @@ pub enum Stop {
     },
 }
 
-/// A stop is shown as its line and why the run stopped there.
+/// The line, and why the run stopped there.
 impl fmt::Display for Stop {
     ghost use Rattle.std.specs.Prelude.{Some};
 
@@ -45,8 +45,8 @@ impl fmt::Display for Stop {
     }
 }
 
-/// Appends the line of text that tells of a stop: the stop as it is shown, and a line feed. After a refusal the text is
-/// as before, and none comes where the text has room for the line.
+/// Appends the line of text about a stop: the stop as it is shown, and a line feed. After a refusal the text is as before; there
+/// is none if the text has room for the line.
 pub fn put_stop<A: Memory>(stop: &Stop, text: &mut Vec<u8, A>) -> Result<(), NoResources>
     ensures ok { OnOk result (text.new.items ≡ text.old.items ++ stop_line stop.now) }
     ensures err { OnErr result (text.new.items ≡ text.old.items) }

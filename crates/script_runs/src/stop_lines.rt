@@ -1,4 +1,4 @@
-//! The line of text that tells of a stop, which takes no memory.
+//! The line of text about a stop, which takes no memory.
 
 ghost use Rattle.std.specs.Prelude.{◌≡◌, ◌+◌, ◌≤◌, ◌++◌, length};
 ghost use Rattle.std.specs.Fmt.{decimal};
@@ -22,7 +22,7 @@ fn put_number(number: u32, line: &mut ArrayString<STOP_LINE_BYTES>)
     line.push_str(Buffer::new().format(number));
 }
 
-/// Appends the text of a fault, of which the longest name has 18 bytes.
+/// Appends the text of a fault. The longest name has 18 bytes.
 #[tactic(auto, using(crate::proofs::FaultNames::name_short))]
 fn put_fault(fault: &Fault, line: &mut ArrayString<STOP_LINE_BYTES>)
     requires { length line.old.bytes + 49 ≤ STOP_LINE_BYTES }
@@ -63,7 +63,7 @@ fn line_of(stop: &Stop) -> u32
     }
 }
 
-/// The line of text that tells of a stop: the stop as it is shown, and a line feed.
+/// The line of text about a stop: the stop as it is shown, and a line feed.
 pub fn stop_line(stop: &Stop) -> ArrayString<STOP_LINE_BYTES>
     ensures { result.bytes ≡ stop_line stop.now }
 {
