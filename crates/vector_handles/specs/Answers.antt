@@ -1,4 +1,4 @@
--- How the answers of a session's calls stand to their definitions.
+-- How the answers of a session's calls relate to their definitions.
 -- Source: this library.
 use Rattle.std.specs.Prelude.{ℕ, ℤ, List, Option, Result}
 use Rattle.cvl_base.specs.declared.call.Call.{Call}

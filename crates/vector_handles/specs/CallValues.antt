@@ -82,8 +82,7 @@ module _ {A : Type 0} where
   abbrev pub descriptor : Result (List ℕ) Fault → Result (Value A) Fault
   descriptor answer = answer >>= λ lengths. Ok (value.Descriptor lengths)
 
-  -- what each call gives, where the argument at each place stands for that value; `write` is no call and gives none, and
-  -- `nested` gives two
+  -- the value of each call; the argument at each place stands for that value; `write` is no call and gives none, and `nested` gives two
   abbrev pub table_value : List (Input A) → Op → ArgumentAt A → Result (Value A) Fault
   table_value inputs op.Input arg = input_value inputs arg
   table_value inputs op.Nested arg = Err (fault WrongArgumentCount)
@@ -121,12 +120,12 @@ module _ {A : Type 0} where
   table_value inputs op.DescriptorLengths arg = Ok (value.Integers (map pos (lengths_in (arg 0))))
   table_value inputs op.Write arg = Err (fault UnknownCall)
 
-  -- what a call that binds two names gives to each; every other call gives one value or none
+  -- the two values of a call that binds two names; every other call gives one or none
   abbrev pub table_pair : List (Input A) → Op → ArgumentAt A → Result (Value A × Value A) Fault
   table_pair inputs op.Nested arg = nested_values inputs arg
   table_pair inputs _ arg = Err (fault WrongArgumentCount)
 
-  -- the value of a call, where it gives one, is of the kind that the table names for it, and so are two, in their order
+  -- the value of a call, if it gives one, has the kind that the table names for it, and so have two, in their order
   abbrev pub HasNamedKind : List (Input A) → Op → ArgumentAt A → Type 0
   HasNamedKind inputs call arg = IfOk (table_value inputs call arg) (λ v. results_of call ≡ kind_of v ∷ [])
 

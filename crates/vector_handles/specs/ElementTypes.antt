@@ -1,6 +1,6 @@
--- The types of elements among the kinds of values: integers and booleans, each alone and in vectors. A family whose calls
--- take either is said once, over any element type.
--- Source: CVL's scalars and vectors, of which this library has these two.
+-- The types of elements among the kinds of values: integers and booleans, each alone and in vectors. A family whose calls take either is
+-- defined once, for any element type.
+-- Source: CVL's scalars and vectors; this library has these two.
 use Rattle.std.specs.Prelude.{List, Option, Bool, ℤ}
 use Rattle.cvl_base.specs.declared.value.Value.{Value}
 use Rattle.cvl_base.specs.declared.value.Value.TheVariants as value

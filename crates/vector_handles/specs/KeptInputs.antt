@@ -1,11 +1,11 @@
--- The inputs as a session has them: the bytes of a file, the numbers that were read of such bytes, or a vector.
+-- The inputs as a session has them: the bytes of a file, the numbers read from such bytes, or a vector.
 -- Source: this library.
 use Rattle.vector_handles.specs.declared.input.Input.{Input}
 use Rattle.vector_handles.specs.declared.input.Input.TheVariants as input
 use Rattle.vector_handles.specs.declared.kept.Content.{Content}
 use Rattle.vector_handles.specs.declared.kept.Content.TheVariants as content
 
--- an input, under a name that `impl Model` can say
+-- an input, by a name that `impl Model` can use
 abbrev pub InputKept : Type 0 → Type 0
 InputKept A = Input A
 

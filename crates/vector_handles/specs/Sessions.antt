@@ -11,7 +11,7 @@ pub record State (A : Type 0) : Type 0 where
   pub names : Entries A
   pub inputs : List (Input A)
 
--- the text that a call shows, where it shows one
+-- the text that a call shows, if it shows one
 abbrev pub text_shown : {A : Type 0} → Shown A → Option (List ℕ)
 text_shown shown.Nothing = None
 text_shown (shown.Text bytes) = Some bytes.items

@@ -21,7 +21,7 @@ use Rattle.vector_handles.specs.Families.{ArgumentAt}
 use Rattle.bound_names.specs.Names.{Entries, bind, bind_both, has_room, has_room_for_both}
 use Rattle.bound_names.specs.Arguments.{args_fault, argument_at, descriptor_in}
 
--- what a line leaves: the bound names, and the text where it is a write
+-- what a line leaves: the bound names, and the text if it is a write
 pub record Stepped (A : Type 0) : Type 0 where
   pub names : Entries A
   pub shown : Option (List ℕ)
@@ -32,12 +32,12 @@ name_in (Some (arg.Name name)) = name
 name_in _ = []
 
 module _ {A : Type 0} where
-  -- the text of a value, beside a second one where that is a descriptor
+  -- the text of a value, cut by a second one if that is a descriptor
   abbrev text_beside : Option (Value A) → Option (Value A) → Result (List ℕ) Fault
   text_beside None beside = Ok []
   text_beside (Some v) beside = value_text (descriptor_in beside) v
 
-  -- the text of the first argument, beside the second
+  -- the text of the first argument, cut by the second
   abbrev pub shown_text_of : ArgumentAt A → Result (List ℕ) Fault
   shown_text_of arg = text_beside (arg 0) (arg 1)
 
@@ -54,7 +54,7 @@ module _ {A : Type 0} where
   abbrev pub both_bound_to : Entries A → List ℕ → List ℕ → Value A × Value A → Stepped A
   both_bound_to names first second both = record { names = bind_both names first second both; shown = None }
 
-  -- what is done once the arguments are right
+  -- what happens once the arguments are right
   abbrev pub performed : Entries A → List (Input A) → ResultNames → Op → List Arg → Result (Stepped A) Fault
   performed names inputs results.None op args =
       written args (argument_at names args) >>= λ text. Ok (record { names = names; shown = Some text })

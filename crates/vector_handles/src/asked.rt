@@ -1,4 +1,4 @@
-//! A call that is made on a session, once its arguments are found to be right.
+//! A call on a session, once its arguments are right.
 
 ghost use Rattle.std.specs.Prelude.{◌≡◌, IfOk, MatchResult, None, Some};
 ghost use Rattle.bound_names.specs.Arguments.{args_fault, argument_at};
@@ -10,7 +10,7 @@ use bound_names::{Operands, resolve};
 use cvl_base::{Arg, Config, Fault, Memory, NoResources, Op};
 use std::thread::Threads;
 
-/// What the arguments of a call hold, the session's inputs, and what a kernel takes beside them.
+/// The values of a call's arguments, the session's inputs, and what a kernel takes besides.
 #[derive(Drop)]
 pub(crate) struct Asked<'a, R, A: Memory> {
     pub(crate) rt: &'a R,
@@ -44,14 +44,14 @@ impl<A: Memory> Session<A> {
         })
     }
 
-    /// The number, counted from 1, of the input that an `input` with these arguments asks for.
+    /// The number, counted from 1, of the input that these arguments of `input` name.
     fn number_asked_for(&self, args: &[Arg]) -> Option<i32> {
         let operands = resolve(&self.names, Op::Input, args).ok()?;
         Some(operands.first.integer())
     }
 
-    /// Reads the input that an `input` with these arguments asks for, so that its numbers take the place of its bytes. What is at
-    /// fault stays as it is, for the call to tell.
+    /// Reads the input that these arguments of `input` name, and keeps its numbers instead of its bytes. Text with a fault stays
+    /// as it is; the call reports it.
     pub(crate) fn read_asked_for<R: Threads + Sync>(
         &mut self,
         rt: &R,

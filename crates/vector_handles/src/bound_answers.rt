@@ -1,4 +1,4 @@
-//! What a call gives to a name, or to two.
+//! What a call binds to a name, or to two.
 
 ghost use Rattle.cvl_base.specs.declared.call.ResultNames.TheVariants as results;
 ghost use Rattle.cvl_base.specs.Gives.{Gives, unless};
@@ -13,8 +13,8 @@ use cvl_base::{Arg, Fault, FaultNo, Memory, Name, Op, Refused};
 use std::thread::Threads;
 
 impl<A: Memory> Session<A> {
-    /// The value that a call gives, to be bound to a name: the first fault of the arguments, `TooManyNames` where it is a
-    /// new name and no more may be bound, and then the call's faults.
+    /// The value of a call, to be bound to a name. Reports the first fault of the arguments, `TooManyNames` if the name is new
+    /// and no more may be bound, and then the call's faults.
     pub(crate) fn value_for<R: Threads + Sync, G: Gate>(
         &self,
         rt: &R,
@@ -34,9 +34,8 @@ impl<A: Memory> Session<A> {
         asked.value(op, gate)
     }
 
-    /// The two values that a call gives, to be bound to two names: the first fault of the arguments, `WrongArgumentCount`
-    /// where the call binds one name or none, `TooManyNames` where the names bound and the new ones are together too many,
-    /// and then the call's faults.
+    /// The two values of a call, to be bound to two names. Reports the first fault of the arguments, `WrongArgumentCount` if the
+    /// call binds fewer names, `TooManyNames` if the bound names and the new ones are too many, and then the call's faults.
     pub(crate) fn values_for<R: Threads + Sync>(
         &self,
         rt: &R,

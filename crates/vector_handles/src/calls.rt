@@ -1,4 +1,4 @@
-//! The value that a call gives, family by family.
+//! The value of each call, family by family.
 
 ghost use Rattle.cvl_base.specs.declared.operation.Op.TheVariants as op;
 ghost use Rattle.bound_names.specs.Operands.{AreTaken};
@@ -13,8 +13,8 @@ use segdes::SegDes;
 use std::thread::Threads;
 
 impl<R: Threads + Sync, A: Memory> Asked<'_, R, A> {
-    /// The value that a call gives; `UnknownCall` for `write`, which gives none, and `WrongArgumentCount` for `nested`,
-    /// which gives two. The workers that race for it pass the gate.
+    /// The value of a call; `UnknownCall` for `write`, which gives none, and `WrongArgumentCount` for `nested`, which gives two.
+    /// The workers that race for it pass the gate.
     pub(crate) fn value<G: Gate>(&self, op: Op, gate: &G) -> Answer<A>
         requires kinds { AreTaken op self.now.operands }
         ensures { IsTableValue self.now.inputs.now op self.now.operands result }
@@ -51,7 +51,7 @@ impl<R: Threads + Sync, A: Memory> Asked<'_, R, A> {
         }
     }
 
-    /// `input`: `NoSuchInput` where no input has that number, and the faults of reading it.
+    /// `input`: `NoSuchInput` if no input has that number, and the faults of reading it.
     fn input(&self) -> Answer<A>
         requires kinds { AreTaken op.Input self.now.operands }
         ensures { IsTableValue self.now.inputs.now op.Input self.now.operands result }

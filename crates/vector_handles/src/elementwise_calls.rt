@@ -1,4 +1,4 @@
-//! The value that an elementwise call gives, shape by shape.
+//! The value of an elementwise call, shape by shape.
 
 ghost use Rattle.cvl_base.specs.declared.operation.Op.TheVariants as op;
 ghost use Rattle.bound_names.specs.Operands.{AreTaken};

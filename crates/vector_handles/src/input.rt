@@ -7,8 +7,8 @@ use std::alloc::Allocator;
 #[derive(Drop)]
 #[derive_where(Debug; A)]
 pub enum Input<A: Allocator> {
-    /// The bytes of a file: integers in decimal between white space, or a list of lists of them, read when the script asks
-    /// for them.
+    /// The bytes of a file, read when the script asks for them: integers in decimal between white space, or a list of lists of
+    /// them.
     Bytes(Vec<u8, A>),
     /// A vector of integers.
     Vector(Ints<A>),

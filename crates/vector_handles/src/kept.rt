@@ -10,14 +10,14 @@ use cvl_base::{Config, Memory, NoResources, Refused};
 use std::marker::Model;
 use std::thread::Threads;
 
-/// What a session has of an input.
+/// What a session keeps of an input.
 #[derive(Drop)]
 pub enum Content<A: Memory> {
     /// The bytes, which no script has read as a list of numbers yet.
     Bytes(Vec<u8, A>),
-    /// What was read of the bytes, which the names that are bound to it have, too.
+    /// The numbers of the bytes, shared with the names that are bound to it.
     Read(ReadBytes<A>),
-    /// The vector, which the names that are bound to it have, too.
+    /// The vector, shared with the names that are bound to it.
     Vector(SharedInts<A>),
 }
 
@@ -36,7 +36,7 @@ impl<A: Memory> Model for KeptInput<A> {
 }
 
 impl<A: Memory> KeptInput<A> {
-    /// An input, ready to be shared where it is a vector. No element is copied.
+    /// Keeps an input; a vector is made ready to be shared. No element is copied.
     pub(crate) fn new(alloc: A, input: Input<A>) -> Result<KeptInput<A>, NoResources>
         ensures { IfOk result (λ kept. kept ≡ input) }
     {
@@ -50,7 +50,7 @@ impl<A: Memory> KeptInput<A> {
         }
     }
 
-    /// Reads bytes that are a list of numbers, which then has them in the place of the bytes. The input is the same.
+    /// Reads bytes that are a list of numbers, and then keeps these instead. The input stays the same.
     pub(crate) fn read<R: Threads + Sync>(
         &mut self,
         rt: &R,
@@ -66,7 +66,7 @@ impl<A: Memory> KeptInput<A> {
                     self.content = Content::Read(read);
                 }
                 Err(Refused::NoResources) => return Err(NoResources),
-                // The call tells it.
+                // The call reports it.
                 Err(Refused::Fault(_)) => (),
             }
         }

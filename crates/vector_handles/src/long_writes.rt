@@ -1,4 +1,4 @@
-//! Writes of long vectors, whose text need not be made whole.
+//! Writes of long vectors, whose text need not be whole.
 
 ghost use Rattle.cvl_base.specs.declared.call.ResultNames.TheVariants as results;
 ghost use Rattle.std.specs.Prelude.{◌≡◌, IfSome, Ok, Some};
@@ -13,21 +13,21 @@ use bound_names::{Operand, Operands, resolve};
 use cvl_base::{Arg, Call, Config, Memory, ResultNames};
 use value_texts::{FlatVector, long_vector};
 
-/// What a write of a vector of more than 262,144 elements writes, or of a descriptor of as many segments, with no descriptor
-/// beside it: the name, ` = `, the vector's text and a line feed.
+/// The text of a write of a vector of more than 262,144 elements, or of a descriptor of as many segments, with no second
+/// argument: the name, ` = `, the vector's text and a line feed.
 #[derive(Clone, Copy)]
 pub struct LongWrite<'a> {
     /// The name.
     pub name: &'a [u8],
     /// The vector.
     pub vector: FlatVector<'a>,
-    /// By which its text is shared among threads.
+    /// The workers among which its text is shared.
     pub config: Config,
 }
 
 impl<A: Memory> Session<A> {
-    /// What a call writes where it is the write of a long vector, for who puts the text somewhere piece by piece.
-    /// [`Session::apply`] makes the same text whole.
+    /// The write of a long vector, if the call is one, so that you can put its text somewhere piece by piece. [`Session::apply`]
+    /// makes the same text whole.
     pub fn long_write<'a>(&'a self, call: &'a Call<A>) -> Option<LongWrite<'a>>
         ensures { IfSome result (λ write. step self.now.names self.now.inputs call.now
             ≡ Ok (record { names = self.now.names; shown = Some (long_text write) })) }
@@ -45,7 +45,7 @@ impl<A: Memory> Session<A> {
     }
 }
 
-/// What these arguments write where the first is the name of a long vector and there is no second.
+/// What these arguments write if the first names a long vector and there is no second.
 fn long_write_of<'a, A: Memory>(
     config: Config,
     operands: &Operands<'a, A>,

@@ -21,7 +21,7 @@ use segdes::SegDes;
 use std::thread::Threads;
 
 impl<'a, R: Threads + Sync, A: Memory> Asked<'a, R, A> {
-    /// The input whose number, counted from 1, the first argument is.
+    /// The input whose number, counted from 1, is the first argument.
     pub(crate) fn input_asked_for(&self) -> Option<&'a KeptInput<A>>
         requires { kind_held self.now.operands.first ≡ Some kind.Integer }
         ensures { option_copied result ≡ numbered self.now.inputs.now (integer_in (held self.now.operands.first)) }
@@ -31,7 +31,7 @@ impl<'a, R: Threads + Sync, A: Memory> Asked<'a, R, A> {
         self.inputs.get(place)
     }
 
-    /// The integers of an input: bytes that were not read before are read, and a vector is that of the input itself.
+    /// The integers of an input: of bytes, read now if they were not before, or of a vector, which is shared.
     pub(crate) fn value_of_input(&self, input: &KeptInput<A>) -> Answer<A>
         ensures { Gives (λ v. v) result (vector integer (integers_of input.now)) }
     {
@@ -48,8 +48,8 @@ impl<'a, R: Threads + Sync, A: Memory> Asked<'a, R, A> {
         }
     }
 
-    /// The integers of a nested input and their descriptor: an input that is a vector is no nested text, `BadInput` at 0, nor are
-    /// bytes that were read as a list of numbers.
+    /// The integers of a nested input and their descriptor; `BadInput` at 0 if it is a vector, or bytes that were read as a list
+    /// of numbers: neither is a nested text.
     pub(crate) fn nest_of(&self, input: &KeptInput<A>) -> Result<(Vec<i32, A>, SegDes<A>), Refused>
         ensures meaning { Gives (λ nest. (nest.0.items, nest.1)) result (nest_of input.now) }
         ensures in_limit { IfOk result (λ nest. (vec_len nest.0 ≤ most_elements) × AreInLimit nest.1) }

@@ -1,4 +1,4 @@
-//! The value that a length, a count or a pack gives, of a whole vector or of each segment.
+//! The value of a length, a count or a pack, of a whole vector or of each segment.
 
 ghost use Rattle.std.specs.Prelude.{◌≡◌, ◌≤◌, Some, IfOk, length, slice_get, vec_len};
 ghost use Rattle.cvl_base.specs.declared.kind.Kind.TheVariants as kind;

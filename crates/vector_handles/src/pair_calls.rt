@@ -14,7 +14,7 @@ use segdes::SegDes;
 use std::thread::Threads;
 
 impl<R: Threads + Sync, A: Memory> Asked<'_, R, A> {
-    /// The two values that a call gives; `WrongArgumentCount` for every call that gives one or none.
+    /// The two values of a call; `WrongArgumentCount` for every call that gives fewer.
     pub(crate) fn pair(&self, op: Op) -> Result<(Bound<A>, Bound<A>), Refused>
         requires kinds { AreTaken op self.now.operands }
         ensures { IsTablePair self.now.inputs.now op self.now.operands result }
@@ -25,7 +25,7 @@ impl<R: Threads + Sync, A: Memory> Asked<'_, R, A> {
         }
     }
 
-    /// `nested`: `NoSuchInput` where no input has that number, and the faults of reading it.
+    /// `nested`: `NoSuchInput` if no input has that number, and the faults of reading it.
     fn nested(&self) -> Result<(Bound<A>, Bound<A>), Refused>
         requires kinds { AreTaken op.Nested self.now.operands }
         ensures { IsTablePair self.now.inputs.now op.Nested self.now.operands result }

@@ -1,4 +1,4 @@
-//! The value that a permute gives, of whole vectors or of each segment.
+//! The value of a permute, of whole vectors or of each segment.
 
 ghost use Rattle.std.specs.Prelude.{◌≤◌, IfOk, length, vec_len};
 ghost use Rattle.cvl_base.specs.declared.operation.Op.TheVariants as op;

@@ -1,4 +1,4 @@
-//! The value that a distribute, an index, an extract or a replace gives, of a whole vector or of each segment.
+//! The value of a distribute, an index, an extract or a replace, of a whole vector or of each segment.
 
 ghost use Rattle.std.specs.Prelude.{◌≡◌, Some, IfOk, length, vec_len};
 ghost use Rattle.cvl_base.specs.declared.kind.Kind.TheVariants as kind;

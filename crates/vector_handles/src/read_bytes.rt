@@ -1,4 +1,4 @@
-//! The numbers of an input's bytes, once these are read.
+//! The numbers in an input's bytes, once they are read.
 
 ghost use Rattle.std.specs.Prelude.{◌≡◌, ◌≤◌, Err, IfOk, Ok, vec_len};
 ghost use Rattle.std.proofs.Props.{props};
@@ -13,7 +13,7 @@ use call_reader::nested_laws::flat_is_no_nest;
 use cvl_base::{Ints, Memory, NoResources};
 use std::snapshot::Snapshot;
 
-/// The numbers that an input's bytes write. The bytes themselves need not be there any more: a snapshot takes no memory.
+/// The numbers in an input's bytes. The bytes themselves may be gone: only their snapshot is kept, which takes no memory.
 #[derive(Drop)]
 pub struct ReadBytes<A: Memory> {
     pub(crate) numbers: SharedInts<A>,

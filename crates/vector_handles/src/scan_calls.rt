@@ -1,4 +1,4 @@
-//! The value that a scan or a reduce gives, of a whole vector or of each segment.
+//! The value of a scan or a reduce, of a whole vector or of each segment.
 
 ghost use Rattle.cvl_base.specs.declared.operation.Op.TheVariants as op;
 ghost use Rattle.bound_names.specs.Operands.{AreTaken};

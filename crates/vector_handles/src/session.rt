@@ -14,8 +14,8 @@ use std::thread::Threads;
 
 /// The names that a script has bound, with their values, and its inputs.
 ///
-/// The starts of a descriptor's segments are made once, when it is bound, and serve each call that takes it. A name that is
-/// bound to an input shares it, and nothing is copied: bytes are read once, and then let go.
+/// A descriptor's starts are made once, when it is bound, and serve each call that takes it. A name bound to an input shares it,
+/// without a copy: bytes are read once, and then dropped.
 #[derive(Drop)]
 pub struct Session<A: Memory> {
     pub(crate) config: Config,
@@ -53,15 +53,14 @@ impl<A: Memory> Session<A> {
         })
     }
 
-    /// Makes one call, as a line of a script asks for it: a binding binds its name to what the call gives, or its two names
-    /// to the two values that the call gives, and shows nothing; a write shows its text and binds nothing.
+    /// Makes one call, as a line of a script asks for it. A binding binds its name, or its two names, to what the call gives, and
+    /// shows nothing; a write shows its text and binds nothing.
     ///
-    /// The first fault is told, in this order: `WrongArgumentCount` where the call takes more arguments or fewer; for
-    /// each argument from left to right `UnknownName` and then `WrongKind`; `WrongArgumentCount` where two names are to be
-    /// bound and the call gives no two values; `TooManyNames` where the names that are bound and the new ones would be
-    /// more than 4,096; then those of the call, `WrongArgumentCount` where one name is to be bound and the call gives two
-    /// values, or `LengthMismatch` where the lengths of a written descriptor don't add up to the vector's. After a refusal
-    /// no name has changed, so that the same call can be made again.
+    /// Reports the first fault, in this order: `WrongArgumentCount` if the call takes more or fewer arguments; for each argument
+    /// from left to right, `UnknownName` and then `WrongKind`; `WrongArgumentCount` if the line binds two names and the call does
+    /// not give two values; `TooManyNames` if there would be more than 4,096 bound names; and then those of the call,
+    /// `WrongArgumentCount` if the line binds one name and the call gives two values, or `LengthMismatch` if the lengths of a
+    /// written descriptor don't add up to the vector's. A refusal changes no name, so that you can make the same call again.
     /// Source: this library's script format.
     pub fn apply<R: Threads + Sync>(&mut self, rt: &R, call: &Call<A>) -> Result<Shown<A>, Refused>
         ensures meaning { IsStep self.old call.now self.new result }
@@ -71,8 +70,8 @@ impl<A: Memory> Session<A> {
         self.apply_gated(rt, call, &OpenGate)
     }
 
-    /// The same as [`Session::apply`], by workers that pass a gate at the points of their way through a tile, in each
-    /// call that races for tiles. The gate changes no value and no fault.
+    /// The same as [`Session::apply`], but in each call that races for tiles, the workers pass a gate at the points of their way
+    /// through a tile. The gate changes no value and no fault.
     pub fn apply_gated<R: Threads + Sync, G: Gate>(
         &mut self,
         rt: &R,
@@ -109,7 +108,7 @@ impl<A: Memory> Session<A> {
         value_of(&self.names, name)
     }
 
-    /// The value that is bound to a name, taken out of the session, which ends. Nothing is copied, and no memory is asked for.
+    /// The value that is bound to a name, taken out of the session, which ends. Copies nothing, and asks for no memory.
     pub fn into_value(self, name: &Name) -> Result<Option<Value<A>>, NoResources>
         ensures { IfOk result (λ value. value ≡ value_at self.names name.now) }
     {

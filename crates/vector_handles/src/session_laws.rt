@@ -10,14 +10,14 @@ ghost use Rattle.bound_names.specs.Names.{BindsName, Entries, KeepsOthers, bind_
 
 use cvl_base::Memory;
 
-/// A binding changes its one name: the name has the value from then on, and each other name keeps what it had.
+/// A binding changes only its name: from then on the name has the value, and every other name keeps what it had.
 pub fn binding_law<A: Memory>()
     ensures bound { (names : Entries A) (name : List ℕ) (v : Value A) → BindsName names name v }
     ensures others { (names : Entries A) (name : List ℕ) (v : Value A) → KeepsOthers names name v }
 {}
 
-/// A binding of two names changes these two: where they differ each has its own value from then on, the second has its
-/// value in any case, and each other name keeps what it had.
+/// A binding of two names changes only these: if they differ, each has its own value from then on; the second has its value in
+/// any case; every other name keeps what it had.
 pub fn both_binding_law<A: Memory>()
     ensures first { (names : Entries A) (first second : List ℕ) (both : Value A × Value A) → first ≢ second →
         value_at (bind_both names first second both) first ≡ Some both.0 }
@@ -27,8 +27,8 @@ pub fn both_binding_law<A: Memory>()
         other ≢ first → other ≢ second → value_at (bind_both names first second both) other ≡ value_at names other }
 {}
 
-/// The value that a call gives is of the kind that the table of calls names as its result; of a call that gives two, each
-/// is of the kind at its place.
+/// The value of a call has the kind that the table of calls names as its result; if a call gives two, each has the kind at its
+/// place.
 pub fn result_kind_law<A: Memory>()
     ensures one { (inputs : List (Input A)) (op : Op) (arg : ArgumentAt A) → HasNamedKind inputs op arg }
     ensures two { (inputs : List (Input A)) (op : Op) (arg : ArgumentAt A) → HaveNamedKinds inputs op arg }

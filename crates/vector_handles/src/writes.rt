@@ -35,8 +35,8 @@ impl<A: Memory> Session<A> {
 }
 
 impl<R: Threads + Sync, A: Memory> Asked<'_, R, A> {
-    /// The name, ` = `, the value and a line feed: `LengthMismatch` where a descriptor beside the value doesn't add up
-    /// to the value's length.
+    /// The name, ` = `, the value and a line feed: `LengthMismatch` if a descriptor beside the value doesn't add up to its
+    /// length.
     fn text_of_write(&self, args: &[Arg]) -> Result<Vec<u8, A>, Refused>
         ensures { Gives (λ text. text.items) result (written args.now (held_at self.now.operands)) }
     {
@@ -48,7 +48,7 @@ impl<R: Threads + Sync, A: Memory> Asked<'_, R, A> {
         Ok(text)
     }
 
-    /// Appends the text of the first operand, beside the second where that is a descriptor.
+    /// Appends the text of the first operand, cut by the second if that is a descriptor.
     fn put_first(&self, text: &mut Vec<u8, A>) -> Result<(), Refused>
         ensures { Appends text.old.items text.new.items result (shown_text_of (held_at self.now.operands)) }
     {
@@ -61,8 +61,8 @@ impl<R: Threads + Sync, A: Memory> Asked<'_, R, A> {
         }
     }
 
-    /// Appends the text of a value, beside a descriptor if there is one: `LengthMismatch` where the value is no vector of
-    /// as many elements as the descriptor's segments.
+    /// Appends the text of a value, cut by a descriptor if there is one: `LengthMismatch` if the value is no vector as long as
+    /// the segments together.
     fn put_beside(
         &self,
         value: &Value<A>,
@@ -90,7 +90,7 @@ pub(crate) fn name_of_first(args: &[Arg]) -> &[u8]
     }
 }
 
-/// Whether the value is a vector of as many elements as the descriptor's segments.
+/// Whether the value is a vector as long as the descriptor's segments together.
 fn is_cut<A: Memory>(value: &Value<A>, descriptor: &SegDes<A>) -> bool
     ensures { result ≡ is_ok (cut_text descriptor.now value.now) }
 {
