@@ -1,5 +1,5 @@
--- The command of the program, as clap's words say it: two options of one number each, with their ranges and defaults, a
--- flag, the script, and then its inputs; and a version, which can be asked for.
+-- The command of the program, as clap's words say it: two options of one number each, with their ranges and defaults, a flag, the script,
+-- then its inputs; and a version, which you can ask for.
 -- Source: this library's program.
 use Rattle.std.specs.Prelude.{ℕ, [], ◌∷◌, Some, codes, pos, true}
 use Rattle.cvl_base.specs.Limits.{longest_tile, most_workers}

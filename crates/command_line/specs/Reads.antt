@@ -47,13 +47,13 @@ uses_of app words =
 abbrev pub is_left_out : Text → List Text → Bool
 is_left_out name words = not (has_row name (uses_of (built cvl) (argument_words cvl words)))
 
--- words are read only where clap finds no fault in them, and a refusal is of the kind of clap's fault
+-- words are read only if clap finds no fault in them, and a refusal is of the kind of clap's fault
 abbrev pub ReadsBy : {W : Type 0} → Kinds → Result W WordsFault → Type 0
 ReadsBy kinds (Ok words) = kinds ≡ []
 ReadsBy kinds (Err (fault.Refused e)) = IsAmong (kind_of e) kinds
 ReadsBy kinds (Err fault.NoResources) = Unit {0}
 
--- being out of memory is told apart from what clap refuses
+-- being out of memory is no refusal of clap's
 abbrev pub IsFaultOf : Error → WordsFault → Type 0
 IsFaultOf error (fault.Refused e) = (e ≡ error) × (kind_of error ≡ OutOfMemory → ⊥)
 IsFaultOf error fault.NoResources = kind_of error ≡ OutOfMemory

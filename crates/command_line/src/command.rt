@@ -1,4 +1,4 @@
-//! The command, as clap is told of it.
+//! The command, as clap needs it.
 
 ghost use Rattle.std.specs.Prelude.{◌≡◌, false, IfOk};
 ghost use Rattle.clap.specs.Words.{app_of, rule_of};
@@ -9,10 +9,10 @@ use clap::{Arg, ArgAction, Command};
 use cvl_base::limits::{LONGEST_TILE, MOST_WORKERS};
 use std::alloc::{AllocError, Global};
 
-/// The length of tiles where none is given, in elements.
+/// The default tile length, in elements.
 const TILE: &str = "4096";
 
-/// The number of workers where none is given.
+/// The default number of workers.
 const WORKERS: &str = "4";
 
 /// The version of the program, which is that of the library.
@@ -21,7 +21,7 @@ const VERSION: &str = "1.0.0";
 /// What the program does, in a line.
 const ABOUT: &str = "Runs a script of vector calls over files of integers";
 
-/// What stands after the arguments in the text of help.
+/// The end of the text of help, after the arguments.
 const AFTER_HELP: &str = "Exit status:
   0  the script ran to its end
   1  the script has a fault
@@ -82,7 +82,7 @@ fn inputs<'a>(alloc: Global) -> Arg<'a>
         .help("The file of each input, integers between white space; the first is input 1")
 }
 
-/// The command `cvl [--tile N] [--workers N] [--explain] SCRIPT [INPUT ..]`, of which help and the version can be asked for.
+/// The command `cvl [--tile N] [--workers N] [--explain] SCRIPT [INPUT ..]`, with help and a version.
 pub(crate) fn cvl_command<'a>(alloc: Global) -> Result<Command<'a>, AllocError>
     ensures { IfOk result (λ c. app_of c ≡ cvl) }
 {

@@ -1,4 +1,4 @@
-//! Why the words of a command line are not read.
+//! Why the words of a command line cannot be read.
 
 ghost use Rattle.command_line.specs.Reads.{IsFaultOf};
 ghost use Rattle.command_line.specs.declared.fault.WordsFault.TheVariants as fault;
@@ -7,7 +7,7 @@ use clap::error::ErrorKind;
 use std::alloc::AllocError;
 use thiserror::Error;
 
-/// Why the words of a command line are not read.
+/// Why the words of a command line cannot be read.
 #[derive(Debug, Drop, Error)]
 pub enum WordsFault {
     /// The command refuses the words, or they ask for its help: the error's text says it.
@@ -28,7 +28,7 @@ impl From<AllocError> for WordsFault {
     }
 }
 
-/// What clap's error tells: that it is out of memory is no refusal.
+/// What clap's error means: to be out of memory is no refusal.
 pub(crate) fn fault_of(error: clap::Error) -> WordsFault
     ensures { IsFaultOf error result }
 {

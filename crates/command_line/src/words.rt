@@ -22,7 +22,7 @@ use std::alloc::{AllocError, Global};
 pub struct Words<'a> {
     /// The length of tiles and the number of workers.
     pub config: Config,
-    /// Whether to explain why the run stopped, where it did.
+    /// Whether to explain why the run stopped, if it did.
     pub explain: bool,
     /// The name of the script's file.
     pub script: &'a str,
@@ -30,7 +30,7 @@ pub struct Words<'a> {
     pub inputs: Vec<&'a str>,
 }
 
-/// The names of the inputs' files; none where none is given.
+/// The names of the inputs' files, of which there may be none.
 fn inputs<'a>(alloc: Global, matches: &ArgMatches<'a>) -> Result<Vec<&'a str>, AllocError>
     ensures { IfOk result (λ names. texts names.items
         ≡ unwrap_or (all_of (codes "inputs") (rows_of (found_of matches.now))) []) }
@@ -73,14 +73,13 @@ fn words_of<'a>(alloc: Global, matches: &ArgMatches<'a>) -> Result<Words<'a>, Al
     })
 }
 
-/// Reads the words of a command line, of which the first is the program's own name.
+/// Reads the words of a command line, the first of which is the program's own name.
 ///
-/// The command is `cvl [--tile N] [--workers N] [--explain] SCRIPT [INPUT ..]`, which clap reads as a simple command. A
-/// tile has 1 to 65,536 elements, and 4,096 where none is given; there are 1 to 64 workers, and 4 where none is given. A
-/// number is decimal digits, which may have a plus sign and leading zeros. Options may stand before and after the names of
-/// files, which are handed out as they are typed; after `--` a word that begins with `-` is a name too. Words that the
-/// command doesn't take are `WordsFault::Refused`, and so is a call for help. Where it takes them, the words are read, or
-/// memory ran out.
+/// The command is `cvl [--tile N] [--workers N] [--explain] SCRIPT [INPUT ..]`, which clap reads as a simple command. A tile has
+/// 1 to 65,536 elements, by default 4,096; there are 1 to 64 workers, by default 4. A number is decimal digits, which may have a
+/// plus sign and leading zeros. Options may stand before and after the names of files, which are returned as typed; after `--` a
+/// word that begins with `-` is a name too. If the command refuses the words, or they ask for help, the answer is
+/// `WordsFault::Refused`; otherwise they are read, or memory ran out.
 pub fn read_words<'a>(alloc: Global, words: &'a [&'a str]) -> Result<Words<'a>, WordsFault>
     ensures tile { IfOk result (λ w.
         number_given (codes "tile") (texts words.entry.now) ≡ Some w.config.0) }
