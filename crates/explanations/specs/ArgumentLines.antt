@@ -43,7 +43,7 @@ module _ {A : Type 0} where
   abbrev pub spelled : Entries A → Arg → Spelled A
   spelled names arg = record { word = word_of arg; value = arg_value names arg }
 
-  -- what bound a name; nothing of a name that is not bound
+  -- what bound a name; nothing if it is not bound
   abbrev pub bound_words : List Read → List Binding → List ℕ → Option A → List ℕ
   bound_words inputs bindings name None = []
   bound_words inputs bindings name (Some value) = binding_words inputs (last_binding name bindings)

@@ -29,7 +29,7 @@ abbrev pub literal : Option Arg → Option ℤ
 literal (Some (arg.Integer n)) = Some n
 literal _ = None
 
--- the number of the input that a call asks for, if the line itself has it
+-- the number of the input that a call asks for, if the line says it
 abbrev pub input_asked : Op → List Arg → Option ℤ
 input_asked op.Input args = literal (slice_get args 0)
 input_asked op.Nested args = literal (slice_get args 0)

@@ -1,5 +1,5 @@
--- What is explained of the stop of a script: behind the line that tells it, the line of the script, what its call takes, what
--- the arguments are and what bound them, and what is at fault. It knows neither tiles nor workers.
+-- The explanation of why a script stopped, after the message about it: the line of the script, what its call takes, what the arguments are
+-- and what bound them, and what is wrong. It knows neither tiles nor workers.
 -- Source: this library's program.
 use Rattle.std.specs.Prelude.{ℕ, zero, suc, Bool, true, false, ◌&&◌, ◌++◌, nat_le, nat_lt}
 use Rattle.std.specs.Prelude.{List, [], ◌∷◌, codes, length, map, slice_get, take, if◌then◌else◌}
@@ -31,7 +31,7 @@ use Rattle.explanations.specs.ArgumentLines.{argument_line, input_at, spelled}
 use Rattle.explanations.specs.Bindings.{bound_before, line_at}
 use Rattle.explanations.specs.declared.bindings.Binding.{Binding}
 
--- a line as it stands, and of a long one the first 200 bytes
+-- a line as it stands; a long one as its first 200 bytes
 abbrev pub shortened_line : List ℕ → List ℕ
 shortened_line line = if nat_le (length line) 200 then line else (take 200 line ++ codes "..")
 
@@ -60,7 +60,7 @@ abbrev pub is_nested : Op → Bool
 is_nested Nested = true
 is_nested _ = false
 
--- whether a fault may be one of an input's text
+-- whether a fault may be in an input's text
 abbrev pub is_of_text : FaultNo → Bool
 is_of_text BadInput = true
 is_of_text TooLong = true
@@ -78,7 +78,7 @@ module _ {A : Type 0} where
       then text_fault_words op (input_at inputs (integer_in (argument_at names args 0))) fault
       else value_fault_words (map (λ binding. binding.name) bindings) (length inputs) op (map (spelled names) args) fault
 
-  -- what a call takes, its arguments, and what is at fault
+  -- what a call takes, its arguments, and what is wrong
   abbrev pub explained_call : Entries A → List Read → List Binding → Call A → Fault → List ℕ
   explained_call names inputs bindings call fault =
       indented (call_words call.op) ++ concat (map (argument_line names inputs bindings) call.args)
@@ -90,7 +90,7 @@ module _ {A : Type 0} where
   explained_line names inputs bindings line (Ok None) fault = []
   explained_line names inputs bindings line (Ok (Some call)) fault = explained_call names inputs bindings call fault
 
-  -- a fault of the script at a line; line 0 is that of a script that is too long
+  -- a fault of the script at a line; at line 0 the script is too long
   abbrev pub explained_fault : Entries A → List Read → List ℕ → ℕ → Fault → List ℕ
   explained_fault names inputs script zero fault = indented (too_long_words script)
   explained_fault names inputs script (suc n) fault =
@@ -98,13 +98,13 @@ module _ {A : Type 0} where
       quoted (suc n) line
       ++ explained_line names inputs (bound_before A script (suc n)) line (call_of line) fault
 
-  -- by the names that are bound at the stop, and the inputs as they were read
+  -- from the names that are bound at the stop, and the inputs as they were read
   abbrev pub explained : Entries A → List Read → List ℕ → Stop → List ℕ
   explained names inputs script (stop.Script line fault) = explained_fault names inputs script line fault
   explained names inputs script (stop.NoResources line) = indented memory_words
   explained names inputs script (stop.WriteFailed line) = indented write_words
 
-  -- the names that a script leaves where it stops; one that is too long binds none
+  -- the names that a script leaves when it stops; one that is too long binds none
   abbrev pub names_of_script : List ℕ → List (GivenInput A) → Entries A
   names_of_script script inputs =
       if nat_lt most_script_bytes (length script) then [] else names_left [] inputs (lines_of script)

@@ -29,7 +29,7 @@ pub(crate) fn holding_of<'a, A: Memory>(session: &'a Session<A>, arg: &Arg) -> H
     }
 }
 
-/// Appends by which input a line binds a name.
+/// Appends which input a line binds a name to.
 fn put_input<A: Memory>(
     inputs: &[InputFile<'_>],
     number: Option<i32>,
@@ -97,7 +97,7 @@ fn put_name<A: Memory>(
     put_pieces(text, &[b"\n"])
 }
 
-/// Appends the line of an argument of a call; a number, `T` and `F` have none.
+/// Appends the line about an argument of a call; a number, `T` or `F` has none.
 fn put_line_of_argument<A: Memory>(
     session: &Session<A>,
     inputs: &[InputFile<'_>],

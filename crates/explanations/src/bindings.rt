@@ -15,7 +15,7 @@ pub struct Binding {
     pub name: Name,
     /// The number of the line, from 1 on.
     pub line: u32,
-    /// The number of the input that the line binds it to, if the line itself has it.
+    /// The number of the input that the line binds it to, if the line says it.
     pub input: Option<i32>,
 }
 
@@ -38,7 +38,7 @@ fn literal(arg: Option<&Arg>) -> Option<i32>
     }
 }
 
-/// The number of the input that a call asks for, if the line itself has it.
+/// The number of the input that a call asks for, if the line says it.
 fn input_asked(op: Op, args: &[Arg]) -> Option<i32>
     ensures { result ≡ input_asked op args.now }
 {

@@ -1,4 +1,4 @@
-//! What is at fault in a call.
+//! What is wrong with a call.
 
 ghost use Rattle.std.specs.Prelude.{◌≡◌, ◌++◌, IfOk, OnOk, map, option_copied};
 ghost use Rattle.bound_names.specs.Arguments.{arg_value, argument_at, integer_in};
@@ -87,7 +87,7 @@ fn is_nested(op: Op) -> bool
     }
 }
 
-/// Whether a fault may be one of an input's text.
+/// Whether a fault may be in an input's text.
 fn is_of_text(number: FaultNo) -> bool
     ensures { result ≡ is_of_text number }
 {
@@ -125,7 +125,7 @@ fn input_read<'i, 'a, A: Memory>(
     }
 }
 
-/// Appends what is at fault in the text of an input.
+/// Appends what is wrong with the text of an input.
 fn put_text_fault<A: Memory>(
     op: Op,
     input: Option<&InputFile<'_>>,

@@ -6,7 +6,7 @@ ghost use Rattle.explanations.specs.ArgumentLines.{input_at};
 
 use std::marker::Model;
 
-/// An input of a run: the name of its file, and the bytes that were read; none where it is a vector.
+/// An input of a run: the name of its file, and the bytes that were read; none if it is a vector.
 #[derive(Drop)]
 pub struct InputFile<'a> {
     name: &'a [u8],

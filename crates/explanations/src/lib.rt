@@ -1,5 +1,5 @@
-//! What explains why a run of a script stopped: the script's line, what its call takes, its arguments and what bound them,
-//! and what is at fault.
+//! Explains why a run of a script stopped: the script's line, what its call takes, its arguments and what bound them, and what is
+//! wrong.
 #![tactic(auto)]
 
 mod argument_lines;

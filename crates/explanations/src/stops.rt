@@ -1,4 +1,4 @@
-//! What is explained of the stop of a script.
+//! Explanations of why a script stopped.
 
 ghost use Rattle.std.specs.Prelude.{◌≡◌, ◌++◌, IfOk, OnOk};
 ghost use Rattle.explained_calls.specs.Sentences.{indented};
@@ -17,18 +17,18 @@ use line_reader::read_line;
 use script_runs::Stop;
 use vector_handles::Session;
 
-/// What to try where memory ran out.
+/// What to try if memory ran out.
 const MEMORY: &[u8] =
     b"  memory ran out: try shorter vectors, bind fewer names, or allow the process more memory\n";
 
-/// What to try where a write failed.
+/// What to try if a write failed.
 const WRITE: &[u8] =
     b"  standard output took no more: is the disk full, or did the reader of a pipe close it?\n";
 
-/// How many bytes of a line are told.
+/// How many bytes of a line to quote.
 const MOST_TOLD: usize = 200;
 
-/// A line as it stands, in two pieces; of a long one the first 200 bytes and `..`.
+/// A line as it stands, in two pieces; a long one as its first 200 bytes and `..`.
 fn shortened_line<'l>(line: &'l [u8]) -> (&'l [u8], &'l [u8])
     ensures { result.0.now ++ result.1.now ≡ shortened_line line.now }
 {
@@ -49,7 +49,7 @@ fn put_quoted<A: Memory>(number: u32, line: &[u8], text: &mut Vec<u8, A>) -> Res
     put_pieces(text, &[b"  ", number, b" | ", front, more, b"\n"])
 }
 
-/// Appends how long a script is that is too long.
+/// Appends how long a script is, if it is too long.
 fn put_too_long<A: Memory>(script: &[u8], text: &mut Vec<u8, A>) -> Result<(), NoResources>
     ensures { OnOk result (text.new.items ≡ text.old.items ++ indented (too_long_words script.now)) }
 {
@@ -65,7 +65,7 @@ fn put_too_long<A: Memory>(script: &[u8], text: &mut Vec<u8, A>) -> Result<(), N
     )
 }
 
-/// Appends what a call takes, its arguments, and what is at fault.
+/// Appends what a call takes, its arguments, and what is wrong.
 fn put_call<A: Memory>(
     alloc: A,
     session: &Session<A>,
@@ -105,7 +105,7 @@ fn put_line<A: Memory>(
     }
 }
 
-/// Appends what is explained of a fault of the script at a line.
+/// Appends the explanation of a fault of the script at a line.
 fn put_fault<A: Memory>(
     alloc: A,
     session: &Session<A>,
@@ -129,10 +129,10 @@ fn put_fault<A: Memory>(
 
 /// Explains why a script stopped, in lines of text that each begin with two spaces and end with a line feed.
 ///
-/// `session` is that of the run, as it is at the stop, and `inputs` are its inputs in their order. Of a fault of the script
-/// it tells the script's line, which kinds of values the call takes and gives, what each name among the arguments holds and
-/// which line bound it, and what is at fault; of a script that is too long, how long it is. Where memory ran out or a write
-/// failed it tells what to try. If memory for the text is refused, it answers `NoResources`.
+/// `session` is that of the run, as it is at the stop, and `inputs` are its inputs in order. For a fault of the script it shows
+/// the script's line, which kinds of values the call takes and gives, what each name among the arguments holds and which line
+/// bound it, and what is wrong; for a script that is too long, how long it is. If memory ran out or a write failed, it says what
+/// to try. `NoResources` if memory for the text is refused.
 pub fn explain<A: Memory>(
     alloc: A,
     session: &Session<A>,
