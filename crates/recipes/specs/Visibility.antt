@@ -1,5 +1,5 @@
--- Line of sight: which places of a line of altitudes an observer at place 0 sees. A place is visible where the slope from
--- the observer to it is greater than that to each place between them.
+-- Line of sight: which places of a line of altitudes an observer at place 0 sees. A place is visible if the slope from the observer to it
+-- is greater than that to each place between them.
 -- Source: Blelloch, Vector Models for Data-Parallel Computing, 1990, line of sight. Slopes are compared as fractions, by
 -- products of whole numbers.
 use Rattle.std.specs.Prelude.{◌≤◌, ℕ, ◌-◌, ℤ, pos, ◌-ℤ◌, ◌*ℤ◌, int_lt, Bool, not, ◌&&◌, List, length, map, unwrap_or, slice_get}

@@ -1,6 +1,6 @@
 //! Recipes: scripts that come with the library, each with a function that runs it over vectors and hands back its result.
 //!
-//! [`sparse_matvec`] multiplies a sparse matrix by a vector, and [`line_of_sight`] tells which places an observer sees.
+//! [`sparse_matvec`] multiplies a sparse matrix by a vector, and [`line_of_sight`] finds which places an observer sees.
 #![tactic(auto)]
 
 mod products;

@@ -40,14 +40,14 @@ fn matrix_inputs<A: Memory>(
 
 /// The product of a sparse matrix with the vector `x`, by the script [`SPARSE_MATVEC`].
 ///
-/// Row r has `lens[r]` entries; `cols` and `vals` are the columns and the values of all entries, row after row. The
-/// product has one element for each row, 0 for a row without entries. Sums and products are wrapped to 32 bits. Each
-/// vector has at most 4,194,304 elements.
+/// Row r has `lens[r]` entries; `cols` and `vals` are the columns and the values of all entries, row after row. The product has
+/// one element for each row, 0 if it has no entries. Sums and products wrap to 32 bits. Each vector has at most 4,194,304
+/// elements.
 ///
-/// Faults are those of the script's lines, in their order, without the line: `NegativeLength` at the first negative
-/// length, `TooLong` where the lengths add up to more than 4,194,304, `IndexOutOfRange` at the first entry whose column
-/// is no place of `x`, `LengthMismatch` where columns and values are not equally many, or the lengths don't add up to
-/// their number. Source: Blelloch, Vector Models for Data-Parallel Computing, 1990.
+/// The faults are those of the script's lines, in order, without the line: `NegativeLength` at the first negative length,
+/// `TooLong` if the lengths add up to more than 4,194,304, `IndexOutOfRange` at the first entry whose column is no place of `x`,
+/// `LengthMismatch` if columns and values differ in number, or the lengths don't add up to it. Source: Blelloch, Vector Models
+/// for Data-Parallel Computing, 1990.
 pub fn sparse_matvec<R: Threads + Sync, A: Memory>(
     rt: &R,
     alloc: A,

@@ -1,5 +1,5 @@
-//! What the definitions and the scripts of the recipes mean, in functions that take and give nothing: values that were
-//! worked out by hand, and a law.
+//! What the definitions and the scripts of the recipes mean, as functions that take and give nothing: values worked out by hand,
+//! and a law.
 
 ghost use Rattle.std.specs.Prelude.{◌≡◌, ◌≤◌, ◌<◌, ◌↔◌, ◌<ℤ◌, ◌*ℤ◌, ℕ, ℤ, List, negsuc, pos, true, false, IsTrue, [], ◌∷◌, codes};
 ghost use Rattle.cvl_base.specs.declared.fault.FaultNo.TheVariants as no;
@@ -22,7 +22,7 @@ pub fn product_values()
         ≡ negsuc 2147483647 ∷ [] }
 {}
 
-/// Visible places: neither a place under a hill nor one of an equal slope is visible, and place 0 and 1 always are.
+/// Visible places: places 0 and 1 always are; a place under a hill or on an equal slope is not.
 pub fn visibility_values()
     ensures hill { visible_of (pos 0 ∷ pos 1 ∷ pos 1 ∷ pos 6 ∷ pos 2 ∷ []) ≡ true ∷ true ∷ false ∷ true ∷ false ∷ [] }
     ensures equal_slopes { visible_of (pos 0 ∷ pos 1 ∷ pos 2 ∷ []) ≡ true ∷ true ∷ false ∷ [] }
@@ -30,13 +30,13 @@ pub fn visibility_values()
     ensures rising { visible_of (pos 0 ∷ pos 0 ∷ pos 1 ∷ pos 2 ∷ []) ≡ true ∷ true ∷ true ∷ true ∷ [] }
 {}
 
-/// A place is visible exactly where the slope to it is greater than that to each place from 1 on before it.
+/// A place is visible exactly if the slope to it is greater than that to each place from 1 on before it.
 pub fn visibility_law()
     ensures { (altitudes : List ℤ) (i : ℕ) → IsTrue (is_visible altitudes i) ↔
         ((j : ℕ) → 1 ≤ j → j < i → (rise altitudes j *ℤ pos i) <ℤ (rise altitudes i *ℤ pos j)) }
 {}
 
-/// What the script of the sparse product binds to `y`, and its faults, of each line that can have one.
+/// What the script of the sparse product binds to `y`, and the faults of each line that can have one.
 pub fn product_script_values()
     ensures rows { bound_by {A = Unit {0}} SPARSE_MATVEC.now
         (Vector (pos 2 ∷ pos 0 ∷ pos 2 ∷ []) ∷ Vector (pos 0 ∷ pos 2 ∷ pos 1 ∷ pos 2 ∷ []) ∷
@@ -57,15 +57,15 @@ pub fn product_script_values()
         ≡ Err (fault no.LengthMismatch) }
 {}
 
-/// The script of the sparse product binds `y` to the sparse product, of any inputs, or stops at its fault.
+/// The script of the sparse product binds `y` to the sparse product of any inputs, or stops at its fault.
 pub fn product_script_law()
     ensures { (lens cols vals x : List ℤ) → bound_by {A = Unit {0}} SPARSE_MATVEC.now
         (Vector lens ∷ Vector cols ∷ Vector vals ∷ Vector x ∷ []) (codes "y")
         ≡ as_bound (sparse_product_of lens cols vals x) }
 {}
 
-/// What the script of line of sight binds to `v`: slopes that differ by less than 1 are told apart, of two equal slopes
-/// the farther place isn't visible, and without an altitude there is no observer.
+/// What the script of line of sight binds to `v`: it distinguishes slopes that differ by less than 1, of two equal slopes the
+/// farther place isn't visible, and without altitudes there is no observer.
 pub fn sight_script_values()
     ensures small_slopes { bound_by {A = Unit {0}} LINE_OF_SIGHT.now
         (Vector (pos 0 ∷ pos 0 ∷ pos 1 ∷ pos 2 ∷ []) ∷ []) (codes "v")

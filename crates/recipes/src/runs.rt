@@ -39,7 +39,7 @@ impl Sink for NothingKept {
     }
 }
 
-/// The session after all lines of a script over these inputs, from no name bound. The text of the script is dropped.
+/// The session after all lines of a script over these inputs, starting with no names. The script's text is dropped.
 pub(crate) fn run_script<R: Threads + Sync, A: Memory>(
     rt: &R,
     alloc: A,

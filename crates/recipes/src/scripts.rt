@@ -15,13 +15,13 @@ y = add_rez p d
 write y
 ";
 
-/// For each place of 1 to 256 altitudes of 0 to 32767 whether an observer at place 0 sees it, bound to `v`; beyond, it may be
-/// wrong without a fault.
+/// Whether an observer at place 0 sees each place, for 1 to 256 altitudes of 0 to 32767, bound to `v`; beyond, it may be wrong
+/// without a fault.
 ///
 /// Its input is the vector of altitudes. For places i from 1 on, `s` is the slope to place i as the floor of 65536 times the rise
 /// divided by i: subtracting `c` makes the floor of the truncated quotient. Within the range these floors are ordered as the
-/// fractions are, and nothing wraps. `terrain.cvl`, among the examples, takes any altitudes.
-/// Source: Blelloch, Vector Models for Data-Parallel Computing, 1990.
+/// fractions are, and nothing wraps. The example `terrain.cvl` takes any altitudes. Source: Blelloch, Vector Models for
+/// Data-Parallel Computing, 1990.
 pub const LINE_OF_SIGHT: &str = "a = input 1
 n = len_luz a
 a0 = ext_vuz a 0

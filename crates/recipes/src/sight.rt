@@ -27,14 +27,13 @@ fn sight_inputs<A: Memory>(
     Ok(inputs)
 }
 
-/// For each place of 1 to 256 altitudes of 0 to 32767 whether an observer at place 0 sees it, by the script [`LINE_OF_SIGHT`].
+/// Whether an observer at place 0 sees each place, for 1 to 256 altitudes of 0 to 32767, by the script [`LINE_OF_SIGHT`].
 ///
-/// A place is visible exactly where the slope to it is greater than that to each place between it and the observer; place 0
-/// itself is visible. Outside this range the script still has its meaning, but its slopes need not be ordered as the fractions
-/// are, so that the answer may be wrong without a fault. There are at most 4,194,304 altitudes.
+/// A place is visible exactly if the slope to it is greater than that to each place between it and the observer; place 0 itself
+/// is visible. Outside this range the script still has its meaning, but its slopes need not be ordered as the fractions are, so
+/// that the answer may be wrong without a fault. There are at most 4,194,304 altitudes.
 ///
-/// The fault of no altitudes is `IndexOutOfRange` at 0. Source: Blelloch, Vector Models for Data-Parallel Computing,
-/// 1990.
+/// `IndexOutOfRange` at 0 if there are no altitudes. Source: Blelloch, Vector Models for Data-Parallel Computing, 1990.
 pub fn line_of_sight<R: Threads + Sync, A: Memory>(
     rt: &R,
     alloc: A,
