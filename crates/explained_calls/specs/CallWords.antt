@@ -13,7 +13,7 @@ kind_words Descriptor = codes "a descriptor"
 kind_words Integer = codes "an integer"
 kind_words Boolean = codes "a boolean"
 
--- what stands between a word of a list and the words after it, by how many these are
+-- what separates a word of a list from so many words after it
 abbrev pub separator : ℕ → List ℕ
 separator zero = []
 separator (suc zero) = codes " and "

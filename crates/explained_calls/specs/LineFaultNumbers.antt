@@ -9,7 +9,7 @@ abbrev pub is_bad_line : FaultNo → Bool
 is_bad_line BadLine = true
 is_bad_line _ = false
 
--- does it end with a fault of which this is said?
+-- does it end with such a fault?
 abbrev pub ends_with : {X : Type 0} → (FaultNo → Bool) → Result X Fault → Bool
 ends_with are (Ok x) = false
 ends_with are (Err f) = are f.number

@@ -1,4 +1,4 @@
--- What is at fault in a line, in words.
+-- What is wrong with a line, in words.
 -- Source: this library's script format.
 use Rattle.std.specs.Prelude.{ℕ, ◌+◌, Bool, not, List, [], ◌∷◌, ◌++◌, codes}
 use Rattle.std.specs.Prelude.{find, length, nat_eq, Option, Some, None, is_some, unwrap_or, if◌then◌else◌}
@@ -43,7 +43,7 @@ abbrev pub hint_line : Option Hint → List ℕ
 hint_line None = []
 hint_line (Some hint) = indented (hint_words hint)
 
--- ---- a line with the form of a line: the names before `=`, the call behind it, and its arguments
+-- ---- a line with the form of a line: the names before `=`, the call after it, and its arguments
 
 pub record Parts : Type 0 where
   pub names : ℕ

@@ -1,5 +1,5 @@
--- Where a line stops having the form of a line: the first token that may not stand where it stands, or the place behind the
--- last token if the line ends too early, and what was expected there. The grammar is that of lines.
+-- Where a line breaks the form of a line: at the first token that may not stand where it stands, or after the last token if the line ends
+-- too early; and what was expected there. The grammar is that of lines.
 -- Source: this library's script format.
 use Rattle.std.specs.Prelude.{ℕ, Bool, true, false, not, ◌&&◌, ◌||◌, nat_eq, List, [], ◌∷◌, codes, Option, Some, None, if◌then◌else◌}
 use Rattle.std.specs.Cmp.Lexicographic.{pointwise}
@@ -29,13 +29,13 @@ hint_at place wanted = record { place = place; ends = false; wanted = wanted }
 abbrev pub hint_at_end : ℕ → Wanted → Hint
 hint_at_end place wanted = record { place = place; ends = true; wanted = wanted }
 
--- the next token, behind this place, has to be what is wanted; then the rest is looked at
+-- the next token, after this place, must be what is wanted; then the rest is checked
 abbrev pub wanting : Wanted → ℕ → List Placed → (Placed → List Placed → Option Hint) → Option Hint
 wanting wanted place [] rest = Some (hint_at_end place wanted)
 wanting wanted place (token ∷ tokens) rest =
     if is_wanted wanted token.bytes then rest token tokens else Some (hint_at token.start wanted)
 
--- each token has to be what is wanted
+-- each token must be what is wanted
 abbrev pub wanting_each : Wanted → List Placed → Option Hint
 wanting_each wanted [] = None
 wanting_each wanted (token ∷ tokens) =
@@ -49,7 +49,7 @@ hint_after_equals place tokens = wanting Call place tokens (λ call arguments. w
 abbrev pub hint_after_names : ℕ → List Placed → Option Hint
 hint_after_names place tokens = wanting Equals place tokens (λ equals others. hint_after_equals (behind equals) others)
 
--- what stands behind the second token: `CALL ARG ..` behind `=`, and `= CALL ARG ..` behind a name, which differs from the first
+-- what follows the second token: `CALL ARG ..` after `=`, and `= CALL ARG ..` after a name, which differs from the first
 abbrev pub hint_after_second : List ℕ → Placed → List Placed → Option Hint
 hint_after_second first second tokens =
     if is_equals second.bytes then hint_after_equals (behind second) tokens

@@ -6,11 +6,11 @@ use Rattle.strsim.specs.Edits.{levenshtein_row}
 use Rattle.cvl_base.specs.Calls.{spelling_of}
 use Rattle.cvl_base.specs.Spellings.{calls}
 
--- how many bytes have to be inserted, deleted or changed
+-- how many bytes to insert, delete or change
 abbrev pub distance : List ℕ → List ℕ → ℕ
 distance word known = levenshtein_row nat_eq word known (length known)
 
--- the known word at the least distance, and of several the first
+-- the known word at the least distance, the first if several are
 abbrev pub nearest : List ℕ → List (List ℕ) → Option (List ℕ)
 nearest word [] = None
 nearest word (first ∷ others) = Some (best_of (λ a b. nat_lt (distance word a) (distance word b)) first others)

@@ -14,7 +14,7 @@ pub record Placed : Type 0 where
 abbrev pub placed : ℕ → List ℕ → Placed
 placed start bytes = record { start = start; bytes = bytes }
 
--- the place right behind a token
+-- the place right after a token
 abbrev pub behind : Placed → ℕ
 behind token = token.start + length token.bytes
 

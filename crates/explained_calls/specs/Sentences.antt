@@ -1,4 +1,4 @@
--- How the sentences of an explanation are put together.
+-- How the sentences of an explanation are made.
 -- Source: this library's program.
 use Rattle.std.specs.Prelude.{ℕ, ◌==◌, nat_le, List, [], ◌++◌, codes, length, take, if◌then◌else◌}
 use Rattle.std.specs.Fmt.{decimal}
@@ -7,7 +7,7 @@ use Rattle.std.specs.Fmt.{decimal}
 abbrev pub indented : List ℕ → List ℕ
 indented words = codes "  " ++ words ++ codes "\n"
 
--- a token as it stands, and of a long one the first 40 bytes
+-- a token as it stands; a long one as its first 40 bytes
 abbrev pub shortened : List ℕ → List ℕ
 shortened token = if nat_le (length token) 40 then token else (take 40 token ++ codes "..")
 

@@ -8,7 +8,7 @@ ghost use Rattle.explained_calls.specs.Sentences.{indented};
 use crate::pieces::put_pieces;
 use cvl_base::{Kind, Memory, NoResources, Op};
 
-/// The words for a kind: those for vectors in the plural, and the others with their article.
+/// The words for a kind: a plural for vectors, else with an article.
 pub fn kind_words(kind: Kind) -> &'static [u8]
     ensures { result.now ≡ kind_words kind }
 {
@@ -21,7 +21,7 @@ pub fn kind_words(kind: Kind) -> &'static [u8]
     }
 }
 
-/// What stands between a word of a list and the words after it, by how many these are.
+/// What separates a word of a list from the `others` words after it.
 fn separator(others: usize) -> &'static [u8]
     ensures { result.now ≡ separator others }
 {
@@ -52,8 +52,8 @@ pub fn put_spelling<A: Memory>(op: Op, text: &mut Vec<u8, A>) -> Result<(), NoRe
     put_pieces(text, &[operator, class, name.cut_and_element.as_bytes()])
 }
 
-/// Appends the line of an explanation that says which kinds of values a call takes and gives, for example
-/// `add_rez takes integers and a descriptor, and gives integers`, with two spaces before it and a line feed behind it.
+/// Appends the line of an explanation that says which kinds of values a call takes and gives, for example `add_rez takes integers
+/// and a descriptor, and gives integers`, with two spaces before it and a line feed after it.
 pub fn put_call_words<A: Memory>(op: Op, text: &mut Vec<u8, A>) -> Result<(), NoResources>
     ensures { OnOk result (text.new.items ≡ text.old.items ++ indented (call_words op)) }
 {

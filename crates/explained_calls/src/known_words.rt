@@ -6,15 +6,14 @@ ghost use Rattle.explained_calls.specs.Nearest.{distance, nearest};
 use cvl_base::{Memory, NoResources};
 use strsim::generic_levenshtein;
 
-/// How many bytes have to be inserted, deleted or changed.
+/// How many bytes to insert, delete or change.
 fn distance<A: Memory>(alloc: A, word: &[u8], known: &[u8]) -> Result<usize, NoResources>
     ensures { IfOk result (λ apart. apart ≡ distance word.now known.now) }
 {
     Ok(generic_levenshtein(alloc, word, known)?)
 }
 
-/// The known word that is nearest to a word by Levenshtein's distance in bytes: of several the first, and none if no word is
-/// known.
+/// The known word nearest to a word, by Levenshtein's distance in bytes: the first if several are, and none if no word is known.
 pub fn nearest<'k, A: Memory>(
     alloc: A,
     word: &[u8],

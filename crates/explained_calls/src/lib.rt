@@ -1,4 +1,4 @@
-//! What the table of calls and the grammar of lines say of a call or of a line that is at fault, in words.
+//! Explains, from the table of calls and the grammar of lines, a call or a line that has a fault.
 #![tactic(auto)]
 
 pub mod call_words;

@@ -1,4 +1,4 @@
-//! What is at fault in a line, in words.
+//! What is wrong with a line, in words.
 
 ghost use Rattle.std.specs.Prelude.{◌≡◌, ◌++◌, ◌≤◌, codes, drop, find, length, option_map, Some, OnOk};
 ghost use Rattle.std.specs.List.{after_first, position_or_len};
@@ -37,7 +37,7 @@ fn wanted_words(wanted: Wanted) -> &'static [u8]
     }
 }
 
-/// Appends where a line stops having the form of a line.
+/// Appends where a line breaks the form of a line.
 fn put_hint<A: Memory>(hint: Hint, text: &mut Vec<u8, A>) -> Result<(), NoResources>
     ensures { OnOk result (text.new.items ≡ text.old.items ++ hint_line (Some hint)) }
 {
@@ -68,11 +68,11 @@ struct Parts<'l> {
     names: usize,
     /// The name of the call, or `write`.
     call: &'l [u8],
-    /// The place behind it, from which on the arguments stand.
+    /// The place after it, where the arguments begin.
     behind: usize,
 }
 
-/// How many tokens stand before the first `=`, and the place behind it.
+/// How many tokens stand before the first `=`, and the place after it.
 fn names_before(line: &[u8]) -> (usize, usize)
     ensures count { result.0 ≡ position_or_len (λ token. is_equals token.bytes) (placed_by line_class 0 line.now) }
     ensures others { placed_by line_class result.1 (drop result.1 line.now)
@@ -126,7 +126,7 @@ fn parts_of(line: &[u8]) -> Parts<'_>
     }
 }
 
-/// Appends which call is the nearest, if there is one.
+/// Appends which call is nearest, if any is.
 fn put_nearest<A: Memory>(name: Option<&[u8]>, text: &mut Vec<u8, A>) -> Result<(), NoResources>
     ensures { OnOk result (text.new.items ≡ text.old.items ++ nearest_words (option_map (λ name. name.now) name.entry)) }
 {
@@ -136,7 +136,7 @@ fn put_nearest<A: Memory>(name: Option<&[u8]>, text: &mut Vec<u8, A>) -> Result<
     }
 }
 
-/// Appends that there is no call of this name, and the nearest that there is.
+/// Appends that no call has this name, and the nearest one.
 fn put_no_call<A: Memory>(alloc: A, call: &[u8], text: &mut Vec<u8, A>) -> Result<(), NoResources>
     ensures { OnOk result (text.new.items ≡ text.old.items ++ indented (no_call_words call.now)) }
 {
@@ -163,7 +163,7 @@ fn put_unknown_call<A: Memory>(
     }
 }
 
-/// How many tokens the line has from a place on.
+/// How many tokens the line has from this place on.
 fn count_tokens(line: &[u8], from: usize) -> usize
     requires { from ≤ length line.now }
     ensures { result ≡ length (placed_by line_class from (drop from line.now)) }
@@ -248,7 +248,7 @@ fn is_bad_number(token: &[u8]) -> bool
     !is_name_text(token) && !is_boolean_token(token) && number(token).is_none()
 }
 
-/// Appends the first argument that is a bad number, and what a number has to be.
+/// Appends the first argument that is a bad number, and what a number must be.
 fn put_bad_number<A: Memory>(
     line: &[u8],
     from: usize,
@@ -270,12 +270,12 @@ fn put_bad_number<A: Memory>(
     Ok(())
 }
 
-/// Appends the lines of an explanation for a fault that the script's line alone shows, each with two spaces before it and a line
-/// feed behind it. Of other faults it appends nothing.
+/// Appends the explanation of a fault that the script's line alone shows, line by line, each with two spaces before it and a line
+/// feed after it. For other faults it appends nothing.
 ///
-/// Of a `BadLine` it tells where the line stops having the form of a line, by the column in bytes, counted from 1, and what may
-/// stand there; of an `UnknownCall` the word and the call whose name is nearest; of a `WrongArgumentCount` what the call takes,
-/// and how many arguments or names it wants and the line has; of a `BadNumber` the token.
+/// For a `BadLine`: where the line breaks the form of a line, by the column in bytes, counted from 1, and what may stand there.
+/// For an `UnknownCall`: the word, and the call whose name is nearest. For a `WrongArgumentCount`: what the call takes, and how
+/// many arguments or names it wants and the line has. For a `BadNumber`: the token.
 pub fn put_line_fault<A: Memory>(
     alloc: A,
     line: &[u8],

@@ -1,4 +1,4 @@
-//! Where a line stops having the form of a line.
+//! Where a line breaks the form of a line.
 
 ghost use Rattle.std.specs.Prelude.{◌≡◌, ◌≤◌, drop, ◌+◌, length, List, Option, Some, IfOk, MatchResult};
 ghost use Rattle.line_reader.specs.Lines.{line_class};
@@ -25,7 +25,7 @@ fn is_wanted(wanted: Wanted, token: &[u8]) -> bool
     }
 }
 
-/// The token that begins at a place is not what is wanted there.
+/// The token that begins at this place is not what is wanted there.
 fn hint_at(place: usize, wanted: Wanted) -> Hint
     ensures { result ≡ hint_at place wanted }
 {
@@ -36,7 +36,7 @@ fn hint_at(place: usize, wanted: Wanted) -> Hint
     }
 }
 
-/// The next token, which has to be what is wanted, and the place behind it.
+/// The next token, if it is what is wanted, and the place after it.
 fn wanting(line: &[u8], from: usize, wanted: Wanted) -> Result<(Token<'_>, usize), Hint>
     requires { from ≤ length line.now }
     ensures within { IfOk result (λ t. (t.1 ≡ t.0.start + length t.0.bytes.now) × (t.1 ≤ length line.now)) }
@@ -61,7 +61,7 @@ fn wanting(line: &[u8], from: usize, wanted: Wanted) -> Result<(Token<'_>, usize
     }
 }
 
-/// The first of the tokens that is not what is wanted of each.
+/// The first token that is not what is wanted of all of them.
 fn wanting_each(line: &[u8], from: usize, wanted: Wanted) -> Option<Hint>
     requires { from ≤ length line.now }
     ensures { result ≡ wanting_each wanted (placed_by line_class from (drop from line.now)) }
@@ -76,7 +76,7 @@ fn wanting_each(line: &[u8], from: usize, wanted: Wanted) -> Option<Hint>
     None
 }
 
-/// What is wrong behind `=`.
+/// What is wrong after `=`.
 fn hint_after_equals(line: &[u8], from: usize) -> Option<Hint>
     requires { from ≤ length line.now }
     ensures { result ≡ hint_after_equals from (placed_by line_class from (drop from line.now)) }
@@ -87,7 +87,7 @@ fn hint_after_equals(line: &[u8], from: usize) -> Option<Hint>
     }
 }
 
-/// What is wrong behind a first name.
+/// What is wrong after a first name.
 fn hint_after_first(line: &[u8], first: &[u8], from: usize) -> Option<Hint>
     requires { from ≤ length line.now }
     ensures { result ≡ hint_after_first first.now from (placed_by line_class from (drop from line.now)) }
@@ -106,7 +106,7 @@ fn hint_after_first(line: &[u8], first: &[u8], from: usize) -> Option<Hint>
     }
 }
 
-/// What is wrong behind two names.
+/// What is wrong after two names.
 fn hint_after_names(line: &[u8], from: usize) -> Option<Hint>
     requires { from ≤ length line.now }
     ensures { result ≡ hint_after_names from (placed_by line_class from (drop from line.now)) }
@@ -136,7 +136,7 @@ pub(crate) fn is_write_line(line: &[u8], first: &[u8], from: usize) -> bool
     first == b"write".as_slice() && !begins_with_equals(line, from)
 }
 
-/// Where a line without a comment stops having the form of a line; none if it has one.
+/// Where a line without a comment breaks the form of a line, if it does.
 pub(crate) fn hint_of(line: &[u8]) -> Option<Hint>
     ensures { result ≡ hint_of (placed_by line_class 0 line.now) }
 {

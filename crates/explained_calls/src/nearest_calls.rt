@@ -6,8 +6,8 @@ ghost use Rattle.explained_calls.specs.Nearest.{call_names, nearest};
 use crate::known_words::nearest;
 use cvl_base::{Memory, NoResources};
 
-/// The name of the call that is nearest to a word. The names stand family by family: first those that work place by place, then
-/// those that take their vectors whole, then those that take them by segments, and then the others.
+/// The name of the call nearest to a word. Names are compared family by family: first the elementwise calls, then those on whole
+/// vectors, then those by segments, and then the others.
 #[rattlefmt::skip]
 #[tactic(auto, unfolding(call_table::specs::Operators::int_binaries, call_table::specs::Operators::int_monoids, call_table::specs::Operators::unaries, call_table::specs::Operators::comparisons, call_table::specs::Operators::bool_binaries, call_table::specs::Spellings::elements, call_table::specs::Spellings::forms))]
 pub(crate) fn nearest_call<A: Memory>(

@@ -1,4 +1,4 @@
-//! Texts that are put together from pieces.
+//! Texts made of pieces.
 
 ghost use Rattle.std.specs.Prelude.{◌≡◌, ◌++◌, [], ◌∷◌, map, OnOk};
 ghost use Rattle.std.specs.List.{concat};
@@ -6,7 +6,7 @@ ghost use Rattle.explained_calls.specs.Sentences.{ending, shortened};
 
 use cvl_base::{Memory, NoResources};
 
-/// Appends the pieces, one after another.
+/// Appends the pieces in order.
 pub fn put_pieces<A: Memory>(text: &mut Vec<u8, A>, pieces: &[&[u8]]) -> Result<(), NoResources>
     ensures { OnOk result (text.new.items ≡ text.old.items ++ concat (map (λ piece. piece.now) pieces.now)) }
 {
@@ -21,7 +21,7 @@ pub fn put_pieces<A: Memory>(text: &mut Vec<u8, A>, pieces: &[&[u8]]) -> Result<
     Ok(())
 }
 
-/// Appends a token as it stands; of a long one the first 40 bytes and `..`.
+/// Appends a token as it stands; a long one as its first 40 bytes and `..`.
 pub fn put_shortened<A: Memory>(text: &mut Vec<u8, A>, token: &[u8]) -> Result<(), NoResources>
     ensures { OnOk result (text.new.items ≡ text.old.items ++ shortened token.now) }
 {
@@ -33,7 +33,7 @@ pub fn put_shortened<A: Memory>(text: &mut Vec<u8, A>, token: &[u8]) -> Result<(
     }
 }
 
-/// What stands behind the word for a thing that is counted: `s`, unless there is one.
+/// The ending of the word for things that are counted: `s`, unless there is one.
 pub fn ending(count: usize) -> &'static [u8]
     ensures { result.now ≡ ending count }
 {

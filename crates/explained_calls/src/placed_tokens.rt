@@ -15,7 +15,7 @@ pub struct Token<'b> {
     pub bytes: &'b [u8],
 }
 
-/// The place of the first byte from a place on that is no blank, or the place behind all bytes.
+/// The place of the first byte from here on that is no blank, or the place after all bytes.
 fn after_blanks<C: Classes>(bytes: &[u8], from: usize) -> usize
     requires { from ≤ length bytes.now }
     ensures before { from ≤ result }
@@ -31,7 +31,7 @@ fn after_blanks<C: Classes>(bytes: &[u8], from: usize) -> usize
     bytes.len()
 }
 
-/// The first token from a place on, and the place right behind it; none where there is no token.
+/// The first token from a place on, and the place right after it; none if no token is left.
 pub fn next_token<C: Classes>(bytes: &[u8], from: usize) -> Option<(Token<'_>, usize)>
     requires { from ≤ length bytes.now }
     ensures tokens { MatchOption result (placed_by C.class_of from (drop from bytes.now) ≡ [])

@@ -17,12 +17,12 @@ pub enum Wanted {
     Argument,
 }
 
-/// Where a line stops having the form of a line, and what may stand there.
+/// Where a line breaks the form of a line, and what may stand there.
 #[derive(Clone, Copy, Debug, PartialEq, Eq)]
 pub struct Hint {
-    /// The place of the first byte that may not stand there, counted from 0, or the place behind the last token.
+    /// The place of the first byte that may not stand there, counted from 0, or the place after the last token.
     pub place: usize,
-    /// Whether it is the line's end that comes too early.
+    /// Whether the line ends too early.
     pub ends: bool,
     /// What may stand there.
     pub wanted: Wanted,
