@@ -1,4 +1,4 @@
--- What is wrong with an input, in words: where the token stands at which it is none, and what was expected there.
+-- What is wrong with an input, in words: where the bad token stands, and what was expected there.
 -- Source: this library's input formats.
 use Rattle.std.specs.Prelude.{ℕ, ◌-◌, ◌==◌, ◌++◌, Bool, true, false, List, [], codes, count_by, drop, length, slice_get, take}
 use Rattle.std.specs.Prelude.{Option, Some, None, if◌then◌else◌}
@@ -31,7 +31,7 @@ flat_words_at file bytes (Some start) = indented (flat_words file bytes start)
 abbrev pub open_lists : List ℕ → ℕ → ℕ
 open_lists bytes place = count_by (λ b. b == 91) (take place bytes) - count_by (λ b. b == 93) (take place bytes)
 
--- what may stand where so many lists are open, behind tokens or in the beginning
+-- what may stand where so many lists are open, after tokens or at the beginning
 abbrev pub expected_at : Bool → ℕ → List ℕ
 expected_at is_first lists =
     if is_first then codes "\"[\""
@@ -58,23 +58,23 @@ abbrev pub nested_words_at : List ℕ → List ℕ → ℕ → Option ℕ → Li
 nested_words_at file bytes token None = indented (end_words file bytes token)
 nested_words_at file bytes token (Some start) = indented (stray_words file bytes token start)
 
--- the words on an input's token at a place, counted from 0, in a nested text or in an input of numbers alone
+-- the words about an input's token at a place, counted from 0, in a nested text or in an input of only numbers
 abbrev pub bytes_words : Bool → List ℕ → List ℕ → ℕ → List ℕ
 bytes_words true file bytes token = nested_words_at file bytes token (slice_get (token_starts nested_class bytes) token)
 bytes_words false file bytes token = flat_words_at file bytes (slice_get (token_starts input_class bytes) token)
 
--- the words on an input that is too long
+-- the words about an input that is too long
 abbrev pub too_long_words : Bool → List ℕ → List ℕ
 too_long_words true file = indented (file ++ codes " has more than 4194304 numbers or inner lists")
 too_long_words false file = indented (file ++ codes " has more than 4194304 numbers")
 
--- the words on an input that is a vector
+-- the words about an input that is a vector
 abbrev pub vector_words : Bool → List ℕ → List ℕ
 vector_words true file = indented (file ++ codes " is a vector, and nested reads a text")
 vector_words false file = []
 
--- the line on an input, which has bytes or is a vector: a fault with a place stands at the token there, and one without is that of
--- an input that is too long
+-- the line about an input, which has bytes or is a vector: a fault with a place is at the token there, and one without means that it is too
+-- long
 abbrev pub input_fault_words : Bool → List ℕ → Option (List ℕ) → Option ℕ → List ℕ
 input_fault_words is_nested file None place = vector_words is_nested file
 input_fault_words is_nested file (Some bytes) None = too_long_words is_nested file

@@ -6,13 +6,13 @@ use Rattle.line_reader.specs.declared.token.ByteClass.{ByteClass}
 use Rattle.line_reader.specs.declared.token.ByteClass.TheVariants.{Blank, Alone, InToken}
 use Rattle.line_reader.specs.Tokens.{is_in_token}
 
--- whether a token begins with a byte of this class, which stands behind a run or not
+-- whether a token begins with a byte of this class, after a run or not
 abbrev pub begins_token : Bool → ByteClass → Bool
 begins_token behind_run Blank = false
 begins_token behind_run Alone = true
 begins_token behind_run InToken = not behind_run
 
--- the places at which tokens begin, of bytes of which the first stands at this place
+-- the places at which tokens begin, if the first byte stands at this place
 abbrev pub starts_from : (ℕ → ByteClass) → Bool → ℕ → List ℕ → List ℕ
 starts_from class_of behind_run place [] = []
 starts_from class_of behind_run place (b ∷ bs) =
@@ -31,7 +31,7 @@ first_of class_of bytes = take (max (prefix_len (λ b. is_in_token (class_of b))
 abbrev pub line_at : List ℕ → ℕ → ℕ
 line_at bytes place = count_by (λ b. b == 10) (take place bytes) + 1
 
--- the column behind bytes, of which the first stands in this one: a line feed ends the line
+-- the column after bytes, the first of which stands in this one: a line feed ends the line
 abbrev pub column_behind : ℕ → List ℕ → ℕ
 column_behind column [] = column
 column_behind column (b ∷ bs) = if b == 10 then column_behind 1 bs else column_behind (column + 1) bs

@@ -28,7 +28,7 @@ fn put_position<B: Memory>(
     put_pieces(text, &[file, b":", line, b":", column, b": "])
 }
 
-/// Writes a token in quotation marks, of a long one the first 40 bytes.
+/// Writes a token in quotation marks; a long one as its first 40 bytes.
 fn put_quoted<B: Memory>(token: &[u8], text: &mut Vec<u8, B>) -> Result<(), NoResources>
     ensures { OnOk result (text.new.items ≡ text.old.items ++ quoted token.now) }
 {
@@ -37,7 +37,7 @@ fn put_quoted<B: Memory>(token: &[u8], text: &mut Vec<u8, B>) -> Result<(), NoRe
     put_pieces(text, &[b"\""])
 }
 
-/// Writes the line on the token of an input of numbers alone that begins at a place.
+/// Writes the line about the token of an input of only numbers that begins at a place.
 fn put_flat<B: Memory>(
     file: &[u8],
     bytes: &[u8],
@@ -52,7 +52,7 @@ fn put_flat<B: Memory>(
     put_pieces(text, &[b" is no integer from -2147483648 to 2147483647\n"])
 }
 
-/// Writes the line on a token, by its number, of an input of numbers alone.
+/// Writes the line about a token, by its number, of an input of only numbers.
 fn put_flat_fault<B: Memory>(
     file: &[u8],
     bytes: &[u8],
@@ -67,7 +67,7 @@ fn put_flat_fault<B: Memory>(
     }
 }
 
-/// What may stand at a place of a nested text before which there are so many tokens.
+/// What may stand at a place of a nested text after so many tokens.
 fn expected_words(bytes: &[u8], token: usize, place: usize) -> &'static [u8]
     ensures { result.now ≡ expected_words bytes.now token place }
 {
@@ -83,7 +83,7 @@ fn expected_words(bytes: &[u8], token: usize, place: usize) -> &'static [u8]
     }
 }
 
-/// Writes the line on a nested text that ends too early.
+/// Writes the line about a nested text that ends too early.
 fn put_end<B: Memory>(
     file: &[u8],
     bytes: &[u8],
@@ -101,7 +101,7 @@ fn put_end<B: Memory>(
     )
 }
 
-/// Writes the line on the token of a nested text that begins at a place.
+/// Writes the line about the token of a nested text that begins at a place.
 fn put_stray<B: Memory>(
     file: &[u8],
     bytes: &[u8],
@@ -118,7 +118,7 @@ fn put_stray<B: Memory>(
     put_pieces(text, &[b" stands where ", expected, b" is expected\n"])
 }
 
-/// Writes the line on a token, by its number, of a nested text.
+/// Writes the line about a token, by its number, of a nested text.
 fn put_nested_fault<B: Memory>(
     file: &[u8],
     bytes: &[u8],
@@ -133,7 +133,7 @@ fn put_nested_fault<B: Memory>(
     }
 }
 
-/// Writes the line on a token, by its number, of a nested text or of an input of numbers alone.
+/// Writes the line about a token, by its number, of a nested text or of an input of numbers.
 fn put_bytes_fault<B: Memory>(
     is_nested: bool,
     file: &[u8],
@@ -150,7 +150,7 @@ fn put_bytes_fault<B: Memory>(
     }
 }
 
-/// Writes the line on an input that is a vector.
+/// Writes the line about an input that is a vector.
 fn put_vector<B: Memory>(
     is_nested: bool,
     file: &[u8],
@@ -166,7 +166,7 @@ fn put_vector<B: Memory>(
     }
 }
 
-/// Writes the line on an input that is too long.
+/// Writes the line about an input that is too long.
 fn put_too_long<B: Memory>(
     is_nested: bool,
     file: &[u8],
@@ -182,12 +182,12 @@ fn put_too_long<B: Memory>(
     }
 }
 
-/// Writes the line on an input at fault, which is the bytes of a file of this name, or none where it is a vector: two
-/// spaces before it, a line feed behind it. `place` is that of the fault: the number of a token, counted from 0, or none
-/// where the input is too long.
+/// Writes the line about an input at fault: the bytes of a file of this name, or none if it is a vector. The line has two spaces
+/// before it and a line feed after it. `place` is the fault's: the number of a token, counted from 0, or none if the input is too
+/// long.
 ///
-/// The line has the file's name, the line and the column of the token, counted from 1 and in bytes, and the token, of a
-/// long one the first 40 bytes; in a nested text also what was expected there.
+/// The line has the file's name, the line and the column of the token, counted from 1 and in bytes, and the token, a long one as
+/// its first 40 bytes; for a nested text also what was expected there.
 pub fn put_input_fault<B: Memory>(
     is_nested: bool,
     file: &[u8],

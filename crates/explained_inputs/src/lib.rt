@@ -1,4 +1,4 @@
-//! What is wrong with an input, in words: where the token stands at which it is none, and what was expected there.
+//! What is wrong with an input, in words: where the bad token stands, and what was expected there.
 #![tactic(auto)]
 
 mod classes;

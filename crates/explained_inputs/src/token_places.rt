@@ -7,7 +7,7 @@ ghost use Rattle.explained_inputs.specs.TokenPlaces.{begins_token, column_at, fi
 
 use line_reader::token::{ByteClass, Classes};
 
-/// Whether a token begins with a byte of this class, which stands behind a run or not.
+/// Whether a token begins with a byte of this class, after a run or not.
 fn begins_token(behind_run: bool, class: ByteClass) -> bool
     ensures { result ≡ begins_token behind_run class }
 {
@@ -18,7 +18,7 @@ fn begins_token(behind_run: bool, class: ByteClass) -> bool
     }
 }
 
-/// The place at which a token begins, by its number, counted from 0; none where there are no more tokens.
+/// The place at which a token begins, by its number, counted from 0; none if there are fewer tokens.
 pub(crate) fn token_start<C: Classes>(bytes: &[u8], token: usize) -> Option<usize>
     ensures { result ≡ slice_get (token_starts C.class_of bytes.now) token }
 {
@@ -37,7 +37,7 @@ pub(crate) fn token_start<C: Classes>(bytes: &[u8], token: usize) -> Option<usiz
     None
 }
 
-/// The bytes from a place on, and none behind the last.
+/// The bytes from a place on; none after the last.
 pub(crate) fn from_place(bytes: &[u8], place: usize) -> &[u8]
     ensures { result.now ≡ drop place bytes.now }
 {
@@ -69,7 +69,7 @@ fn is_in_token<C: Classes>(byte: u8) -> bool
     }
 }
 
-/// How many bytes the run has with which bytes begin.
+/// The length of the run with which the bytes begin.
 fn run_length<C: Classes>(bytes: &[u8]) -> usize
     ensures { result ≡ prefix_len (λ b. is_in_token (C.class_of b)) bytes.now }
 {
@@ -95,7 +95,7 @@ pub(crate) fn line_at(bytes: &[u8], place: usize) -> usize
     count_of(b'\n', bytes, place) + 1
 }
 
-/// How many bytes before a place are this one.
+/// How often this byte stands before a place.
 pub(crate) fn count_of(byte: u8, bytes: &[u8], place: usize) -> usize
     ensures count { result ≡ count_by (λ b. b == byte) (take place bytes.now) }
     ensures few { result ≤ length bytes.now }
