@@ -1,4 +1,4 @@
--- The arguments of a line as an explanation has them: the word of each, and what it holds.
+-- The arguments of a line, as an explanation sees them: the word of each, and its value.
 -- Source: this library's script format.
 use Rattle.std.specs.Prelude.{ℕ, ℤ, Bool, ◌++◌, List, [], codes, length, sum, slice_get, if◌then◌else◌}
 use Rattle.std.specs.Prelude.{Option, Some, None, option_map, unwrap_or}
@@ -23,7 +23,7 @@ module _ {A : Type 0} where
   value_held (holding.Integer n) = Some (value.Integer n)
   value_held (holding.Boolean b) = Some (value.Boolean b)
 
-  -- the argument at a place, counted from 0; behind the last one there is nothing
+  -- the argument at a place, counted from 0; after the last one there is none
   abbrev pub spelled_at : List (Spelled A) → ℕ → Spelled A
   spelled_at args place = unwrap_or (slice_get args place) (record { word = []; value = None })
 

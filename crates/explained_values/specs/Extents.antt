@@ -1,4 +1,4 @@
--- The lengths of a call's arguments that have to agree, in the order in which they are compared.
+-- The lengths of a call's arguments that must agree, in the order of comparison.
 -- Source: CVL's calls, in this library's profile.
 use Rattle.std.specs.Prelude.{ℕ, Bool, not, ◌==◌, ◌++◌, List, [], ◌∷◌, codes, length, sum, find, Option, option_map}
 use Rattle.cvl_base.specs.declared.families.Cut.{Cut}

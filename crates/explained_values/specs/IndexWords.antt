@@ -1,4 +1,4 @@
--- What an index counts among, and the earlier index that is the same.
+-- What an index points into, and the earlier index that is the same.
 -- Source: CVL's permutes, extract and replace, in this library's profile.
 use Rattle.std.specs.Prelude.{ℕ, ℤ, Bool, true, false, ◌+◌, ◌++◌, ◌&&◌, List, [], codes, drop, position, take, slice_index, if◌then◌else◌}
 use Rattle.std.specs.Prelude.{Option, Some, None, option_and_then, option_map}
@@ -18,8 +18,8 @@ use Rattle.explained_values.specs.Segments.{part_words, places_of, segment_at, s
 abbrev room : ℕ → ℕ → Bool → Room
 room vector descriptor true_ones = record { vector = vector; descriptor = descriptor; true_ones = true_ones }
 
--- what the index of each call counts among: the elements of a vector, or its true flags, by the places of the arguments; the
--- descriptor is that of the vector's segments
+-- what the index of each call points into: the elements of a vector, or its true flags, by the places of the arguments; the descriptor has
+-- the vector's segments
 abbrev pub room_of : Op → Room
 room_of (op.Permute Simple cut e) = room 0 2 false
 room_of (op.Permute Back cut e) = room 0 2 false
@@ -45,16 +45,16 @@ module _ {A : Type 0} where
       part_words segment vector.word ++ codes " has "
       ++ counted (amount_in room segment vector lengths) (if room.true_ones then codes "true flag" else codes "element")
 
--- the flags by which a permute takes places, where it has some
+-- whether a permute takes places by flags
 abbrev pub has_flags : Op → Bool
 has_flags (op.Permute Select cut e) = true
 has_flags _ = false
 
--- how far behind the start the first place has this index, before another place
+-- how far after the start the first place before another has this index
 abbrev pub same_before : List ℤ → ℕ → ℕ → ℤ → Option ℕ
 same_before index start place i = position (λ j. int_eq j i) (drop start (take place index))
 
--- the same of the places whose flag is true
+-- the same among places whose flag is true
 abbrev pub same_flagged_before : List ℤ → List Bool → ℕ → ℕ → ℤ → Option ℕ
 same_flagged_before index flags start place i =
     position (λ p. p.1 && int_eq p.0 i) (drop start (take place (zip index flags)))

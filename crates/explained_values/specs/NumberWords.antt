@@ -1,4 +1,4 @@
--- A number among the arguments at which a call has a fault, and why the call has no value for it.
+-- A number among the arguments that is a call's fault, and why the call has no value for it.
 -- Source: CVL's calls, in this library's profile.
 use Rattle.std.specs.Prelude.{ℕ, ◌++◌, List, [], codes, if◌then◌else◌, Option, Some, None, option_map}
 use Rattle.std.specs.Fmt.{signed_decimal}
@@ -13,14 +13,14 @@ use Rattle.explained_calls.specs.Sentences.{counted}
 use Rattle.explained_values.specs.Arguments.{Spelled, spelled_at, element_name, integer_at}
 use Rattle.explained_values.specs.IndexWords.{repeated_words, room_words}
 
--- which argument says how long a vector is to be
+-- which argument gives the length of the result
 abbrev pub length_argument : Op → Option ℕ
 length_argument (op.Distribute cut e) = Some 1
 length_argument (op.Index cut) = Some 2
 length_argument op.MakeDescriptor = Some 0
 length_argument _ = None
 
--- which argument holds the number at fault, where the fault is that of a number
+-- which argument holds the number at fault, if a number is at fault
 abbrev pub number_argument : FaultNo → Op → Option ℕ
 number_argument no.DivideByZero op = Some 1
 number_argument no.ShiftOutOfRange op = Some 1
@@ -31,7 +31,7 @@ number_argument no.TooLong op = length_argument op
 number_argument no.NoSuchInput op = Some 0
 number_argument _ op = None
 
--- what a single number of a line is to the call
+-- what a single number of a line means to the call
 abbrev pub meaning_of : FaultNo → List ℕ
 meaning_of no.IndexOutOfRange = codes "the index"
 meaning_of no.NoSuchInput = codes "the input's number"
@@ -42,7 +42,7 @@ abbrev pub inputs_words : ℕ → List ℕ
 inputs_words inputs = codes ", and the run has " ++ counted inputs (codes "input")
 
 module _ {A : Type 0} where
-  -- `v[3]`; of a single number its name, or what it is to the call if it stands in the line itself
+  -- `v[3]`; for a single number its name, or what it means to the call if the line itself has it
   abbrev pub number_name : FaultNo → Spelled A → ℕ → List ℕ
   number_name number a place = name_by a.value
     where

@@ -1,4 +1,4 @@
--- The segment in which a fault of a call stands.
+-- The segment that has a call's fault.
 -- Source: CVL's segmented calls, in this library's profile.
 use Rattle.std.specs.Prelude.{ℕ, ◌+◌, ◌-◌, ◌++◌, nat_lt, List, [], ◌∷◌, codes, drop, sum, take, slice_index, if◌then◌else◌}
 use Rattle.std.specs.Prelude.{Option, Some, None}
@@ -25,7 +25,7 @@ places_of (op.Extract Segmented e) = OfSegments
 places_of (op.Replace Segmented e) = OfSegments
 places_of _ = Whole
 
--- the segment that has a place of the whole vector
+-- the segment of a place in the whole vector
 abbrev pub segment_of : List ℕ → ℕ → ℕ
 segment_of [] place = 0
 segment_of (n ∷ lengths) place = if nat_lt place n then 0 else segment_of lengths (place - n) + 1
@@ -39,13 +39,13 @@ abbrev pub segment_in : {X : Type 0} → List ℕ → ℕ → List X → List X
 segment_in lengths segment xs = take (slice_index lengths segment) (drop (start_of lengths segment) xs)
 
 module _ {A : Type 0} where
-  -- the segment of a fault, where the call takes its vectors by segments
+  -- the segment of a fault, if the call takes its vectors by segments
   abbrev pub segment_at : Places → List (Spelled A) → ℕ → Option ℕ
   segment_at Whole args place = None
   segment_at OfSegments args place = Some place
   segment_at (CutBy descriptor) args place = Some (segment_of (lengths_in (spelled_at args descriptor).value) place)
 
-  -- where the segment of a fault starts, and 0 where nothing is cut
+  -- where the segment of a fault starts, or 0 if nothing is cut
   abbrev pub start_at : Places → List (Spelled A) → ℕ → ℕ
   start_at (CutBy descriptor) args place =
       let lengths = lengths_in (spelled_at args descriptor).value in start_of lengths (segment_of lengths place)

@@ -1,4 +1,4 @@
--- What is wrong with the arguments of a call, in words: the element, the number or the lengths at which it has no value.
+-- What is wrong with the arguments of a call, in words: the element, the number or the lengths that give it no value.
 -- Source: CVL's calls, in this library's profile.
 use Rattle.std.specs.Prelude.{ℕ, ◌==◌, ◌++◌, Bool, true, false, not, List, [], codes, find, length, slice_get, if◌then◌else◌}
 use Rattle.std.specs.Prelude.{Option, Some, None, is_none, option_map, option_and_then, unwrap_or}
@@ -48,7 +48,7 @@ module _ {A : Type 0} where
   abbrev pub is_refused : Op → ℕ → ℕ × Spelled A → Bool
   is_refused op count placed = option_map_or (λ kind. not (accepts_of op count placed.0 kind)) (kind_in placed.1.value) false
 
-  -- the first argument of another kind than the call takes
+  -- the first argument of a kind that the call does not take
   abbrev pub kind_fault_words : Op → List (Spelled A) → Option (List ℕ)
   kind_fault_words op args =
       option_map (λ placed. holding_words op placed.0 placed.1.word (kind_in placed.1.value))
@@ -64,7 +64,7 @@ module _ {A : Type 0} where
   number_fault_words inputs op args number place =
       option_and_then (number_words inputs op args number place) (number_argument number op)
 
-  -- what is wrong, where the names that are bound and the number of inputs are these
+  -- what is wrong, given the bound names and the number of inputs
   abbrev pub fault_words : List (List ℕ) → ℕ → Op → List (Spelled A) → FaultNo → ℕ → Option (List ℕ)
   fault_words names inputs op args no.UnknownName place = unbound_words names args
   fault_words names inputs op args no.WrongKind place = kind_fault_words op args
@@ -75,6 +75,6 @@ module _ {A : Type 0} where
       if makes_descriptor op then Some (total_words (spelled_at args 0)) else number_fault_words inputs op args no.TooLong place
   fault_words names inputs op args number place = number_fault_words inputs op args number place
 
-  -- the line on the fault; of a fault that is not of the arguments' values there is none
+  -- the line about the fault; none if the fault is not in the arguments' values
   abbrev pub value_fault_words : List (List ℕ) → ℕ → Op → List (Spelled A) → Fault → List ℕ
   value_fault_words names inputs op args f = line_of (fault_words names inputs op args f.number (unwrap_or f.place 0))

@@ -1,4 +1,4 @@
-//! The arguments of a line as an explanation has them.
+//! The arguments of a line, as an explanation sees them.
 
 ghost use Rattle.std.specs.Prelude.{◌≡◌, ◌≤◌, ◌++◌, None, Some, OnOk, length, map, sum, unsigned_abs};
 ghost use Rattle.cvl_base.specs.declared.value.Value.TheVariants as value;
@@ -21,13 +21,13 @@ pub enum Holding<'a, A: Memory> {
     Nothing,
     /// The value that is bound to its name.
     Value(&'a Value<A>),
-    /// A number of the line.
+    /// A number in the line.
     Integer(i32),
     /// `T` or `F`.
     Boolean(bool),
 }
 
-/// An argument of a line: its word, as the line has it, and what it holds.
+/// An argument of a line: its word in the line, and what it holds.
 #[derive(Drop)]
 pub struct Argument<'a, A: Memory> {
     word: &'a [u8],
@@ -45,7 +45,7 @@ impl<'a, A: Memory> Model for Argument<'a, A> {
 impl<'a, A: Memory> Argument<'a, A> {
     ghost use Rattle.explained_values.specs.Arguments.{value_held};
 
-    /// An argument with this word, which holds that.
+    /// An argument with this word and this value.
     pub fn new(word: &'a [u8], holding: Holding<'a, A>) -> Argument<'a, A>
         ensures word { result.word ≡ word.now }
         ensures value { result.value ≡ value_held holding.entry }
@@ -72,7 +72,7 @@ impl<'a, A: Memory> Argument<'a, A> {
         }
     }
 
-    /// The integers of a vector; of another value, none.
+    /// The integers of a vector; none of another value.
     pub(crate) fn integers(&self) -> &'a [i32]
         ensures value { result.now ≡ integers_in self.now.value }
         ensures in_limit { length result.now ≤ most_elements }
@@ -83,7 +83,7 @@ impl<'a, A: Memory> Argument<'a, A> {
         }
     }
 
-    /// The booleans of a vector; of another value, none.
+    /// The booleans of a vector; none of another value.
     pub(crate) fn booleans(&self) -> &'a [bool]
         ensures value { result.now ≡ booleans_in self.now.value }
         ensures in_limit { length result.now ≤ most_elements }
@@ -94,7 +94,7 @@ impl<'a, A: Memory> Argument<'a, A> {
         }
     }
 
-    /// The lengths of a descriptor; of another value, none.
+    /// The lengths of a descriptor; none of another value.
     #[tactic(auto, using(cvl_base::proofs::Descriptors::abs_pos))]
     pub(crate) fn lengths(&self) -> &'a [i32]
         ensures value { map unsigned_abs result.now ≡ lengths_in self.now.value }
@@ -132,7 +132,7 @@ impl<'a, A: Memory> Argument<'a, A> {
     }
 }
 
-/// The argument at a place, counted from 0; behind the last one there is nothing.
+/// The argument at a place, counted from 0; after the last one there is none.
 pub(crate) fn spelled_at<'a, A: Memory>(
     arguments: &[Argument<'a, A>],
     place: usize,
@@ -145,7 +145,7 @@ pub(crate) fn spelled_at<'a, A: Memory>(
     }
 }
 
-/// Writes an argument with its kind and how long it is: its word, and `: integers, 8 elements`.
+/// Writes an argument with its kind and length: its word, and `: integers, 8 elements`.
 pub fn put_argument<A: Memory, B: Memory>(
     argument: &Argument<'_, A>,
     text: &mut Vec<u8, B>,
@@ -161,7 +161,7 @@ pub fn put_argument<A: Memory, B: Memory>(
     }
 }
 
-/// Writes what a value is, and how long.
+/// Writes what a value is, and its length.
 fn put_value<A: Memory, B: Memory>(
     value: &Value<A>,
     text: &mut Vec<u8, B>,

@@ -1,4 +1,4 @@
-//! The lengths of a call's arguments that have to agree.
+//! The lengths of a call's arguments that must agree.
 
 ghost use Rattle.std.specs.Prelude.{◌≡◌, ◌++◌, OnOk, find};
 ghost use Rattle.explained_calls.specs.Sentences.{indented};
@@ -101,7 +101,7 @@ fn amount_of<A: Memory>(arguments: &[Argument<'_, A>], extent: Extent) -> usize
     }
 }
 
-/// Writes whose length it is and how much: `v has 8 elements`.
+/// Writes what has which length: `v has 8 elements`.
 fn put_extent<A: Memory, B: Memory>(
     arguments: &[Argument<'_, A>],
     extent: Extent,
@@ -127,7 +127,7 @@ fn differing<A: Memory>(op: Op, arguments: &[Argument<'_, A>]) -> Option<(Extent
         != amount_of(arguments, pair.1))
 }
 
-/// Writes the line on two lengths that do not agree.
+/// Writes the line about two lengths that do not agree.
 fn put_pair<A: Memory, B: Memory>(
     arguments: &[Argument<'_, A>],
     pair: (Extent, Extent),
@@ -142,7 +142,7 @@ fn put_pair<A: Memory, B: Memory>(
     put_pieces(text, &[b": these must agree\n"])
 }
 
-/// Writes the line on the first two lengths that do not agree.
+/// Writes the line about the first two lengths that do not agree.
 pub(crate) fn put_mismatch<A: Memory, B: Memory>(
     op: Op,
     arguments: &[Argument<'_, A>],

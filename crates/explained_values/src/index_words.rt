@@ -1,4 +1,4 @@
-//! What an index counts among, and the earlier index that is the same.
+//! What an index points into, and the earlier index that is the same.
 
 ghost use Rattle.std.specs.Prelude.{◌≡◌, ◌++◌, OnOk, drop, take};
 ghost use Rattle.cvl_base.specs.Packs.{count_of};
@@ -13,18 +13,18 @@ use crate::sentences::{put_counted, put_element_name};
 use cvl_base::{Form, Memory, NoResources, Op, true_count};
 use explained_calls::put_pieces;
 
-/// What an index counts among, by the places of the arguments.
+/// What an index points into, by the places of the arguments.
 #[derive(Clone, Copy)]
 pub struct Room {
     /// The vector.
     pub vector: usize,
     /// The descriptor that cuts it, if the call takes its vectors by segments.
     pub descriptor: usize,
-    /// Whether its true flags count, and no others.
+    /// Whether it points only to true flags.
     pub true_ones: bool,
 }
 
-/// What the index of a call counts among.
+/// What the index of a call points into.
 fn room_of(op: Op) -> Room
     ensures { result ≡ room_of op }
 {
@@ -41,7 +41,7 @@ fn room_of(op: Op) -> Room
     }
 }
 
-/// How many of some flags are true, from a place on.
+/// How many of `count` flags from a place on are true.
 fn true_in(flags: &[bool], start: usize, count: usize) -> usize
     ensures { result ≡ count_of (take count (drop start flags.now)) }
 {
@@ -74,7 +74,7 @@ fn amount_in<A: Memory>(
     }
 }
 
-/// Writes what an index counts among: `v has 8 elements`, `segment 1 of flags has 1 true flag`.
+/// Writes what an index points into: `v has 8 elements`, `segment 1 of flags has 1 true flag`.
 pub(crate) fn put_room<A: Memory, B: Memory>(
     op: Op,
     arguments: &[Argument<'_, A>],
@@ -97,7 +97,7 @@ pub(crate) fn put_room<A: Memory, B: Memory>(
     put_counted(amount_in(room, segment, &vector, &descriptor), thing, text)
 }
 
-/// How far behind the start the first place has this index, before another place.
+/// How far after the start the first place before another has this index.
 fn same_before(index: &[i32], start: usize, place: usize, number: i32) -> Option<usize>
     ensures { result ≡ same_before index.now start place number }
 {
@@ -108,7 +108,7 @@ fn same_before(index: &[i32], start: usize, place: usize, number: i32) -> Option
         .position(|j| *j == number)
 }
 
-/// The same of the places whose flag is true.
+/// The same among places whose flag is true.
 fn same_flagged_before(
     index: &[i32],
     flags: &[bool],
@@ -126,7 +126,7 @@ fn same_flagged_before(
         .position(|(j, flag)| *flag && *j == number)
 }
 
-/// Whether a permute takes the places alone whose flag is true.
+/// Whether a permute takes only the places whose flag is true.
 fn has_flags(op: Op) -> bool
     ensures { result ≡ has_flags op }
 {

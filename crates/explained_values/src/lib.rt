@@ -1,4 +1,4 @@
-//! What is wrong with the arguments of a call, in words: the element, the number or the lengths at which it has no value.
+//! What is wrong with the arguments of a call, in words: the element, the number or the lengths that give it no value.
 #![tactic(auto)]
 
 pub mod arguments;

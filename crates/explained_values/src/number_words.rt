@@ -1,4 +1,4 @@
-//! A number among the arguments at which a call has a fault, and why the call has no value for it.
+//! A number among the arguments that is a call's fault, and why the call has no value for it.
 
 ghost use Rattle.std.specs.Prelude.{◌≡◌, ◌++◌, OnOk};
 ghost use Rattle.explained_values.specs.Arguments.{line_of};
@@ -15,7 +15,7 @@ use cvl_base::{FaultNo, Kind, Memory, NoResources, Op};
 use explained_calls::put_pieces;
 use itoa::Buffer;
 
-/// Which argument says how long a vector is to be.
+/// Which argument gives the length of the result.
 fn length_argument(op: Op) -> Option<usize>
     ensures { result ≡ length_argument op }
 {
@@ -27,7 +27,7 @@ fn length_argument(op: Op) -> Option<usize>
     }
 }
 
-/// Which argument holds the number at fault, where the fault is that of a number.
+/// Which argument holds the number at fault, if a number is at fault.
 fn number_argument(number: FaultNo, op: Op) -> Option<usize>
     ensures { result ≡ number_argument number op }
 {
@@ -42,7 +42,7 @@ fn number_argument(number: FaultNo, op: Op) -> Option<usize>
     }
 }
 
-/// What a single number of a line is to the call.
+/// What a single number of a line means to the call.
 fn meaning_of(number: FaultNo) -> &'static [u8]
     ensures { result.now ≡ meaning_of number }
 {
@@ -53,7 +53,7 @@ fn meaning_of(number: FaultNo) -> &'static [u8]
     }
 }
 
-/// Writes the name of an element, or of a single number, or what a number of the line is to the call.
+/// Writes the name of an element or of a single number, or what a number of the line means to the call.
 fn put_number_name<A: Memory, B: Memory>(
     number: FaultNo,
     argument: &Argument<'_, A>,
@@ -110,7 +110,7 @@ fn put_reason<A: Memory, B: Memory>(
     }
 }
 
-/// Writes the line on a number at which a call has a fault: `index[3] is 12, and v has 8 elements`.
+/// Writes the line about a number that is a call's fault: `index[3] is 12, and v has 8 elements`.
 pub(crate) fn put_number_fault<A: Memory, B: Memory>(
     inputs: usize,
     op: Op,

@@ -1,4 +1,4 @@
-//! The segment in which a fault of a call stands.
+//! The segment that has a call's fault.
 
 ghost use Rattle.std.specs.Prelude.{◌≡◌, ℕ, ◌≤◌, ◌++◌, List, OnOk, length, map, slice_index, sum, unsigned_abs};
 ghost use Rattle.cvl_base.specs.Limits.{most_elements};
@@ -56,7 +56,7 @@ pub(crate) fn length_at(lengths: &[i32], segment: usize) -> usize
     }
 }
 
-/// The segment that has a place of the whole vector.
+/// The segment of a place in the whole vector.
 fn segment_of(lengths: &[i32], place: usize) -> usize
     requires { sum (map unsigned_abs lengths.now) ≤ most_elements }
     ensures { result ≡ segment_of (map unsigned_abs lengths.now) place }
@@ -84,7 +84,7 @@ pub(crate) fn start_of(lengths: &[i32], segment: usize) -> usize
     }
 }
 
-/// The segment of a fault, where the call takes its vectors by segments.
+/// The segment of a fault, if the call takes its vectors by segments.
 pub(crate) fn segment_at<A: Memory>(
     places: Places,
     arguments: &[Argument<'_, A>],
@@ -102,7 +102,7 @@ pub(crate) fn segment_at<A: Memory>(
     }
 }
 
-/// Where the segment of a fault starts, and 0 where nothing is cut.
+/// Where the segment of a fault starts, or 0 if nothing is cut.
 pub(crate) fn start_at<A: Memory>(
     places: Places,
     arguments: &[Argument<'_, A>],

@@ -11,7 +11,7 @@ use cvl_base::{Memory, NoResources, Op};
 use explained_calls::put_pieces;
 use itoa::Buffer;
 
-/// Writes how far a sum goes, where it is not that of all elements.
+/// Writes how far a sum goes, unless it is that of all elements.
 fn put_end<B: Memory>(
     op: Op,
     vector: &[u8],
@@ -29,7 +29,7 @@ fn put_end<B: Memory>(
     }
 }
 
-/// Writes the line on a sum that does not fit.
+/// Writes the line about a sum that does not fit.
 pub(crate) fn put_overflow<A: Memory, B: Memory>(
     op: Op,
     arguments: &[Argument<'_, A>],
@@ -45,7 +45,7 @@ pub(crate) fn put_overflow<A: Memory, B: Memory>(
     put_pieces(text, &[b" does not fit 32 bits\n"])
 }
 
-/// Writes the line on lengths that add up to too many elements.
+/// Writes the line about lengths that add up to too many elements.
 pub(crate) fn put_total<A: Memory, B: Memory>(
     argument: &Argument<'_, A>,
     text: &mut Vec<u8, B>,

@@ -17,7 +17,7 @@ use crate::sum_words::{put_overflow, put_total};
 use cvl_base::{Fault, FaultNo, Kind, Memory, NoResources, Op};
 use explained_calls::{kind_words, nearest, put_pieces, put_spelling};
 
-/// Writes the nearest of the names that are bound, where there is one.
+/// Writes the nearest of the names that are bound, if there is one.
 fn put_nearest<B: Memory>(name: Option<&[u8]>, text: &mut Vec<u8, B>) -> Result<(), NoResources>
     ensures { OnOk result (text.new.items ≡ text.old.items ++ nearest_words (option_map (λ name. name.now) name.entry)) }
 {
@@ -27,7 +27,7 @@ fn put_nearest<B: Memory>(name: Option<&[u8]>, text: &mut Vec<u8, B>) -> Result<
     }
 }
 
-/// Writes the line on a name that is not bound, with the nearest of those that are.
+/// Writes the line about a name that is not bound, with the nearest bound one.
 fn put_unbound_name<B: Memory>(
     alloc: B,
     names: &[&[u8]],
@@ -49,7 +49,7 @@ fn unbound<'s, 'a, A: Memory>(arguments: &'s [Argument<'a, A>]) -> Option<&'s Ar
     arguments.iter().find(|argument| argument.kind().is_none())
 }
 
-/// Writes the line on the first argument whose name is not bound.
+/// Writes the line about the first argument whose name is not bound.
 fn put_unbound<A: Memory, B: Memory>(
     alloc: B,
     names: &[&[u8]],
@@ -93,7 +93,7 @@ fn is_refused<A: Memory>(op: Op, count: usize, place: usize, argument: &Argument
     }
 }
 
-/// The first argument of another kind than the call takes, with its place.
+/// The first argument of a kind that the call does not take, with its place.
 fn refused<'s, 'a, A: Memory>(
     op: Op,
     arguments: &'s [Argument<'a, A>],
@@ -110,7 +110,7 @@ fn refused<'s, 'a, A: Memory>(
     None
 }
 
-/// The words for a kind, where there is one.
+/// The words for a kind, if there is one.
 fn words_for(kind: Option<Kind>) -> &'static [u8]
     ensures { result.now ≡ option_map_or kind_words kind [] }
 {
@@ -150,11 +150,11 @@ fn put_kind_fault<A: Memory, B: Memory>(
     }
 }
 
-/// Writes the line that names the element, the number or the lengths at which a call has a fault, and what they had to be:
-/// two spaces before it, a line feed behind it. `names` are the names that are bound, and `inputs` is how many inputs the
-/// run has. For a fault that is not of the arguments' values it writes nothing.
+/// Writes the line that names the element, the number or the lengths at fault in a call, and what they should be: two spaces
+/// before it, a line feed after it. `names` are the bound names, and `inputs` is how many inputs the run has. Writes nothing for
+/// a fault that is not in the arguments' values.
 ///
-/// No vector is searched beyond the place of the fault.
+/// It searches no vector beyond the place of the fault.
 pub fn put_value_fault<A: Memory, B: Memory>(
     alloc: B,
     names: &[&[u8]],
