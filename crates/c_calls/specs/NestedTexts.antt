@@ -6,7 +6,7 @@ use Rattle.cvl_base.specs.Gives.{◌>>=◌}
 use Rattle.cvl_base.specs.Nests.{nest}
 use Rattle.value_texts.specs.Texts.{nest_text}
 
--- the text of the segments of these lengths, where they add up to the vector's
+-- the text of the segments of these lengths, if they add up to the vector's
 abbrev pub segments_text : {X : Type 0} → (X → List ℕ) → List X → List ℕ → Result (List ℕ) Fault
 segments_text text_of xs lengths = nest lengths xs >>= λ lists. Ok (nest_text text_of lists)
 

@@ -1,4 +1,4 @@
--- The numbers by which a caller names an operator: the one that has the number in its family, or UnknownCall, without a place.
+-- The numbers by which a caller chooses an operator: that of the family with the number, or UnknownCall, without a place.
 -- Source: this library's header.
 use Rattle.std.specs.Prelude.{ℕ, Option, Result}
 use Rattle.std.specs.Option.{ok_or}

@@ -1,5 +1,5 @@
--- Products of sparse matrices with vectors whose caller may get anything wrong: the lengths or the offsets of the rows are checked
--- first, then how many entries there are, and then the product's own faults come.
+-- Products of sparse matrices with vectors if a caller may get anything wrong: first the lengths or the offsets of the rows are checked,
+-- then the number of entries, and then come the product's own faults.
 -- Source: compressed sparse rows, in this library's profile of calls for callers of another language.
 use Rattle.std.specs.Prelude.{ℤ, List, Result}
 use Rattle.cvl_base.specs.declared.fault.Fault.{Fault}

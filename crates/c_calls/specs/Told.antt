@@ -1,5 +1,5 @@
--- What an export answers, and what it leaves in its caller's room.
--- Source: this library's faults and their places, told as two numbers.
+-- What an export returns, and what it leaves in its caller's room.
+-- Source: this library's faults and their places, as two numbers.
 use Rattle.std.specs.Prelude.{◌≡◌, ℕ, ◌⊎◌, ℤ, pos, negsuc, List, Result, Ok, Err, Option, Some, None}
 use Rattle.cvl_base.specs.declared.fault.Fault.{Fault}
 use Rattle.cvl_base.specs.declared.refused.Refused.{Refused}

@@ -1,4 +1,4 @@
-//! The checks of what the library leaves to its callers.
+//! Checks of what the library leaves to its callers.
 
 ghost use Rattle.std.specs.Prelude.{◌≡◌, ◌≤◌, ◌<◌, Err, Ok, Result, length, MatchResult};
 ghost use Rattle.cvl_base.specs.declared.fault.FaultNo.TheVariants as no;
@@ -12,7 +12,7 @@ use cvl_base::{Fault, FaultNo, Refused};
 use segdes::{SegDes, SegLengths};
 use std::alloc::Global;
 
-/// Checks that a vector has at most 2,147,483,647 elements, else TooLong, without a place.
+/// Checks that a vector has at most 2,147,483,647 elements, else `TooLong`, without a place.
 pub fn check_limit<T>(vector: &[T]) -> Result<(), Fault>
     ensures { MatchResult result (λ _. length vector.now ≤ most_places)
         (λ f. (f ≡ fault no.TooLong) × (most_places < length vector.now)) }
@@ -23,8 +23,8 @@ pub fn check_limit<T>(vector: &[T]) -> Result<(), Fault>
     Ok(())
 }
 
-/// The segments with these lengths, which are looked at where they lie: TooLong, without a place, where there are more than
-/// 2,147,483,647 lengths; NegativeLength at the first that is negative; TooLong where they add up to more than 2,147,483,647.
+/// The segments with these lengths, which are not copied. `TooLong`, without a place, if there are more than 2,147,483,647
+/// lengths; `NegativeLength` at the first negative one; `TooLong` if they add up to more than 2,147,483,647.
 pub fn segments(lengths: &[i32]) -> Result<SegLengths<'_>, Fault>
     ensures { MatchResult result (λ d. lengths_of lengths.now ≡ Ok d) (λ f. lengths_of lengths.now ≡ Err f) }
 {
@@ -32,8 +32,8 @@ pub fn segments(lengths: &[i32]) -> Result<SegLengths<'_>, Fault>
     SegLengths::of(lengths)
 }
 
-/// The descriptor of segments with these lengths: TooLong, without a place, where there are more than 2,147,483,647 lengths;
-/// NegativeLength at the first that is negative; TooLong where they add up to more than 2,147,483,647.
+/// The descriptor of segments with these lengths. `TooLong`, without a place, if there are more than 2,147,483,647 lengths;
+/// `NegativeLength` at the first negative one; `TooLong` if they add up to more than 2,147,483,647.
 pub fn descriptor(alloc: Global, lengths: &[i32]) -> Result<SegDes<Global>, Refused>
     ensures { Gives (λ d. d) result (lengths_of lengths.now) }
 {

@@ -1,4 +1,4 @@
-//! Counts of whole vectors of flags, and the flags of segments at indices.
+//! Counts of whole vectors of flags, and flags of segments at indices.
 
 ghost use Rattle.std.specs.Prelude.{◌≡◌, Ok, pos};
 ghost use Rattle.cvl_base.specs.Gives.{Gives};
@@ -13,7 +13,7 @@ use flag_calls::make_flags;
 use pack_dist::seg_extract;
 use std::alloc::Global;
 
-/// The number of true flags, of which there are at most 2,147,483,647, else TooLong, without a place.
+/// The number of true flags. `TooLong`, without a place, if there are more than 2,147,483,647 flags.
 pub fn count(flags: &[u8]) -> Result<i32, Fault>
     ensures { result ≡ in_limit flags.now (Ok (pos (count_of (flags_of flags.now)))) }
 {
@@ -21,7 +21,7 @@ pub fn count(flags: &[u8]) -> Result<i32, Fault>
     Ok(flag_calls::count(flags))
 }
 
-/// For each segment the byte at the place that its index names, 1 where it is true and 0 where it is false.
+/// The byte at each segment's index, as 1 if it is true and 0 if it is false.
 pub fn extract_each_flag(
     alloc: Global,
     vector: &[u8],

@@ -25,7 +25,7 @@ pub fn simple<T: Copy>(
     simple_over(alloc, source, index, out)
 }
 
-/// Each element whose flag is true at its index.
+/// Each element whose flag is true, at its index.
 pub fn select<T: Copy>(
     alloc: Global,
     source: &[T],
@@ -40,7 +40,7 @@ pub fn select<T: Copy>(
     select_over(alloc, source, index, flags, out)
 }
 
-/// Each element at its index, and at a place to which none goes its default.
+/// Each element at its index, and at a place that gets none its default.
 pub fn default_into<T: Copy>(
     alloc: Global,
     source: &[T],
@@ -55,7 +55,7 @@ pub fn default_into<T: Copy>(
     default_into_over(alloc, source, index, defaults, out)
 }
 
-/// At each place the element at the place's index.
+/// At each place the element at that place's index.
 pub fn back<T: Copy>(source: &[T], index: &[i32], out: &mut [T]) -> Result<(), Fault>
     ensures { Overwrites (in_room (length out.old) (in_limit index.now (back_of source.now index.now))) result out.old out.new }
 {

@@ -1,5 +1,5 @@
-//! Scans in place: the result is written over the vector that the call reads, which is as before where a fault is told. They
-//! check what the same scans over a room check, in the same order; there is no room whose length could differ.
+//! Scans in place: the result overwrites the vector that the call reads, which is as before if there is a fault. They check what
+//! the same scans into a room check, in the same order; there is no room whose length could differ.
 
 ghost use Rattle.std.specs.Prelude.{◌≡◌, Ok};
 ghost use Rattle.std.specs.List.{AllPass};
@@ -37,7 +37,7 @@ fn seg_scan<M: Monoid>(a: &mut [M::Item], lengths: &[i32]) -> Result<(), Fault>
     seg_scan_in::<M>(a, &d)
 }
 
-/// The scan of integers by the operator of a number, over the integers.
+/// The scan of integers by operator number `op`, over the integers.
 pub fn int_scan(op: u32, a: &mut [i32]) -> Result<(), Fault>
     ensures { Overwrites (by_operator (int_monoid op) (λ o. in_limit a.old (Ok (int_scan_of o a.old)))) result a.old a.new }
 {
@@ -55,7 +55,7 @@ fn int_scan_after_by(op: IntMonoid, before: &i32, a: &mut [i32])
     by_int_monoid!(op, scan_in::<_>(*before, a))
 }
 
-/// The scan of integers by the operator of a number, after an integer, over the integers.
+/// The scan of integers by operator number `op`, after an integer, over the integers.
 pub fn int_scan_from(op: u32, before: i32, a: &mut [i32]) -> Result<(), Fault>
     ensures { Overwrites (by_operator (int_monoid op) (λ o. in_limit a.old (Ok (int_scan_after o before a.old))))
         result a.old a.new }
@@ -66,7 +66,7 @@ pub fn int_scan_from(op: u32, before: i32, a: &mut [i32]) -> Result<(), Fault>
     Ok(())
 }
 
-/// The scan of each segment of integers by the operator of a number, over the integers.
+/// The scan of each segment of integers by operator number `op`, over the integers.
 pub fn seg_int_scan(op: u32, a: &mut [i32], lengths: &[i32]) -> Result<(), Fault>
     ensures { Overwrites (by_operator (int_monoid op)
         (λ o. by_segments lengths.now (seg_scan_of (int_join_of o) (int_unit_of o) a.old))) result a.old a.new }
@@ -76,7 +76,7 @@ pub fn seg_int_scan(op: u32, a: &mut [i32], lengths: &[i32]) -> Result<(), Fault
     by_int_monoid!(op, seg_scan::<_>(a, lengths))
 }
 
-/// The scan of booleans by the operator of a number, over the booleans.
+/// The scan of booleans by operator number `op`, over the booleans.
 pub fn bool_scan(op: u32, a: &mut [bool]) -> Result<(), Fault>
     ensures { Overwrites (by_operator (bool_binary op) (λ o. in_limit a.old (Ok (bool_scan_of o a.old)))) result a.old a.new }
 {
@@ -91,7 +91,7 @@ fn bool_scan_after_by(op: BoolBinary, before: bool, a: &mut [bool])
     by_bool_binary!(op, scan_in::<_>(before, a))
 }
 
-/// The scan of booleans by the operator of a number, after a boolean, over the booleans.
+/// The scan of booleans by operator number `op`, after a boolean, over the booleans.
 pub fn bool_scan_from(op: u32, before: bool, a: &mut [bool]) -> Result<(), Fault>
     ensures { Overwrites (by_operator (bool_binary op) (λ o. in_limit a.old (Ok (bool_scan_after o before a.old))))
         result a.old a.new }
@@ -102,7 +102,7 @@ pub fn bool_scan_from(op: u32, before: bool, a: &mut [bool]) -> Result<(), Fault
     Ok(())
 }
 
-/// The scan of each segment of booleans by the operator of a number, over the booleans.
+/// The scan of each segment of booleans by operator number `op`, over the booleans.
 pub fn seg_bool_scan(op: u32, a: &mut [bool], lengths: &[i32]) -> Result<(), Fault>
     ensures { Overwrites (by_operator (bool_binary op)
         (λ o. by_segments lengths.now (seg_scan_of (bool_join_of o) (bool_unit_of o) a.old))) result a.old a.new }

@@ -1,6 +1,11 @@
-//! What the exports of the static library `cvl_c` share: the checks of whatever a caller may get wrong, the operators that
-//! numbers name, and what a caller is told; and calls on a caller's own memory that are generic over a monoid, or that Rattle
-//! makes, too. An export says its call's contract again, and tells the answer as two numbers.
+//! What the exports of the static library `cvl_c` share: checks of whatever a caller may get wrong, operators by their numbers,
+//! and the answers to a caller; and calls on a caller's own memory that are generic over a monoid, or that Rattle itself makes.
+//! An export states its call's contract again, and answers by two numbers.
+//!
+//! Each call reports the first fault, in this order: `UnknownCall` if no operator has the number; the faults of its lengths, as
+//! [`checks::segments`] has them; `TooLong` if its first vector (a permute's index, a product's columns, a pack's flags) has more
+//! than 2,147,483,647 elements; its own faults; and `LengthMismatch`, without a place, if the result does not fit the room. After
+//! a fault the room is as before.
 #![tactic(auto)]
 
 pub mod checked_sums;

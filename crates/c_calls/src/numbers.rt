@@ -1,4 +1,4 @@
-//! The numbers by which a caller names an operator. The header has a name for each.
+//! The numbers by which a caller chooses an operator. The header names each.
 
 ghost use Rattle.std.specs.Prelude.{◌≡◌, find};
 ghost use Rattle.call_table.specs.Operators.{has_number};
@@ -6,7 +6,7 @@ ghost use Rattle.c_calls.specs.Numbers.{known};
 
 use cvl_base::{Family, Fault, FaultNo, numbered};
 
-/// The operator that has a number in its family; UnknownCall, without a place, where none has it.
+/// The operator of a family with this number; `UnknownCall`, without a place, if none has it.
 pub fn operator_of<F: Family>(number: u32) -> Result<F, Fault>
     ensures { result ≡ known (find (has_number F.label number) F.all) }
 {

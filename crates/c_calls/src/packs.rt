@@ -1,4 +1,4 @@
-//! Packs, of whole vectors and of segments, and how many elements they keep. Segments come as their lengths.
+//! Packs, of whole vectors and of segments, and how many elements they keep. Segments are given as lengths.
 
 ghost use Rattle.std.specs.Prelude.{length};
 ghost use Rattle.cvl_base.specs.Packs.{pack_of};
@@ -26,8 +26,8 @@ pub fn pack<T: Copy>(
     pack_over(values, flags, out, count)
 }
 
-/// Writes the elements of each segment whose flag is true, in order, one segment after another, at the front of a room, and
-/// counts them.
+/// Writes the elements of each segment whose flag is true, in order, segment by segment, at the front of a room. `count` is their
+/// number.
 pub fn pack_each<T: Copy>(
     values: &[T],
     flags: &[bool],

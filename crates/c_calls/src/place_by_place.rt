@@ -1,4 +1,4 @@
-//! The calls that work place by place, on vectors of at most 2,147,483,647 elements.
+//! The elementwise calls, on vectors of at most 2,147,483,647 elements.
 
 ghost use Rattle.std.specs.Prelude.{Ok, length};
 ghost use Rattle.cvl_base.specs.Elementwise.{bools_from_ints, choose_of, compare_of, ints2_of};
@@ -42,7 +42,7 @@ pub fn bool_from_int(a: &[i32], out: &mut [bool]) -> Result<(), Fault>
     bool_from_int_over(a, out)
 }
 
-/// At each place the integer of `a` where the flag is true, else that of `b`.
+/// At each place the integer of `a` if the flag is true, else that of `b`.
 pub fn select_int(flags: &[u8], a: &[i32], b: &[i32], out: &mut [i32]) -> Result<(), Fault>
     ensures { Overwrites (in_room (length out.old) (in_limit flags.now (choose_of (flags_of flags.now) a.now b.now)))
         result out.old out.new }

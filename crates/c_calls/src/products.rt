@@ -1,4 +1,4 @@
-//! Products of sparse matrices with vectors. The rows come as their lengths, or by their offsets.
+//! Products of sparse matrices with vectors. The rows are given as lengths, or by offsets.
 
 ghost use Rattle.std.specs.Prelude.{Ok};
 ghost use Rattle.cvl_base.specs.Gives.{Gives};
@@ -11,7 +11,7 @@ use cvl_base::{Fault, FaultNo, Refused};
 use sparse_products::{checked_rows_product, row_lengths, rows_product};
 use std::alloc::Global;
 
-/// The product, whose sums and products are wrapped to 32 bits.
+/// The product. Its sums and products wrap to 32 bits.
 pub fn product(
     alloc: Global,
     lengths: &[i32],
@@ -41,8 +41,8 @@ pub fn checked_product(
     checked_rows_product(alloc, &rows, columns, values, x)
 }
 
-/// The lengths of the rows between offsets, of which there is one more than rows: TooLong, without a place, where there are more
-/// than 2,147,483,648, and then the faults of [`row_lengths`].
+/// The lengths of the rows between offsets, one offset more than rows. `TooLong`, without a place, if there are more than
+/// 2,147,483,648 offsets, and then the faults of [`row_lengths`].
 fn lengths_between(alloc: Global, offsets: &[i32]) -> Result<Vec<i32, Global>, Refused>
     ensures { Gives (λ v. v.items) result (by_row_offsets offsets.now (λ lengths. Ok lengths)) }
 {
@@ -52,7 +52,7 @@ fn lengths_between(alloc: Global, offsets: &[i32]) -> Result<Vec<i32, Global>, R
     row_lengths(alloc, offsets)
 }
 
-/// [`product`] of rows that come by their offsets.
+/// [`product`] of rows given by their offsets.
 pub fn product_by_offsets(
     alloc: Global,
     offsets: &[i32],
@@ -66,7 +66,7 @@ pub fn product_by_offsets(
     product(alloc, &lengths, columns, values, x)
 }
 
-/// [`checked_product`] of rows that come by their offsets.
+/// [`checked_product`] of rows given by their offsets.
 pub fn checked_product_by_offsets(
     alloc: Global,
     offsets: &[i32],

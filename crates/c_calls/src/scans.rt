@@ -16,7 +16,7 @@ use cvl_base::monoid::know_laws;
 use cvl_base::{BoolBinary, Fault, IntMonoid, Monoid, by_bool_binary, by_int_monoid};
 use scan_walks::{Itself, know_numbers, scan_over, sum_from};
 
-/// For each element those before it, joined from left to right, and the unit where none is.
+/// At each place the elements before it, joined from left to right; the unit if none is.
 fn scan<M: Monoid>(a: &[M::Item], out: &mut [M::Item]) -> Result<(), Fault>
     requires { AllPass M.is_item a.now }
     ensures { Overwrites (in_room (length out.old) (in_limit a.now (Ok (scan_of M.join M.unit a.now)))) result out.old out.new }
@@ -26,7 +26,7 @@ fn scan<M: Monoid>(a: &[M::Item], out: &mut [M::Item]) -> Result<(), Fault>
     scan_over::<M>(M::unit(), a, out)
 }
 
-/// The elements, joined from left to right, and the unit where there are none.
+/// The elements, joined from left to right; the unit if there are none.
 fn reduce<M: Monoid>(a: &[M::Item]) -> Result<M::Item, Fault>
     requires { AllPass M.is_item a.now }
     ensures { result ≡ in_limit a.now (Ok (fold_of M.join M.unit a.now)) }
@@ -36,7 +36,7 @@ fn reduce<M: Monoid>(a: &[M::Item]) -> Result<M::Item, Fault>
     Ok(sum_from::<M, M::Item, Itself>(M::unit(), a))
 }
 
-/// The scan of integers by the operator of a number.
+/// The scan of integers by operator number `op`.
 pub fn int_scan(op: u32, a: &[i32], out: &mut [i32]) -> Result<(), Fault>
     ensures { Overwrites (in_room (length out.old) (by_operator (int_monoid op) (λ o. in_limit a.now (Ok (int_scan_of o a.now)))))
         result out.old out.new }
@@ -46,7 +46,7 @@ pub fn int_scan(op: u32, a: &[i32], out: &mut [i32]) -> Result<(), Fault>
     by_int_monoid!(op, scan::<_>(a, out))
 }
 
-/// The reduce of integers by the operator of a number.
+/// The reduce of integers by operator number `op`.
 pub fn int_reduce(op: u32, a: &[i32]) -> Result<i32, Fault>
     ensures { result ≡ by_operator (int_monoid op) (λ o. in_limit a.now (Ok (int_reduce_of o a.now))) }
 {
@@ -55,7 +55,7 @@ pub fn int_reduce(op: u32, a: &[i32]) -> Result<i32, Fault>
     by_int_monoid!(op, reduce::<_>(a))
 }
 
-/// The scan of booleans by the operator of a number.
+/// The scan of booleans by operator number `op`.
 pub fn bool_scan(op: u32, a: &[bool], out: &mut [bool]) -> Result<(), Fault>
     ensures { Overwrites (in_room (length out.old)
         (by_operator (bool_binary op) (λ o. in_limit a.now (Ok (bool_scan_of o a.now))))) result out.old out.new }
@@ -64,7 +64,7 @@ pub fn bool_scan(op: u32, a: &[bool], out: &mut [bool]) -> Result<(), Fault>
     by_bool_binary!(op, scan::<_>(a, out))
 }
 
-/// The reduce of flags by the operator of a number.
+/// The reduce of flags by operator number `op`.
 pub fn bool_reduce(op: u32, a: &[u8]) -> Result<bool, Fault>
     ensures { result ≡ by_operator (bool_binary op) (λ o. in_limit a.now (Ok (bool_reduce_of o (flags_of a.now)))) }
 {

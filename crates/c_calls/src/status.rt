@@ -1,4 +1,4 @@
-//! What an export answers, and what it leaves in its caller's room.
+//! What an export returns, and what it leaves in its caller's room.
 
 ghost use Rattle.std.specs.Prelude.{◌≡◌, ◌≢◌, Err, List, Ok, Result, length, MatchResult};
 ghost use Rattle.cvl_base.specs.declared.fault.Fault.{Fault};
@@ -11,11 +11,11 @@ ghost use Rattle.c_calls.specs.Told.{FrontToldOr, Told, ToldOr, at_front, done, 
 use cvl_base::{Fault, FaultNo, Refused, check_agree};
 use std::alloc::Global;
 
-/// What an export answers: a number, and a place where the number is that of a fault that has one.
+/// What an export returns: a number, and the place of a fault that has one.
 #[repr(C)]
 #[derive(Clone, Copy, Debug, PartialEq, Eq)]
 pub struct CvlStatus {
-    /// 0 where all is done, the number of a fault, or 100 where memory ran out.
+    /// 0 if all is done, the number of a fault, or 100 if memory ran out.
     pub number: u32,
     /// The place of the fault, counted from 0, or -1.
     pub place: i64,
@@ -47,7 +47,7 @@ pub fn status_of(refused: Refused) -> CvlStatus
     }
 }
 
-/// What a check gives; where it gives nothing, the export that asks ends here and tells why.
+/// The value of a check; without one, the export ends here and returns why.
 #[macro_export]
 macro_rules! or_tell {
     ($check:expr) => {
@@ -58,7 +58,7 @@ macro_rules! or_tell {
     };
 }
 
-/// Puts items into a room of their length, or tells LengthMismatch, without a place, and leaves the room as it is.
+/// Copies items into a room of their length; or `LengthMismatch`, without a place, and the room stays as it is.
 fn put<T: Copy>(items: &[T], room: &mut [T]) -> Result<(), Fault>
     ensures { MatchResult result (λ _. (length items.now ≡ length room.old) × (room.new ≡ items.now))
         (λ f. (f ≡ fault no.LengthMismatch) × (length items.now ≢ length room.old) × (room.new ≡ room.old)) }
@@ -68,7 +68,7 @@ fn put<T: Copy>(items: &[T], room: &mut [T]) -> Result<(), Fault>
     Ok(())
 }
 
-/// Tells a caller the items of a call, in a room of their length. The room of a call without items is as before.
+/// Copies a call's items into a room of their length, and returns the status. Without items the room is as before.
 pub fn told<T: Copy>(answer: Result<Vec<T, Global>, Refused>, room: &mut [T]) -> CvlStatus
     ensures { (meaning : Result (List T) Fault) → Gives (λ v. v.items) answer meaning
         → ToldOr (in_room (length room.old) meaning) result room.old room.new }
@@ -82,8 +82,8 @@ pub fn told<T: Copy>(answer: Result<Vec<T, Global>, Refused>, room: &mut [T]) ->
     }
 }
 
-/// Puts items at the front of a room, whose rest stays as it is, or tells LengthMismatch, without a place, where the room is too
-/// short, and leaves it as it is.
+/// Copies items to the front of a room, whose rest stays as it is; or `LengthMismatch`, without a place, if the room is too
+/// short, which then stays as it is.
 pub fn put_in_front<T: Copy>(items: &[T], room: &mut [T]) -> Result<(), Fault>
     ensures { MatchResult result (λ _. at_front room.old items.now ≡ Ok room.new)
         (λ f. (at_front room.old items.now ≡ Err f) × (room.new ≡ room.old)) }
@@ -96,9 +96,9 @@ pub fn put_in_front<T: Copy>(items: &[T], room: &mut [T]) -> Result<(), Fault>
     Ok(())
 }
 
-/// Tells a caller the items of a call, who may not know how many they are: at the front of a room, and their number as the
-/// count. Where the room is too short it is as before, and the count is how long it has to be. Where the call has no items the
-/// room and the count are as before.
+/// Copies the items of a call to the front of a room, and their number to the count, for a caller who may not know it; returns
+/// the status. If the room is too short, it is as before, and the count is the length that it needs. Without items both are as
+/// before.
 pub fn told_in_front<T: Copy>(
     answer: Result<Vec<T, Global>, Refused>,
     room: &mut [T],
@@ -119,7 +119,7 @@ pub fn told_in_front<T: Copy>(
     }
 }
 
-/// Tells a caller whether a call wrote over its room.
+/// The status of a call that may write to its room.
 pub fn told_over<T>(answer: Result<(), Fault>) -> CvlStatus
     ensures { (meaning : Result (List T) Fault) (before now : List T) → Overwrites meaning answer before now
         → Told meaning result before now }
@@ -130,7 +130,7 @@ pub fn told_over<T>(answer: Result<(), Fault>) -> CvlStatus
     }
 }
 
-/// Tells a caller whether a call that takes memory wrote over its room.
+/// The status of a call that takes memory and may write to its room.
 pub fn told_over_or<T>(answer: Result<(), Refused>) -> CvlStatus
     ensures { (meaning : Result (List T) Fault) (before now : List T) → OverwritesOr meaning answer before now
         → ToldOr meaning result before now }
@@ -141,7 +141,7 @@ pub fn told_over_or<T>(answer: Result<(), Refused>) -> CvlStatus
     }
 }
 
-/// Tells a caller the one value of a call that takes no memory. The room of a call without a value is as before.
+/// Copies the value of a call that takes no memory, and returns the status. Without a value the room is as before.
 pub fn told_one<T: Copy>(answer: Result<T, Fault>, room: &mut T) -> CvlStatus
     ensures { Told answer result room.old room.new }
 {

@@ -1,4 +1,4 @@
-//! The integers that a text writes, and the texts of integers and booleans.
+//! The integers in a text, and the texts of integers and booleans.
 
 ghost use Rattle.std.specs.Prelude.{Ok};
 ghost use Rattle.cvl_base.specs.Gives.{Gives};

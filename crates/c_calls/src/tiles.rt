@@ -1,4 +1,4 @@
-//! Scans that go on from what stands before: of a vector that several threads of the caller's share, each scans its own tiles.
+//! Scans that continue from what stands before: several threads of the caller's share a vector, and each scans its own tiles.
 
 ghost use Rattle.std.specs.Prelude.{IsTrue, Ok, length};
 ghost use Rattle.std.specs.List.{AllPass};
@@ -14,7 +14,7 @@ use crate::numbers::operator_of;
 use cvl_base::{BoolBinary, Fault, IntMonoid, Monoid, by_bool_binary, by_int_monoid};
 use scan_walks::{know_numbers, scan_over};
 
-/// For each element `before`, joined from left to right with those in front of it.
+/// At each place `before`, joined from left to right with the elements before it.
 fn scan_after<M: Monoid>(before: &M::Item, a: &[M::Item], out: &mut [M::Item]) -> Result<(), Fault>
     requires before { IsTrue (M.is_item before.now) }
     requires items { AllPass M.is_item a.now }
@@ -25,7 +25,7 @@ fn scan_after<M: Monoid>(before: &M::Item, a: &[M::Item], out: &mut [M::Item]) -
     scan_over::<M>(*before, a, out)
 }
 
-/// The same as [`int_scan_from`]. Its contract names the integer itself, where that of a call by value names the number of its
+/// The same as [`int_scan_from`]. Its contract names the integer itself; the contract of a call by value names the number of its
 /// word.
 fn int_scan_after_ref(op: u32, before: &i32, a: &[i32], out: &mut [i32]) -> Result<(), Fault>
     ensures { Overwrites (in_room (length out.old)
@@ -37,7 +37,7 @@ fn int_scan_after_ref(op: u32, before: &i32, a: &[i32], out: &mut [i32]) -> Resu
     by_int_monoid!(op, scan_after::<_>(before, a, out))
 }
 
-/// The scan of integers by the operator of a number, after an integer.
+/// The scan of integers by operator number `op`, after an integer.
 pub fn int_scan_from(op: u32, before: i32, a: &[i32], out: &mut [i32]) -> Result<(), Fault>
     ensures { Overwrites (in_room (length out.old)
         (by_operator (int_monoid op) (λ o. in_limit a.now (Ok (int_scan_after o before a.now))))) result out.old out.new }
@@ -45,7 +45,7 @@ pub fn int_scan_from(op: u32, before: i32, a: &[i32], out: &mut [i32]) -> Result
     int_scan_after_ref(op, &before, a, out)
 }
 
-/// The scan of booleans by the operator of a number, after a boolean.
+/// The scan of booleans by operator number `op`, after a boolean.
 pub fn bool_scan_from(op: u32, before: bool, a: &[bool], out: &mut [bool]) -> Result<(), Fault>
     ensures { Overwrites (in_room (length out.old)
         (by_operator (bool_binary op) (λ o. in_limit a.now (Ok (bool_scan_after o before a.now))))) result out.old out.new }

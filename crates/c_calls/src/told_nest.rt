@@ -11,8 +11,8 @@ use cvl_base::{Fault, FaultNo, Refused};
 use segdes::SegDes;
 use std::alloc::Global;
 
-/// Puts two lists at the fronts of two rooms, whose rests stay as they are, or tells LengthMismatch, without a place, where a
-/// room is too short, and leaves both as they are.
+/// Copies two lists to the fronts of two rooms, whose rests stay as they are; or `LengthMismatch`, without a place, if a room is
+/// too short, and both stay as they are.
 fn put_in_fronts<X: Copy, Y: Copy>(
     xs: &[X],
     ys: &[Y],
@@ -31,9 +31,9 @@ fn put_in_fronts<X: Copy, Y: Copy>(
     put_in_front(ys, second)
 }
 
-/// Tells a caller a vector beside the lengths of its segments, who may not know how many they are: each at the front of its room,
-/// and their numbers as the counts. Where a room is too short both are as before, and the counts are how long they have to be.
-/// Where the call has no vector the rooms and the counts are as before.
+/// Copies a vector and the lengths of its segments to the fronts of two rooms, and their numbers to the counts, for a caller who
+/// may not know them; returns the status. If a room is too short, both are as before, and the counts are the lengths that they
+/// need. Without a vector, rooms and counts are as before.
 pub fn told_nest(
     answer: Result<(Vec<i32, Global>, SegDes<Global>), Refused>,
     out: &mut [i32],
