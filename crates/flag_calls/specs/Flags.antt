@@ -35,7 +35,7 @@ as_flag byte = byte_of (flag_of byte)
 abbrev pub as_bytes : Result (List Bool) Fault → Result (List ℕ) Fault
 as_bytes meaning = meaning >>= λ flags. Ok (map byte_of flags)
 
--- bytes, each 1 where it is true and 0 where it is not
+-- bytes as flags: 1 if true, 0 if not
 abbrev pub made_flags : Result (List ℕ) Fault → Result (List ℕ) Fault
 made_flags meaning = meaning >>= λ bytes. Ok (map as_flag bytes)
 
@@ -43,7 +43,7 @@ made_flags meaning = meaning >>= λ bytes. Ok (map as_flag bytes)
 abbrev pub extract_flag_of : List ℕ → ℤ → Result Bool Fault
 extract_flag_of bytes index = extract_of bytes index >>= λ byte. Ok (flag_of byte)
 
--- at each place the first of two elements where the test on the byte holds, else the second, through an operator
+-- at each place the first of two elements if the byte passes the test, else the second, through an operator
 abbrev pub choose_by : {X : Type 0} → (ℕ → Bool) → (X → X) → List ℕ → List X → List X → Result (List X) Fault
 choose_by test operator bytes xs ys =
     if_as_long bytes xs (if_as_long bytes ys (Ok (map (λ p. operator (chosen (test p.0) p.1)) (zip bytes (zip xs ys)))))

@@ -1,4 +1,4 @@
-//! The operators on booleans, place by place, on flags that come as bytes: over a room, and over a vector that they take.
+//! The operators on booleans, place by place, on flags that come as bytes: into a room, or over one of the vectors.
 
 ghost use Rattle.std.specs.Prelude.{◌≤◌, Ok, length};
 ghost use Rattle.cvl_base.specs.Elementwise.{bools1_of, bools2_of, ints_from_bools, on_pairs};
@@ -14,8 +14,7 @@ use elementwise::{
     on_pairs_over,
 };
 
-/// Writes the operator's values on the pairs of flags, or tells `LengthMismatch` where the vectors and the room aren't equally
-/// long.
+/// Writes the operator's values on the pairs of flags. `LengthMismatch` if the vectors and the room differ in length.
 fn pairs_over<O: Binary<bool, bool>>(a: &[u8], b: &[u8], out: &mut [u8]) -> Result<(), Fault>
     requires { length a.now ≤ most_places }
     ensures { Overwrites (in_room (length out.old) (as_bytes (on_pairs O.value (flags_of a.now) (flags_of b.now))))
@@ -38,15 +37,15 @@ fn pairs_in_second<O: Binary<bool, bool>>(a: &[u8], b: &mut [u8]) -> Result<(), 
     on_pairs_in_second::<OnBytes<O>, u8>(a, b)
 }
 
-/// The same of a vector and itself.
+/// The same for a vector and itself.
 fn pairs_in_both<O: Binary<bool, bool>>(a: &mut [u8]) -> Result<(), Fault>
     ensures { Overwrites (as_bytes (on_pairs O.value (flags_of a.old) (flags_of a.old))) result a.old a.new }
 {
     on_pairs_in_both::<OnBytes<O>, u8>(a)
 }
 
-/// The operator on each two flags at the same place: `and_wub` and its like. `LengthMismatch`, without a place, where the vectors
-/// and the room aren't equally long; the room is looked at last.
+/// The operator on each two flags at the same place: `and_wub` and its like. `LengthMismatch`, without a place, if the vectors
+/// and the room differ in length; the room is checked last.
 pub fn bool2_over(op: BoolBinary, a: &[u8], b: &[u8], out: &mut [u8]) -> Result<(), Fault>
     requires { length a.now ≤ most_places }
     ensures { Overwrites (in_room (length out.old) (as_bytes (bools2_of op (flags_of a.now) (flags_of b.now))))
@@ -55,28 +54,28 @@ pub fn bool2_over(op: BoolBinary, a: &[u8], b: &[u8], out: &mut [u8]) -> Result<
     by_bool_binary!(op, pairs_over::<_>(a, b, out))
 }
 
-/// The same as [`bool2_over`], over the first vector.
+/// [`bool2_over`], written over the first vector.
 pub fn bool2_in_first(op: BoolBinary, a: &mut [u8], b: &[u8]) -> Result<(), Fault>
     ensures { Overwrites (as_bytes (bools2_of op (flags_of a.old) (flags_of b.now))) result a.old a.new }
 {
     by_bool_binary!(op, pairs_in_first::<_>(a, b))
 }
 
-/// The same as [`bool2_over`], over the second vector.
+/// [`bool2_over`], written over the second vector.
 pub fn bool2_in_second(op: BoolBinary, a: &[u8], b: &mut [u8]) -> Result<(), Fault>
     ensures { Overwrites (as_bytes (bools2_of op (flags_of a.now) (flags_of b.old))) result b.old b.new }
 {
     by_bool_binary!(op, pairs_in_second::<_>(a, b))
 }
 
-/// The same as [`bool2_over`] of a vector and itself, over the vector.
+/// [`bool2_over`] of a vector and itself, written over the vector.
 pub fn bool2_in_both(op: BoolBinary, a: &mut [u8]) -> Result<(), Fault>
     ensures { Overwrites (as_bytes (bools2_of op (flags_of a.old) (flags_of a.old))) result a.old a.new }
 {
     by_bool_binary!(op, pairs_in_both::<_>(a))
 }
 
-/// The operator on each flag: `not_wub` and `cpy_wub`. `LengthMismatch`, without a place, where the room isn't as long.
+/// The operator on each flag: `not_wub` and `cpy_wub`. `LengthMismatch`, without a place, if the room is not as long.
 pub fn bool1_over(op: Unary, a: &[u8], out: &mut [u8]) -> Result<(), Fault>
     requires { length a.now ≤ most_places }
     ensures { Overwrites (in_room (length out.old) (as_bytes (Ok (bools1_of op (flags_of a.now))))) result out.old out.new }
@@ -87,7 +86,7 @@ pub fn bool1_over(op: Unary, a: &[u8], out: &mut [u8]) -> Result<(), Fault>
     }
 }
 
-/// The same as [`bool1_over`], over the vector. There is no fault.
+/// [`bool1_over`], written over the vector. There is no fault.
 pub fn bool1_in(op: Unary, a: &mut [u8]) -> Result<(), Fault>
     ensures { Overwrites (as_bytes (Ok (bools1_of op (flags_of a.old)))) result a.old a.new }
 {
@@ -98,7 +97,7 @@ pub fn bool1_in(op: Unary, a: &mut [u8]) -> Result<(), Fault>
     Ok(())
 }
 
-/// 1 for each true flag, and 0 for each false one: `int_wub`. `LengthMismatch`, without a place, where the room isn't as long.
+/// 1 for each true flag, and 0 for each false one: `int_wub`. `LengthMismatch`, without a place, if the room is not as long.
 pub fn int_from_bool_over(a: &[u8], out: &mut [i32]) -> Result<(), Fault>
     requires { length a.now ≤ most_places }
     ensures { Overwrites (in_room (length out.old) (Ok (ints_from_bools (flags_of a.now)))) result out.old out.new }

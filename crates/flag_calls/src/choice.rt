@@ -1,4 +1,4 @@
-//! The choice between two vectors by flags that come as bytes: over a room, and over one of the two.
+//! The choice between two vectors by flags that come as bytes: into a room, or over one of the two.
 
 ghost use Rattle.std.specs.Prelude.{◌≡◌, ◌+◌, ◌≤◌, ◌<◌, [], length, map, slice_index_or};
 ghost use Rattle.std.specs.List.{zip};
@@ -14,7 +14,7 @@ use cvl_base::{Fault, Single, check_agree};
 use fresh::{Run, Writer, write_over};
 use std::marker::PhantomData;
 
-/// `a` where the flag is true, else `b`.
+/// `a` if the flag is true, else `b`.
 #[inline]
 fn choose<T: Copy>(flag: bool, a: T, b: T) -> T
     ensures { result ≡ chosen flag (a, b) }
@@ -22,7 +22,7 @@ fn choose<T: Copy>(flag: bool, a: T, b: T) -> T
     if flag { a } else { b }
 }
 
-/// Writes at each place the element of the first vector where the byte is true, else that of the second, through an operator.
+/// Writes at each place the element of the first vector if the byte is true, else that of the second, through an operator.
 #[derive(Drop)]
 struct ChosenByBytes<'a, O, T> {
     bytes: &'a [u8],
@@ -55,7 +55,7 @@ impl<'a, O: Single<T, T>, T: Copy> Writer<T> for ChosenByBytes<'a, O, T> {
     }
 }
 
-/// The choice over a room, whose length is checked last.
+/// The choice into a room, whose length is checked last.
 fn choose_over<O: Single<T, T>, T: Copy>(
     bytes: &[u8],
     a: &[T],
@@ -78,8 +78,7 @@ fn choose_over<O: Single<T, T>, T: Copy>(
     Ok(())
 }
 
-/// The choice over one of the two vectors: at each place its own element where the test on the byte holds, else that of the
-/// others.
+/// The choice over one of the two vectors: at each place its own element if the byte passes the test, else the other vector's.
 fn choose_in<F: Single<u8, bool>, O: Single<T, T>, T: Copy>(
     bytes: &[u8],
     over: &mut [T],
@@ -95,8 +94,8 @@ fn choose_in<F: Single<u8, bool>, O: Single<T, T>, T: Copy>(
     Ok(())
 }
 
-/// At each place the element of `a` where the flag is true, else that of `b`: `sel_wuz` and its like. `LengthMismatch`, without a
-/// place, where the vectors and the room aren't equally long; the room is looked at last.
+/// At each place the element of `a` if the flag is true, else that of `b`: `sel_wuz` and its like. `LengthMismatch`, without a
+/// place, if the vectors and the room differ in length; the room is checked last.
 pub fn select_over<T: Copy>(flags: &[u8], a: &[T], b: &[T], out: &mut [T]) -> Result<(), Fault>
     requires { length flags.now ≤ most_places }
     ensures { Overwrites (in_room (length out.old) (choose_of (flags_of flags.now) a.now b.now)) result out.old out.new }
@@ -104,21 +103,21 @@ pub fn select_over<T: Copy>(flags: &[u8], a: &[T], b: &[T], out: &mut [T]) -> Re
     choose_over::<Same, T>(flags, a, b, out)
 }
 
-/// The same as [`select_over`], over `a`.
+/// [`select_over`], written over `a`.
 pub fn select_in_first<T: Copy>(flags: &[u8], a: &mut [T], b: &[T]) -> Result<(), Fault>
     ensures { Overwrites (choose_of (flags_of flags.now) a.old b.now) result a.old a.new }
 {
     choose_in::<TrueByte, Same, T>(flags, a, b)
 }
 
-/// The same as [`select_over`], over `b`.
+/// [`select_over`], written over `b`.
 pub fn select_in_second<T: Copy>(flags: &[u8], a: &[T], b: &mut [T]) -> Result<(), Fault>
     ensures { Overwrites (choose_of (flags_of flags.now) a.now b.old) result b.old b.new }
 {
     choose_in::<FalseByte, Same, T>(flags, b, a)
 }
 
-/// The same as [`select_over`], between flags: `sel_wub`.
+/// [`select_over`] between flags: `sel_wub`.
 pub fn select_flags_over(flags: &[u8], a: &[u8], b: &[u8], out: &mut [u8]) -> Result<(), Fault>
     requires { length flags.now ≤ most_places }
     ensures { Overwrites (in_room (length out.old) (as_bytes (choose_of (flags_of flags.now) (flags_of a.now) (flags_of b.now))))
@@ -127,14 +126,14 @@ pub fn select_flags_over(flags: &[u8], a: &[u8], b: &[u8], out: &mut [u8]) -> Re
     choose_over::<OnBytes<Same>, u8>(flags, a, b, out)
 }
 
-/// The same as [`select_flags_over`], over `a`.
+/// [`select_flags_over`], written over `a`.
 pub fn select_flags_in_first(flags: &[u8], a: &mut [u8], b: &[u8]) -> Result<(), Fault>
     ensures { Overwrites (as_bytes (choose_of (flags_of flags.now) (flags_of a.old) (flags_of b.now))) result a.old a.new }
 {
     choose_in::<TrueByte, OnBytes<Same>, u8>(flags, a, b)
 }
 
-/// The same as [`select_flags_over`], over `b`.
+/// [`select_flags_over`], written over `b`.
 pub fn select_flags_in_second(flags: &[u8], a: &[u8], b: &mut [u8]) -> Result<(), Fault>
     ensures { Overwrites (as_bytes (choose_of (flags_of flags.now) (flags_of a.now) (flags_of b.old))) result b.old b.new }
 {

@@ -15,14 +15,14 @@ use cvl_base::{Fault, check_agree};
 use fresh::{Run, fill_slice};
 use segdes::SegLengths;
 
-/// The most bytes of a block. So many are counted in a byte.
+/// The most bytes of a block. A byte can count them.
 const BLOCK: usize = 128;
 
-/// Fewer bytes than so many are counted one by one.
+/// Fewer bytes than this are counted one by one.
 const SHORT: usize = 32;
 
 /// How many bytes of a block are true.
-// They are counted in a byte, so that the compiler takes sixteen at a time.
+// A byte counts them, so that the compiler takes sixteen at a time.
 fn true_in_block(block: &[u8]) -> u8
     requires { length block.now ≤ 128 }
     ensures { result ≡ count_by flag_of block.now }
@@ -34,7 +34,7 @@ fn true_in_block(block: &[u8]) -> u8
     count
 }
 
-/// The same of any number of bytes up to 2,147,483,647, one by one.
+/// The same for up to 2,147,483,647 bytes, one by one.
 fn true_one_by_one(bytes: &[u8]) -> u32
     requires { length bytes.now ≤ most_places }
     ensures { result ≡ count_by flag_of bytes.now }
@@ -61,7 +61,7 @@ fn true_count(bytes: &[u8]) -> usize
     count + true_one_by_one(rest) as usize
 }
 
-/// The number of true flags, of which there are at most 2,147,483,647: `cnt_lub`.
+/// The number of true flags, of at most 2,147,483,647 flags: `cnt_lub`.
 pub fn count(flags: &[u8]) -> i32
     requires few { length flags.now ≤ most_places }
     ensures { result ≡ count_in flags.now }
@@ -69,8 +69,8 @@ pub fn count(flags: &[u8]) -> i32
     true_count(flags) as i32
 }
 
-/// Writes how many bytes of each of the segments with these lengths are true, one segment after another. The bytes begin with
-/// those of the segments. The run must have room for as many counts.
+/// Writes how many bytes of each segment are true, one segment after another; `lengths` are the segments', and the bytes begin
+/// with theirs. The run must have room for as many counts.
 fn counts_into(run: Run<i32>, lengths: &[i32], bytes: &[u8]) -> Run<i32>
     requires lengths { AreLengthsWithin most_places lengths.now }
     requires covered { sum (map unsigned_abs lengths.now) ≤ length bytes.now }
@@ -87,8 +87,8 @@ fn counts_into(run: Run<i32>, lengths: &[i32], bytes: &[u8]) -> Run<i32>
     run
 }
 
-/// The number of true flags of each segment, over a room: `cnt_leb`. `LengthMismatch`, without a place, where the segments' total
-/// is not the number of flags, or the room hasn't one place for each segment.
+/// The number of true flags of each segment, into a room: `cnt_leb`. `LengthMismatch`, without a place, if the segments' total is
+/// not the number of flags, or the room hasn't one place for each segment.
 pub fn seg_count_over(flags: &[u8], d: &SegLengths, out: &mut [i32]) -> Result<(), Fault>
     ensures { Overwrites (in_room (length out.old) (counts_of (flags_of flags.now) d.now)) result out.old out.new }
 {

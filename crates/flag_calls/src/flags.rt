@@ -1,4 +1,4 @@
-//! Flags that come as bytes, of which any but 0 is true, as in C, and operators on them.
+//! Flags that come as bytes, any of which but 0 is true, as in C, and operators on them.
 
 ghost use Rattle.std.specs.Prelude.{◌≡◌, map, not};
 ghost use Rattle.std.specs.List.{list_all};
@@ -28,7 +28,7 @@ pub(crate) fn byte_of(flag: bool) -> u8
 }
 
 /// Whether each byte is 0 or 1.
-// It looks at all of them, which takes less time than a branch on each.
+// It looks at all of them, which is faster than a branch on each.
 pub fn are_flags(bytes: &[u8]) -> bool
     ensures { result ≡ list_all is_flag bytes.now }
 {

@@ -1,5 +1,5 @@
-//! The calls on flags that come as bytes, as a caller in C has them: any byte but 0 is true, and what is written is 0 or 1. They
-//! run on the thread that calls, and ask for no memory.
+//! The calls on flags that come as bytes, as a C program has them: any byte but 0 is true, and results are 0 or 1. They run on
+//! the calling thread, and take no memory.
 #![tactic(auto)]
 
 mod bools;

@@ -30,8 +30,8 @@ pub fn bool_reduce(op: BoolBinary, a: &[u8]) -> bool
     by_bool_binary!(op, joined::<_, TrueByte>(a))
 }
 
-/// The flags of each segment joined by the operator, over a room: `and_reb` and its like. `LengthMismatch`, without a place,
-/// where the segments' total is not the number of flags, or the room hasn't one place for each segment.
+/// The flags of each segment joined by the operator, into a room: `and_reb` and its like. `LengthMismatch`, without a place, if
+/// the segments' total is not the number of flags, or the room hasn't one place for each segment.
 pub fn seg_bool_reduce_over(
     op: BoolBinary,
     a: &[u8],

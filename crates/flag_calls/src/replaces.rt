@@ -10,8 +10,8 @@ use cvl_base::{Fault, FaultNo, check_agree, place_among};
 use element_walks::OnEach;
 use fresh::write_over;
 
-/// The flags with another one at the place that an index names, counted from 0, over a room: `rep_vub`. IndexOutOfRange, at 0,
-/// where there is no such place; `LengthMismatch`, without a place, where the room isn't as long.
+/// The flags with another one at the index, a place counted from 0, in a room: `rep_vub`. `IndexOutOfRange`, at 0, if there is no
+/// such place; `LengthMismatch`, without a place, if the room is not as long.
 pub fn replace_over(vector: &[u8], index: i32, value: bool, out: &mut [u8]) -> Result<(), Fault>
     ensures { Overwrites (in_room (length out.old) (as_bytes (replace_of (flags_of vector.now) index value)))
         result out.old out.new }
