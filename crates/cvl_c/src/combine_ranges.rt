@@ -16,8 +16,8 @@ use part_calls::combine_ranges::{
     bool_combine_range_checked, counts_range_checked, int_combine_range_checked,
 };
 
-/// What stands in one range of the room, from place `lowest` on, joined with each integer whose index names a place of it, and
-/// how many do.
+/// Joins what stands in one range of the room, from place `lowest` on, with each integer whose index names a place of it, and
+/// counts these.
 #[unsafe(no_mangle)]
 pub extern "C" fn cvl_proved_combine_permute_int_range(
     op: u32,
@@ -37,7 +37,7 @@ pub extern "C" fn cvl_proved_combine_permute_int_range(
     )
 }
 
-/// The same of booleans.
+/// The same for booleans.
 #[unsafe(no_mangle)]
 pub extern "C" fn cvl_proved_combine_permute_bool_range(
     op: u32,

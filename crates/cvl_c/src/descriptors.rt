@@ -1,4 +1,4 @@
-//! Descriptors, which come as their lengths.
+//! Descriptors, given as lengths.
 
 ghost use Rattle.std.specs.Prelude.{Ok, sum};
 ghost use Rattle.c_calls.specs.Calls.{by_segments};

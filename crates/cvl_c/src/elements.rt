@@ -24,7 +24,7 @@ pub extern "C" fn cvl_proved_count(flags: &[u8], out: &mut i32) -> CvlStatus
     told_one(count(flags), out)
 }
 
-/// The integer at the place that an index names: `ext_vuz`.
+/// The integer at the index: `ext_vuz`.
 #[unsafe(no_mangle)]
 pub extern "C" fn cvl_proved_extract_int(vector: &[i32], index: i32, out: &mut i32) -> CvlStatus
     ensures { Told (extract_of vector.now index) result out.old out.new }
@@ -32,7 +32,7 @@ pub extern "C" fn cvl_proved_extract_int(vector: &[i32], index: i32, out: &mut i
     told_one(extract(vector, index), out)
 }
 
-/// The flag at the place that an index names: `ext_vub`.
+/// The flag at the index: `ext_vub`.
 #[unsafe(no_mangle)]
 pub extern "C" fn cvl_proved_extract_bool(vector: &[u8], index: i32, out: &mut bool) -> CvlStatus
     ensures { Told (extract_flag_of vector.now index) result out.old out.new }
@@ -41,7 +41,7 @@ pub extern "C" fn cvl_proved_extract_bool(vector: &[u8], index: i32, out: &mut b
     done()
 }
 
-/// The integers with another one at the place that an index names: `rep_vuz`.
+/// The integers with another one at the index: `rep_vuz`.
 #[unsafe(no_mangle)]
 pub extern "C" fn cvl_proved_replace_int(
     alloc: Global,
@@ -55,7 +55,7 @@ pub extern "C" fn cvl_proved_replace_int(
     told(replace(alloc, vector, index, value), out)
 }
 
-/// The flags with another one at the place that an index names: `rep_vub`.
+/// The flags with another one at the index: `rep_vub`.
 #[unsafe(no_mangle)]
 pub extern "C" fn cvl_proved_replace_bool(
     vector: &[u8],
@@ -68,7 +68,7 @@ pub extern "C" fn cvl_proved_replace_bool(
     told_over::<u8>(replace_over(vector, index, value, out))
 }
 
-/// So many copies of an integer: `dis_vuz`.
+/// `count` copies of an integer: `dis_vuz`.
 #[unsafe(no_mangle)]
 pub extern "C" fn cvl_proved_distribute_int(value: i32, count: i32, out: &mut [i32]) -> CvlStatus
     ensures { Told (in_room (length out.old) (distribute_within most_places value count)) result out.old out.new }
@@ -76,7 +76,7 @@ pub extern "C" fn cvl_proved_distribute_int(value: i32, count: i32, out: &mut [i
     told_over::<i32>(distribute_over(value, count, out))
 }
 
-/// So many copies of a boolean: `dis_vub`.
+/// `count` copies of a boolean: `dis_vub`.
 #[unsafe(no_mangle)]
 pub extern "C" fn cvl_proved_distribute_bool(value: bool, count: i32, out: &mut [bool]) -> CvlStatus
     ensures { Told (in_room (length out.old) (distribute_within most_places value count)) result out.old out.new }
@@ -84,7 +84,7 @@ pub extern "C" fn cvl_proved_distribute_bool(value: bool, count: i32, out: &mut 
     told_over::<bool>(distribute_over(value, count, out))
 }
 
-/// So many numbers from a first one on in equal steps: `ind_luz`.
+/// `count` numbers from `init` on in steps of `stride`: `ind_luz`.
 #[unsafe(no_mangle)]
 pub extern "C" fn cvl_proved_index(init: i32, stride: i32, count: i32, out: &mut [i32]) -> CvlStatus
     ensures { Told (in_room (length out.old) (index_within most_places init stride count)) result out.old out.new }

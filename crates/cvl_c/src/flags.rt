@@ -1,4 +1,4 @@
-//! Flags that are neither 0 nor 1, for the calls that take only these.
+//! Flags that are neither 0 nor 1, for the calls that take only 0 and 1.
 
 ghost use Rattle.std.specs.Prelude.{◌≡◌, map};
 ghost use Rattle.std.specs.List.{list_all};

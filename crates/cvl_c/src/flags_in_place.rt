@@ -1,4 +1,4 @@
-//! The calls on booleans, and the choices, in place: the result is written over a vector that the call reads.
+//! The calls on booleans, and the choices, in place: the result overwrites a vector that the call reads.
 
 ghost use Rattle.std.specs.Prelude.{Ok};
 ghost use Rattle.cvl_base.specs.Elementwise.{bools1_of, bools2_of, choose_of};

@@ -35,7 +35,7 @@ pub extern "C" fn cvl_proved_permute_bool(
     told_over_or::<bool>(simple(alloc, source, index, out))
 }
 
-/// Each integer whose flag is true at its index: `sel_puz`.
+/// Each integer whose flag is true, at its index: `sel_puz`.
 #[unsafe(no_mangle)]
 pub extern "C" fn cvl_proved_select_permute_int(
     alloc: Global,
@@ -50,7 +50,7 @@ pub extern "C" fn cvl_proved_select_permute_int(
     told_over_or::<i32>(select(alloc, source, index, flags, out))
 }
 
-/// Each boolean whose flag is true at its index: `sel_pub`.
+/// Each boolean whose flag is true, at its index: `sel_pub`.
 #[unsafe(no_mangle)]
 pub extern "C" fn cvl_proved_select_permute_bool(
     alloc: Global,
@@ -65,7 +65,7 @@ pub extern "C" fn cvl_proved_select_permute_bool(
     told_over_or::<bool>(select(alloc, source, index, flags, out))
 }
 
-/// Each integer at its index, and at a place to which none goes its default: `def_puz`.
+/// Each integer at its index, and at a place that gets none its default: `def_puz`.
 #[unsafe(no_mangle)]
 pub extern "C" fn cvl_proved_default_permute_int(
     alloc: Global,
@@ -80,7 +80,7 @@ pub extern "C" fn cvl_proved_default_permute_int(
     told_over_or::<i32>(default_into(alloc, source, index, defaults, out))
 }
 
-/// Each boolean at its index, and at a place to which none goes its default: `def_pub`.
+/// Each boolean at its index, and at a place that gets none its default: `def_pub`.
 #[unsafe(no_mangle)]
 pub extern "C" fn cvl_proved_default_permute_bool(
     alloc: Global,
@@ -95,7 +95,7 @@ pub extern "C" fn cvl_proved_default_permute_bool(
     told_over_or::<bool>(default_into(alloc, source, index, defaults, out))
 }
 
-/// At each place the integer at the place's index: `bck_puz`.
+/// At each place the integer at that place's index: `bck_puz`.
 #[unsafe(no_mangle)]
 pub extern "C" fn cvl_proved_back_permute_int(
     source: &[i32],
@@ -107,7 +107,7 @@ pub extern "C" fn cvl_proved_back_permute_int(
     told_over::<i32>(back(source, index, out))
 }
 
-/// At each place the boolean at the place's index: `bck_pub`.
+/// At each place the boolean at that place's index: `bck_pub`.
 #[unsafe(no_mangle)]
 pub extern "C" fn cvl_proved_back_permute_bool(
     source: &[bool],

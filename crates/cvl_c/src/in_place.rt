@@ -1,4 +1,4 @@
-//! The calls in place: the result is written over a vector that the call reads, and there is no room.
+//! The calls in place: the result overwrites a vector that the call reads, and there is no room.
 
 ghost use Rattle.std.specs.Prelude.{Ok};
 ghost use Rattle.cvl_base.specs.CheckedSums.{checked_scan_of, checked_seg_scan_of};

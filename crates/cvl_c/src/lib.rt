@@ -1,8 +1,8 @@
-//! The calls for C, Rust, Python and others, as a static library: on the caller's own memory, by the thread that calls.
+//! The calls for C, Rust, Python and others, as a static library: on the caller's own memory, on the calling thread.
 //!
-//! Each function checks whatever its caller may get wrong, so that no call with valid pointers and lengths is undefined. No
-//! program sees their names: `bindings/c` calls `cvl_proved_int2` from `cvl_int2`, which the header `include/cvl.h` declares.
-//! What they share stands in `c_calls`.
+//! Each function checks whatever its caller may get wrong, so that no call with valid pointers and lengths is undefined. Its
+//! status is 0, the number of a fault with its place, or 100 if memory ran out. No program sees their names: `bindings/c` calls
+//! `cvl_proved_int2` from `cvl_int2`, which the header `include/cvl.h` declares. What they share is in `c_calls`.
 #![tactic(auto)]
 
 mod byte_widths;

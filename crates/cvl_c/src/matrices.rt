@@ -1,4 +1,4 @@
-//! Transposes of matrices whose rows lie one behind another, and one range of their places.
+//! Transposes of matrices in row order, and one range of their places.
 
 ghost use Rattle.std.specs.Prelude.{length};
 ghost use Rattle.c_calls.specs.Calls.{in_limit};
@@ -12,7 +12,7 @@ use c_calls::status::{CvlStatus, told_over};
 use part_calls::transpose_ranges::transpose_range_checked;
 use transposes::transpose_over;
 
-/// The transpose of a matrix of integers whose rows lie one behind another.
+/// The transpose of a matrix of integers in row order.
 #[unsafe(no_mangle)]
 pub extern "C" fn cvl_proved_transpose_int(
     source: &[i32],
@@ -27,7 +27,7 @@ pub extern "C" fn cvl_proved_transpose_int(
     told_over::<i32>(transpose_over(source, rows, columns, out))
 }
 
-/// The transpose of a matrix of booleans whose rows lie one behind another.
+/// The transpose of a matrix of booleans in row order.
 #[unsafe(no_mangle)]
 pub extern "C" fn cvl_proved_transpose_bool(
     source: &[bool],

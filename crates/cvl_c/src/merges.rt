@@ -10,7 +10,7 @@ use c_calls::or_tell;
 use c_calls::status::{CvlStatus, told_over};
 use flag_merges::{merge_by_flags_over, seg_merge_by_flags_over};
 
-/// The next integer of one vector where the flag is true, and of the other where it is false.
+/// The next integer of one vector if the flag is true, and of the other if it is false.
 #[unsafe(no_mangle)]
 pub extern "C" fn cvl_proved_merge_by_flags_int(
     flags: &[bool],
@@ -25,7 +25,7 @@ pub extern "C" fn cvl_proved_merge_by_flags_int(
     told_over::<i32>(merge_by_flags_over(flags, when_true, when_false, out))
 }
 
-/// The next boolean of one vector where the flag is true, and of the other where it is false.
+/// The next boolean of one vector if the flag is true, and of the other if it is false.
 #[unsafe(no_mangle)]
 pub extern "C" fn cvl_proved_merge_by_flags_bool(
     flags: &[bool],

@@ -1,4 +1,4 @@
-//! Vectors with segments that a nested text writes, and the texts of vectors with segments.
+//! Vectors with segments, read from a nested text, and their texts.
 
 ghost use Rattle.std.specs.Fmt.{signed_decimal};
 ghost use Rattle.call_reader.specs.NestedTexts.{nested_of};

@@ -1,4 +1,4 @@
-//! Packs, of whole vectors and of segments, and how many elements they keep. Segments come as their lengths.
+//! Packs, of whole vectors and of segments, and how many elements they keep. Segments are given as lengths.
 
 ghost use Rattle.std.specs.Prelude.{length};
 ghost use Rattle.cvl_base.specs.Packs.{pack_of};
@@ -36,7 +36,7 @@ pub extern "C" fn cvl_proved_pack_bool(
     told_over::<bool>(pack(values, flags, out, count))
 }
 
-/// The integers of each segment whose flag is true, in order, one segment after another: `pck_lez`.
+/// The integers of each segment whose flag is true, in order, segment by segment: `pck_lez`.
 #[unsafe(no_mangle)]
 pub extern "C" fn cvl_proved_seg_pack_int(
     values: &[i32],
@@ -50,7 +50,7 @@ pub extern "C" fn cvl_proved_seg_pack_int(
     told_over::<i32>(pack_each(values, flags, lengths, out, count))
 }
 
-/// The booleans of each segment whose flag is true, in order, one segment after another: `pck_leb`.
+/// The booleans of each segment whose flag is true, in order, segment by segment: `pck_leb`.
 #[unsafe(no_mangle)]
 pub extern "C" fn cvl_proved_seg_pack_bool(
     values: &[bool],
@@ -64,7 +64,7 @@ pub extern "C" fn cvl_proved_seg_pack_bool(
     told_over::<bool>(pack_each(values, flags, lengths, out, count))
 }
 
-/// The lengths of the segments of what a pack of segments keeps, empty ones included: `pck_fov`.
+/// The lengths of the segments that a pack of segments makes, with the empty ones: `pck_fov`.
 #[unsafe(no_mangle)]
 pub extern "C" fn cvl_proved_packed_lengths(
     flags: &[u8],

@@ -1,4 +1,4 @@
-//! What one part of a call needs where the whole doesn't: sums that go on from what stands before the part, one range of a
+//! What one part of a call needs and the whole doesn't: sums that continue from what stands before the part, one range of a
 //! permute's result, and one piece of a text.
 
 ghost use Rattle.std.specs.Prelude.{ℕ, List, Ok, Result, length};
@@ -17,7 +17,7 @@ use part_calls::permute_ranges::{select_range, simple_range};
 use part_calls::text_pieces::read_piece;
 use std::alloc::Global;
 
-/// Tells a caller whether a range of a permute was written, and the number of its places.
+/// The status of a call that may write a range of a permute, and the number of its places.
 fn told_range<T>(answer: Result<usize, Fault>, written: &mut usize) -> CvlStatus
     ensures { (meaning : Result (List T × List ℕ × ℕ) Fault) (out now : List T) (marks marked : List ℕ)
         → WritesRange meaning answer (out, marks) (now, marked)
@@ -32,7 +32,7 @@ fn told_range<T>(answer: Result<usize, Fault>, written: &mut usize) -> CvlStatus
     }
 }
 
-/// What the integers add up to, in 64 bits, where it always fits: what a part of a checked sum tells to the next.
+/// The sum of the integers, in 64 bits, where it always fits: what one part of a checked sum hands to the next.
 #[unsafe(no_mangle)]
 pub extern "C" fn cvl_proved_exact_sum(a: &[i32], out: &mut i64) -> CvlStatus
     ensures { Told (few_enough (length a.now) (Ok (total_of a.now))) result out.old out.new }
@@ -40,7 +40,7 @@ pub extern "C" fn cvl_proved_exact_sum(a: &[i32], out: &mut i64) -> CvlStatus
     told_one(exact_sum(a), out)
 }
 
-/// For each integer `before` and those before it, added up, which never wraps.
+/// At each place `before` plus the integers before the place, which never wraps.
 #[unsafe(no_mangle)]
 pub extern "C" fn cvl_proved_checked_scan_after(
     before: i64,
@@ -53,7 +53,7 @@ pub extern "C" fn cvl_proved_checked_scan_after(
     told_over::<i32>(checked_scan_from(&before, a, out))
 }
 
-/// The integers that go to one range of a simple permute's result, from place `lowest` on, by a bit for each place of it.
+/// The integers that go to one range of a simple permute's result, from place `lowest` on, with a bit for each place of it.
 #[unsafe(no_mangle)]
 pub extern "C" fn cvl_proved_permute_int_range(
     source: &[i32],
@@ -69,7 +69,7 @@ pub extern "C" fn cvl_proved_permute_int_range(
     told_range::<i32>(simple_range(source, index, lowest, out, marks), written)
 }
 
-/// The same of booleans, whose bytes are moved as they are.
+/// The same for booleans, whose bytes are moved as they are.
 #[unsafe(no_mangle)]
 pub extern "C" fn cvl_proved_permute_bool_range(
     source: &[u8],
@@ -85,7 +85,7 @@ pub extern "C" fn cvl_proved_permute_bool_range(
     told_range::<u8>(simple_range(source, index, lowest, out, marks), written)
 }
 
-/// The integers that go to one range of a select permute's result, from place `lowest` on, by a bit for each place of it.
+/// The integers that go to one range of a select permute's result, from place `lowest` on, with a bit for each place of it.
 #[unsafe(no_mangle)]
 pub extern "C" fn cvl_proved_select_permute_int_range(
     source: &[i32],
@@ -105,7 +105,7 @@ pub extern "C" fn cvl_proved_select_permute_int_range(
     )
 }
 
-/// The same of booleans, whose bytes are moved as they are.
+/// The same for booleans, whose bytes are moved as they are.
 #[unsafe(no_mangle)]
 pub extern "C" fn cvl_proved_select_permute_bool_range(
     source: &[u8],
@@ -125,8 +125,7 @@ pub extern "C" fn cvl_proved_select_permute_bool_range(
     )
 }
 
-/// The integers of a piece of a text, whose fault stands at its place in the whole, where the pieces before it have so many
-/// words.
+/// The integers of a piece of a text, after as many words of the pieces before it; a fault has its place in the whole.
 #[unsafe(no_mangle)]
 pub extern "C" fn cvl_proved_read_ints_after(
     alloc: Global,

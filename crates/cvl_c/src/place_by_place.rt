@@ -1,4 +1,4 @@
-//! The calls that work place by place, on vectors of at most 2,147,483,647 elements.
+//! The elementwise calls, on vectors of at most 2,147,483,647 elements.
 
 ghost use Rattle.std.specs.Prelude.{Ok, length};
 ghost use Rattle.cvl_base.specs.Elementwise.{bools1_of, bools2_of, bools_from_ints, choose_of, compare_of, ints1_of, ints2_of};
@@ -85,7 +85,7 @@ pub extern "C" fn cvl_proved_bool_from_int(a: &[i32], out: &mut [bool]) -> CvlSt
     told_over::<bool>(bool_from_int(a, out))
 }
 
-/// At each place the integer of `a` where the flag is true, else that of `b`: `sel_wuz`.
+/// At each place the integer of `a` if the flag is true, else that of `b`: `sel_wuz`.
 #[unsafe(no_mangle)]
 pub extern "C" fn cvl_proved_select_int(
     flags: &[u8],
@@ -99,7 +99,7 @@ pub extern "C" fn cvl_proved_select_int(
     told_over::<i32>(select_int(flags, a, b, out))
 }
 
-/// At each place the flag of `a` where that of `flags` is true, else that of `b`: `sel_wub`.
+/// At each place the flag of `a` if that of `flags` is true, else that of `b`: `sel_wub`.
 #[unsafe(no_mangle)]
 pub extern "C" fn cvl_proved_select_bool(
     flags: &[u8],

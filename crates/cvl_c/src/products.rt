@@ -1,4 +1,4 @@
-//! Products of sparse matrices with vectors. The rows come as their lengths, or by their offsets.
+//! Products of sparse matrices with vectors. The rows are given as lengths, or by offsets.
 
 ghost use Rattle.std.specs.Prelude.{length};
 ghost use Rattle.c_calls.specs.Products.{checked_product_by_offsets_of, checked_product_of, product_by_offsets_of, product_of};
@@ -8,7 +8,7 @@ use c_calls::products::{checked_product, checked_product_by_offsets, product, pr
 use c_calls::status::{CvlStatus, told};
 use std::alloc::Global;
 
-/// The product of a sparse matrix with the vector `x`, whose sums and products are wrapped to 32 bits.
+/// The product of a sparse matrix with the vector `x`. Sums and products wrap to 32 bits.
 #[unsafe(no_mangle)]
 pub extern "C" fn cvl_proved_sparse_product(
     alloc: Global,
@@ -40,7 +40,7 @@ pub extern "C" fn cvl_proved_checked_sparse_product(
     told(checked_product(alloc, lengths, columns, values, x), out)
 }
 
-/// The product of a sparse matrix whose rows come by their offsets, of which there is one more than rows.
+/// The product of a sparse matrix whose rows are given by offsets, one more than rows.
 #[unsafe(no_mangle)]
 pub extern "C" fn cvl_proved_sparse_product_by_offsets(
     alloc: Global,

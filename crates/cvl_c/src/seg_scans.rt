@@ -1,4 +1,4 @@
-//! Scans and reduces of each segment. Segments come as their lengths.
+//! Scans and reduces of each segment. Segments are given as lengths.
 
 ghost use Rattle.std.specs.Prelude.{length};
 ghost use Rattle.cvl_base.specs.Scans.{bool_join_of, bool_unit_of, int_join_of, int_unit_of};

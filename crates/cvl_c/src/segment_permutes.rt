@@ -1,4 +1,4 @@
-//! Permutes of each segment, by an index of at most 2,147,483,647 elements. Segments come as their lengths.
+//! Permutes of each segment, by an index of at most 2,147,483,647 elements. Segments are given as lengths.
 
 ghost use Rattle.std.specs.Prelude.{length};
 ghost use Rattle.cvl_base.specs.SegmentedCalls.{seg_back_of, seg_default_of, seg_select_of, seg_simple_of};
@@ -45,7 +45,7 @@ pub extern "C" fn cvl_proved_seg_permute_bool(
     told_over_or::<bool>(seg_simple_over(alloc, source, index, &d, out))
 }
 
-/// Each integer whose flag is true at its index in its segment of the result: `sel_pez`.
+/// Each integer whose flag is true, at its index in its segment of the result: `sel_pez`.
 #[unsafe(no_mangle)]
 pub extern "C" fn cvl_proved_seg_select_permute_int(
     alloc: Global,
@@ -63,7 +63,7 @@ pub extern "C" fn cvl_proved_seg_select_permute_int(
     told_over_or::<i32>(seg_select_over(alloc, source, index, flags, &d, out))
 }
 
-/// Each boolean whose flag is true at its index in its segment of the result: `sel_peb`.
+/// Each boolean whose flag is true, at its index in its segment of the result: `sel_peb`.
 #[unsafe(no_mangle)]
 pub extern "C" fn cvl_proved_seg_select_permute_bool(
     alloc: Global,
@@ -81,7 +81,7 @@ pub extern "C" fn cvl_proved_seg_select_permute_bool(
     told_over_or::<bool>(seg_select_over(alloc, source, index, flags, &d, out))
 }
 
-/// Each integer at its index in its segment of the defaults, and at a place to which none goes its default: `def_pez`.
+/// Each integer at its index in its segment of the defaults, and at a place that gets none its default: `def_pez`.
 #[unsafe(no_mangle)]
 pub extern "C" fn cvl_proved_seg_default_permute_int(
     alloc: Global,
@@ -101,7 +101,7 @@ pub extern "C" fn cvl_proved_seg_default_permute_int(
     told_over_or::<i32>(seg_default_into_over(alloc, source, index, defaults, &d, &e, out))
 }
 
-/// Each boolean at its index in its segment of the defaults, and at a place to which none goes its default: `def_peb`.
+/// Each boolean at its index in its segment of the defaults, and at a place that gets none its default: `def_peb`.
 #[unsafe(no_mangle)]
 pub extern "C" fn cvl_proved_seg_default_permute_bool(
     alloc: Global,
@@ -121,7 +121,7 @@ pub extern "C" fn cvl_proved_seg_default_permute_bool(
     told_over_or::<bool>(seg_default_into_over(alloc, source, index, defaults, &d, &e, out))
 }
 
-/// At each place the integer at the place's index in the same segment of the source: `bck_pez`.
+/// At each place the integer at that place's index in the same segment of the source: `bck_pez`.
 #[unsafe(no_mangle)]
 pub extern "C" fn cvl_proved_seg_back_permute_int(
     source: &[i32],
@@ -139,7 +139,7 @@ pub extern "C" fn cvl_proved_seg_back_permute_int(
     told_over::<i32>(seg_back_over(source, index, &d, &e, out))
 }
 
-/// At each place the boolean at the place's index in the same segment of the source: `bck_peb`.
+/// At each place the boolean at that place's index in the same segment of the source: `bck_peb`.
 #[unsafe(no_mangle)]
 pub extern "C" fn cvl_proved_seg_back_permute_bool(
     source: &[bool],

@@ -1,4 +1,4 @@
-//! Single elements of segments, and vectors of given segments. Segments come as their lengths.
+//! Single elements of segments, and vectors of given segments. Segments are given as lengths.
 
 ghost use Rattle.std.specs.Prelude.{length};
 ghost use Rattle.cvl_base.specs.Limits.{most_places};
@@ -14,7 +14,7 @@ use c_calls::status::{CvlStatus, told, told_over};
 use pack_dist::{seg_distribute_over, seg_extract, seg_index_over, seg_replace};
 use std::alloc::Global;
 
-/// For each segment the integer at the place that its index names: `ext_vez`.
+/// The integer at each segment's index: `ext_vez`.
 #[unsafe(no_mangle)]
 pub extern "C" fn cvl_proved_seg_extract_int(
     alloc: Global,
@@ -30,7 +30,7 @@ pub extern "C" fn cvl_proved_seg_extract_int(
     told(seg_extract(alloc, vector, index, &d), out)
 }
 
-/// For each segment the flag at the place that its index names: `ext_veb`.
+/// The flag at each segment's index: `ext_veb`.
 #[unsafe(no_mangle)]
 pub extern "C" fn cvl_proved_seg_extract_bool(
     alloc: Global,
@@ -45,7 +45,7 @@ pub extern "C" fn cvl_proved_seg_extract_bool(
     told(extract_each_flag(alloc, vector, index, lengths), out)
 }
 
-/// The integers with, in each segment, the segment's value at the place that its index names: `rep_vez`.
+/// The integers, with each segment's value at the segment's index: `rep_vez`.
 #[unsafe(no_mangle)]
 pub extern "C" fn cvl_proved_seg_replace_int(
     alloc: Global,
@@ -62,7 +62,7 @@ pub extern "C" fn cvl_proved_seg_replace_int(
     told(seg_replace(alloc, vector, index, values, &d), out)
 }
 
-/// The booleans with, in each segment, the segment's value at the place that its index names: `rep_veb`.
+/// The booleans, with each segment's value at the segment's index: `rep_veb`.
 #[unsafe(no_mangle)]
 pub extern "C" fn cvl_proved_seg_replace_bool(
     alloc: Global,
@@ -79,7 +79,7 @@ pub extern "C" fn cvl_proved_seg_replace_bool(
     told(seg_replace(alloc, vector, index, values, &d), out)
 }
 
-/// For each segment as many copies of its integer as the segment is long: `dis_vez`.
+/// Each segment's integer, copied as often as the segment is long: `dis_vez`.
 #[unsafe(no_mangle)]
 pub extern "C" fn cvl_proved_seg_distribute_int(
     alloc: Global,
@@ -94,7 +94,7 @@ pub extern "C" fn cvl_proved_seg_distribute_int(
     told_over::<i32>(seg_distribute_over(values, &d, out))
 }
 
-/// For each segment as many copies of its boolean as the segment is long: `dis_veb`.
+/// Each segment's boolean, copied as often as the segment is long: `dis_veb`.
 #[unsafe(no_mangle)]
 pub extern "C" fn cvl_proved_seg_distribute_bool(
     alloc: Global,
@@ -109,7 +109,7 @@ pub extern "C" fn cvl_proved_seg_distribute_bool(
     told_over::<bool>(seg_distribute_over(values, &d, out))
 }
 
-/// For each segment the numbers from its init on in steps of its stride: `ind_lez`.
+/// For each segment the numbers from its init on, in steps of its stride: `ind_lez`.
 #[unsafe(no_mangle)]
 pub extern "C" fn cvl_proved_seg_index(
     alloc: Global,

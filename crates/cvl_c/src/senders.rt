@@ -29,7 +29,7 @@ pub extern "C" fn cvl_proved_first_senders(index: &[i32], out: &mut [i32]) -> Cv
     told_over::<i32>(first_senders_over(index, out))
 }
 
-/// The same among the places whose flag is true.
+/// The same for the places whose flag is true.
 #[unsafe(no_mangle)]
 pub extern "C" fn cvl_proved_select_first_senders(
     index: &[i32],
@@ -59,7 +59,7 @@ pub extern "C" fn cvl_proved_seg_first_senders(
     told_over::<i32>(seg_first_senders_over(index, &d, &result_d, out))
 }
 
-/// The same among the places whose flag is true.
+/// The same for the places whose flag is true.
 #[unsafe(no_mangle)]
 pub extern "C" fn cvl_proved_seg_select_first_senders(
     index: &[i32],
@@ -77,7 +77,7 @@ pub extern "C" fn cvl_proved_seg_select_first_senders(
     told_over::<i32>(seg_select_first_senders_over(index, flags, &d, &result_d, out))
 }
 
-/// Tells a caller whether a range of a result was written, and how many indices name a place of it.
+/// The status of a call that may write a range of a result, and how many indices name a place of it.
 pub(crate) fn told_counted<T>(answer: Result<usize, Fault>, named: &mut usize) -> CvlStatus
     ensures { (meaning : Result (List T × ℕ) Fault) (out now : List T) → WritesCounted meaning answer out now
         → Told meaning result (out, named.old) (now, named.new) }
@@ -104,7 +104,7 @@ pub extern "C" fn cvl_proved_first_senders_range(
     told_counted::<i32>(senders_range(index, lowest, out), named)
 }
 
-/// The same among the places whose flag is true.
+/// The same for the places whose flag is true.
 #[unsafe(no_mangle)]
 pub extern "C" fn cvl_proved_select_first_senders_range(
     index: &[i32],

@@ -1,4 +1,4 @@
-//! Slices and segments one behind another, and values of segments that no operator joins.
+//! Slices and segments in order, and values of segments that no operator joins.
 
 ghost use Rattle.std.specs.Prelude.{Ok, length};
 ghost use Rattle.c_calls.specs.Calls.{by_segments, in_limit};
@@ -17,7 +17,7 @@ use flag_calls::flag_of;
 use segment_slices::{append_segments_over, gather_segments_over};
 use segment_values::{first_that, seg_exact_sums_over, seg_first_that_over};
 
-/// The slices of integers that begin at the starts and have the lengths, one behind another.
+/// The slices of integers with these starts and lengths, in order.
 #[unsafe(no_mangle)]
 pub extern "C" fn cvl_proved_gather_segments_int(
     source: &[i32],
@@ -33,7 +33,7 @@ pub extern "C" fn cvl_proved_gather_segments_int(
     told_over::<i32>(gather_segments_over(source, starts, lengths, out))
 }
 
-/// The slices of booleans that begin at the starts and have the lengths, one behind another.
+/// The slices of booleans with these starts and lengths, in order.
 #[unsafe(no_mangle)]
 pub extern "C" fn cvl_proved_gather_segments_bool(
     source: &[bool],
@@ -49,7 +49,7 @@ pub extern "C" fn cvl_proved_gather_segments_bool(
     told_over::<bool>(gather_segments_over(source, starts, lengths, out))
 }
 
-/// The segments of integers, each followed by the segment of other integers that has its number.
+/// The segments of integers, each followed by the segment of other integers with its number.
 #[unsafe(no_mangle)]
 pub extern "C" fn cvl_proved_append_segments_int(
     a: &[i32],
@@ -66,7 +66,7 @@ pub extern "C" fn cvl_proved_append_segments_int(
     told_over::<i32>(append_segments_over(a, &d, b, &other, out))
 }
 
-/// The segments of booleans, each followed by the segment of other booleans that has its number.
+/// The segments of booleans, each followed by the segment of other booleans with its number.
 #[unsafe(no_mangle)]
 pub extern "C" fn cvl_proved_append_segments_bool(
     a: &[bool],

@@ -1,5 +1,5 @@
-//! What one of several threads does of an order or a sort: keys beside their places, a block by a digit, one range of a pass's
-//! result, and places alone. The driver runs them. A step whose operands do not agree reports LengthMismatch, without a place,
+//! What one of several threads does in an order or a sort: keys beside their places, a block by a digit, one range of a pass's
+//! result, and places alone. The driver runs them. A step whose operands do not agree reports `LengthMismatch`, without a place,
 //! and writes nothing.
 
 ghost use Rattle.std.specs.Prelude.{◌≡◌, ◌≢◌, ◌+◌, ◌^◌, ◌≤◌, false, length, map, IsTrue};
@@ -33,7 +33,7 @@ fn told_step(agree: bool) -> CvlStatus
     }
 }
 
-/// Each key of a block beside its place, where the first of them stands at place `first`.
+/// Each key of a block beside its place; the first key stands at place `first`.
 #[unsafe(no_mangle)]
 pub extern "C" fn cvl_proved_placed_from(
     first: usize,
@@ -47,7 +47,7 @@ pub extern "C" fn cvl_proved_placed_from(
     told_step(placed_from(first, keys, placed))
 }
 
-/// A block of keys, which begins at place `first` of all, in the order of the digit of a pass, and where each digit ends.
+/// A block of keys, the first of which stands at place `first`, in the order of a pass's digit, and where each digit ends.
 #[unsafe(no_mangle)]
 pub extern "C" fn cvl_proved_key_block(
     pass: u32,
@@ -64,7 +64,7 @@ pub extern "C" fn cvl_proved_key_block(
     told_step(key_block::<i32>(pass, first, block, room, ends))
 }
 
-/// The same of keys beside their places.
+/// The same for keys beside their places.
 #[unsafe(no_mangle)]
 pub extern "C" fn cvl_proved_placed_block(
     pass: u32,
@@ -82,8 +82,7 @@ pub extern "C" fn cvl_proved_placed_block(
     told_step(key_block::<Placed>(pass, first, block, room, ends))
 }
 
-/// `count` pieces of the blocks, of 2,048 digits each, from the one numbered `from` on: digit by digit, and of each digit block
-/// by block.
+/// `count` pieces of the blocks, of 2,048 digits each, from number `from` on: digit by digit, and block by block within a digit.
 #[unsafe(no_mangle)]
 pub extern "C" fn cvl_proved_gather_keys(
     elements: &[i32],
@@ -101,7 +100,7 @@ pub extern "C" fn cvl_proved_gather_keys(
     told_step(gather_pieces(elements, ends, DIGITS, blocks, from, count, out))
 }
 
-/// The same of keys beside their places.
+/// The same for keys beside their places.
 #[unsafe(no_mangle)]
 pub extern "C" fn cvl_proved_gather_placed(
     elements: &[Placed],

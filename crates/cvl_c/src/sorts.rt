@@ -24,7 +24,7 @@ pub extern "C" fn cvl_proved_order(alloc: Global, keys: &[i32], out: &mut [i32])
     told_over_or::<i32>(order_over(alloc, keys, out))
 }
 
-/// For each place how many keys stand before its key in that order.
+/// At each place how many keys stand before its key in that order.
 #[unsafe(no_mangle)]
 pub extern "C" fn cvl_proved_rank(alloc: Global, keys: &[i32], out: &mut [i32]) -> CvlStatus
     ensures { ToldOr (in_limit keys.now (if_as_long keys.now out.old (Ok (map pos (rank_of keys.now))))) result out.old out.new }
@@ -52,7 +52,7 @@ pub extern "C" fn cvl_proved_sort_in(alloc: Global, keys: &mut [i32]) -> CvlStat
     done()
 }
 
-/// The order of the keys of each segment, whose places count from the start of the segment.
+/// The order of the keys of each segment. Places count from the start of the segment.
 #[unsafe(no_mangle)]
 pub extern "C" fn cvl_proved_seg_order(
     alloc: Global,

@@ -1,4 +1,4 @@
-//! The integers that a text writes, and the texts of integers and booleans.
+//! The integers in a text, and the texts of integers and booleans.
 
 ghost use Rattle.std.specs.Prelude.{Ok};
 ghost use Rattle.std.specs.Fmt.{signed_decimal};
@@ -14,7 +14,7 @@ use call_reader::read_vector_within;
 use cvl_base::limits::MOST_PLACES;
 use std::alloc::Global;
 
-/// The integers that a text writes between white space.
+/// The integers in a text, between white space.
 #[unsafe(no_mangle)]
 pub extern "C" fn cvl_proved_read_ints(
     alloc: Global,

@@ -1,4 +1,4 @@
-//! Scans that go on from what stands before: of a vector that several threads of the caller's share, each scans its own tiles.
+//! Scans that continue from what stands before: several threads of the caller's share a vector, and each scans its own tiles.
 
 ghost use Rattle.std.specs.Prelude.{Ok, length};
 ghost use Rattle.c_calls.specs.Calls.{by_operator, in_limit};
@@ -9,8 +9,8 @@ ghost use Rattle.c_calls.specs.Tiles.{bool_scan_after, int_scan_after};
 use c_calls::status::{CvlStatus, told_over};
 use c_calls::tiles::{bool_scan_from, int_scan_from};
 
-/// For each integer `before`, joined by the operator with those in front of it. So threads scan one vector: each reduces
-/// its tiles, one of them scans the reduces, and each scans its tiles after what stands before them.
+/// For each integer `before`, joined by the operator with those before it. So threads scan one vector: each reduces its tiles,
+/// one of them scans the reduces, and each scans its tiles after what stands before them.
 #[unsafe(no_mangle)]
 pub extern "C" fn cvl_proved_int_scan_after(
     op: u32,
@@ -24,7 +24,7 @@ pub extern "C" fn cvl_proved_int_scan_after(
     told_over::<i32>(int_scan_from(op, before, a, out))
 }
 
-/// For each boolean `before`, joined by the operator with those in front of it.
+/// For each boolean `before`, joined by the operator with those before it.
 #[unsafe(no_mangle)]
 pub extern "C" fn cvl_proved_bool_scan_after(
     op: u32,
