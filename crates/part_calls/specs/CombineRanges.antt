@@ -1,4 +1,4 @@
--- Combining permutes by ranges of their room: who owns a range reads all indices, joins the elements that are sent to it, and counts the
+-- Combining permutes by ranges of their room: a range's owner reads all indices, joins the elements that are sent to it, and counts the
 -- indices that name a place of it.
 -- Source: what the whole joins at each place; the ranges are this library's.
 use Rattle.std.specs.Prelude.{ℕ, ◌+◌, ℤ, List, count_by, length, Result, Ok, Some}
@@ -13,7 +13,7 @@ use Rattle.permute_walks.specs.Senders.{is_between}
 abbrev pub named_between : List ℤ → ℕ → ℕ → ℕ
 named_between index low n = count_by (λ i. is_between low (low + n) (Some i)) index
 
--- what is joined at the places from `low` on, where the room holds what stands there, and how many indices name one of them
+-- what is joined at the places from `low` on, if the room holds what stands there, and how many indices name one of them
 abbrev pub combine_range_of : {X : Type 0} → (X → X → X) → List X → List ℤ → ℕ → List X → Result (List X × ℕ) Fault
 combine_range_of join source index low before =
     few_enough (length index) (few_enough (low + length before)

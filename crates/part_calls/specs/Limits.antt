@@ -7,6 +7,6 @@ use Rattle.cvl_base.specs.Faults.{fault}
 use Rattle.cvl_base.specs.Gives.{fault_if}
 use Rattle.cvl_base.specs.Limits.{most_places}
 
--- the call, where so many are no more than a vector may have elements
+-- the call, if so many are no more than a vector may have elements
 abbrev pub few_enough : {Y : Type 0} → ℕ → Result Y Fault → Result Y Fault
 few_enough count call = fault_if (nat_lt most_places count) (fault no.TooLong) call

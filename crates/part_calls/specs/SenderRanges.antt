@@ -1,5 +1,5 @@
--- First senders by ranges of their result: who owns a range reads all indices, writes the first senders of the range, and counts the
--- indices that name a place of it.
+-- First senders by ranges of their result: a range's owner reads all indices, writes the first senders of the range, and counts the indices
+-- that name a place of it.
 -- Source: the least sender of each place, as in the whole; the ranges are this library's.
 use Rattle.std.specs.Prelude.{ℕ, ◌+◌, ℤ, Bool, List, count_by, length, Option, Result, Ok}
 use Rattle.cvl_base.specs.declared.fault.Fault.{Fault}

@@ -1,5 +1,5 @@
--- Sums of one part of a vector that go on from a carry: the whole number that the elements before the part add up to, which need not
--- fit 32 bits.
+-- Sums of one part of a vector that continue from a carry: the whole number that the elements before the part add up to, which need not fit
+-- 32 bits.
 -- Source: Blelloch, Prefix Sums and Their Applications, 1990, over whole numbers; the fault is this library's profile.
 use Rattle.std.specs.Prelude.{ℤ, ◌+ℤ◌, List, map, Result}
 use Rattle.cvl_base.specs.declared.fault.Fault.{Fault}
@@ -12,6 +12,6 @@ use Rattle.cvl_base.specs.Folds.{scan_of}
 abbrev pub all_fitting : List ℤ → Result (List ℤ) Fault
 all_fitting sums = values_from Overflow 0 (map fitting sums)
 
--- the sums of the carry and of those before each one
+-- the sums of the carry and what stands before each one
 abbrev pub checked_scan_after : ℤ → List ℤ → Result (List ℤ) Fault
 checked_scan_after carry xs = all_fitting (scan_of ◌+ℤ◌ carry xs)

@@ -1,4 +1,4 @@
-//! Sums that never wrap, of one part of a vector: what the part adds up to, in 64 bits, and its scan after what stands before it.
+//! Sums that never wrap, of one part of a vector: its sum in 64 bits, and its scan after the sum of what stands before it.
 
 ghost use Rattle.std.specs.Prelude.{◌≡◌, Ok, length};
 ghost use Rattle.cvl_base.specs.Exact.{total_of};
@@ -11,7 +11,7 @@ use cvl_base::monoids::Add;
 use cvl_base::{Fault, FaultNo};
 use scan_walks::{fitting, fitting_of_scan, know_numbers, scan_over, total};
 
-/// What the integers add up to. It fits 63 bits.
+/// The sum of the integers. It fits 63 bits.
 pub fn exact_sum(a: &[i32]) -> Result<i64, Fault>
     ensures { result ≡ few_enough (length a.now) (Ok (total_of a.now)) }
 {
@@ -19,8 +19,7 @@ pub fn exact_sum(a: &[i32]) -> Result<i64, Fault>
     Ok(total(a))
 }
 
-/// For each integer the number before all of them and those before it, added up: `Overflow` at the first sum that doesn't fit 32
-/// bits.
+/// At each place `before` plus the integers before the place. `Overflow` at the first sum that doesn't fit 32 bits.
 pub fn checked_scan_from(before: &i64, a: &[i32], out: &mut [i32]) -> Result<(), Fault>
     ensures { Overwrites (in_room (length out.old) (few_enough (length a.now) (checked_scan_after before.now a.now)))
         result out.old out.new }
@@ -30,7 +29,7 @@ pub fn checked_scan_from(before: &i64, a: &[i32], out: &mut [i32]) -> Result<(),
     if front < a.len() {
         return Err(Fault::at(FaultNo::Overflow, front as u32));
     }
-    // all results fit, so that the scan that wraps doesn't; where there are none it may start from any number
+    // all results fit, so that the scan that wraps doesn't; if there are none it may start from any number
     let start = fitting(before).unwrap_or(0);
     know_numbers(&[start]);
     know_numbers(a);

@@ -1,4 +1,4 @@
-//! What one part of a call does where the whole needs no more than one call: sums that go on from what stands before the part,
+//! What one part of a call does, if the whole needs no more than one call: sums that continue from what stands before the part,
 //! one range of the result of a permute, of first senders, of a combining permute or of a transpose, and one piece of a text. The
 //! laws of `call_laws` say how the parts make the whole.
 #![tactic(auto)]

@@ -8,7 +8,7 @@ ghost use Rattle.cvl_base.specs.Limits.{most_places};
 use cvl_base::limits::MOST_PLACES;
 use cvl_base::{Fault, FaultNo};
 
-/// Checks that there are at most 2,147,483,647, else TooLong, without a place.
+/// Checks that there are at most 2,147,483,647, else `TooLong`, without a place.
 pub(crate) fn check_few(count: usize) -> Result<(), Fault>
     ensures { MatchResult result (λ _. count ≤ most_places) (λ f. (f ≡ fault no.TooLong) × (most_places < count)) }
 {
@@ -18,7 +18,7 @@ pub(crate) fn check_few(count: usize) -> Result<(), Fault>
     Ok(())
 }
 
-/// Checks that so many places from place `lowest` on are among the first 2,147,483,647, else TooLong, without a place.
+/// Checks that `count` places from `lowest` on are among the first 2,147,483,647, else `TooLong`, without a place.
 pub(crate) fn check_end(lowest: usize, count: usize) -> Result<(), Fault>
     ensures { MatchResult result (λ _. lowest + count ≤ most_places)
         (λ f. (f ≡ fault no.TooLong) × (most_places < lowest + count)) }

@@ -1,8 +1,8 @@
-//! Permutes by ranges of their result, each written by a caller of its own, who reads all indices. Where the counts of all ranges
-//! add up to as many as take part, no place is bad, and the ranges, one after another, are the permute. Else the permute has a
-//! fault, which the plain call tells.
+//! Permutes by ranges of their result. Each range has its own caller, who reads all indices. If the counts of all ranges add up
+//! to the number of places that take part, no place is bad, and the ranges in order are the permute. Otherwise the permute has a
+//! fault, which the plain call reports.
 //!
-//! A default permute's range is that of a simple permute, over a room that holds the defaults.
+//! A default permute's range is a simple permute's, over a room that holds the defaults.
 
 ghost use Rattle.std.specs.Prelude.{◌≡◌, ◌+◌, ◌≤◌, length};
 ghost use Rattle.cvl_base.specs.Limits.{most_places};
@@ -16,7 +16,7 @@ use permute_walks::{
     AllDestinations, Destinations, FlaggedDestinations, count_marks, words_for, write_range,
 };
 
-/// Writes and marks the places of one range, whatever its marks hold before, and tells how many are marked.
+/// Writes and marks the places of one range, whatever its marks hold before, and returns how many are marked.
 fn write_counted<T: Copy, D: Destinations>(
     source: &[T],
     destinations: &D,
@@ -38,12 +38,12 @@ fn write_counted<T: Copy, D: Destinations>(
 }
 
 /// One range of a simple permute, from place `lowest` of the result on: writes each element that goes to a place of it, marks
-/// these places, and tells how many they are. The room has the range's length, and the marks have a bit for each place of it, 32
-/// in a word, the lowest first; it does not matter what they hold before, and the bits behind the last place become 0.
+/// these places, and returns their number. The room has the range's length, and the marks have a bit for each place of it, 32 in
+/// a word, the lowest first. The marks may hold anything before; the bits after the last place become 0.
 ///
-/// TooLong, without a place, where there are more than 2,147,483,647 indices or the range ends behind as many places;
-/// LengthMismatch, without a place, where source and index differ in length, or there are not just as many words of marks as the
-/// room's places take.
+/// `TooLong`, without a place, if there are more than 2,147,483,647 indices or the range ends beyond that many places;
+/// `LengthMismatch`, without a place, if source and index differ in length, or the marks do not have exactly the words that the
+/// room's places need.
 pub fn simple_range<T: Copy>(
     source: &[T],
     index: &[i32],
@@ -61,7 +61,7 @@ pub fn simple_range<T: Copy>(
     Ok(write_counted(source, &AllDestinations { index }, lowest, out, marks))
 }
 
-/// One range of a select permute, the same way: the elements alone whose flag is true go anywhere. LengthMismatch too where index
+/// One range of a select permute, in the same way: only elements whose flag is true go anywhere. `LengthMismatch` also if index
 /// and flags differ in length.
 pub fn select_range<T: Copy>(
     source: &[T],

@@ -1,6 +1,6 @@
-//! First senders by ranges of their result, each written by a caller of its own, who reads all indices. Where the counts of all
-//! ranges add up to as many places as take part, no index is out of range, and the ranges, one after another, are the first
-//! senders. Else an index is out of range, which the plain call tells.
+//! First senders by ranges of their result. Each range has its own caller, who reads all indices. If the counts of all ranges add
+//! up to the number of places that take part, no index is out of range, and the ranges in order are the first senders. Otherwise
+//! an index is out of range, which the plain call reports.
 
 ghost use Rattle.std.specs.Prelude.{◌≡◌, ◌+◌, ◌≤◌, count_by, length};
 ghost use Rattle.cvl_base.specs.Limits.{most_places};
@@ -14,7 +14,7 @@ use cvl_base::{Fault, check_agree};
 use first_senders::write_first;
 use permute_walks::{AllDestinations, Destinations, FlaggedDestinations};
 
-/// Writes the first senders of one range, and tells how many places that take part name one of it.
+/// Writes the first senders of one range, and returns how many places that take part name one of it.
 fn write_counted<D: Destinations + Copy>(destinations: &D, lowest: usize, out: &mut [i32]) -> usize
     requires few { length (D.destinations destinations.now) ≤ most_places }
     requires within { lowest + length out.old ≤ most_places }
@@ -25,9 +25,9 @@ fn write_counted<D: Destinations + Copy>(destinations: &D, lowest: usize, out: &
 }
 
 /// One range of the first senders of an index, from place `lowest` of the result on: writes for each place of it the least place
-/// whose index names it, or -1, and tells how many indices name a place of the range. The room has the range's length.
+/// whose index names it, or -1; returns how many indices name a place of it. The room has the range's length.
 ///
-/// TooLong, without a place, where there are more than 2,147,483,647 indices or the range ends behind as many places.
+/// `TooLong`, without a place, if there are more than 2,147,483,647 indices or the range ends beyond that many places.
 pub fn senders_range(index: &[i32], lowest: usize, out: &mut [i32]) -> Result<usize, Fault>
     ensures { WritesCounted (senders_range_of index.now lowest (length out.old)) result out.old out.new }
 {
@@ -36,7 +36,7 @@ pub fn senders_range(index: &[i32], lowest: usize, out: &mut [i32]) -> Result<us
     Ok(write_counted(&AllDestinations { index }, lowest, out))
 }
 
-/// The same among the places whose flag is true. LengthMismatch, without a place, where index and flags differ in length.
+/// The same for the places whose flag is true. `LengthMismatch`, without a place, if index and flags differ in length.
 pub fn select_senders_range(
     index: &[i32],
     flags: &[bool],

@@ -22,11 +22,11 @@ fn moved(fault: Fault, before: usize) -> Fault
     }
 }
 
-/// The integers that a piece of a text writes between white space, where the pieces before it have so many words.
+/// The integers in a piece of a text, between white space; `before` is the number of words before the piece.
 ///
-/// TooLong, without a place, where these are more than 2,147,483,647, or the words of the piece are; else BadInput at the
-/// first word of the piece that is no integer of 32 bits, counted from the whole text's first word on. That all pieces
-/// together have no more words than a vector may have elements is the caller's to see.
+/// `TooLong`, without a place, if `before` is more than 2,147,483,647, or the piece has more words; else `BadInput` at the first
+/// word of the piece that is no integer of 32 bits, counted from the whole text's first word. You must check that all pieces
+/// together have no more words than a vector may have elements.
 pub fn read_piece<A: Memory>(alloc: A, before: usize, text: &[u8]) -> Result<Vec<i32, A>, Refused>
     ensures { Gives (λ v. v.items) result (piece_of before text.now) }
 {

@@ -1,5 +1,5 @@
-//! Transposes by ranges of their places, each written by a caller of its own, who reads the whole matrix. The ranges, one after
-//! another, are the transpose.
+//! Transposes by ranges of their places. Each range has its own caller, who reads the whole matrix. The ranges in order are the
+//! transpose.
 
 ghost use Rattle.std.specs.Prelude.{length};
 ghost use Rattle.cvl_base.specs.Rooms.{Overwrites};
@@ -11,9 +11,9 @@ use transposes::transpose_range_over;
 
 /// One range of a transpose: its places from place `lowest` on, as many as the room has.
 ///
-/// The matrix has `rows` rows of `columns` elements each. TooLong, without a place, where there are more than 2,147,483,647
-/// elements or the range ends behind as many places; LengthMismatch, without a place, where rows times columns is not the length
-/// of the source, or the range ends behind the last place. At a fault the room is as it was.
+/// The matrix has `rows` rows of `columns` elements each. `TooLong`, without a place, if there are more than 2,147,483,647
+/// elements or the range ends beyond that many places; `LengthMismatch`, without a place, if rows times columns is not the length
+/// of the source, or the range ends beyond the last place. After a fault the room is as before.
 pub fn transpose_range_checked<T: Copy>(
     source: &[T],
     rows: usize,
