@@ -10,8 +10,8 @@ use Rattle.tile_plan.specs.Ranges.{tile_count}
 abbrev pub kept_of : {X : Type 0} → List X → List Bool → List X
 kept_of xs flags = map (λ p. p.0) (filter (λ p. p.1) (zip xs flags))
 
--- the number of true flags before tile t, which is the place of the first element that is kept of the tile, and of all flags where
--- there is no such tile
+-- the number of true flags before tile t, which is the place of the first element kept of the tile; that of all flags if there is no such
+-- tile
 abbrev pub count_before : List Bool → ℕ → ℕ → ℕ
 count_before flags tile t = count_of (take (t * tile) flags)
 
@@ -19,7 +19,7 @@ count_before flags tile t = count_of (take (t * tile) flags)
 abbrev pub counts_before : List Bool → ℕ → List ℤ
 counts_before flags tile = map (λ t. pos (count_before flags tile t)) (range_with_len 0 (tile_count (length flags) tile))
 
--- the `room` places from `first` on hold what is kept of the tiles from one on up to the one before another
+-- the `room` places from `first` on hold what is kept of the tiles from one up to another, without that
 pub record ArePlacesOf {X : Type 0} (xs : List X) (flags : List Bool) (tile from to first room : ℕ) : Type 0 where
   pub begin : first ≡ count_before flags tile from
   pub end : first + room ≡ count_before flags tile to

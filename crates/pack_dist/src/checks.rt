@@ -1,4 +1,4 @@
-//! The length that a count asks for, and the place that the index of a segment names.
+//! The length that a count asks for, and the place that a segment's index names.
 
 ghost use Rattle.std.specs.Prelude.{◌≡◌, ℕ, ◌+◌, ◌<◌, ◌≤◌, pos, IfOk, MatchResult};
 ghost use Rattle.cvl_base.specs.Distributes.{length_within};
@@ -8,7 +8,7 @@ ghost use Rattle.cvl_base.specs.declared.fault.FaultNo.TheVariants as no;
 
 use cvl_base::{Fault, FaultNo, place_among};
 
-/// The length that a count asks for: NegativeLength where it is negative, TooLong where it is above `most`.
+/// The length that a count asks for: `NegativeLength` if it is negative, `TooLong` if it is above `most`.
 pub(crate) fn length_for(count: &i32, most: usize) -> Result<usize, Fault>
     ensures value { result ≡ length_within most count.now }
     ensures in_limit { IfOk result (λ length. length ≤ most) }
@@ -23,8 +23,8 @@ pub(crate) fn length_for(count: &i32, most: usize) -> Result<usize, Fault>
     Ok(length)
 }
 
-/// The place in the vector that the index of segment `s` names, where the segment has `length` elements from `start` on:
-/// IndexOutOfRange at the number of the segment where it has no such place.
+/// The place in the vector that the index of segment `s` names, if the segment has `length` elements from `start` on;
+/// `IndexOutOfRange` at the segment's number if it has no such place.
 pub(crate) fn place_in_segment(
     s: usize,
     start: usize,

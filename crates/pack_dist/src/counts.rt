@@ -19,7 +19,7 @@ use sharing::Pace;
 use std::thread::Threads;
 use tile_scans::{befores_of_readings, seg_reduce_readings_gated};
 
-/// A flag is read as 1 where it is true, and as 0 where it is false, so that the sum of flags is their count.
+/// Reads a true flag as 1 and a false one as 0, so that the sum of flags is their count.
 struct Ones;
 
 impl Reading<bool, i32> for Ones {
@@ -56,10 +56,10 @@ pub(crate) fn counts_before<R: Threads + Sync, A: Memory, G: Gate>(
     befores_of_readings::<R, A, Add, bool, Ones, G>(rt, alloc, pace, flags, gate)
 }
 
-/// The number of true flags of each segment, which is the length of what a segmented pack keeps of it: `cnt_leb`.
+/// The number of true flags of each segment, which is how much a segmented pack keeps of it: `cnt_leb`.
 ///
-/// The result has one number for each segment, empty ones included, and can be made a descriptor. LengthMismatch,
-/// without a place, where the segments' total is not the number of flags. Source: CVL's segmented count.
+/// The result has one number for each segment, even if empty, and you can make it a descriptor. `LengthMismatch`, without a
+/// place, if the segments' total is not the number of flags. Source: CVL's segmented count.
 pub fn seg_count<R: Threads + Sync, A: Memory>(
     rt: &R,
     alloc: A,
@@ -77,7 +77,7 @@ pub fn seg_count<R: Threads + Sync, A: Memory>(
     seg_count_gated(rt, alloc, config, flags, d, &OpenGate)
 }
 
-/// The same as [`seg_count`], by workers that pass a gate at each point of their way through a tile.
+/// [`seg_count`], by workers that pass a gate at each point of their way through a tile.
 pub fn seg_count_gated<R: Threads + Sync, A: Memory, G: Gate>(
     rt: &R,
     alloc: A,

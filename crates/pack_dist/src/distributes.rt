@@ -21,8 +21,8 @@ use std::thread::Threads;
 
 /// `count` copies of one value: `dis_vuz` and its like.
 ///
-/// The faults have no place: NegativeLength where the count is negative, and TooLong where it is above 4,194,304. Both
-/// come before any memory is asked for. Source: CVL's distribute.
+/// The faults have no place: `NegativeLength` if the count is negative, and `TooLong` if it is above 4,194,304. Both come before
+/// any memory is asked for. Source: CVL's distribute.
 pub fn distribute<T: Copy + Send + Sync, R: Threads + Sync, A: Memory>(
     rt: &R,
     alloc: A,
@@ -41,8 +41,8 @@ pub fn distribute<T: Copy + Send + Sync, R: Threads + Sync, A: Memory>(
     Ok(write_vector(rt, alloc, config, &copies, length, length)?)
 }
 
-/// The same as [`distribute`], over a room of the caller's, by the thread that calls: LengthMismatch, without a place, where the
-/// room isn't as long as the count says, which is checked last. It makes up to 2,147,483,647 copies, and asks for no memory.
+/// [`distribute`] into the caller's room, on the calling thread: `LengthMismatch`, without a place, if the room is not as long as
+/// the count says, which is checked last. It makes up to 2,147,483,647 copies, and takes no memory.
 pub fn distribute_over<T: Copy>(value: T, count: i32, out: &mut [T]) -> Result<(), Fault>
     ensures { Overwrites (in_room (length out.old) (distribute_within most_places value count)) result out.old out.new }
 {
@@ -57,8 +57,8 @@ pub fn distribute_over<T: Copy>(value: T, count: i32, out: &mut [T]) -> Result<(
 /// For each segment as many copies of its value as the segment is long, one segment after another: `dis_vez` and
 /// its like.
 ///
-/// There is one value for each segment, else LengthMismatch, without a place. The result is as long as the segments are
-/// in all, at most 4,194,304 elements. Source: CVL's segmented distribute.
+/// There is one value for each segment, else `LengthMismatch`, without a place. The result is as long as the segments together,
+/// at most 4,194,304 elements. Source: CVL's segmented distribute.
 pub fn seg_distribute<T: Copy + Send + Sync, R: Threads + Sync, A: Memory>(
     rt: &R,
     alloc: A,
@@ -74,9 +74,8 @@ pub fn seg_distribute<T: Copy + Send + Sync, R: Threads + Sync, A: Memory>(
     Ok(write_vector(rt, alloc, config, &copies, total, total)?)
 }
 
-/// The same as [`seg_distribute`], over a room of the caller's, by the thread that calls: LengthMismatch, without a place, where
-/// the room isn't as long as the segments are in all, which is checked last. They have up to 2,147,483,647 elements. It asks for
-/// no memory.
+/// [`seg_distribute`] into the caller's room, on the calling thread: `LengthMismatch`, without a place, if the room is not as
+/// long as the segments together, at most 2,147,483,647 elements, which is checked last. It takes no memory.
 pub fn seg_distribute_over<T: Copy, A: Allocator>(
     values: &[T],
     d: &SegDes<A>,
@@ -90,8 +89,8 @@ pub fn seg_distribute_over<T: Copy, A: Allocator>(
     write_room(&copies, total, out)
 }
 
-/// The copies of the segments' values and how many they are: LengthMismatch, without a place, where there isn't one value for
-/// each segment. The segments have at most `most` elements in all.
+/// The copies of the segments' values and their number: `LengthMismatch`, without a place, if there isn't one value for each
+/// segment. The segments have at most `most` elements together.
 fn segment_copies<'a, T: Copy, A: Allocator>(
     values: &'a [T],
     d: &'a SegDes<A>,

@@ -9,10 +9,9 @@ use crate::checks::place_in_segment;
 use cvl_base::{Fault, FaultNo, Memory, Refused, check_agree, place_among};
 use segdes::SegLengths;
 
-/// The element at the place that an index names, counted from 0: `ext_vuz` and its like.
+/// The element at the index, a place counted from 0: `ext_vuz` and its like.
 ///
-/// IndexOutOfRange, at 0, where the vector has no such place; a negative index is not counted from the end. Source: CVL's
-/// extract.
+/// `IndexOutOfRange`, at 0, if the vector has no such place; a negative index does not count from the end. Source: CVL's extract.
 pub fn extract<T: Copy>(vector: &[T], index: i32) -> Result<T, Fault>
     ensures { result ≡ extract_of vector.now index }
 {
@@ -22,12 +21,11 @@ pub fn extract<T: Copy>(vector: &[T], index: i32) -> Result<T, Fault>
     Ok(vector[place])
 }
 
-/// For each segment the element at the place that its index names, counted from the segment's start:
-/// `ext_vez` and its like.
+/// The element at each segment's index, counted from the segment's start: `ext_vez` and its like.
 ///
-/// The segments' total is the number of elements, and there is one index for each segment, else LengthMismatch, without a
-/// place. The result has one element for each segment. IndexOutOfRange at the number of the first segment that has no
-/// such place, as no empty segment has. Source: CVL's segmented extract.
+/// The segments' total is the number of elements, and there is one index for each segment, else `LengthMismatch`, without a
+/// place. The result has one element for each segment. `IndexOutOfRange` at the number of the first segment without such a place;
+/// empty ones have none. Source: CVL's segmented extract.
 pub fn seg_extract<T: Copy, A: Memory>(
     alloc: A,
     vector: &[T],

@@ -23,8 +23,8 @@ use std::thread::Threads;
 
 /// The numbers `init`, `init + stride`, `init + 2 * stride` and so on, `count` of them, each wrapped to 32 bits: `ind_luz`.
 ///
-/// The faults have no place: NegativeLength where the count is negative, and TooLong where it is above 4,194,304. Both
-/// come before any memory is asked for. Source: CVL's index.
+/// The faults have no place: `NegativeLength` if the count is negative, and `TooLong` if it is above 4,194,304. Both come before
+/// any memory is asked for. Source: CVL's index.
 pub fn index<R: Threads + Sync, A: Memory>(
     rt: &R,
     alloc: A,
@@ -45,8 +45,8 @@ pub fn index<R: Threads + Sync, A: Memory>(
     Ok(write_vector(rt, alloc, config, &numbers, length, length)?)
 }
 
-/// The same as [`index`], over a room of the caller's, by the thread that calls: LengthMismatch, without a place, where the room
-/// isn't as long as the count says, which is checked last. It makes up to 2,147,483,647 numbers, and asks for no memory.
+/// [`index`] into the caller's room, on the calling thread: `LengthMismatch`, without a place, if the room is not as long as the
+/// count says, which is checked last. It makes up to 2,147,483,647 numbers, and takes no memory.
 pub fn index_over(init: i32, stride: i32, count: i32, out: &mut [i32]) -> Result<(), Fault>
     ensures { Overwrites (in_room (length out.old) (index_within most_places init stride count)) result out.old out.new }
 {
@@ -62,8 +62,8 @@ pub fn index_over(init: i32, stride: i32, count: i32, out: &mut [i32]) -> Result
 /// For each segment the numbers from its `init` on in steps of its `stride`, each wrapped to 32 bits, one segment after
 /// another: `ind_lez`.
 ///
-/// There is one init and one stride for each segment, else LengthMismatch, without a place. The result is as long as the
-/// segments are in all, at most 4,194,304 numbers. Source: CVL's segmented index.
+/// There is one init and one stride for each segment, else `LengthMismatch`, without a place. The result is as long as the
+/// segments together, at most 4,194,304 numbers. Source: CVL's segmented index.
 pub fn seg_index<R: Threads + Sync, A: Memory>(
     rt: &R,
     alloc: A,
@@ -80,9 +80,8 @@ pub fn seg_index<R: Threads + Sync, A: Memory>(
     Ok(write_vector(rt, alloc, config, &numbers, total, total)?)
 }
 
-/// The same as [`seg_index`], over a room of the caller's, by the thread that calls: LengthMismatch, without a place, where the
-/// room isn't as long as the segments are in all, which is checked last. They have up to 2,147,483,647 places. It asks for no
-/// memory.
+/// [`seg_index`] into the caller's room, on the calling thread: `LengthMismatch`, without a place, if the room is not as long as
+/// the segments together, at most 2,147,483,647 places, which is checked last. It takes no memory.
 pub fn seg_index_over<A: Allocator>(
     inits: &[i32],
     strides: &[i32],
@@ -98,8 +97,8 @@ pub fn seg_index_over<A: Allocator>(
     write_room(&numbers, total, out)
 }
 
-/// The numbers of the segments and how many they are: LengthMismatch, without a place, where there aren't one init and one stride
-/// for each segment. The segments have at most `most` elements in all.
+/// The numbers of the segments and how many they are: `LengthMismatch`, without a place, if there aren't one init and one stride
+/// for each segment. The segments have at most `most` elements together.
 fn segment_progressions<'a, A: Allocator>(
     inits: &'a [i32],
     strides: &'a [i32],
@@ -125,7 +124,7 @@ fn segment_progressions<'a, A: Allocator>(
     Ok((numbers, total))
 }
 
-/// So many numbers in equal steps.
+/// `count` numbers in equal steps.
 #[derive(Drop)]
 struct Progression {
     init: i32,

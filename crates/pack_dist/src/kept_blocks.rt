@@ -12,9 +12,9 @@ const BLOCK: usize = 256;
 
 /// Pushes the elements whose flag is true.
 ///
-/// A processor can't foretell flags, and loses more time where it guessed wrongly than the copy of some elements takes. So
-/// no branch hangs on a flag: what a block keeps is put into a buffer first, and then pushed. Each element is put after the
-/// kept ones before it, where the next one is put over it if it isn't kept.
+/// A processor can't predict flags, and loses more time on a wrong guess than the copy of some elements takes. So no branch
+/// depends on a flag: what a block keeps goes into a buffer first, and is then pushed. Each element is put after the kept ones
+/// before it; if it isn't kept, the next one overwrites it.
 pub(crate) fn push_kept<T: Copy>(mut run: Run<T>, values: &[T], flags: &[bool]) -> Run<T>
     requires as_long { length values.now ≡ length flags.now }
     requires room { count_of flags.now ≤ run.room }

@@ -1,4 +1,4 @@
-//! What a pack keeps, written tile by tile, by threads that each have some neighbouring tiles.
+//! What a pack keeps, written tile by tile, by threads that each have neighbouring tiles.
 
 ghost use Rattle.std.specs.Prelude.{◌≡◌, ◌*◌, ◌<◌, ◌≤◌, ◌+◌, [], IfOk, length, min, take, vec_len};
 ghost use Rattle.cvl_base.specs.Limits.{longest_tile, most_elements};
@@ -14,7 +14,7 @@ use fresh::{Run, Share, write_in_parts};
 use sharing::{ThreadCount, share_of_first};
 use std::thread::Threads;
 
-/// The elements of a pack and their flags in tiles, of which it is known how many flags are true before each.
+/// The elements of a pack and their flags in tiles, with the number of true flags before each.
 #[derive(Drop)]
 pub(crate) struct Kept<'a, T: Copy> {
     pub(crate) values: &'a [T],
@@ -29,14 +29,14 @@ pub(crate) struct Kept<'a, T: Copy> {
 }
 
 impl<'a, T: Copy> Kept<'a, T> {
-    /// How many tiles there are.
+    /// The number of tiles.
     fn tiles(&self) -> usize
         ensures { result ≡ tile_count (length self.now.flags.now) self.now.tile }
     {
         self.before.len()
     }
 
-    /// The first place of tile `t`, or the number of elements where there are as many tiles before it as there are.
+    /// The first place of tile `t`, or the number of elements if `t` is the number of tiles.
     fn start(&self, t: usize) -> usize
         requires { t ≤ tile_count (length self.now.flags.now) self.now.tile }
         ensures { result ≡ min (t * self.now.tile) (length self.now.flags.now) }
@@ -53,7 +53,7 @@ impl<'a, T: Copy> Kept<'a, T> {
         self.before[t] as usize
     }
 
-    /// How many flags are true, of which there is at least one: those before the last tile, and its own.
+    /// How many flags are true, at least one: those before the last tile, and its own.
     fn count(&self) -> usize
         requires { 0 < length self.now.flags.now }
         ensures { result ≡ count_of self.now.flags.now }
@@ -64,7 +64,7 @@ impl<'a, T: Copy> Kept<'a, T> {
     }
 }
 
-/// What a pack keeps of the tiles from one on up to the one before another, in as many parts as there are threads.
+/// What a pack keeps of the tiles from one up to another, without that, in a part for each thread.
 #[derive(Drop)]
 struct KeptTiles<'a, T: Copy> {
     kept: &'a Kept<'a, T>,
@@ -75,8 +75,8 @@ struct KeptTiles<'a, T: Copy> {
     ghost within: { to ≤ tile_count (length kept.now.flags.now) kept.now.tile },
 }
 
-/// What a pack keeps of at least one element, written by at most so many threads. Each has about as many tiles, so that it reads
-/// as many elements as another.
+/// What a pack keeps of at least one element, written by at most `threads` threads. Each has about as many tiles, and so reads as
+/// many elements, as another.
 pub(crate) fn write_kept_tiles<T: Copy + Send + Sync, R: Threads + Sync, A: Memory>(
     rt: &R,
     alloc: A,

@@ -1,7 +1,7 @@
 //! Packs and counts, and the calls that make a vector of a given length or read or change one of its elements.
 //!
 //! Each call that scans or counts flags in a race has a gated form, whose workers pass a gate at each point of their way through
-//! a tile. The call itself is its gated form at the gate that holds nobody.
+//! a tile. The call itself is that form with the gate that holds nobody.
 #![tactic(auto)]
 
 mod checks;

@@ -19,8 +19,8 @@ use tile_scans::scan_pace;
 
 /// The elements whose flag is true, in order: `pck_luz` and `pck_lub`.
 ///
-/// There are at most 2,147,483,647 flags. LengthMismatch, without a place, where there aren't as many flags as elements.
-/// Source: CVL's pack.
+/// There are at most 2,147,483,647 flags. `LengthMismatch`, without a place, if there aren't as many flags as elements. Source:
+/// CVL's pack.
 pub fn pack<T: Copy + Send + Sync, R: Threads + Sync, A: Memory>(
     rt: &R,
     alloc: A,
@@ -35,7 +35,7 @@ pub fn pack<T: Copy + Send + Sync, R: Threads + Sync, A: Memory>(
     pack_gated(rt, alloc, config, values, flags, &OpenGate)
 }
 
-/// The same as [`pack`], by workers that pass a gate at each point of their way through a tile of the flags.
+/// [`pack`], by workers that pass a gate at each point of their way through a tile of the flags.
 pub fn pack_gated<T: Copy + Send + Sync, R: Threads + Sync, A: Memory, G: Gate>(
     rt: &R,
     alloc: A,
@@ -52,10 +52,10 @@ pub fn pack_gated<T: Copy + Send + Sync, R: Threads + Sync, A: Memory, G: Gate>(
     Ok(kept(rt, alloc, config, values, flags, gate)?)
 }
 
-/// The same as [`pack`], at the front of a room of the caller's, by the thread that calls. It asks for no memory.
+/// [`pack`] to the front of the caller's room, on the calling thread. It takes no memory.
 ///
-/// The count becomes the number of true flags, also where the room is too short for as many elements: that is LengthMismatch,
-/// without a place, and the room is as before. Else the rest of the room is as before. At any other fault the count is, too.
+/// The count becomes the number of true flags. If the room is too short for that, the fault is `LengthMismatch`, without a place,
+/// and the room is as before; otherwise the rest of the room is. After any other fault the count is as before, too.
 pub fn pack_over<T: Copy>(
     values: &[T],
     flags: &[bool],
@@ -69,8 +69,8 @@ pub fn pack_over<T: Copy>(
     kept_over(values, flags, out, count)
 }
 
-/// The elements whose flag is true, of as many as there are flags. Where workers race for the tiles of the flags, they tell where
-/// what is kept of each tile is put, and several threads then write it. The workers of that race pass the gate.
+/// The elements whose flag is true, of as many as there are flags. If workers race for the tiles of the flags, they find where
+/// what is kept of each tile goes, and several threads then write it. The workers of that race pass the gate.
 pub(crate) fn kept<T: Copy + Send + Sync, R: Threads + Sync, A: Memory, G: Gate>(
     rt: &R,
     alloc: A,
@@ -97,7 +97,7 @@ pub(crate) fn kept<T: Copy + Send + Sync, R: Threads + Sync, A: Memory, G: Gate>
     write_kept_tiles(rt, alloc, pace.threads_writing(flags.len()), &kept)
 }
 
-/// The same by the thread that calls, which counts what is kept first, and then asks for memory for it alone.
+/// The same on the calling thread, which first counts what is kept, and then asks for memory for only that.
 fn kept_alone<T: Copy, A: Memory>(
     alloc: A,
     values: &[T],
@@ -114,7 +114,7 @@ fn kept_alone<T: Copy, A: Memory>(
 }
 
 /// The elements whose flag is true, of as many as there are flags, at the front of a room, and their number as the count. It
-/// needs no places: the flags are counted, and what is kept is pushed in order.
+/// needs no places: it counts the flags, and pushes what is kept in order.
 pub(crate) fn kept_over<T: Copy>(
     values: &[T],
     flags: &[bool],

@@ -9,10 +9,10 @@ use crate::checks::place_in_segment;
 use cvl_base::{Fault, FaultNo, Memory, Refused, check_agree, place_among};
 use segdes::SegLengths;
 
-/// The vector with `value` at the place that an index names, counted from 0: `rep_vuz` and its like.
+/// The vector with `value` at the index, a place counted from 0: `rep_vuz` and its like.
 ///
-/// The result is as long as the vector. IndexOutOfRange, at 0, where the vector has no such place; a negative index is
-/// not counted from the end. Source: CVL's replace.
+/// The result is as long as the vector. `IndexOutOfRange`, at 0, if the vector has no such place; a negative index does not count
+/// from the end. Source: CVL's replace.
 pub fn replace<T: Copy, A: Memory>(
     alloc: A,
     vector: &[T],
@@ -30,12 +30,11 @@ pub fn replace<T: Copy, A: Memory>(
     Ok(replaced)
 }
 
-/// The vector with, in each segment, the segment's value at the place that its index names, counted from the segment's
-/// start: `rep_vez` and its like.
+/// The vector with each segment's value at the segment's index, counted from the segment's start: `rep_vez` and its like.
 ///
-/// The segments' total is the number of elements, and there are one index and one value for each segment, else
-/// LengthMismatch, without a place. The result is as long as the vector. IndexOutOfRange at the number of the first
-/// segment that has no such place, as no empty segment has. Source: CVL's segmented replace.
+/// The segments' total is the number of elements, and there are one index and one value for each segment, else `LengthMismatch`,
+/// without a place. The result is as long as the vector. `IndexOutOfRange` at the number of the first segment without such a
+/// place; empty ones have none. Source: CVL's segmented replace.
 pub fn seg_replace<T: Copy, A: Memory>(
     alloc: A,
     vector: &[T],

@@ -1,4 +1,4 @@
-//! Segmented packs: of each segment the elements whose flag is true.
+//! Segmented packs: the elements of each segment whose flag is true.
 
 ghost use Rattle.std.specs.Prelude.{◌≡◌, ◌≤◌, IfOk, Ok, length, sum, vec_len};
 ghost use Rattle.cvl_base.specs.Gives.{Gives};
@@ -16,8 +16,8 @@ use std::thread::Threads;
 /// The elements of each segment whose flag is true, in order, one segment after another: `pck_lez` and `pck_leb`. Workers pass a
 /// gate at each point of their way through a tile of the flags.
 ///
-/// LengthMismatch, without a place, where the segments' total is not the number of elements, or not that of flags.
-/// Source: CVL's segmented pack.
+/// `LengthMismatch`, without a place, if the segments' total is not the number of elements, or not that of flags. Source: CVL's
+/// segmented pack.
 pub fn seg_pack_values_gated<T: Copy + Send + Sync, R: Threads + Sync, A: Memory, G: Gate>(
     rt: &R,
     alloc: A,
@@ -35,11 +35,10 @@ pub fn seg_pack_values_gated<T: Copy + Send + Sync, R: Threads + Sync, A: Memory
     Ok(kept(rt, alloc, config, values, flags, gate)?)
 }
 
-/// The same as [`seg_pack_values_gated`], at the front of a room of the caller's, by the thread that calls. It asks for no
-/// memory.
+/// [`seg_pack_values_gated`] to the front of the caller's room, on the calling thread. It takes no memory.
 ///
-/// The count becomes the number of true flags, also where the room is too short for as many elements: that is LengthMismatch,
-/// without a place, and the room is as before. Else the rest of the room is as before. At any other fault the count is, too.
+/// The count becomes the number of true flags. If the room is too short for that, the fault is `LengthMismatch`, without a place,
+/// and the room is as before; otherwise the rest of the room is. After any other fault the count is as before, too.
 pub fn seg_pack_values_over<T: Copy>(
     values: &[T],
     flags: &[bool],
@@ -57,7 +56,7 @@ pub fn seg_pack_values_over<T: Copy>(
 /// The descriptor of what a segmented pack keeps: `pck_fov`. An empty segment stays, with length 0. Workers pass a gate at each
 /// point of their way through a tile of the flags.
 ///
-/// LengthMismatch, without a place, where the segments' total is not the number of flags. Source: CVL's segmented pack.
+/// `LengthMismatch`, without a place, if the segments' total is not the number of flags. Source: CVL's segmented pack.
 pub fn packed_descriptor_gated<R: Threads + Sync, A: Memory, G: Gate>(
     rt: &R,
     alloc: A,
@@ -78,8 +77,8 @@ pub fn packed_descriptor_gated<R: Threads + Sync, A: Memory, G: Gate>(
 
 /// The elements of each segment whose flag is true, in order, one segment after another, and their descriptor.
 ///
-/// LengthMismatch, without a place, where the segments' total is not the number of elements, or not that of flags.
-/// Source: CVL's segmented pack.
+/// `LengthMismatch`, without a place, if the segments' total is not the number of elements, or not that of flags. Source: CVL's
+/// segmented pack.
 #[tactic(auto, using(crate::proofs::Segments::pack_fault))]
 pub fn seg_pack<T: Copy + Send + Sync, R: Threads + Sync, A: Memory>(
     rt: &R,

@@ -1,4 +1,4 @@
-//! The items of a writer, as a vector, or over a room of the caller's.
+//! The items of a writer, as a vector, or in the caller's room.
 
 ghost use Rattle.std.specs.Prelude.{◌≡◌, ◌≤◌, IfOk, Ok, length, vec_len};
 ghost use Rattle.cvl_base.specs.Limits.{most_places};
@@ -9,7 +9,7 @@ use fresh::{Writer, write_in_runs, write_over};
 use sharing::threads_writing;
 use std::thread::Threads;
 
-/// The writer's items as a vector, by as many threads as the configuration has for a call that reads so many elements.
+/// The writer's items as a vector, by as many threads as the configuration has for a call that reads `read` elements.
 pub(crate) fn write_vector<T: Copy + Send, R: Threads + Sync, A: Memory, W: Writer<T> + Sync>(
     rt: &R,
     alloc: A,
@@ -26,8 +26,8 @@ pub(crate) fn write_vector<T: Copy + Send, R: Threads + Sync, A: Memory, W: Writ
     Ok(write_in_runs(rt, alloc, threads, writer, items)?)
 }
 
-/// Writes the writer's items over a room of the caller's, by the thread that calls: LengthMismatch, without a place, where the
-/// room isn't as long. It asks for no memory.
+/// Writes the writer's items into the caller's room, on the calling thread: `LengthMismatch`, without a place, if the room is not
+/// as long. It takes no memory.
 pub(crate) fn write_room<T: Copy, W: Writer<T>>(
     writer: &W,
     items: usize,
