@@ -7,14 +7,14 @@ use Rattle.cvl_base.specs.Extracts.{element_at}
 use Rattle.cvl_base.specs.Lists.{joined}
 use Rattle.permute_walks.specs.Indices.{first_outside}
 
--- the fault of the first index outside its segment of the source, where the first index stands at the place given
+-- the fault of the first index outside its segment of the source; the first index stands at the place given
 abbrev pub outside_from : ℕ → List ℕ → List ℕ → List ℤ → Option Fault
 outside_from place [] index_lengths index = None
 outside_from place (m ∷ lengths) [] index = None
 outside_from place (m ∷ lengths) (n ∷ index_lengths) index =
     option_or (first_outside place m (take n index)) (outside_from (place + n) lengths index_lengths (drop n index))
 
--- the element that each index names in its segment of the source, where there is one: a list for each segment
+-- the element that each index names in its segment of the source, if there is one: a list for each segment
 abbrev pub lists_at : {X : Type 0} → List ℕ → List X → List ℕ → List ℤ → List (List (Option X))
 lists_at [] source index_lengths index = []
 lists_at (m ∷ lengths) source [] index = []
@@ -25,7 +25,7 @@ lists_at (m ∷ lengths) source (n ∷ index_lengths) index =
 abbrev pub values_at : {X : Type 0} → List ℕ → List X → List ℕ → List ℤ → List (Option X)
 values_at lengths source index_lengths index = joined (lists_at lengths source index_lengths index)
 
--- the vectors have the elements of the segments, which are equally many
+-- the vectors have the elements of the segments, as many segments in both
 pub record IsSegmentedBack {X : Type 0} (lengths : List ℕ) (source : List X) (index_lengths : List ℕ) (index : List ℤ) : Type 0 where
   pub source_total : sum lengths ≡ length source
   pub total : sum index_lengths ≡ length index

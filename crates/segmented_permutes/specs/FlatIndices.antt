@@ -1,10 +1,10 @@
--- Flat indices: those of a segmented permute, counted from the start of the whole result and not from that of their segment.
+-- Flat indices: those of a segmented permute, counted from the start of the whole result instead of their segment.
 -- Source: CVL's segmented vectors, whose segments lie one after another.
 use Rattle.std.specs.Prelude.{ℕ, ◌+◌, ℤ, pos, negsuc, if◌then◌else◌, unsigned_abs, List, [], ◌∷◌, ◌++◌, length, map, take, drop, Option}
 use Rattle.cvl_base.specs.Permutes.{is_place}
 
--- the flat index of an index into a segment of m places, the first of which is place `start` of the whole: -1, which is no place,
--- where the index is none of the segment
+-- the flat index of an index into a segment of m places, the first of which is place `start` of the whole: -1, which is no place, if the
+-- index is no place of the segment
 abbrev pub flat_index : ℕ → ℕ → ℤ → ℤ
 flat_index start m i = if is_place m i then pos (start + unsigned_abs i) else negsuc 0
 

@@ -1,5 +1,5 @@
-//! The walk of a segmented back permute, which several threads may share: each looks at indices and writes the elements there at
-//! once, segment by segment.
+//! The walk of a segmented back permute, which several threads may share: each checks indices and writes their elements at once,
+//! segment by segment.
 
 ghost use Rattle.std.specs.Prelude.{◌≡◌, ◌+◌, ◌-◌, ◌<◌, ◌≤◌, [], length, min};
 ghost use Rattle.fresh.specs.Found.{first_without};
@@ -15,7 +15,7 @@ use segdes::SegDes;
 use sharing::share_of_first;
 use std::alloc::Allocator;
 
-/// From how many indices a segment on, on average, they are looked at block by block.
+/// At this average number of indices a segment, they are checked block by block.
 const LONG: usize = 128;
 
 /// Takes the element at each index, segment by segment.
@@ -25,13 +25,13 @@ pub(crate) struct SegmentsTaken<'a, T, A: Allocator> {
     pub(crate) index: &'a [i32],
     pub(crate) source_d: &'a SegDes<A>,
     pub(crate) index_d: &'a SegDes<A>,
-    /// Taken where an index is no place of its segment of the source.
+    /// Taken if an index is no place of its segment of the source.
     pub(crate) other: T,
     ghost fits: { IsSegmentedBack source_d.now source.now index_d.now index.now },
 }
 
 impl<'a, T: Copy, A: Allocator> SegmentsTaken<'a, T, A> {
-    /// Takes what is left of segment `s`, in which the run goes on, or as much as there is room for. Tells the first place whose
+    /// Takes the rest of segment `s`, in which the run continues, or as much as there is room for. Returns the first place whose
     /// index takes nothing.
     #[inline(always)]
     fn take_segment<P: PushAt<T>>(&self, run: Run<T>, s: usize) -> (Run<T>, Option<usize>)
@@ -55,7 +55,7 @@ impl<'a, T: Copy, A: Allocator> SegmentsTaken<'a, T, A> {
         P::push_at(run, source, &self.index[first..first + count], self.other)
     }
 
-    /// Takes as much as there is room for, segment by segment. Tells the first place whose index takes nothing.
+    /// Takes as much as there is room for, segment by segment. Returns the first place whose index takes nothing.
     fn take_segments<P: PushAt<T>>(&self, run: Run<T>) -> (Run<T>, Option<usize>)
         requires empty { run.items ≡ [] }
         requires within { run.first + run.room ≤ length (each_or self.now.other

@@ -17,7 +17,7 @@ use segment_sends::AllInSegments;
 use sharing::{Pace, threads_writing};
 use std::thread::Threads;
 
-/// `IndexOutOfRange` at the first place whose index is no place of its segment of the source, for which workers race at flat
+/// `IndexOutOfRange` at the first place whose index is no place of its segment of the source. Workers race for it, at flat
 /// indices.
 fn check_indices_raced_by_segments<R: Threads + Sync, A: Memory, G: Gate>(
     rt: &R,
@@ -45,10 +45,10 @@ fn check_indices_raced_by_segments<R: Threads + Sync, A: Memory, G: Gate>(
 
 /// The back permute of each segment: `bck_pez` and `bck_peb`.
 ///
-/// The source has as many elements as the segments of `source_d` in all, the index as many as those of `index_d`, and the
-/// descriptors have equally many segments, else `LengthMismatch`, without a place. The result is as long as the index. An
-/// index counts from the start of the segment of the source, and one that is no place of it is `IndexOutOfRange` at its
-/// place in the whole index; an index may repeat. Source: CVL's segmented back permute.
+/// The source is as long as the segments of `source_d` together, the index as long as those of `index_d`, and both descriptors
+/// have the same number of segments, else `LengthMismatch`, without a place. The result is as long as the index. An index counts
+/// from the start of its segment of the source; one that is no place of that is `IndexOutOfRange` at its place in the whole
+/// index; an index may repeat. Source: CVL's segmented back permute.
 pub fn seg_back<T: Copy + Send + Sync, R: Threads + Sync, A: Memory>(
     rt: &R,
     alloc: A,
@@ -68,8 +68,8 @@ pub fn seg_back<T: Copy + Send + Sync, R: Threads + Sync, A: Memory>(
     )
 }
 
-/// `seg_back` with a gate for workers who race for the least index outside. Each passes it at `Claimed` and `Finished` of each
-/// of its tiles.
+/// `seg_back` with a gate for workers who race for the first bad index. Each passes it at `Claimed` and `Finished` of each of its
+/// tiles.
 pub fn seg_back_gated<T: Copy + Send + Sync, R: Threads + Sync, A: Memory, G: Gate>(
     rt: &R,
     alloc: A,

@@ -1,5 +1,4 @@
-//! The first walk of a permute by segments, which finds the sender of each place: by the thread that calls, or by workers who
-//! race.
+//! The first walk of a permute by segments, which finds the sender of each place: on the calling thread, or by workers who race.
 
 ghost use Rattle.std.specs.Prelude.{◌≡◌, ◌≤◌, IfOk, Ok, length, sum, vec_len};
 ghost use Rattle.cvl_base.specs.Gives.{Gives, unless};
@@ -18,8 +17,8 @@ use segdes::SegDes;
 use segment_sends::{AllInSegments, FlaggedInSegments, segment_senders_alone};
 use std::thread::Threads;
 
-/// For each of so many places of a result with segments of its own lengths its sender, for which workers race at flat indices, or
-/// one thread walks the segments. Each place of the index takes part.
+/// The sender of each place of a result, which has segments of its own lengths, if each place of the index takes part. Workers
+/// race for them at flat indices, or one thread walks the segments.
 pub(crate) fn segment_senders<R: Threads + Sync, A: Memory, G: Gate>(
     rt: &R,
     alloc: A,
@@ -50,8 +49,7 @@ pub(crate) fn segment_senders<R: Threads + Sync, A: Memory, G: Gate>(
     }
 }
 
-/// The same where the places whose flag is true take part, and each segment of the result has as many places as the segment
-/// has true flags.
+/// The same if the places whose flag is true take part. Each segment of the result has one place for each of its true flags.
 pub(crate) fn flagged_segment_senders<R: Threads + Sync, A: Memory, G: Gate>(
     rt: &R,
     alloc: A,

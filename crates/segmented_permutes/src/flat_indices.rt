@@ -1,5 +1,5 @@
-//! Flat indices, which count from the start of the whole result and not from that of their segment. The race of a segmented
-//! permute is that of a flat one at them.
+//! Flat indices, which count from the start of the whole result instead of their segment. A segmented permute's race is a flat
+//! one's at these.
 
 ghost use Rattle.std.specs.Prelude.{◌≡◌, ◌+◌, ◌≤◌, ◌++◌, IfOk, length, map, vec_capacity, vec_len};
 ghost use Rattle.cvl_base.specs.Limits.{most_places};
@@ -14,7 +14,7 @@ use std::alloc::Allocator;
 /// The flat index of an index that is no place of its segment. It is no place of the whole either.
 const OUTSIDE: i32 = -1;
 
-/// The flat index of an index into a segment of so many places, the first of which is place `start` of the whole.
+/// The flat index of an index into a segment of `places` places, the first of which is place `start` of the whole.
 #[inline]
 fn flat_index(start: usize, places: usize, index: &i32) -> i32
     requires { start + places ≤ most_places }
@@ -39,7 +39,7 @@ fn push_flat<A: Allocator>(flat: &mut Vec<i32, A>, start: usize, places: usize, 
     }
 }
 
-/// The flat indices of all segments, which have as many destinations as there are indices.
+/// The flat indices of all segments, which have one index for each destination.
 pub(crate) fn flat_indices<D: SegmentDestinations, A: Memory>(
     alloc: A,
     segments: &D,

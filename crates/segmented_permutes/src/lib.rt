@@ -1,19 +1,18 @@
-//! Permutes of each segment: simple, back, select and default permutes, as in `permutes`, where an index counts from the start of
-//! its segment.
+//! Permutes of each segment: simple, back, select and default, as in `permutes`, but an index counts from the start of its
+//! segment.
 //!
-//! A simple, select or default permute is one walk of `segment_sends`: each thread, or the only one, takes whole segments, and a
-//! buffer holds the senders of one segment at a time. Where a place is bad, or one segment is longer than a thread's share, the
-//! senders of the whole result are found first. `segment_way` of `permutes` says which of these a call does. A back permute is
-//! one walk, too: each thread has as many indices, looks at each and takes its element at once, and a fault drops what was
-//! written.
+//! A simple, select or default permute is one walk of `segment_sends`: each thread takes whole segments, and a buffer holds the
+//! senders of one segment at a time. If a place is bad, or one segment is longer than a thread's share, the senders of the whole
+//! result are found first. `segment_way` of `permutes` decides which. A back permute is one walk, too: each thread has the same
+//! number of indices, checks each and takes its element at once, and a fault drops what was written.
 //!
-//! Each call has a gated form with the same contract for every gate. Workers race for the first walk where short tiles are asked
-//! for: the race is that of a flat permute, whose indices are counted from the start of the whole result first.
+//! Each call has a gated form with the same contract for every gate. If tiles are short, workers race for the first walk: the
+//! race is a flat permute's, with indices counted from the start of the whole result.
 //!
-//! Each call has a form without a runtime too, `.._over`: both walks by the thread that calls, the second over a room of the
-//! caller's. Nothing is written before it is known that there is no fault. A simple permute looks for senders there only where
-//! there is a fault: its first walk marks each index, and its second writes each element to its index. The two walks of a back
-//! permute are in `segment_gathers`.
+//! Each call also has a form without a runtime, `.._over`: the calling thread does both walks and writes into the caller's room,
+//! and only once it knows that there is no fault. A simple permute looks for senders there only if there is a fault: its first
+//! walk marks each index, and its second writes each element to its index. The two walks of a back permute are in
+//! `segment_gathers`.
 #![tactic(auto)]
 
 mod back_segments;

@@ -1,4 +1,4 @@
-//! A permute by segments in one walk that several threads share.
+//! A permute by segments, in one walk that several threads share.
 
 ghost use Rattle.std.specs.Prelude.{◌≡◌, ◌≤◌, IfOk, IfSome, List, Ok, Result, length, vec_len};
 ghost use Rattle.cvl_base.specs.declared.fault.Fault.{Fault};
@@ -13,7 +13,7 @@ use permutes::{Way, segment_way};
 use segment_sends::{SegmentDestinations, permuted_by_segments};
 use std::thread::Threads;
 
-/// The way of a permute by segments, with its elements where it was made in one walk. None where this is not its way, or where a
+/// The way of a permute by segments, with its elements if it was made in one walk. No elements if this is not its way, or if a
 /// place is bad.
 pub(crate) fn permuted_in_one<T, R, A, D>(
     rt: &R,

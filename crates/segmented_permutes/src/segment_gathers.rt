@@ -1,5 +1,5 @@
-//! The two walks of a back permute by segments straight into a room. The first looks at all indices, so that the second has an
-//! element for each. A short segment takes no call, and one of a single index has no loop.
+//! The two walks of a back permute by segments into a room. The first checks all indices, so that the second has an element for
+//! each. A short segment takes no call, and one with a single index has no loop.
 
 ghost use Rattle.std.specs.Prelude.{◌≡◌, ◌<◌, ◌≤◌, ℕ, length, slice_index, sum, None};
 ghost use Rattle.cvl_base.specs.Limits.{most_places};
@@ -13,7 +13,7 @@ use fresh::write_over;
 use permute_walks::{ElementsAt, check_places_alone};
 use segdes::SegLengths;
 
-/// How many indices a short segment has at most.
+/// The most indices of a short segment.
 const SHORT: usize = 32;
 
 /// The length of the shortest segment.
@@ -28,7 +28,7 @@ fn shortest(d: &SegLengths) -> usize
     shortest as usize
 }
 
-/// `check_segments` by one segment after another.
+/// `check_segments`, one segment after another.
 fn check_each_segment(
     index: &[i32],
     source_d: &SegLengths,
@@ -49,7 +49,7 @@ fn check_each_segment(
 }
 
 /// The first walk: `IndexOutOfRange` at the first place whose index is no place of its segment of the source.
-// Where each index is a place of the shortest segment, as where all segments are equally long, no segment is looked at alone.
+// If each index is a place of the shortest segment, as with segments of one length, no segment is checked alone.
 pub(crate) fn check_segments(
     index: &[i32],
     source_d: &SegLengths,
@@ -67,7 +67,7 @@ pub(crate) fn check_segments(
 }
 
 /// Writes the element at each index of a short segment.
-// No index is outside. A loop that may be left is not unrolled by the compiler, and of a few elements takes less time.
+// No index is outside. The compiler does not unroll a loop with an exit, which for a few elements is faster.
 #[inline(always)]
 fn gather_short_over<T: Copy>(source: &[T], index: &[i32], out: &mut [T])
     requires as_long { length out.old ≡ length index.now }
@@ -85,7 +85,7 @@ fn gather_short_over<T: Copy>(source: &[T], index: &[i32], out: &mut [T])
     }
 }
 
-/// Writes the element at each index of a segment, where each is a place of the segment of the source.
+/// Writes the element at each index of a segment; each is a place of its segment of the source.
 #[inline(always)]
 fn gather_segment_over<T: Copy>(source: &[T], index: &[i32], out: &mut [T])
     requires as_long { length out.old ≡ length index.now }
@@ -104,7 +104,7 @@ fn gather_segment_over<T: Copy>(source: &[T], index: &[i32], out: &mut [T])
     write_over(out, &ElementsAt { source, index });
 }
 
-/// The second walk: writes the element at each index, where each is a place of its segment of the source.
+/// The second walk: writes the element at each index; each is a place of its segment of the source.
 pub(crate) fn gather_segments_over<T: Copy>(
     source: &[T],
     index: &[i32],

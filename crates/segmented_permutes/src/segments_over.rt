@@ -1,9 +1,9 @@
-//! The permutes of segments over a room of the caller's, by the thread that calls, for code that has no runtime.
+//! Permutes of segments into the caller's room, on the calling thread, for code that has no runtime.
 //!
-//! Each tells the faults of the permute first, and then `LengthMismatch`, without a place, where the room isn't as long as the
-//! result. Only then the room is written. A back permute asks for no memory. A simple permute asks for a byte for each place of
-//! its longest segment, and only to find its first fault for a descriptor and the senders; the others ask for the senders, 4
-//! bytes a place. Both take lengths where they lie, since each of their walks goes through whole segments in turn.
+//! Each reports the faults of the permute first, and then `LengthMismatch`, without a place, if the room is not as long as the
+//! result. Only then does it write to the room. A back permute takes no memory. A simple permute takes a byte for each place of
+//! its longest segment, and memory for a descriptor and the senders only to find its first fault; the others take 4 bytes a place
+//! for the senders. Both read lengths in place, since each of their walks takes whole segments in turn.
 
 ghost use Rattle.std.specs.Prelude.{◌≡◌, ◌≤◌, List, Result, length, sum};
 ghost use Rattle.cvl_base.specs.declared.fault.Fault.{Fault};
@@ -43,7 +43,7 @@ fn permuted_over<T: Copy, A: Memory, D: SegmentDestinations>(
     elements_of_senders_over(source, found, before, out)
 }
 
-/// A simple permute by its senders, or its first fault.
+/// A simple permute from its senders, or its first fault.
 fn simple_by_senders<T: Copy, A: Memory>(
     alloc: A,
     source: &[T],
@@ -65,7 +65,7 @@ fn simple_by_senders<T: Copy, A: Memory>(
     permuted_over(alloc, source, &segments, Before::Any(source), out)
 }
 
-/// The same as [`seg_simple`](crate::seg_simple), over a room.
+/// [`seg_simple`](crate::seg_simple) into a room.
 pub fn seg_simple_over<T: Copy, A: Memory>(
     alloc: A,
     source: &[T],
@@ -86,7 +86,7 @@ pub fn seg_simple_over<T: Copy, A: Memory>(
     simple_by_senders(alloc, source, index, d, out)
 }
 
-/// The same as [`seg_select`](crate::seg_select), over a room.
+/// [`seg_select`](crate::seg_select) into a room.
 pub fn seg_select_over<T: Copy, A: Memory>(
     alloc: A,
     source: &[T],
@@ -107,7 +107,7 @@ pub fn seg_select_over<T: Copy, A: Memory>(
     permuted_over(alloc, source, &segments, Before::Any(values), out)
 }
 
-/// The same as [`seg_default_into`](crate::seg_default_into), over a room.
+/// [`seg_default_into`](crate::seg_default_into) into a room.
 pub fn seg_default_into_over<T: Copy, A: Memory>(
     alloc: A,
     source: &[T],
@@ -134,7 +134,7 @@ pub fn seg_default_into_over<T: Copy, A: Memory>(
     permuted_over(alloc, source, &segments, Before::Defaults(defaults), out)
 }
 
-/// The same as [`seg_back`](crate::seg_back), over a room.
+/// [`seg_back`](crate::seg_back) into a room.
 pub fn seg_back_over<T: Copy>(
     source: &[T],
     index: &[i32],

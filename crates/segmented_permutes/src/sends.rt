@@ -1,5 +1,5 @@
-//! The permutes that send each element to a place of its segment: the simple, the select and the default permute. They differ in
-//! which elements are sent, and in what stands before in the places of the result.
+//! The permutes that send each element to a place of its segment: simple, select and default. They differ in which elements they
+//! send, and in what the result holds before.
 
 ghost use Rattle.std.specs.Prelude.{◌≡◌, ◌≤◌, IfOk, length, vec_len};
 ghost use Rattle.cvl_base.specs.Gives.{Gives};
@@ -18,10 +18,10 @@ use std::thread::Threads;
 
 /// The simple permute of each segment: `smp_pez` and `smp_peb`.
 ///
-/// Source and index have as many elements as the segments in all, else `LengthMismatch`, without a place; the result is
-/// as long. An index counts from the start of its segment, and one that is no place of the segment is `IndexOutOfRange`;
-/// one that an earlier place of the segment has too is `IndexRepeated` at the later place. The fault of the first bad
-/// place counts, a place of the whole index. Source: CVL's segmented permute.
+/// Source, index and result are as long as the segments together, else `LengthMismatch`, without a place. An index counts from
+/// the start of its segment; one that is no place of it is `IndexOutOfRange`, and one that an earlier place of the segment
+/// already has is `IndexRepeated` at the later place. The first bad place is reported, as a place of the whole index. Source:
+/// CVL's segmented permute.
 pub fn seg_simple<T: Copy + Send + Sync, R: Threads + Sync, A: Memory>(
     rt: &R,
     alloc: A,
@@ -37,7 +37,7 @@ pub fn seg_simple<T: Copy + Send + Sync, R: Threads + Sync, A: Memory>(
     seg_simple_gated(rt, alloc, config, source, index, d, &OpenGate)
 }
 
-/// `seg_simple` with a gate for workers who race, for the senders and then for the least bad place. Each passes it at `Claimed`
+/// `seg_simple` with a gate for workers who race, for the senders and then for the first bad place. Each passes it at `Claimed`
 /// and `Finished` of each of its tiles.
 pub fn seg_simple_gated<T: Copy + Send + Sync, R: Threads + Sync, A: Memory, G: Gate>(
     rt: &R,
@@ -70,9 +70,9 @@ pub fn seg_simple_gated<T: Copy + Send + Sync, R: Threads + Sync, A: Memory, G: 
 
 /// The select permute of each segment: `sel_pez` and `sel_peb`.
 ///
-/// Source, index and flags have as many elements as the segments in all, else `LengthMismatch`, without a place. A
-/// segment of the result is as long as the segment has true flags. The faults are those of `seg_simple`, of the places
-/// whose flag is true; no other index is looked at. Source: this library's profile of CVL's segmented select permute.
+/// Source, index and flags are as long as the segments together, else `LengthMismatch`, without a place. A segment of the result
+/// has one place for each of its true flags. The faults are those of `seg_simple`, at places whose flag is true; no other index
+/// is checked. Source: this library's profile of CVL's segmented select permute.
 pub fn seg_select<T: Copy + Send + Sync, R: Threads + Sync, A: Memory>(
     rt: &R,
     alloc: A,
@@ -90,7 +90,7 @@ pub fn seg_select<T: Copy + Send + Sync, R: Threads + Sync, A: Memory>(
     seg_select_gated(rt, alloc, config, source, index, flags, d, &OpenGate)
 }
 
-/// `seg_select` with a gate for workers who race, for the senders and then for the least bad place. Each passes it at `Claimed`
+/// `seg_select` with a gate for workers who race, for the senders and then for the first bad place. Each passes it at `Claimed`
 /// and `Finished` of each of its tiles.
 pub fn seg_select_gated<T: Copy + Send + Sync, R: Threads + Sync, A: Memory, G: Gate>(
     rt: &R,
@@ -124,10 +124,10 @@ pub fn seg_select_gated<T: Copy + Send + Sync, R: Threads + Sync, A: Memory, G: 
 
 /// The default permute of each segment: `def_pez` and `def_peb`.
 ///
-/// Source and index have as many elements as the segments of `source_d` in all, the defaults as many as those of
-/// `default_d`, and the descriptors have equally many segments, else `LengthMismatch`, without a place. The result is as
-/// long as the defaults. The faults are those of `seg_simple`, where an index is a place of the segment of the defaults.
-/// Source: this library's profile of CVL's segmented default permute.
+/// Source and index are as long as the segments of `source_d` together, the defaults as long as those of `default_d`, and both
+/// descriptors have the same number of segments, else `LengthMismatch`, without a place. The result is as long as the defaults.
+/// The faults are those of `seg_simple`, for an index into the segment of the defaults. Source: this library's profile of CVL's
+/// segmented default permute.
 pub fn seg_default_into<T: Copy + Send + Sync, R: Threads + Sync, A: Memory>(
     rt: &R,
     alloc: A,
@@ -148,7 +148,7 @@ pub fn seg_default_into<T: Copy + Send + Sync, R: Threads + Sync, A: Memory>(
     )
 }
 
-/// `seg_default_into` with a gate for workers who race, for the senders and then for the least bad place. Each passes it at
+/// `seg_default_into` with a gate for workers who race, for the senders and then for the first bad place. Each passes it at
 /// `Claimed` and `Finished` of each of its tiles.
 pub fn seg_default_into_gated<T: Copy + Send + Sync, R: Threads + Sync, A: Memory, G: Gate>(
     rt: &R,
