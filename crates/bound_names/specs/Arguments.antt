@@ -42,7 +42,7 @@ module _ {A : Type 0} where
   each_fault names op count place (first ∷ others) =
       earlier (arg_fault names op count place first) (each_fault names op count (place + 1) others)
 
-  -- first that there are as many as the call takes, and then each
+  -- first whether there are as many as the call takes, and then each
   abbrev pub args_fault : Entries A → Op → List Arg → Option Fault
   args_fault names op args =
       if takes_of op (length args) then each_fault names op (length args) 0 args else Some (fault WrongArgumentCount)
@@ -51,7 +51,7 @@ module _ {A : Type 0} where
   abbrev pub argument_at : Entries A → List Arg → ℕ → Option (Value A)
   argument_at names args place = option_and_then (arg_value names) (slice_get args place)
 
-  -- the fault of the argument at a place, where there is one
+  -- the fault of the argument at a place, if there is one
   abbrev pub place_fault : Entries A → Op → List Arg → ℕ → Option Fault
   place_fault names op args place = option_and_then (arg_fault names op (length args) place) (slice_get args place)
 
@@ -60,7 +60,7 @@ module _ {A : Type 0} where
   lengths_of (value.Descriptor lengths) = Some lengths
   lengths_of _ = None
 
-  -- what a value of each kind holds; of no value and of another kind, nothing
+  -- what a value of each kind holds; nothing of no value or of another kind
   abbrev pub integers_in : Option (Value A) → List ℤ
   integers_in (Some (value.Integers xs)) = xs
   integers_in _ = []

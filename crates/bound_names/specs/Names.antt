@@ -9,7 +9,7 @@ use Rattle.std.specs.BTreeMap.{insert_entry, is_at}
 use Rattle.cvl_base.specs.declared.value.Value.{Value}
 use Rattle.cvl_base.specs.Limits.{most_elements, most_names}
 
--- a value, under a name that `impl Model` can say
+-- a value, by a name that `impl Model` can use
 abbrev pub BoundValue : Type 0 → Type 0
 BoundValue A = Value A
 
@@ -25,11 +25,11 @@ module _ {A : Type 0} where
   abbrev pub value_at : Entries A → List ℕ → Option (Value A)
   value_at names name = lookup (is_at (slice_cmp nat_cmp name)) names
 
-  -- the same names, with the value at this one in place of what was bound there
+  -- the same names, with this value for this one instead of what was bound there
   abbrev pub bind : Entries A → List ℕ → Value A → Entries A
   bind names name bound = insert_entry (slice_cmp nat_cmp) names name bound
 
-  -- the same of two names and two values; of equal names the second value counts
+  -- the same for two names and two values; of equal names the second value counts
   abbrev pub bind_both : Entries A → List ℕ → List ℕ → Value A × Value A → Entries A
   bind_both names first second both = bind (bind names first both.0) second both.1
 
@@ -38,15 +38,15 @@ module _ {A : Type 0} where
   bind_again names name (Some before) = bind names name before
   bind_again names name None = remove_entry (is_at (slice_cmp nat_cmp name)) names
 
-  -- a name that is bound may be bound again, and a new one where fewer than 4,096 are
+  -- a bound name may be bound again, and a new one if fewer than 4,096 are
   abbrev pub has_room : Entries A → List ℕ → Bool
   has_room names name = is_some (value_at names name) || nat_lt (length names) most_names
 
-  -- how many names a name adds to those that are bound: one where it is new
+  -- how many names a name adds to the bound ones: one if it is new
   abbrev pub added_by : Entries A → List ℕ → ℕ
   added_by names name = if is_some (value_at names name) then 0 else 1
 
-  -- two names may be bound where the names that are bound and the new ones are together at most 4,096
+  -- two names may be bound if the bound names and the new ones are together at most 4,096
   abbrev pub has_room_for_both : Entries A → List ℕ → List ℕ → Bool
   has_room_for_both names first second =
       nat_le (length names + added_by names first + added_by names second) most_names

@@ -11,7 +11,7 @@ use Rattle.bound_names.specs.declared.operands.Operand.{Operand}
 use Rattle.bound_names.specs.declared.operands.Operand.TheVariants as operand
 use Rattle.bound_names.specs.declared.operands.Operands.{Operands}
 
--- a claim of calls alone; `write` is none
+-- a claim about calls only; `write` is none
 abbrev pub UnlessWrite : Bool → Type 0 → Type 0
 UnlessWrite true claim = Unit {0}
 UnlessWrite false claim = claim
@@ -31,7 +31,7 @@ module _ {A : Type 0} where
   abbrev pub held_at : Operands A → ℕ → Option (Value A)
   held_at o place = option_and_then held (slice_get (o.first ∷ o.second ∷ o.third ∷ o.fourth ∷ o.fifth ∷ []) place)
 
-  -- the operands are of these kinds, and no more of them are there
+  -- the operands are of these kinds, and there are no more of them
   pub record HaveKinds (kinds : List Kind) (o : Operands A) : Type 0 where
     pub first : kind_held o.first ≡ slice_get kinds 0
     pub second : kind_held o.second ≡ slice_get kinds 1

@@ -9,9 +9,9 @@ use crate::names::{Names, bound_to};
 use crate::operands::{Operand, Operands};
 use cvl_base::{Arg, Fault, FaultNo, Kind, Memory, Op};
 
-/// What each argument of a call holds, or their first fault: `WrongArgumentCount` where the call takes more of them or
-/// fewer; then for each from left to right `UnknownName` where its name is not bound, and `WrongKind` where the call
-/// takes no value of that kind at that place. Source: this library's script format.
+/// What each argument of a call holds, or their first fault: `WrongArgumentCount` if the call takes more or fewer of them; then
+/// for each from left to right `UnknownName` if its name is not bound, and `WrongKind` if the call takes no value of that kind at
+/// that place. Source: this library's script format.
 pub fn resolve<'a, A: Memory>(
     names: &'a Names<A>,
     op: Op,
@@ -62,14 +62,14 @@ fn operand_at<'a, A: Memory>(
     }
 }
 
-/// The argument at a place, if there is one: `get` by a contract of one equation, which keeps the proofs above short.
+/// The argument at a place, if there is one: `get` with a contract of one equation, which keeps the proofs above short.
 fn argument(args: &[Arg], place: usize) -> Option<&Arg>
     ensures { option_copied result ≡ slice_get args.now place }
 {
     args.get(place)
 }
 
-/// What an argument holds; nothing where its name is not bound.
+/// What an argument holds; nothing if its name is not bound.
 fn operand_of<'a, A: Memory>(names: &'a Names<A>, arg: &Arg) -> Operand<'a, A>
     ensures { held result ≡ arg_value names.now.entries arg.now }
 {

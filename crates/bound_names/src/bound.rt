@@ -1,4 +1,4 @@
-//! Bound values, a descriptor with the starts of its segments beside it.
+//! Bound values; a descriptor is kept with the starts of its segments.
 
 ghost use Rattle.std.specs.Prelude.{◌≡◌, ◌≤◌, IfOk, IfSome, None, option_copied, vec_len};
 ghost use Rattle.cvl_base.specs.Limits.{most_elements};
@@ -11,8 +11,8 @@ use cvl_base::{Bools, Ints, Memory, NoResources, Value};
 use segdes::SegDes;
 use std::marker::Model;
 
-/// A bound value, seen as the value. Of a descriptor, the starts of its segments are made once, when it is bound: a
-/// segmented call takes them as they are. A vector of an input is not copied where a name is bound to it.
+/// A bound value. Its model is the value. The starts of a descriptor's segments are made once, when it is bound: a segmented call
+/// takes them as they are. A vector of an input is not copied when a name is bound to it.
 #[derive(Drop)]
 pub struct Bound<A: Memory> {
     held: Held<A>,
@@ -92,7 +92,7 @@ impl<A: Memory> Bound<A> {
         }
     }
 
-    /// The value, as one of its own. It is copied only where an input or another name has it too.
+    /// The value, as one of its own. It is copied only if an input or another name has it too.
     pub fn into_value(self, alloc: A) -> Result<Value<A>, NoResources>
         ensures { IfOk result (λ value. value ≡ self) }
     {
@@ -106,7 +106,7 @@ impl<A: Memory> Bound<A> {
         }
     }
 
-    /// The descriptor with its starts, where the value is one.
+    /// The descriptor with its starts, if the value is one.
     pub fn descriptor(&self) -> Option<&SegDes<A>>
         ensures value { option_copied result ≡ lengths_of self.now }
         ensures in_limit { IfSome (option_copied result) AreInLimit }

@@ -37,7 +37,7 @@ pub fn take_out<A: Memory>(names: Names<A>, name: &Name) -> Option<Bound<A>>
     names.remove(name)
 }
 
-/// Binds a name to the value that a call gave. Where the call was refused, that is the answer, and no name is bound.
+/// Binds a name to the value that a call gave. If the call was refused, that is the answer, and no name is bound.
 pub fn bind_answer<A: Memory>(
     names: &mut Names<A>,
     name: &Name,
@@ -58,8 +58,7 @@ pub fn bind_answer<A: Memory>(
     }
 }
 
-/// Binds a name to a value, and gives what was bound to it. Only a new name may be refused, and then the names are as
-/// before.
+/// Binds a name to a value, and returns what was bound to it. Only a new name may be refused; then the names are as before.
 fn put<A: Memory>(
     names: &mut Names<A>,
     name: &Name,
@@ -74,7 +73,7 @@ fn put<A: Memory>(
     Ok(names.insert(*name, bound)?)
 }
 
-/// Binds a name that is bound to what it had before, or takes it away where it had nothing. It takes no memory.
+/// Binds a bound name to what it had before, or removes it if it had nothing. It takes no memory.
 fn take_back<A: Memory>(names: &mut Names<A>, name: &Name, before: Option<Bound<A>>)
     requires is_bound { is_some (value_at names.old.entries name.now) ≡ true }
     ensures { names.new.entries ≡ bind_again names.old.entries name.now before }
@@ -89,8 +88,8 @@ fn take_back<A: Memory>(names: &mut Names<A>, name: &Name, before: Option<Bound<
     }
 }
 
-/// Binds two names to the two values that a call gave, both or neither. Where the call was refused, that is the answer,
-/// and no name is bound.
+/// Binds two names to the two values that a call gave, both or neither. If the call was refused, that is the answer, and no name
+/// is bound.
 #[tactic(auto, using(crate::proofs::TakenBack::taken_back))]
 pub fn bind_answers<A: Memory>(
     names: &mut Names<A>,
@@ -122,14 +121,14 @@ pub fn is_room<A: Memory>(names: &Names<A>, name: &Name) -> bool
     names.contains_key(name) || names.len() < MOST_NAMES
 }
 
-/// Whether the names that are bound and those of two names that are new are together at most 4,096.
+/// Whether the bound names and those of two names that are new are together at most 4,096.
 pub fn is_room_for_both<A: Memory>(names: &Names<A>, first: &Name, second: &Name) -> bool
     ensures { result ≡ has_room_for_both names.now.entries first.now second.now }
 {
     names.len() + added_by(names, first) + added_by(names, second) <= MOST_NAMES
 }
 
-/// How many names a name adds to those that are bound: one where it is new.
+/// How many names a name adds to the bound ones: one if it is new.
 fn added_by<A: Memory>(names: &Names<A>, name: &Name) -> usize
     ensures { result ≡ added_by names.now.entries name.now }
 {

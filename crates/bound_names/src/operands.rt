@@ -113,7 +113,7 @@ impl<'a, A: Memory> Operand<'a, A> {
         }
     }
 
-    /// The integers, where it is a vector of them, and else nothing: for a place at which a family takes other kinds too.
+    /// The integers, if it is a vector of them, else nothing: for a place at which a family takes other kinds too.
     pub fn integers_if_any(&self) -> &'a [i32]
         ensures value { result.now ≡ integers_in (held self.now) }
         ensures in_limit { length result.now ≤ most_elements }
@@ -127,7 +127,7 @@ impl<'a, A: Memory> Operand<'a, A> {
         }
     }
 
-    /// The booleans, where it is a vector of them, and else nothing: for a place at which a family takes other kinds too.
+    /// The booleans, if it is a vector of them, else nothing: for a place at which a family takes other kinds too.
     pub fn booleans_if_any(&self) -> &'a [bool]
         ensures value { result.now ≡ booleans_in (held self.now) }
         ensures in_limit { length result.now ≤ most_elements }
@@ -141,7 +141,7 @@ impl<'a, A: Memory> Operand<'a, A> {
         }
     }
 
-    /// The descriptor, with its starts, where it is one.
+    /// The descriptor, with its starts, if it is one.
     pub fn descriptor_if_any(&self) -> Option<&'a SegDes<A>>
         ensures value { option_copied result ≡ descriptor_in (held self.now) }
         ensures in_limit { IfSome (option_copied result) AreInLimit }

@@ -7,8 +7,8 @@ use cvl_base::{Ints, Memory, NoResources, Value};
 use std::marker::Model;
 use std::sync::Arc;
 
-/// A vector of integers that an input and the names bound to it have together, seen as the list of its elements. Nobody
-/// changes it, and it is given back with its last owner.
+/// A vector of integers that an input shares with the names bound to it. Its model is the list of its elements. Nobody changes
+/// it, and its last owner frees it.
 #[derive(Drop)]
 pub struct SharedInts<A: Memory> {
     value: Arc<Value<A>, A>,
@@ -37,7 +37,7 @@ impl<A: Memory> SharedInts<A> {
         })
     }
 
-    /// One more owner, which asks for no memory: `NoResources` is only that of 2^63 owners, which no process has.
+    /// One more owner. It asks for no memory: `NoResources` comes only at 2^63 owners, which no process has.
     pub fn share(&self) -> Result<SharedInts<A>, NoResources>
         ensures { IfOk result (λ shared. shared ≡ self.now) }
     {
@@ -53,7 +53,7 @@ impl<A: Memory> SharedInts<A> {
         &*self.value
     }
 
-    /// The integers as a value of its own, which is copied only where there are other owners.
+    /// The integers as a value of its own, which is copied only if there are other owners.
     pub fn into_value(self, alloc: A) -> Result<Value<A>, NoResources>
         ensures { IfOk result (λ v. v ≡ Value.Integers self) }
     {
