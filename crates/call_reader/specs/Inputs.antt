@@ -19,7 +19,7 @@ is_white_space b = (b == 32) || (b == 9) || (b == 10) || (b == 13)
 abbrev pub input_class : ℕ → ByteClass
 input_class b = if is_white_space b then Blank else InToken
 
--- the tokens' numbers, or the fault at the first token that is none; more tokens than so many are a fault whatever they are
+-- the tokens' numbers, or the fault at the first token that is none; more tokens than this are a fault whatever they are
 abbrev pub input_within : ℕ → List ℕ → Result (List ℤ) Fault
 input_within most bytes =
     let tokens = tokens_by input_class bytes in

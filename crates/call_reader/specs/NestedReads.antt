@@ -28,7 +28,7 @@ abbrev pub is_no_mark : List Mark → Bool
 is_no_mark [] = true
 is_no_mark (mark ∷ marks) = false
 
--- numbers pushed behind others: those that the bytes write before the rest
+-- numbers pushed after others: those that the bytes write before the rest
 pub record ArePushed (bytes rest : List ℕ) (old new : List ℤ) : Type 0 where
   pub pushed : List ℤ
   pub numbers : new ≡ old ++ pushed
@@ -48,11 +48,11 @@ pub record IsNestRead (bytes : List ℕ) (numbers lengths : List ℤ) : Type 0 w
   pub lengths_are : lengths ≡ map pos (map length lists)
   pub marks : marks_of bytes ≡ nest_marks lists
 
--- the fault at this place is the grammar's, where there are not too many tokens
+-- the fault at this place is the grammar's, if there are not too many tokens
 abbrev pub IsFaultAt : ℕ → Where → ℕ → List Mark → List Mark → Type 0
 IsFaultAt place stands first marks whole = are_too_many whole ≡ false → lists_from stands first marks ≡ Err (fault_at BadInput place)
 
--- vectors with so much room have room for the numbers and the lengths, where there are not too many tokens
+-- vectors with so much room have room for the numbers and the lengths, if there are not too many tokens
 abbrev pub HasRoom : ℕ → ℕ → List Mark → Type 0
 HasRoom numbers lengths marks =
     are_too_many marks ≡ false → (count_by is_no_bracket marks ≤ numbers) × (count_by is_opening marks ≤ lengths + 1)

@@ -1,5 +1,5 @@
--- The grammar of a nested text: `[`, any number of inner lists, `]`, and no more, where an inner list is `[`, any number of
--- signed decimals inside 32 bits, `]`.
+-- The grammar of a nested text: `[`, any number of inner lists, `]`, and no more; an inner list is `[`, any number of signed decimals
+-- inside 32 bits, `]`.
 -- Source: this library's input format, in which it also writes a vector beside a descriptor.
 use Rattle.std.specs.Prelude.{◌≡◌, ◌≤◌, ℕ, ◌+◌, Bool, true, false, ◌||◌, ◌==◌, nat_eq, nat_lt, List, [], ◌∷◌, ◌++◌, length, map, sum}
 use Rattle.std.specs.Prelude.{count_by, flat_map, codes, Option, Some, None, Result, Ok, Err, ℤ, FitsSigned, if◌then◌else◌}
@@ -25,7 +25,7 @@ use Rattle.call_reader.specs.Inputs.{is_white_space}
 abbrev pub nested_class : ℕ → ByteClass
 nested_class b = if is_white_space b then Blank else (if (b == 91) || (b == 93) then Alone else InToken)
 
--- what a token is to the grammar: `[`, `]`, an integer of 32 bits, or none of these
+-- what a token means to the grammar: `[`, `]`, an integer of 32 bits, or none of these
 pub data Mark : Type 0 where
   opening : Mark
   closing : Mark
@@ -74,9 +74,8 @@ abbrev pub with_number : ℤ → List (List ℤ) → List (List ℤ)
 with_number n [] = (n ∷ []) ∷ []
 with_number n (list ∷ lists) = (n ∷ list) ∷ lists
 
--- the inner lists that the marks write from there on, where the first mark stands at the place given, and of which in an
--- inner list the first is the rest of it; or the fault at the first mark that can't stand there, or where the marks end too
--- early
+-- the inner lists that the marks write from there on; the first mark stands at the place given, and in an inner list the first is the rest
+-- of it; or the fault at the first mark that can't stand there, or at the end if they end too early
 abbrev pub lists_from : Where → ℕ → List Mark → Result (List (List ℤ)) Fault
 lists_from before place (opening ∷ marks) = lists_from between (place + 1) marks
 lists_from between place (opening ∷ marks) = lists_from inside (place + 1) marks
@@ -86,11 +85,11 @@ lists_from between place (closing ∷ marks) = lists_from behind (place + 1) mar
 lists_from behind place [] = Ok []
 lists_from _ place _ = Err (fault_at BadInput place)
 
--- the numbers of all inner lists, one list after another, and the lists' lengths
+-- the numbers of all inner lists, in order, and the lists' lengths
 abbrev pub flat_nest : List (List ℤ) → List ℤ × List ℕ
 flat_nest lists = (joined lists, map length lists)
 
--- the vector and the lengths that a nested text writes, or its fault; too many tokens are one whatever the others are
+-- the vector and the lengths that a nested text writes, or its fault; too many tokens are one whatever they are
 abbrev pub nested_of : List ℕ → Result (List ℤ × List ℕ) Fault
 nested_of bytes =
     fault_if (are_too_many (marks_of bytes)) (fault TooLong)

@@ -22,7 +22,7 @@ use line_reader::token::{ByteClass, Classes, begins_in_token, blanks, first_toke
 pub(crate) fn is_white_space(byte: u8) -> bool
     ensures { result ≡ is_white_space byte }
 {
-    // no branch, so that many bytes can be looked at together
+    // no branch, so that many bytes can be tested together
     (byte == b' ') | (byte == b'\t') | (byte == b'\n') | (byte == b'\r')
 }
 
@@ -42,11 +42,11 @@ impl Classes for InputBytes {
     }
 }
 
-/// How many bytes are looked at before the tokens that begin in them are added to the others: so few that a byte can count
-/// them, and sixteen such counts are added up at once.
+/// How many bytes are tested before the tokens that begin in them are added to the others: so few that a byte can count them, and
+/// sixteen such counts are added up at once.
 const PAGE_BYTES: usize = 192;
 
-/// How many tokens begin in the first bytes, so many of them, and whether the last of these is white space. It is told whether
+/// How many tokens begin in the `first` bytes, and whether the last of these is white space. `after_white_space` says whether
 /// white space stands before them.
 #[inline(always)]
 fn tokens_begun(bytes: &[u8], first: usize, after_white_space: bool) -> (u8, bool)
@@ -86,8 +86,8 @@ pub(crate) fn token_count(bytes: &[u8]) -> usize
     count + usize::from(tokens)
 }
 
-/// The fault of an input whose token at this place, counted from 0, is no number, where the bytes from that token on
-/// are the rest: `TooLong` where there are more tokens than `most` in all, and else `BadInput` at the place.
+/// The fault of an input whose token at this place, counted from 0, is no number; `rest` are the bytes from that token on:
+/// `TooLong` if there are more than `most` tokens in all, else `BadInput` at the place.
 fn fault_at_token(most: usize, place: usize, rest: &[u8]) -> Fault
     requires within { (place ≤ most) × (most ≤ most_places) }
     ensures { result ≡ (if nat_lt most (place + length (tokens_by input_class rest.now))
@@ -100,7 +100,7 @@ fn fault_at_token(most: usize, place: usize, rest: &[u8]) -> Fault
     }
 }
 
-/// The first token of the bytes, the integer that it writes, and what stands after it; none where there is no token.
+/// The first token of the bytes, its integer, and what stands after it; none if there is no token.
 #[inline(always)]
 pub(crate) fn first_number(bytes: &[u8]) -> Option<(&[u8], Option<i32>, &[u8])>
     ensures tokens { MatchOption result (tokens_by input_class bytes.now ≡ [])
@@ -120,8 +120,8 @@ pub(crate) fn first_number(bytes: &[u8]) -> Option<(&[u8], Option<i32>, &[u8])>
     Some((token, number(token), others))
 }
 
-/// Reads an input of at most `most` tokens by the thread that calls, for code that has no runtime. Its answers are those of
-/// [`read_vector`](crate::read_vector), but that `TooLong` comes where there are more tokens than `most`.
+/// Reads an input of at most `most` tokens on the calling thread, for code that has no runtime. The answers are those of
+/// [`read_vector`](crate::read_vector), but `TooLong` comes if there are more tokens than `most`.
 pub fn read_vector_within<A: Memory>(
     alloc: A,
     most: usize,
@@ -148,7 +148,7 @@ pub fn read_vector_within<A: Memory>(
     Ok(numbers)
 }
 
-/// Reads an input by the thread that calls, for code that has no runtime. Its answers are those of
+/// Reads an input on the calling thread, for code that has no runtime. The answers are those of
 /// [`read_vector`](crate::read_vector).
 pub fn read_vector_alone<A: Memory>(alloc: A, bytes: &[u8]) -> Result<Vec<i32, A>, Refused>
     ensures values { Gives (λ v. v.items) result (input_of bytes.now) }

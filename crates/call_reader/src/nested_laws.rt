@@ -34,8 +34,8 @@ pub fn nested_text_laws()
         → IsNestedText bytes ys others → (xs ≡ ys) × (lengths ≡ others) }
 {}
 
-/// A list of numbers is no nested text: where the grammar of an input gives numbers, that of a nested text gives `BadInput` at 0.
-/// It does nothing: its contract says so of the definitions, for every list of bytes.
+/// A list of numbers is no nested text: if the grammar of an input gives numbers, that of a nested text gives `BadInput` at 0. It
+/// does nothing: its contract says so of the definitions, for every list of bytes.
 pub fn flat_is_no_nest()
     ensures { (bytes : List ℕ) (numbers : List ℤ) → input_of bytes ≡ Ok numbers → nested_of bytes ≡ Err (fault_at BadInput 0) }
 {}

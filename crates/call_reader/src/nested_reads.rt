@@ -14,8 +14,8 @@ use segdes::SegDes;
 use sharing::{ThreadCount, threads_reading};
 use std::thread::Threads;
 
-/// The numbers of all inner lists and how many each list has, as several threads read them. None where a token can't stand there
-/// or where there are too many: then the thread that calls reads the text for its fault.
+/// The numbers of all inner lists and how many each list has, as several threads read them. None if a token can't stand there or
+/// there are too many: then the calling thread reads the text to find its fault.
 fn nest_by_several<R: Threads + Sync, A: Memory>(
     rt: &R,
     alloc: A,
@@ -56,7 +56,7 @@ fn described<A: Memory>(
     Ok((numbers, descriptor))
 }
 
-/// Reads a nested text by the thread that calls, for code that has no runtime. Its answers are those of [`read_nested`].
+/// Reads a nested text on the calling thread, for code that has no runtime. The answers are those of [`read_nested`].
 pub fn read_nested_alone<A: Memory>(
     alloc: A,
     bytes: &[u8],
@@ -70,13 +70,13 @@ pub fn read_nested_alone<A: Memory>(
     described(alloc, bytes, numbers, lengths)
 }
 
-/// Reads a nested text: `[`, any number of inner lists, `]`, where an inner list is `[`, signed decimals between white space,
-/// `]`. It gives the numbers of all inner lists, one list after another, and the descriptor of the lists' lengths.
+/// Reads a nested text: `[`, any number of inner lists, `]`; an inner list is `[`, signed decimals between white space, `]`.
+/// Returns the numbers of all inner lists, in order, and the descriptor of the lists' lengths.
 ///
-/// Its faults are `TooLong`, without a place, where there are more tokens other than brackets than 4,194,304 or more `[`
-/// than 4,194,305, whatever they are; and else `BadInput` at the first token that can't stand there, counted from 0, or at
-/// the number of tokens where they end too early. Where room is refused, it answers `NoResources`. A long text is read by
-/// several threads, no more than the configuration has workers, each of which reads the lists of a piece.
+/// Its faults are `TooLong`, without a place, if there are more than 4,194,304 tokens other than brackets or more than 4,194,305
+/// `[`, whatever they are; else `BadInput` at the first token that can't stand there, counted from 0, or at the number of tokens
+/// if they end too early. `NoResources` if memory is refused. Several threads read a long text, each the lists of a piece, but no
+/// more than the configuration has workers.
 pub fn read_nested<R: Threads + Sync, A: Memory>(
     rt: &R,
     alloc: A,

@@ -1,4 +1,4 @@
-//! The reading of a nested text, list by list, by the thread that calls.
+//! Reads a nested text, list by list, on the calling thread.
 
 ghost use Rattle.std.specs.Prelude.{◌≡◌, ◌+◌, ◌-◌, ◌*◌, pos, ◌<◌, ◌≤◌, ◌^◌, ◌∷◌, length, true, false, IfOk, IfErr, MatchResult};
 ghost use Rattle.std.specs.Prelude.{vec_len, vec_capacity};
@@ -56,8 +56,8 @@ fn count_between(start: usize, end: usize) -> i32
     (end - start) as i32
 }
 
-/// Reads the inner lists of a nested text, of which the bytes are what stands after its first `[`, or returns the place in the
-/// text of the first token that can't stand there.
+/// Reads the inner lists of a nested text; the bytes are what stands after its first `[`. Or returns the place in the text of the
+/// first token that can't stand there.
 pub(crate) fn read_lists<A: Memory>(
     alloc: A,
     bytes: &[u8],
@@ -92,8 +92,8 @@ pub(crate) fn read_lists<A: Memory>(
     }))
 }
 
-/// The fault of a text with a token at this place that can't stand there, or that ends there too early: `TooLong` where it has
-/// too many tokens, and else `BadInput` at the place.
+/// The fault of a text with a token at this place that can't stand there, or that ends there too early: `TooLong` if it has too
+/// many tokens, else `BadInput` at the place.
 fn fault_there(bytes: &[u8], place: usize) -> Fault
     requires small { place < 2 ^ 32 }
     requires fault { IsFaultAt place before 0 (marks_of bytes.now) (marks_of bytes.now) }
@@ -106,7 +106,7 @@ fn fault_there(bytes: &[u8], place: usize) -> Fault
     }
 }
 
-/// The numbers of all inner lists and how many each list has, as the thread that calls reads them.
+/// The numbers of all inner lists and how many each list has, as the calling thread reads them.
 #[tactic(auto, using(crate::proofs::NestedMarks::nest_fault, crate::proofs::NestedMarks::behind_fault))]
 pub(crate) fn nest_alone<A: Memory>(
     alloc: A,

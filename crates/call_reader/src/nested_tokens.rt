@@ -44,7 +44,7 @@ fn is_no_bracket(token: &[u8]) -> bool
     !(token == b"[".as_slice() || token == b"]".as_slice())
 }
 
-/// What stands after a `[` with which the bytes begin; none where they begin with no `[`.
+/// What stands after the `[` with which the bytes begin; none if they don't.
 pub(crate) fn after_opening(bytes: &[u8]) -> Option<&[u8]>
     ensures marks { MatchOption result (begin_with is_opening (marks_of bytes.now) ≡ false)
         (λ rest. marks_of bytes.now ≡ opening ∷ marks_of rest.now) }
@@ -57,7 +57,7 @@ pub(crate) fn after_opening(bytes: &[u8]) -> Option<&[u8]>
     Some(others)
 }
 
-/// What stands after a `]` with which the bytes begin; none where they begin with no `]`.
+/// What stands after the `]` with which the bytes begin; none if they don't.
 #[tactic(auto, using(crate::proofs::NestedTokens::closes))]
 pub(crate) fn after_closing(bytes: &[u8]) -> Option<&[u8]>
     ensures marks { MatchOption result (begin_with is_closing (marks_of bytes.now) ≡ false)
@@ -78,7 +78,7 @@ pub(crate) fn has_no_token(bytes: &[u8]) -> bool
     first_token::<NestedBytes>(bytes).is_none()
 }
 
-/// The integer with which the bytes begin, and what stands after it; none where the first token is no integer of 32 bits.
+/// The integer with which the bytes begin, and what stands after it; none if the first token is no integer of 32 bits.
 #[inline(always)]
 pub(crate) fn after_number(bytes: &[u8]) -> Option<(i32, &[u8])>
     ensures marks { MatchOption result (begin_with is_number (marks_of bytes.now) ≡ false)

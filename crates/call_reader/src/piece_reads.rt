@@ -12,7 +12,7 @@ use sharing::ThreadCount;
 use std::thread::Threads;
 use value_texts::made_in_parts;
 
-/// Reads an input by several threads, each of which reads a piece of it. Its answers are those of `read_vector`.
+/// Reads an input by several threads, each of which reads a piece of it. The answers are those of `read_vector`.
 #[tactic(auto, using(crate::proofs::PieceWalk::input_is, crate::proofs::PieceWalk::input_too_long))]
 pub(crate) fn read_by_several<R: Threads + Sync, A: Memory>(
     rt: &R,

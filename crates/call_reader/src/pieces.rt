@@ -1,4 +1,4 @@
-//! An input cut into pieces at white space, each of which is read by a thread of its own.
+//! An input cut into pieces at white space. Each piece has a thread of its own to read it.
 
 ghost use Rattle.std.specs.Prelude.{◌≡◌, ◌≤◌, ◌++◌, [], false, length, map};
 ghost use Rattle.line_reader.specs.Tokens.{begins_in_token, is_in_token};
@@ -13,13 +13,13 @@ use line_reader::token::run_length;
 use sharing::share_of_first;
 use value_texts::Cut;
 
-/// A piece of an input, of which no token goes on in another.
+/// A piece of an input. No token continues in the next piece.
 #[derive(Clone, Copy)]
 pub(crate) struct Piece<'a> {
     pub(crate) bytes: &'a [u8],
 }
 
-/// Writes the numbers of the bytes' tokens, a zero for each token that is no number, and tells the place of the first such
+/// Writes the numbers of the bytes' tokens, a zero for each token that is no number, and returns the place of the first such
 /// token.
 fn read_piece(bytes: &[u8], run: Run<i32>) -> (Run<i32>, Option<usize>)
     requires empty { run.items ≡ [] }
@@ -61,8 +61,8 @@ impl<'a> Part<i32> for Piece<'a> {
     }
 }
 
-/// The bytes in two, of which the second begins with white space, or there is none: where the share of one of so many threads
-/// ends, or at the end of the token that stands there.
+/// The bytes in two; the second begins with white space, or is empty. The cut is where the share of one of `threads` threads
+/// ends, or at the end of the token there.
 fn cut_near(bytes: &[u8], threads: usize) -> (&[u8], &[u8])
     requires { 1 ≤ threads }
     ensures whole { result.0.now ++ result.1.now ≡ bytes.now }

@@ -1,4 +1,4 @@
-//! Worked texts, each a function that takes and gives nothing and whose contract they are.
+//! Worked texts, each a function that takes and gives nothing and has them as its contract.
 
 ghost use Rattle.std.specs.Prelude.{◌≡◌, true, false, [], ◌∷◌, codes, pos, negsuc, Some, None, Ok};
 ghost use Rattle.cvl_base.specs.declared.value.Value.TheVariants as value;

@@ -13,10 +13,9 @@ use std::thread::Threads;
 
 /// Reads an input: signed decimals between white space.
 ///
-/// Its faults are `TooLong`, without a place, where there are more tokens than 4,194,304, whatever they are, and else
-/// `BadInput` at the first token that is no integer of 32 bits, counted from 0. Where the room for the numbers is
-/// refused, or for the pieces of a long input and their counts, it answers `NoResources`. A long input is read by several
-/// threads, no more than the configuration has workers.
+/// Its faults are `TooLong`, without a place, if there are more than 4,194,304 tokens, whatever they are, else `BadInput` at the
+/// first token that is no integer of 32 bits, counted from 0. `NoResources` if memory is refused for the numbers, or for the
+/// pieces of a long input and their counts. Several threads read a long input, but no more than the configuration has workers.
 pub fn read_vector<R: Threads + Sync, A: Memory>(
     rt: &R,
     alloc: A,
