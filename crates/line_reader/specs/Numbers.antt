@@ -11,12 +11,12 @@ abbrev pub is_empty : List ℕ → Bool
 is_empty [] = true
 is_empty (b ∷ bs) = false
 
--- the number that the digits write, in decimal; none where there is no digit or another byte
+-- the number that the digits write, in decimal; none if there is no digit or another byte
 abbrev pub magnitude_of : List ℕ → Option ℕ
 magnitude_of digits =
     if not (is_empty digits) && list_all is_ascii_digit digits then Some (digits_value 10 digits) else None
 
--- the integer of 32 bits with this magnitude, where it fits
+-- the integer of 32 bits with this magnitude, if it fits
 abbrev pub positive_of : ℕ → Option ℤ
 positive_of n = if nat_lt n (2 ^ 31) then Some (pos n) else None
 
@@ -37,8 +37,7 @@ abbrev pub signed_digits : List ℕ → List ℕ
 signed_digits [] = []
 signed_digits (b ∷ bs) = if b == 45 then b ∷ take_while is_ascii_digit bs else take_while is_ascii_digit (b ∷ bs)
 
--- so many digits with which the bytes begin, and the number that they write, below 2^63; all of them, where that number
--- is at most 2^31
+-- so many digits with which the bytes begin, and their number, below 2^63; all of them, if that number is at most 2^31
 pub record AreLeading (bytes : List ℕ) (count number : ℕ) : Type 0 where
   pub within : count ≤ length bytes
   pub digits : IsTrue (list_all is_ascii_digit (take count bytes))

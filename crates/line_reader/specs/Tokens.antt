@@ -11,7 +11,7 @@ abbrev pub onto_first : ℕ → List (List ℕ) → List (List ℕ)
 onto_first b [] = (b ∷ []) ∷ []
 onto_first b (token ∷ tokens) = (b ∷ token) ∷ tokens
 
--- the tokens with a byte of this class before them, where the run of the first token begins right after it or not
+-- the tokens with a byte of this class before them; the run of the first token begins right after it or not
 abbrev pub with_byte : ByteClass → Bool → ℕ → List (List ℕ) → List (List ℕ)
 with_byte Blank runs_on b tokens = tokens
 with_byte Alone runs_on b tokens = (b ∷ []) ∷ tokens

@@ -6,10 +6,10 @@ ghost use Rattle.std.specs.Int.Digits.{number_from_digits, AllBelowBase};
 
 use std::simd::prelude::*;
 
-/// How many bytes are looked at together.
+/// How many bytes are tested together.
 pub(crate) const LANES: usize = 16;
 
-/// How many of the lanes, from the first on, are below 10.
+/// How many lanes, from the first on, are below 10.
 #[inline(always)]
 #[tactic(auto, using(crate::proofs::DigitLanes::run_of_all, crate::proofs::DigitLanes::run_of_some))]
 pub(crate) fn digit_run(lanes: u8x16) -> usize
@@ -23,7 +23,7 @@ pub(crate) fn digit_run(lanes: u8x16) -> usize
     }
 }
 
-/// The lanes, each that many places later, with zeros before them. Those that would stand past the end are left out.
+/// The lanes, each moved by that many places, after zeros. Those that would pass the end are left out.
 #[inline(always)]
 pub(crate) fn moved(lanes: u8x16, by: usize) -> u8x16
     requires { by < LANES }

@@ -1,4 +1,4 @@
-//! The lines of a script, and what lines and inputs are made of: tokens, and the numbers that tokens write.
+//! The lines of a script, and what lines and inputs are made of: tokens, and their numbers.
 #![tactic(auto)]
 
 mod args;

@@ -17,9 +17,9 @@ use cvl_base::{Call, Fault, FaultNo, Memory, Name, Op, Refused, ResultNames, op_
 
 /// Reads one line of a script, without its line feed: nothing on an empty line, else the call that it asks for.
 ///
-/// Its faults, in this order, are all without a place: `BadLine` where the line has none of the forms of a line,
-/// `UnknownCall` where the library has no such call, `WrongArgumentCount`, and `BadNumber` where a number is
-/// malformed or does not fit 32 bits. Where the room for the arguments is refused, it answers `NoResources`.
+/// Its faults, in this order, have no place: `BadLine` if the line has none of the forms of a line, `UnknownCall` if the library
+/// has no such call, `WrongArgumentCount`, and `BadNumber` if a number is malformed or does not fit 32 bits. `NoResources` if
+/// memory for the arguments is refused.
 pub fn read_line<A: Memory>(alloc: A, line: &[u8]) -> Result<Option<Call<A>>, Refused>
     ensures { Gives (λ call. call) result (call_of line.now) }
 {
@@ -50,7 +50,7 @@ fn read_write<A: Memory>(alloc: A, names: &[u8]) -> Result<Option<Call<A>>, Refu
     with_op(alloc, ResultNames::None, Some(Op::Write), names, count)
 }
 
-/// Reads `NAME = CALL ARG ..` or `NAME NAME = CALL ARG ..`, where the first name and what stands after it are given.
+/// Reads `NAME = CALL ARG ..` or `NAME NAME = CALL ARG ..`, given the first name and what stands after it.
 fn read_binding<A: Memory>(
     alloc: A,
     first: &[u8],
@@ -76,7 +76,7 @@ fn one_result(name: &[u8]) -> Option<ResultNames>
     Name::new(name).map(ResultNames::One)
 }
 
-/// The two names of a binding; none where they are the same.
+/// The two names of a binding; none if they are the same.
 fn two_results(first: &[u8], second: &[u8]) -> Option<ResultNames>
     ensures { result ≡ two_results first.now second.now }
 {
@@ -106,7 +106,7 @@ fn read_bound_call<A: Memory>(
     with_op(alloc, results, op_of(word), args, count)
 }
 
-/// The call with its arguments, of a line whose form is known to be good, by its arguments' tokens and their number.
+/// The call with its arguments, of a line whose form is good, from its arguments' tokens and their number.
 fn with_op<A: Memory>(
     alloc: A,
     results: ResultNames,

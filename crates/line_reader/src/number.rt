@@ -10,8 +10,8 @@ use std::simd::prelude::*;
 /// The greatest magnitude of an integer of 32 bits: that of -2147483648.
 const GREATEST_MAGNITUDE: u64 = 2_147_483_648;
 
-/// How many digits the bytes begin with, and the number that these write, read one by one. The walk also ends where
-/// that number is greater than 2,147,483,648.
+/// How many digits the bytes begin with, and their number, read one by one. The walk also ends if that number exceeds
+/// 2,147,483,648.
 fn walked_digits(bytes: &[u8]) -> (usize, u64)
     ensures { AreLeading bytes.now result.0 result.1 }
 {
@@ -25,8 +25,7 @@ fn walked_digits(bytes: &[u8]) -> (usize, u64)
     (bytes.len(), value)
 }
 
-/// How many digits the bytes begin with, and the number that these write. Where that number is greater than
-/// 2,147,483,648, it may be that of the first digits alone.
+/// How many digits the bytes begin with, and their number. If it exceeds 2,147,483,648, it may be that of only the first digits.
 #[inline(always)]
 fn leading_digits(bytes: &[u8]) -> (usize, u64)
     ensures { AreLeading bytes.now result.0 result.1 }
@@ -53,8 +52,8 @@ fn signed(is_negative: bool, magnitude: u64) -> i64
     if is_negative { -value } else { value }
 }
 
-/// The integer that an optional `-` and all the digits after it write, with which the bytes begin, and how many bytes
-/// these are; `None` where there is no digit or the integer is outside 32 bits. What stands after them is not read.
+/// The integer with which the bytes begin, an optional `-` and all the digits after it, and its length in bytes; `None` if there
+/// is no digit or the integer is outside 32 bits. What stands after them is not read.
 #[inline(always)]
 pub fn leading_number(bytes: &[u8]) -> Option<(i32, usize)>
     ensures number { option_map (λ n. n.0) result ≡ written_number (signed_digits bytes.now) }

@@ -6,7 +6,7 @@ ghost use Rattle.line_reader.specs.Numbers.{is_empty};
 ghost use Rattle.line_reader.specs.Tokens.{tokens_by, AreTokens, IsFirstToken, is_blank, is_in_token, begins_in_token};
 ghost use Rattle.line_reader.specs.Tokens.{begins_with_blank};
 
-/// What a byte is to the tokens.
+/// What a byte means to the tokens.
 #[derive(Clone, Copy, Debug, PartialEq, Eq)]
 pub enum ByteClass {
     /// It stands between tokens.
@@ -55,7 +55,7 @@ pub fn begins_in_token<C: Classes>(bytes: &[u8]) -> bool
     }
 }
 
-/// How many bytes the run has that the bytes begin with.
+/// The length of the run with which the bytes begin.
 #[inline]
 pub fn run_length<C: Classes>(bytes: &[u8]) -> usize
     ensures within { result ≤ length bytes.now }
@@ -70,7 +70,7 @@ pub fn run_length<C: Classes>(bytes: &[u8]) -> usize
     bytes.len()
 }
 
-/// The first token of the bytes, and what stands after it; none where there is no token.
+/// The first token of the bytes, and what stands after it; none if there is no token.
 pub fn first_token<C: Classes>(bytes: &[u8]) -> Option<(&[u8], &[u8])>
     ensures tokens { MatchOption result (tokens_by C.class_of bytes.now ≡ [])
         (λ t. IsFirstToken C.class_of bytes.now t.0.now t.1.now) }
@@ -86,9 +86,9 @@ pub fn first_token<C: Classes>(bytes: &[u8]) -> Option<(&[u8], &[u8])>
     Some(rest.split_at(length))
 }
 
-/// What the tokens of any bytes are: all bytes that aren't blank, in their order, in lists of which none is empty. A
-/// blank stands between tokens, a lone byte is a token of its own, and a longest run is one token. It does nothing: its
-/// contract says so of the definition.
+/// What the tokens of any bytes are: all bytes that aren't blank, in order, in lists that are not empty. A blank stands between
+/// tokens, a lone byte is a token of its own, and a longest run is one token. It does nothing: its contract says so of the
+/// definition.
 #[tactic(auto, using(crate::proofs::TokenWalk::token_laws))]
 pub fn token_laws<C: Classes>(bytes: &[u8])
     ensures classes { AreTokens C.class_of (tokens_by C.class_of) }
