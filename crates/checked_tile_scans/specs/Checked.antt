@@ -1,5 +1,5 @@
 -- Checked scans in tiles: what stands before each tile over whole numbers, and which results don't fit 32 bits.
--- Source: Blelloch's segmented scans and the tiles of Merrill and Garland; that the first result that doesn't fit is the fault is this
+-- Source: Blelloch's segmented scans and the tiles of Merrill and Garland; the fault, at the first result that doesn't fit, is this
 -- library's profile.
 use Rattle.std.specs.Prelude.{ℕ, ◌+◌, Bool, ℤ, pos, ◌+ℤ◌, List, length, map, take, nat_lt, Option, Some, None, option_map, if◌then◌else◌}
 use Rattle.std.specs.List.{range_with_len}

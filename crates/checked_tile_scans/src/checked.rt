@@ -1,12 +1,12 @@
 //! Scans and reduces of integer vectors by sums that never wrap, flat and by segments: `Overflow` at the first result that does
 //! not fit 32 bits.
 //!
-//! Workers race for the tiles of a long vector, whose sums are numbers of 54 bits and so are exact. They race again for the
-//! first result of a scan that does not fit, and only where there is none the results are written, each of 32 bits.
+//! Workers race for the tiles of a long vector, whose sums are numbers of 54 bits and so are exact. They race again for the first
+//! result of a scan that does not fit; only if there is none are the results written, each of 32 bits.
 //!
-//! The sum of a segment is found from the tile that holds its last element: from what stands before the tile, and the segment's
-//! elements in the tile. Where segments start about as often as threads need it there is one tile, and no race: each thread adds
-//! up segments of its own, once.
+//! The sum of a segment comes from the tile that holds its last element: from what stands before the tile, and the segment's
+//! elements in the tile. If segments start about as often as threads need it, there is one tile and no race: each thread adds up
+//! segments of its own, once.
 
 ghost use Rattle.std.specs.Prelude.{◌≡◌, ◌≤◌, IfOk, length, vec_len};
 ghost use Rattle.cvl_base.specs.CheckedSums.{checked_reduce_of, checked_scan_of, checked_seg_reduce_of, checked_seg_scan_of};
@@ -44,9 +44,8 @@ pub fn checked_scan<R: Threads + Sync, A: Memory>(
     checked_scan_gated(rt, alloc, config, a, &OpenGate)
 }
 
-/// The same as [`checked_scan`], by workers that pass a gate. They race on two boards, one after the other: for what stands
-/// before each tile, at which they pass all four points, and for the first tile with a result that does not fit, at which they
-/// pass `Claimed` and `Finished`.
+/// [`checked_scan`], by workers that pass a gate. They race on two boards in turn: for what stands before each tile, where they
+/// pass all four points, and for the first tile with a result that does not fit, where they pass `Claimed` and `Finished`.
 pub fn checked_scan_gated<R: Threads + Sync, A: Memory, G: Gate>(
     rt: &R,
     alloc: A,
@@ -67,8 +66,8 @@ pub fn checked_scan_gated<R: Threads + Sync, A: Memory, G: Gate>(
 
 /// The sum of all elements, which never wraps: `tot_ruz`.
 ///
-/// The vector has at most 4,194,304 elements. `Overflow` at 0 where the sum does not fit 32 bits; that a sum of the first
-/// elements does not fit is no fault. Source: CVL's reduces, over whole numbers.
+/// The vector has at most 4,194,304 elements. `Overflow` at 0 if the sum does not fit 32 bits; a partial sum that does not fit is
+/// no fault. Source: CVL's reduces, over whole numbers.
 pub fn checked_reduce<R: Threads + Sync, A: Memory>(
     rt: &R,
     alloc: A,
@@ -81,7 +80,7 @@ pub fn checked_reduce<R: Threads + Sync, A: Memory>(
     checked_reduce_gated(rt, alloc, config, a, &OpenGate)
 }
 
-/// The same as [`checked_reduce`], by workers that pass a gate at each of the four points of a tile, on one board.
+/// [`checked_reduce`], by workers that pass a gate at each of the four points of a tile, on one board.
 pub fn checked_reduce_gated<R: Threads + Sync, A: Memory, G: Gate>(
     rt: &R,
     alloc: A,
@@ -106,9 +105,9 @@ pub fn checked_reduce_gated<R: Threads + Sync, A: Memory, G: Gate>(
 
 /// The exclusive scan of each segment by addition that never wraps: `tot_sez`.
 ///
-/// The result is as long as the vector. LengthMismatch, without a place, where the segments' total is not the number of
-/// elements; else `Overflow` at the first result that does not fit 32 bits, at its place in the vector. Source: CVL's
-/// segmented scans, over whole numbers.
+/// The result is as long as the vector. `LengthMismatch`, without a place, if the segments' total is not the number of elements;
+/// else `Overflow` at the first result that does not fit 32 bits, at its place in the vector. Source: CVL's segmented scans, over
+/// whole numbers.
 pub fn checked_seg_scan<R: Threads + Sync, A: Memory>(
     rt: &R,
     alloc: A,
@@ -122,7 +121,7 @@ pub fn checked_seg_scan<R: Threads + Sync, A: Memory>(
     checked_seg_scan_gated(rt, alloc, config, a, d, &OpenGate)
 }
 
-/// The same as [`checked_seg_scan`], by workers that pass a gate, on the two boards of [`checked_scan_gated`].
+/// [`checked_seg_scan`], by workers that pass a gate, on the two boards of [`checked_scan_gated`].
 pub fn checked_seg_scan_gated<R: Threads + Sync, A: Memory, G: Gate>(
     rt: &R,
     alloc: A,
@@ -144,9 +143,9 @@ pub fn checked_seg_scan_gated<R: Threads + Sync, A: Memory, G: Gate>(
 
 /// The sum of each segment, which never wraps: `tot_rez`.
 ///
-/// The result has one element for each segment. LengthMismatch, without a place, where the segments' total is not the
-/// number of elements; else `Overflow` at the first segment whose sum does not fit 32 bits. Source: CVL's segmented
-/// reduces, over whole numbers.
+/// The result has one element for each segment. `LengthMismatch`, without a place, if the segments' total is not the number of
+/// elements; else `Overflow` at the first segment whose sum does not fit 32 bits. Source: CVL's segmented reduces, over whole
+/// numbers.
 pub fn checked_seg_reduce<R: Threads + Sync, A: Memory>(
     rt: &R,
     alloc: A,
@@ -160,8 +159,8 @@ pub fn checked_seg_reduce<R: Threads + Sync, A: Memory>(
     checked_seg_reduce_gated(rt, alloc, config, a, d, &OpenGate)
 }
 
-/// The same as [`checked_seg_reduce`], by workers that pass a gate at each of the four points of a tile, on one board. Where each
-/// thread has whole segments, which it has in long tiles alone, there is no race, and nobody passes the gate.
+/// [`checked_seg_reduce`], by workers that pass a gate at each of the four points of a tile, on one board. If each thread has
+/// whole segments, as only in long tiles, there is no race, and nobody passes the gate.
 pub fn checked_seg_reduce_gated<R: Threads + Sync, A: Memory, G: Gate>(
     rt: &R,
     alloc: A,

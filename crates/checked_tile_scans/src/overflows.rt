@@ -14,7 +14,7 @@ use sharing::Pace;
 use std::alloc::Allocator;
 use std::thread::Threads;
 
-/// The tiles of a vector that have a result which does not fit 32 bits, all in one slot.
+/// The tiles of a vector with a result that does not fit 32 bits, all in one slot.
 #[derive(Drop)]
 struct Outside<'a, A: Allocator> {
     vector: &'a Totals<'a, A>,
@@ -69,9 +69,8 @@ impl<'a, A: Allocator> Targets for Outside<'a, A> {
     }
 }
 
-/// The place of the first result that does not fit 32 bits, where it is known what stands before each tile. Workers race for
-/// the first tile that has such a result, and pass the gate at `Claimed` and `Finished` of each tile; then one thread walks that
-/// tile again.
+/// The place of the first result that does not fit 32 bits, from what stands before each tile. Workers race for the first tile
+/// with such a result, and pass the gate at `Claimed` and `Finished` of each tile; then one thread walks that tile again.
 pub(crate) fn first_overflow<R: Threads + Sync, A: Memory, G: Gate>(
     rt: &R,
     alloc: A,

@@ -1,5 +1,5 @@
 //! The sums of segments, each found from the tile that holds the segment's last element. The first sum that does not fit 32 bits
-//! is found while they are written, so that nothing is added up a second time.
+//! is found while they are written, so that nothing is added up twice.
 
 ghost use Rattle.std.specs.Prelude.{◌≡◌, Some, length, map, pos, IfOk, vec_len};
 ghost use Rattle.std.specs.Option.{option_copied};
@@ -20,7 +20,7 @@ use sharing::ThreadCount;
 use std::alloc::Allocator;
 use std::thread::Threads;
 
-/// The sums of the segments of a vector, of which it is known what stands before each tile.
+/// The sums of the segments of a vector, with what stands before each tile.
 #[derive(Drop)]
 struct SegmentSums<'a, A: Allocator> {
     vector: &'a Totals<'a, A>,
@@ -31,8 +31,8 @@ struct SegmentSums<'a, A: Allocator> {
         ≡ totals_before vector.now.plan (flagged (option_copied vector.now.segments) vector.now.elements.now) },
 }
 
-/// The sums of the segments, where it is known what stands before each tile. At most so many threads write them. `Overflow` at
-/// the first segment whose sum does not fit 32 bits.
+/// The sums of the segments, from what stands before each tile. At most `threads` threads write them. `Overflow` at the first
+/// segment whose sum does not fit 32 bits.
 pub(crate) fn sums_known<R: Threads + Sync, A: Memory>(
     rt: &R,
     alloc: A,

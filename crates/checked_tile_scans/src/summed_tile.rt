@@ -1,4 +1,4 @@
-//! How long the tiles are by which segments are summed. No result depends on it.
+//! The length of the tiles that sum up segments. No result depends on it.
 
 ghost use Rattle.std.specs.Prelude.{◌≡◌, ◌<◌, ◌≤◌};
 ghost use Rattle.sharing.specs.Thresholds.{long_tile};
@@ -7,8 +7,8 @@ use segdes::SegDes;
 use sharing::{LONG_TILE, Pace};
 use std::alloc::Allocator;
 
-/// Whether the elements can be cut between segments into so many parts, of which there is at least one, that are nearly equal:
-/// after each place that cuts them into equal parts a segment starts within half a part.
+/// Whether the elements can be cut between segments into `parts` nearly equal parts, at least one: after each place that cuts
+/// them into equal parts a segment starts within half a part.
 fn is_cut_evenly<A: Allocator>(d: &SegDes<A>, parts: usize) -> bool
     requires { 1 ≤ parts }
 {
@@ -23,11 +23,11 @@ fn is_cut_evenly<A: Allocator>(d: &SegDes<A>, parts: usize) -> bool
     true
 }
 
-/// How long the tiles are by which segments are summed: one tile for all where each worker can have whole segments, and else
-/// those of the race. Who asks for short tiles gets those.
+/// The length of the tiles that sum up segments: one tile for all if each worker can have whole segments, else those of the race.
+/// If you ask for short tiles, you get them.
 ///
-/// With one tile each worker adds up its segments once. The race adds up all elements twice, so that it is no faster than the
-/// worker who has half a part more than an equal one.
+/// With one tile each worker adds up its segments once. The race adds up all elements twice, so it is no faster than a worker who
+/// has half a part more than an equal one.
 pub(crate) fn summed_tile<A: Allocator>(pace: Pace, d: &SegDes<A>) -> u32
     ensures some { 1 ≤ result }
     ensures short { pace.0 < long_tile → result ≡ pace.0 }

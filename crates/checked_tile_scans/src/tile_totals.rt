@@ -1,4 +1,4 @@
-//! Vectors of integers in tiles, flat ones and segmented ones, that are added up over whole numbers, which never wrap.
+//! Vectors of integers in tiles, flat and segmented, added up over whole numbers, which never wrap.
 
 ghost use Rattle.std.specs.Prelude.{◌≡◌, ◌+ℤ◌, ◌<◌, ◌≤◌, true, pos, IfOk, length};
 ghost use Rattle.std.specs.List.{list_all};
@@ -20,8 +20,8 @@ use std::thread::Threads;
 use tile_plan::Plan;
 use tile_scans::race_for_befores;
 
-/// A vector of integers in tiles. It is flat where it has no descriptor. Its tiles' sums race as numbers of 54 bits, which they
-/// all fit.
+/// A vector of integers in tiles. Without a descriptor it is flat. Its tiles' sums race as numbers of 54 bits, which they all
+/// fit.
 #[derive(Drop)]
 pub(crate) struct Totals<'a, A: Allocator> {
     pub(crate) elements: &'a [i32],
@@ -43,8 +43,7 @@ impl<'a, A: Allocator> Totals<'a, A> {
     ghost use Rattle.tile_scans.specs.TiledSums.{tile_of};
     ghost use Rattle.checked_tile_scans.specs.Checked.{total_since};
 
-    /// A vector of at most 4,194,304 elements, beside its descriptor if it has one, in tiles of `tile` elements, of which there
-    /// is at least one.
+    /// A vector of at most 4,194,304 elements, with its descriptor if it has one, in tiles of `tile` elements, at least one.
     pub(crate) fn new(
         elements: &'a [i32],
         segments: Option<&'a SegDes<A>>,
@@ -79,7 +78,7 @@ impl<'a, A: Allocator> Totals<'a, A> {
         }
     }
 
-    /// How many results of the scan of tile `t` fit 32 bits, from the first one on, where `before` stands before the tile.
+    /// How many results of the scan of tile `t` fit 32 bits, from the first one on, if `before` stands before the tile.
     pub(crate) fn fitting(&self, t: u32, before: i64) -> usize
         requires { t < tile_count self.now.plan.0 self.now.plan.1 }
         ensures { result ≡ fitting_front (range_scan_of ◌+ℤ◌ (pos 0) before (tile_of self.now.plan.0 self.now.plan.1
@@ -93,8 +92,8 @@ impl<'a, A: Allocator> Totals<'a, A> {
         }
     }
 
-    /// The sum of the elements from place `start` to the one before place `end`, among which no segment starts but the first,
-    /// where it is known what stands before each tile. No element before the tile that holds the last one is read.
+    /// The sum of the elements from place `start` to the one before place `end`, in which no segment starts but the first, from
+    /// what stands before each tile. Reads no element before the tile that holds the last one.
     pub(crate) fn total_between(&self, start: usize, end: usize, before: &[i64]) -> i64
         requires in_order { start ≤ end }
         requires within { end ≤ length self.now.elements.now }
@@ -138,8 +137,8 @@ impl<'a, A: Allocator> Tiles for Totals<'a, A> {
 }
 
 /// What stands before each tile of a vector. Workers race for the tiles, tell their sums and their prefixes, and pass the gate at
-/// each of the four points of a tile; for one long tile no thread is started, no element is read, and nobody passes the gate. It
-/// keeps no memory but the answer's, which takes 8 bytes a tile.
+/// each of the four points of a tile; one long tile starts no thread, reads no element, and nobody passes the gate. Only the
+/// answer's memory is kept, 8 bytes a tile.
 ///
 /// Source: Merrill and Garland's decoupled look-back.
 pub(crate) fn race_for_totals<R: Threads + Sync, A: Memory, G: Gate>(

@@ -1,4 +1,4 @@
-//! Checked scans in tiles, which are written once it is known that all results fit 32 bits.
+//! Checked scans in tiles, written once all results are known to fit 32 bits.
 
 ghost use Rattle.std.specs.Prelude.{◌≡◌, IfOk, length, map, vec_len};
 ghost use Rattle.std.specs.Option.{option_copied};
@@ -28,9 +28,8 @@ fn wrapped<A: Allocator>(alloc: A, numbers: &[i64]) -> Result<Vec<i32, A>, NoRes
     Ok(numbers.iter().map(|z| Add::from_word(*z)).collect(alloc)?)
 }
 
-/// The checked scan of a vector in tiles of the pace's length. It is written once it is known that all results fit 32 bits:
-/// `Overflow` at the first one that does not. The workers pass the gate on two boards, that of the scan and then that of the
-/// least tile.
+/// The checked scan of a vector in tiles of the pace's length. It is written once all results are known to fit 32 bits:
+/// `Overflow` at the first that does not. The workers pass the gate on two boards, first the scan's and then the least tile's.
 pub(crate) fn scan_or_overflow<R: Threads + Sync, A: Memory, G: Gate>(
     rt: &R,
     alloc: A,
