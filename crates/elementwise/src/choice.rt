@@ -10,11 +10,10 @@ use element_walks::Chosen;
 use std::mem::size_of_val;
 use std::thread::Threads;
 
-/// At each place the element of `a` where the flag is true, else that of `b`: `sel_wuz` and `sel_wub`.
+/// At each place the element of `a` if the flag is true, else that of `b`: `sel_wuz` and `sel_wub`.
 ///
-/// The result is as long as the three vectors. The one fault is `LengthMismatch`, without a place, where they aren't
-/// equally long. Long vectors are shared among threads by `rayon`, whatever the number of workers. Source: CVL's
-/// elementwise calls.
+/// The result is as long as the three vectors. The one fault is `LengthMismatch`, without a place, if they differ in length.
+/// `rayon` shares long vectors among threads, whatever the number of workers. Source: CVL's elementwise calls.
 pub fn select<T: Copy + Send + Sync, R: Threads + Sync, A: Memory>(
     rt: &R,
     alloc: A,

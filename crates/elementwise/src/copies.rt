@@ -9,7 +9,7 @@ use fresh::write_in_runs_by_rayon;
 use std::mem::size_of_val;
 use std::thread::Threads;
 
-/// A copy of a vector. One thread moves the bytes at once, which takes less time than a loop over the elements.
+/// A copy of a vector. One thread moves the bytes at once, which is faster than a loop over the elements.
 pub(crate) fn copied<X: Copy + Send + Sync, R: Threads + Sync, A: Memory>(
     rt: &R,
     alloc: A,

@@ -1,4 +1,4 @@
-//! The calls over a room of the caller's, by the thread that calls, for code that has no runtime. They ask for no memory.
+//! The calls into the caller's room, on the calling thread, for code that has no runtime. They take no memory.
 
 ghost use Rattle.std.specs.Prelude.{◌≤◌, Ok, length, map};
 ghost use Rattle.cvl_base.specs.Elementwise.{bools_from_ints, compare_of, ints1_of, ints2_of, on_pairs, on_pairs_or};
@@ -14,8 +14,8 @@ use cvl_base::{
 use element_walks::{Copied, OnEach, OnPairs, OrZero};
 use fresh::write_over;
 
-/// Writes the operator's values on the pairs of elements of two vectors, or tells `LengthMismatch` where the vectors and the
-/// room aren't equally long.
+/// Writes the operator's values on the pairs of elements of two vectors. `LengthMismatch` if the vectors and the room differ in
+/// length.
 pub fn on_pairs_over<O: Binary<X, Z>, X: Copy, Z: Copy>(
     a: &[X],
     b: &[X],
@@ -30,8 +30,8 @@ pub fn on_pairs_over<O: Binary<X, Z>, X: Copy, Z: Copy>(
     Ok(())
 }
 
-/// Writes the operator's values on the pairs of elements, or tells its fault at the least place without a value;
-/// `LengthMismatch` where one vector is longer, and where all pairs have values, where the room isn't as long.
+/// Writes the operator's values on the pairs of elements, or reports its fault at the first place without a value;
+/// `LengthMismatch` if one vector is longer, and, if all pairs have values, if the room is not as long.
 fn on_pairs_or_over<O: PartialBinary>(a: &[i32], b: &[i32], out: &mut [i32]) -> Result<(), Fault>
     requires { length a.now ≤ most_places }
     ensures { Overwrites (in_room (length out.old) (on_pairs_or O.fault O.value a.now b.now)) result out.old out.new }
@@ -40,7 +40,7 @@ fn on_pairs_or_over<O: PartialBinary>(a: &[i32], b: &[i32], out: &mut [i32]) -> 
     on_pairs_over::<OrZero<O>, i32, i32>(a, b, out)
 }
 
-/// Writes the operator's values on the elements, or tells `LengthMismatch` where the room isn't as long.
+/// Writes the operator's values on the elements. `LengthMismatch` if the room is not as long.
 pub fn on_each_over<O: Single<X, Z>, X: Copy, Z: Copy>(a: &[X], out: &mut [Z]) -> Result<(), Fault>
     requires { length a.now ≤ most_places }
     ensures { Overwrites (in_room (length out.old) (Ok (map O.value a.now))) result out.old out.new }
@@ -50,7 +50,7 @@ pub fn on_each_over<O: Single<X, Z>, X: Copy, Z: Copy>(a: &[X], out: &mut [Z]) -
     Ok(())
 }
 
-/// Copies the elements, or tells `LengthMismatch` where the room isn't as long.
+/// Copies the elements. `LengthMismatch` if the room is not as long.
 fn copy_over<X: Copy>(a: &[X], out: &mut [X]) -> Result<(), Fault>
     requires { length a.now ≤ most_places }
     ensures { Overwrites (in_room (length out.old) (Ok a.now)) result out.old out.new }
@@ -60,7 +60,7 @@ fn copy_over<X: Copy>(a: &[X], out: &mut [X]) -> Result<(), Fault>
     Ok(())
 }
 
-/// The same as [`int2`](crate::int2), over a room, whose length is checked last.
+/// [`int2`](crate::int2) into a room, whose length is checked last.
 pub fn int2_over(op: IntBinary, a: &[i32], b: &[i32], out: &mut [i32]) -> Result<(), Fault>
     requires { length a.now ≤ most_places }
     ensures { Overwrites (in_room (length out.old) (ints2_of op a.now b.now)) result out.old out.new }
@@ -72,7 +72,7 @@ pub fn int2_over(op: IntBinary, a: &[i32], b: &[i32], out: &mut [i32]) -> Result
     )
 }
 
-/// The same as [`int1`](crate::int1), over a room.
+/// [`int1`](crate::int1) into a room.
 pub fn int1_over(op: Unary, a: &[i32], out: &mut [i32]) -> Result<(), Fault>
     requires { length a.now ≤ most_places }
     ensures { Overwrites (in_room (length out.old) (Ok (ints1_of op a.now))) result out.old out.new }
@@ -83,7 +83,7 @@ pub fn int1_over(op: Unary, a: &[i32], out: &mut [i32]) -> Result<(), Fault>
     }
 }
 
-/// The same as [`compare`](crate::compare), over a room.
+/// [`compare`](crate::compare) into a room.
 pub fn compare_over(op: Comparison, a: &[i32], b: &[i32], out: &mut [bool]) -> Result<(), Fault>
     requires { length a.now ≤ most_places }
     ensures { Overwrites (in_room (length out.old) (compare_of op a.now b.now)) result out.old out.new }
@@ -91,7 +91,7 @@ pub fn compare_over(op: Comparison, a: &[i32], b: &[i32], out: &mut [bool]) -> R
     by_comparison!(op, on_pairs_over::<_, i32, bool>(a, b, out))
 }
 
-/// The same as [`bool_from_int`](crate::bool_from_int), over a room.
+/// [`bool_from_int`](crate::bool_from_int) into a room.
 pub fn bool_from_int_over(a: &[i32], out: &mut [bool]) -> Result<(), Fault>
     requires { length a.now ≤ most_places }
     ensures { Overwrites (in_room (length out.old) (Ok (bools_from_ints a.now))) result out.old out.new }

@@ -1,5 +1,5 @@
-//! The calls in place, by the thread that calls: the result is written over a vector that the operator takes. Where a fault is
-//! told the vector is as before. They ask for no memory.
+//! The calls in place, on the calling thread: the result overwrites a vector that the operator takes. After a fault the vector is
+//! as before. They take no memory.
 
 ghost use Rattle.std.specs.Prelude.{◌≡◌, ◌≤◌, Ok, length, map};
 ghost use Rattle.std.specs.List.{zip};
@@ -34,7 +34,7 @@ fn write_pairs<O: Binary<X, X>, X: Copy>(a: &mut [X], b: &[X])
     }
 }
 
-/// Writes the operator's values on the pairs of elements over the first vector, or tells `LengthMismatch` where one is longer.
+/// Writes the operator's values on the pairs of elements over the first vector. `LengthMismatch` if one is longer.
 pub fn on_pairs_in_first<O: Binary<X, X>, X: Copy>(a: &mut [X], b: &[X]) -> Result<(), Fault>
     ensures { Overwrites (on_pairs O.value a.old b.now) result a.old a.new }
 {
@@ -52,7 +52,7 @@ pub fn on_pairs_in_second<O: Binary<X, X>, X: Copy>(a: &[X], b: &mut [X]) -> Res
     Ok(())
 }
 
-/// The same of a vector and itself.
+/// The same for a vector and itself.
 pub fn on_pairs_in_both<O: Binary<X, X>, X: Copy>(a: &mut [X]) -> Result<(), Fault>
     ensures { Overwrites (on_pairs O.value a.old a.old) result a.old a.new }
 {
@@ -60,8 +60,8 @@ pub fn on_pairs_in_both<O: Binary<X, X>, X: Copy>(a: &mut [X]) -> Result<(), Fau
     Ok(())
 }
 
-/// Writes the operator's values on the pairs of elements over the first vector, or tells its fault at the least place without a
-/// value; `LengthMismatch` where one vector is longer.
+/// Writes the operator's values on the pairs of elements over the first vector, or reports its fault at the first place without a
+/// value; `LengthMismatch` if one vector is longer.
 fn on_pairs_or_in_first<O: PartialBinary>(a: &mut [i32], b: &[i32]) -> Result<(), Fault>
     requires { length a.old ≤ most_places }
     ensures { Overwrites (on_pairs_or O.fault O.value a.old b.now) result a.old a.new }
@@ -79,7 +79,7 @@ fn on_pairs_or_in_second<O: PartialBinary>(a: &[i32], b: &mut [i32]) -> Result<(
     on_pairs_in_second::<OrZero<O>, i32>(a, b)
 }
 
-/// The same of a vector and itself.
+/// The same for a vector and itself.
 fn on_pairs_or_in_both<O: PartialBinary>(a: &mut [i32]) -> Result<(), Fault>
     requires { length a.old ≤ most_places }
     ensures { Overwrites (on_pairs_or O.fault O.value a.old a.old) result a.old a.new }
@@ -88,7 +88,7 @@ fn on_pairs_or_in_both<O: PartialBinary>(a: &mut [i32]) -> Result<(), Fault>
     on_pairs_in_both::<OrZero<O>, i32>(a)
 }
 
-/// The same as [`int2`](crate::int2), over the first vector.
+/// [`int2`](crate::int2), written over the first vector.
 pub fn int2_in_first(op: IntBinary, a: &mut [i32], b: &[i32]) -> Result<(), Fault>
     requires { length a.old ≤ most_places }
     ensures { Overwrites (ints2_of op a.old b.now) result a.old a.new }
@@ -100,7 +100,7 @@ pub fn int2_in_first(op: IntBinary, a: &mut [i32], b: &[i32]) -> Result<(), Faul
     )
 }
 
-/// The same as [`int2`](crate::int2), over the second vector.
+/// [`int2`](crate::int2), written over the second vector.
 pub fn int2_in_second(op: IntBinary, a: &[i32], b: &mut [i32]) -> Result<(), Fault>
     requires { length a.now ≤ most_places }
     ensures { Overwrites (ints2_of op a.now b.old) result b.old b.new }
@@ -112,7 +112,7 @@ pub fn int2_in_second(op: IntBinary, a: &[i32], b: &mut [i32]) -> Result<(), Fau
     )
 }
 
-/// The same as [`int2`](crate::int2) of a vector and itself, over the vector.
+/// [`int2`](crate::int2) of a vector and itself, written over the vector.
 pub fn int2_in_both(op: IntBinary, a: &mut [i32]) -> Result<(), Fault>
     requires { length a.old ≤ most_places }
     ensures { Overwrites (ints2_of op a.old a.old) result a.old a.new }
@@ -124,7 +124,7 @@ pub fn int2_in_both(op: IntBinary, a: &mut [i32]) -> Result<(), Fault>
     )
 }
 
-/// The same as [`int1`](crate::int1), over the vector.
+/// [`int1`](crate::int1), written over the vector.
 pub fn int1_in(op: Unary, a: &mut [i32])
     ensures { a.new ≡ ints1_of op a.old }
 {

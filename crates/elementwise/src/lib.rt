@@ -1,8 +1,8 @@
 //! Elementwise calls: each element of the result is an operator on the elements at its place.
 //!
-//! Long vectors are shared among threads by `rayon`, which takes as many threads as the machine has processors. The number
-//! of workers of a configuration governs crews alone, so that these calls fork with one worker too. Of
-//! quotients, remainders and shifts the workers of a configuration race for the least place without a value, and then write.
+//! `rayon` shares long vectors among as many threads as the machine has processors. A configuration's number of workers governs
+//! only crews, so that these calls fork with one worker too. For quotients, remainders and shifts, the workers of a configuration
+//! race for the first place without a value, and then write.
 #![tactic(auto)]
 
 mod choice;

@@ -16,11 +16,11 @@ use std::thread::Threads;
 
 /// The operator on each two elements at the same place: `add_wuz` and its like.
 ///
-/// The vectors have at most 4,194,304 elements, and the result is as long as they are. The faults are, in this order,
-/// `LengthMismatch`, without a place, where one is longer, and `DivideByZero` or `ShiftOutOfRange` at the least place,
-/// counted from 0, where a quotient, a remainder or a shift has no value. With these four operators the workers of
-/// the configuration race for that place in long vectors, and threads no more than these write the result. With the others
-/// long vectors are shared among threads by `rayon`, whatever the number of workers. Source: CVL's elementwise calls.
+/// The vectors have at most 4,194,304 elements, and the result is as long. The faults are, in this order, `LengthMismatch`,
+/// without a place, if one is longer, and `DivideByZero` or `ShiftOutOfRange` at the first place, counted from 0, at which a
+/// quotient, a remainder or a shift has no value. For these four operators the workers of the configuration race for that place
+/// in long vectors, and no more threads write the result. For the others `rayon` shares long vectors among threads, whatever the
+/// number of workers. Source: CVL's elementwise calls.
 pub fn int2<R: Threads + Sync, A: Memory>(
     rt: &R,
     alloc: A,
@@ -36,7 +36,7 @@ pub fn int2<R: Threads + Sync, A: Memory>(
     int2_gated(rt, alloc, config, op, a, b, &OpenGate)
 }
 
-/// The same as [`int2`], by workers that pass a gate at `Claimed` and `Finished` of each tile for which they race.
+/// [`int2`], by workers that pass a gate at `Claimed` and `Finished` of each tile for which they race.
 pub fn int2_gated<R: Threads + Sync, A: Memory, G: Gate>(
     rt: &R,
     alloc: A,
@@ -59,8 +59,8 @@ pub fn int2_gated<R: Threads + Sync, A: Memory, G: Gate>(
 
 /// The operator on each two booleans at the same place: `and_wub` and its like.
 ///
-/// The result is as long as the vectors. The one fault is `LengthMismatch`, without a place, where one is longer. Long
-/// vectors are shared among threads by `rayon`, whatever the number of workers. Source: CVL's elementwise calls.
+/// The result is as long as the vectors. The one fault is `LengthMismatch`, without a place, if one is longer. `rayon` shares
+/// long vectors among threads, whatever the number of workers. Source: CVL's elementwise calls.
 pub fn bool2<R: Threads + Sync, A: Memory>(
     rt: &R,
     alloc: A,
@@ -77,8 +77,8 @@ pub fn bool2<R: Threads + Sync, A: Memory>(
 
 /// The comparison of each two elements at the same place, on signed numbers: `grt_wuz` and its like.
 ///
-/// The result is as long as the vectors. The one fault is `LengthMismatch`, without a place, where one is longer. Long
-/// vectors are shared among threads by `rayon`, whatever the number of workers. Source: CVL's elementwise calls.
+/// The result is as long as the vectors. The one fault is `LengthMismatch`, without a place, if one is longer. `rayon` shares
+/// long vectors among threads, whatever the number of workers. Source: CVL's elementwise calls.
 pub fn compare<R: Threads + Sync, A: Memory>(
     rt: &R,
     alloc: A,

@@ -1,5 +1,5 @@
-//! Operators that have no value on some pairs: the least place without one is looked for, by workers that race where the vectors
-//! are long, and then the values are written.
+//! Operators without a value on some pairs: first the first such pair is searched for, by workers that race if the vectors are
+//! long, and then the values are written.
 
 ghost use Rattle.std.specs.Prelude.{◌≡◌, ◌≤◌, IfOk, length, map, vec_len};
 ghost use Rattle.std.specs.List.{zip};
@@ -59,8 +59,8 @@ impl<'a, O: PartialBinary> Targets for Valueless<'a, O> {
     }
 }
 
-/// The least place at which the operator has no value on the pair of elements of two equally long vectors, for which workers
-/// race, or the thread that calls looks.
+/// The first place at which the operator has no value on the pair of elements of two equally long vectors, found by workers who
+/// race, or by the calling thread.
 fn least_valueless<O: PartialBinary + Send + Sync, R: Threads + Sync, A: Memory, G: Gate>(
     rt: &R,
     alloc: A,
@@ -84,9 +84,9 @@ fn least_valueless<O: PartialBinary + Send + Sync, R: Threads + Sync, A: Memory,
     race_for_least(rt, alloc, pace, &valueless, gate)
 }
 
-/// The operator's values on the pairs of elements, or its fault at the least place without a value; `LengthMismatch` where
-/// one vector is longer.
-// All pairs are looked at before the first value is written, by vector code. A walk that stops at a pair has none.
+/// The operator's values on the pairs of elements, or its fault at the first place without a value; `LengthMismatch` if one
+/// vector is longer.
+// Vector code checks all pairs before the first value is written. A walk that stops at a pair has none.
 pub(crate) fn values_or_fault<
     O: PartialBinary + Send + Sync,
     R: Threads + Sync,

@@ -27,13 +27,13 @@ pub(crate) fn written_by_rayon<T: Send + Drop, R: Threads + Sync, A: Memory, W: 
     Ok(write_in_runs_by_rayon(rt, alloc, threads, writer, items)?)
 }
 
-/// How many threads of `rayon` share a call that reads so many bytes: as many as there are processors at most, since such a call
-/// has no configuration.
+/// How many threads of `rayon` share a call that reads this many bytes: at most as many as there are processors, since such a
+/// call has no configuration.
 pub(crate) fn rayon_threads(rt: &impl Threads, read: usize) -> usize
     ensures { 1 ≤ result }
 {
     let elements = read / READ_BY_A_SUM;
-    // asking for the processors takes longer than many a short vector
+    // to ask for the processors takes longer than many a short vector
     if elements < LEAST_SHARED {
         return 1;
     }

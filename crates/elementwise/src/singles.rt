@@ -11,8 +11,8 @@ use std::thread::Threads;
 
 /// The operator on each element: `not_wuz` and `cpy_wuz`.
 ///
-/// The result is as long as `a`. There is no fault. Long vectors are shared among threads by `rayon`, whatever the number
-/// of workers. Source: CVL's elementwise calls.
+/// The result is as long as `a`. There is no fault. `rayon` shares long vectors among threads, whatever the number of workers.
+/// Source: CVL's elementwise calls.
 pub fn int1<R: Threads + Sync, A: Memory>(
     rt: &R,
     alloc: A,
@@ -31,8 +31,8 @@ pub fn int1<R: Threads + Sync, A: Memory>(
 
 /// The operator on each boolean: `not_wub` and `cpy_wub`.
 ///
-/// The result is as long as `a`. There is no fault. Long vectors are shared among threads by `rayon`, whatever the number
-/// of workers. Source: CVL's elementwise calls.
+/// The result is as long as `a`. There is no fault. `rayon` shares long vectors among threads, whatever the number of workers.
+/// Source: CVL's elementwise calls.
 pub fn bool1<R: Threads + Sync, A: Memory>(
     rt: &R,
     alloc: A,
@@ -49,10 +49,10 @@ pub fn bool1<R: Threads + Sync, A: Memory>(
     }
 }
 
-/// 1 at each place where the boolean is true, and 0 where it is false: `int_wub`.
+/// 1 for each true boolean, and 0 for each false one: `int_wub`.
 ///
-/// The result is as long as `a`. There is no fault. Long vectors are shared among threads by `rayon`, whatever the number
-/// of workers. Source: CVL's conversions.
+/// The result is as long as `a`. There is no fault. `rayon` shares long vectors among threads, whatever the number of workers.
+/// Source: CVL's conversions.
 pub fn int_from_bool<R: Threads + Sync, A: Memory>(
     rt: &R,
     alloc: A,
@@ -65,10 +65,10 @@ pub fn int_from_bool<R: Threads + Sync, A: Memory>(
     values_on_each::<IntOfBool, bool, i32, R, A>(rt, alloc, a)
 }
 
-/// True at each place where the number isn't 0: `boo_wuz`.
+/// True for each number that isn't 0: `boo_wuz`.
 ///
-/// The result is as long as `a`. There is no fault. Long vectors are shared among threads by `rayon`, whatever the number
-/// of workers. Source: CVL's conversions.
+/// The result is as long as `a`. There is no fault. `rayon` shares long vectors among threads, whatever the number of workers.
+/// Source: CVL's conversions.
 pub fn bool_from_int<R: Threads + Sync, A: Memory>(
     rt: &R,
     alloc: A,

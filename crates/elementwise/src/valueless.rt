@@ -1,4 +1,4 @@
-//! Looks for the first pair of elements on which an operator has no value, by the thread that calls.
+//! Looks for the first pair of elements on which an operator has no value, on the calling thread.
 
 ghost use Rattle.std.specs.Prelude.{◌≡◌, ℕ, ◌<◌, ◌≤◌, pos, Err, IsTrue, MatchResult, None, length, slice_index_or};
 ghost use Rattle.std.specs.Option.{unwrap_or};
@@ -8,11 +8,11 @@ ghost use Rattle.elementwise.specs.Valueless.{least_without, slots_without};
 
 use cvl_base::{Fault, PartialBinary, check_agree};
 
-/// How many pairs are looked at before it is asked whether one of them has no value.
+/// How many pairs are tested before any answer is asked for.
 const BLOCK: usize = 4096;
 
 /// Whether the operator has a value on each pair from place `from` to the one before place `to`.
-// No way out of the loop before its end, so that several places are looked at in one step.
+// The loop has no early exit, so that one step tests several places.
 pub(crate) fn all_have_values<O: PartialBinary>(
     first: &[i32],
     second: &[i32],
@@ -31,7 +31,7 @@ pub(crate) fn all_have_values<O: PartialBinary>(
     clear
 }
 
-/// The least place without a value from place `from` on, of two vectors that are equally long.
+/// The first place without a value from place `from` on, in two vectors of equal length.
 fn first_from<O: PartialBinary>(a: &[i32], b: &[i32], from: usize) -> Option<u32>
     requires as_long { length a.now ≡ length b.now }
     requires in_limit { length a.now ≤ most_places }
@@ -46,7 +46,7 @@ fn first_from<O: PartialBinary>(a: &[i32], b: &[i32], from: usize) -> Option<u32
     None
 }
 
-/// The least place without a value, of two vectors that are equally long.
+/// The first place without a value, in two vectors of equal length.
 pub(crate) fn first_without<O: PartialBinary>(a: &[i32], b: &[i32]) -> Option<u32>
     requires as_long { length a.now ≡ length b.now }
     requires in_limit { length a.now ≤ most_places }
@@ -63,8 +63,8 @@ pub(crate) fn first_without<O: PartialBinary>(a: &[i32], b: &[i32]) -> Option<u3
     None
 }
 
-/// Checks that the operator has a value on all pairs of elements, else its fault at the least place without one; `LengthMismatch`
-/// where one vector is longer.
+/// Checks that the operator has a value on all pairs of elements, else its fault at the first place without one; `LengthMismatch`
+/// if one vector is longer.
 pub(crate) fn check_values<O: PartialBinary>(a: &[i32], b: &[i32]) -> Result<(), Fault>
     requires { length a.now ≤ most_places }
     ensures { MatchResult result

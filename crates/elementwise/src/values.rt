@@ -24,7 +24,7 @@ pub(crate) fn values_on_each<
     written_by_rayon(rt, alloc, &OnEach::<O, X>::new(a), a.len(), size_of_val(a))
 }
 
-/// The operator's values on the pairs of elements of two vectors, or `LengthMismatch` where one is longer.
+/// The operator's values on the pairs of elements of two vectors, or `LengthMismatch` if one is longer.
 pub(crate) fn values_on_pairs<
     O: Binary<X, Z> + Send + Sync,
     X: Copy + Sync,
