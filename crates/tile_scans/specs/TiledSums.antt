@@ -1,4 +1,4 @@
--- Vectors that are walked in tiles: what each tile sums up to.
+-- Vectors walked in tiles: what each tile sums up to.
 -- Source: the tiles of Merrill and Garland, Single-pass Parallel Prefix Scan with Decoupled Look-back, 2016.
 use Rattle.std.specs.Prelude.{ℕ, Bool, List, Option, Some, None, map, slice_range, sum}
 use Rattle.std.specs.List.{range_with_len}
@@ -12,7 +12,7 @@ abbrev pub flagged : {Item : Type 0} → Option (List ℕ) → List Item → Lis
 flagged None xs = continued xs
 flagged (Some lengths) xs = with_starts lengths xs
 
--- how many elements the segments have together, or this number where the vector is flat
+-- how many elements the segments have together, or this number if the vector is flat
 abbrev pub elements_of : Option (List ℕ) → ℕ → ℕ
 elements_of None n = n
 elements_of (Some lengths) n = sum lengths

@@ -10,7 +10,7 @@ use Rattle.fresh.specs.Places.{Stretch, with_items}
 abbrev pub next_of : {X : Type 0} → Stretch X → ℕ
 next_of run = run.first + length run.items
 
--- the run after n more of its places were written, of which each holds what the whole has there
+-- the run after n more of its places were written; each holds what the whole has there
 abbrev pub written_on : {X : Type 0} → List X → ℕ → Stretch X → Stretch X
 written_on whole n run = with_items run (part whole (next_of run) n)
 

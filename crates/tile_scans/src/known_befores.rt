@@ -1,4 +1,4 @@
-//! Vectors in tiles, of which it is known what stands before each tile.
+//! Vectors in tiles, with what stands before each tile.
 
 ghost use Rattle.std.specs.Prelude.{◌≡◌, map};
 ghost use Rattle.std.specs.Option.{option_copied};
@@ -11,7 +11,7 @@ use cvl_base::monoid::know_laws;
 use scan_walks::Reading;
 use std::alloc::Allocator;
 
-/// A vector in tiles, beside what stands before each tile.
+/// A vector in tiles, with what stands before each tile.
 #[derive(Drop)]
 pub(crate) struct KnownBefores<'a, M: Packed, X: Copy, E: Reading<X, M::Item>, A: Allocator> {
     pub(crate) vector: &'a Tiled<'a, M, X, E, A>,
@@ -26,8 +26,8 @@ impl<'a, M: Packed, X: Copy, E: Reading<X, M::Item>, A: Allocator> KnownBefores<
     ghost use Rattle.cvl_base.specs.SegmentMonoid.{seg_join, seg_unit};
     ghost use Rattle.tile_plan.specs.Ranges.{range_of, tile_count};
 
-    /// What stands before a place of tile `t`, or before its end, since the last start of a segment. Only elements of the tile
-    /// are read.
+    /// What stands before a place of tile `t`, or before its end, since the last start of a segment. Reads only elements of the
+    /// tile.
     pub(crate) fn before_place(&self, t: u32, place: usize) -> M::Item
         requires tile { t < tile_count self.now.vector.now.plan.0 self.now.vector.now.plan.1 }
         requires begun { (range_of self.now.vector.now.plan.0 self.now.vector.now.plan.1 t).0 ≤ place }

@@ -1,14 +1,14 @@
 //! Scans and reduces by any monoid, flat and by segments, in one pass over tiles for which workers race.
 //!
-//! Where tiles of fewer than 1,024 elements are asked for, as many workers as are asked for race for them, but no more than
-//! there are tiles. Else as many workers as have a share of a long vector race for its tiles, which may be made longer, and a
-//! vector that is too short to be shared is walked at once. That hangs on the configuration and on the vector's length alone.
+//! If you ask for tiles of fewer than 1,024 elements, as many workers as you ask for race for them, but no more than there are
+//! tiles. Otherwise as many workers as have a share of a long vector race for its tiles, which may be made longer, and a vector
+//! too short to share is walked at once. Only the configuration and the vector's length decide.
 //!
-//! Each call has a gated form, whose workers pass a gate at each point of their way through a tile. The call itself is its
-//! gated form at the gate that holds nobody, so that a gate sees whatever the call does.
+//! Each call has a gated form, whose workers pass a gate at each point of their way through a tile. The call itself is that form
+//! with the gate that holds nobody, so that a gate sees whatever the call does.
 //!
-//! A crate above that sums up tiles in a way of its own has the parts: the pace, the race for what stands before each tile, also
-//! of elements that are read as items, and the scan that is written where that is known.
+//! A crate above that sums tiles in its own way has the parts: the pace, the race for what stands before each tile, also of
+//! elements that are read as items, and the scan that is written once that is known.
 #![tactic(auto)]
 
 mod known_befores;

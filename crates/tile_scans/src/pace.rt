@@ -1,6 +1,6 @@
-//! Whether workers race for the tiles of a vector, how many of them, and for tiles of which length. It hangs on the
-//! configuration and on the length alone, so that a gate sees what a call without one does. No result depends on it. The
-//! thresholds and the rule stand in the crate `sharing`.
+//! Whether workers race for the tiles of a vector, how many, and for tiles of which length. Only the configuration and the length
+//! decide, so that a gate sees what a call without one does. No result depends on it. The crate `sharing` has the thresholds and
+//! the rule.
 
 ghost use Rattle.std.specs.Prelude.{◌≡◌, ◌≤◌, IfSome};
 ghost use Rattle.cvl_base.specs.Limits.{most_elements};
@@ -9,7 +9,7 @@ ghost use Rattle.sharing.specs.Races.{reduce_race, scan_race};
 use cvl_base::Config;
 use sharing::{LEAST_REDUCED, LEAST_SCANNED, Pace, race_pace};
 
-/// The tiles and the workers of the race by which so many elements are scanned, or none where one thread walks them at once.
+/// The tiles and the workers of the race that scans this many elements, or none if one thread walks them at once.
 pub fn scan_pace(config: Config, elements: usize) -> Option<Pace>
     ensures exact { result ≡ scan_race config elements }
     ensures some { IfSome result (λ _. 1 ≤ elements) }
@@ -19,8 +19,8 @@ pub fn scan_pace(config: Config, elements: usize) -> Option<Pace>
     race_pace(elements >= LEAST_SCANNED, config, elements)
 }
 
-/// The tiles and the workers of the race by which so many elements, which take so many bytes, are reduced, or none where one
-/// thread walks them at once.
+/// The tiles and the workers of the race that reduces this many elements, which take this many bytes, or none if one thread walks
+/// them at once.
 pub fn reduce_pace(config: Config, elements: usize, bytes: usize) -> Option<Pace>
     ensures exact { result ≡ reduce_race config elements bytes }
     ensures some { IfSome result (λ _. 1 ≤ elements) }

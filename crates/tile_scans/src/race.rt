@@ -1,4 +1,4 @@
-//! The pass over the tiles of a vector, by workers that race for the tiles.
+//! The pass over the tiles of a vector, by workers that race for them.
 
 ghost use Rattle.std.specs.Prelude.{◌≡◌, IfOk, length};
 ghost use Rattle.boards.specs.Boards.{IsSeatOf};
@@ -13,7 +13,7 @@ use std::thread::Threads;
 
 /// What stands before each tile of a vector: what the tiles before it join to since the last start of a segment. As many workers
 /// as the pace says, but no more than there are tiles, race for the tiles, tell their sums and their prefixes, and pass the gate
-/// at each point. Where there is one worker no thread is started. It keeps no memory but the answer's.
+/// at each point. One worker starts no thread. Only the answer's memory is kept.
 ///
 /// The result has one item for each tile. Source: Merrill and Garland's decoupled look-back.
 pub fn race_for_befores<R: Threads + Sync, A: Memory, T: Tiles + Sync, G: Gate>(

@@ -14,9 +14,9 @@ use scan_walks::Reading;
 use sharing::Pace;
 use std::thread::Threads;
 
-/// What stands before each tile of a vector, in tiles of the pace's length: what the elements of the tiles before it are read as,
-/// joined from left to right. Workers race for the tiles as in [`race_for_befores`](crate::race_for_befores), and pass the gate
-/// at each point of their way through a tile.
+/// What stands before each tile of a vector, in tiles of the pace's length: the items read from the elements before it, joined
+/// from left to right. Workers race for the tiles as in [`race_for_befores`](crate::race_for_befores), and pass the gate at each
+/// point of their way through a tile.
 ///
 /// The elements must be read as items of the monoid, and are at most 4,194,304. The result has one item for each tile. Source:
 /// Merrill and Garland's decoupled look-back.

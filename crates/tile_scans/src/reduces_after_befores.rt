@@ -1,4 +1,4 @@
-//! The reduces of segments, written in runs once it is known what stands before each tile.
+//! The reduces of segments, written in runs once what stands before each tile is known.
 
 ghost use Rattle.std.specs.Prelude.{◌≡◌, ◌≤◌, IfOk, Some, length, map, vec_len};
 ghost use Rattle.std.specs.Option.{option_copied};
@@ -15,7 +15,7 @@ use sharing::Pace;
 use std::alloc::Allocator;
 use std::thread::Threads;
 
-/// The reduces of the segments of a vector that is not empty, of which it is known what stands before each tile.
+/// The reduces of the segments of a vector that is not empty, with what stands before each tile.
 #[derive(Drop)]
 struct KnownReduces<'a, M: Packed, X: Copy, E: Reading<X, M::Item>, A: Allocator> {
     known: &'a KnownBefores<'a, M, X, E, A>,
@@ -24,8 +24,8 @@ struct KnownReduces<'a, M: Packed, X: Copy, E: Reading<X, M::Item>, A: Allocator
     ghost filled: { 1 ≤ known.now.vector.now.plan.0 },
 }
 
-/// The reduces of the segments of a vector that is not empty, of which it is known what stands before each tile. They are
-/// written in runs, by several threads where the vector is long.
+/// The reduces of the segments of a vector that is not empty, with what stands before each tile. They are written in runs, by
+/// several threads if the vector is long.
 pub(crate) fn reduces_known<R, A, M, X, E>(
     rt: &R,
     alloc: A,
@@ -63,8 +63,8 @@ impl<'a, M: Packed, X: Copy, E: Reading<X, M::Item>, A: Allocator> Steps<M::Item
     ghost whole = { λ reduces. reduces_of M.join M.unit reduces.segments.now
         (map E.item reduces.known.now.vector.now.elements.now) };
 
-    /// The step goes through the segments that end in the same tile as the next one. Of that one only the elements in the tile
-    /// are read, since it is known what stands before them.
+    /// The step takes the segments that end in the same tile as the next one. Of that one it reads only the elements in the tile,
+    /// since what stands before them is known.
     fn write_on(&self, run: Run<M::Item>) -> Run<M::Item>
         requires some { 0 < run.room }
         requires within { next_of run + run.room ≤ length (reduces_of M.join M.unit self.now.segments.now

@@ -1,4 +1,4 @@
-//! The scan of a vector of which it is known what stands before each tile. It is written in runs, and nothing is raced for.
+//! The scan of a vector once what stands before each tile is known. It is written in runs, without a race.
 
 ghost use Rattle.std.specs.Prelude.{◌≡◌, ◌≤◌, IfOk, length, map, vec_len};
 ghost use Rattle.std.specs.List.{AllPass};
@@ -20,8 +20,8 @@ use sharing::Pace;
 use std::alloc::Allocator;
 use std::thread::Threads;
 
-/// The exclusive scan of a vector, beside its descriptor if it has one, in tiles of the pace's length, where it is known
-/// what stands before each tile since the last start of a segment. Several threads write it where it is long.
+/// The exclusive scan of a vector, with its descriptor if it has one, in tiles of the pace's length, from what stands before each
+/// tile since the last start of a segment. Several threads write a long one.
 ///
 /// The elements must be items of the monoid, at most 4,194,304, and as many as the segments' total. The result is as long as they
 /// are. Source: Blelloch's prescan and segmented scans.
@@ -54,8 +54,8 @@ where
     Ok(sums)
 }
 
-/// The scan of a vector, of which it is known what stands before each tile. It is written in runs, by several threads where
-/// it is long, each tile after what stands before it. So no item is moved.
+/// The scan of a vector, from what stands before each tile. It is written in runs, by several threads if it is long, each tile
+/// after what stands before it. So no item is moved.
 pub(crate) fn scan_known<R, A, M, X, E>(
     rt: &R,
     alloc: A,

@@ -5,11 +5,11 @@ ghost use Rattle.tile_scans.specs.Written.{IsWrittenOn, next_of};
 
 use fresh::{Run, Writer};
 
-/// What is written in steps. Its meaning is the list of all the items.
+/// Items written in steps. Its meaning is the list of all of them.
 pub(crate) trait Steps<T> {
     ghost whole: { Self → List T };
 
-    /// Writes the run's next place, and those behind it as far as one step goes.
+    /// Writes the run's next place, and those after it as far as one step goes.
     fn write_on(&self, run: Run<T>) -> Run<T>
         requires some { 0 < run.room }
         requires within { next_of run + run.room ≤ length (whole self.now) }

@@ -1,4 +1,4 @@
-//! What each worker does who races for the tiles of a vector.
+//! The work of each worker who races for the tiles of a vector.
 
 ghost use Rattle.std.specs.Prelude.{◌≡◌, [], length};
 ghost use Rattle.boards.specs.Boards.{IsSeatOf};
@@ -29,7 +29,7 @@ impl<'a, T: Tiles> Tiles for Lent<'a, T> {
     }
 }
 
-/// The work of all who race for the tiles of a vector, on a board that gives the tiles. What is told of a tile is all that is
+/// The work of all who race for the tiles of a vector, on a board that gives the tiles. What is told about a tile is all that is
 /// made of it.
 #[derive(Drop)]
 pub(crate) struct TileWork<'a, T: Tiles, A: Allocator> {

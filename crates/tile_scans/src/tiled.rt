@@ -16,7 +16,7 @@ use std::alloc::Allocator;
 use std::marker::PhantomData;
 use tile_plan::Plan;
 
-/// A vector in tiles, whose elements are read as items. It is flat where it has no descriptor.
+/// A vector in tiles, whose elements are read as items. Without a descriptor it is flat.
 #[derive(Drop)]
 pub(crate) struct Tiled<'a, M: Packed, X: Copy, E: Reading<X, M::Item>, A: Allocator> {
     pub(crate) elements: &'a [X],
@@ -39,8 +39,7 @@ impl<'a, M: Packed, X: Copy, E: Reading<X, M::Item>, A: Allocator> Tiled<'a, M, 
     ghost use Rattle.scan_walks.specs.Ranges.{range_scan_of};
     ghost use Rattle.tile_scans.specs.TiledSums.{flagged};
 
-    /// A vector of at most 4,194,304 elements, beside its descriptor if it has one, in tiles of `tile` elements, of which there
-    /// is at least one.
+    /// A vector of at most 4,194,304 elements, with its descriptor if it has one, in tiles of `tile` elements, at least one.
     pub(crate) fn new(
         elements: &'a [X],
         segments: Option<&'a SegDes<A>>,
