@@ -1,6 +1,6 @@
 -- What the calls of a scan board promise.
 -- Source: the decoupled look-back of Merrill and Garland, Single-pass Parallel Prefix Scan with Decoupled Look-back, 2016. That a worker
--- adds up a tile of which nothing is told yet, in place of waiting for it, is this library's profile.
+-- adds up a tile of which nothing is told yet, instead of waiting for it, is this library's profile.
 use Rattle.std.specs.Prelude.{◌≡◌, ℕ, ◌+◌, ◌-◌, ◌<◌, ◌≤◌, ◌⊎◌, max, Bool, IsTrue, List, length, replicate}
 use Rattle.std.specs.List.{Any, sum_by}
 use Rattle.status_word.specs.declared.pass.Pass.{Pass}
@@ -15,17 +15,16 @@ pub record IsNew {Item : Type 0} (sums : List (Bool × Item)) (workers : ℕ)
   pub as_many : board.workers ≡ workers
   pub seats_new : seats ≡ replicate workers (new_seat board)
 
--- the tile lies outside those that were looked at from tile t on
+-- the tile is not among those that were looked at from tile t on
 abbrev pub IsOutside : ℕ → ℕ → ℕ → Type 0
 IsOutside t looks x = (x < t - looks) ⊎ (t ≤ x)
 
--- What a look-back from tile t did that looked at so many tiles, one after another towards the first; `old` and `new` are its worker's
--- pass.
+-- What a look-back from tile t did that looked at so many tiles, in turn towards the first; `old` and `new` are its worker's pass.
 pub record IsLookBack {Item : Type 0} (t looks : ℕ) (old new : Pass Item) : Type 0 where
   pub at_most : looks ≤ t
   pub at_least : 1 ≤ t → 1 ≤ looks
   pub counted : new.looks ≡ old.looks + looks
-  -- of each tile that it looked at the sum is known afterwards, or more
+  -- the sum of each tile that it looked at is known afterwards, or more
   pub known : (x : ℕ) → t - looks ≤ x → x < t → 1 ≤ known_at x new
   -- it stopped at a prefix, or at the first tile
   pub met : looks < t → known_at (t - looks) new ≡ 2
@@ -36,7 +35,7 @@ pub record IsLookBack {Item : Type 0} (t looks : ℕ) (old new : Pass Item) : Ty
   pub told_outside : (x : ℕ) → IsOutside t looks x → told_at x new ≡ told_at x old
   -- and nothing that was told before is lost
   pub kept : (x rank when : ℕ) → WasTold x rank when old → WasTold x rank when new
-  -- it saw these tiles alone
+  -- it saw only these tiles
   pub seen : (x : ℕ) → seen_at x old ≤ seen_at x new
   pub seen_outside : (x : ℕ) → IsOutside t looks x → seen_at x new ≡ seen_at x old
   pub hand : new.hand ≡ old.hand

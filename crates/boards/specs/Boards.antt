@@ -13,7 +13,7 @@ pub record Board (Item : Type 0) : Type 0 where
   pub sums : List (Bool × Item)
   pub workers : ℕ
 
--- a pass of a scan board of which the hand alone changes
+-- a pass of a scan board that changes only in its hand
 abbrev pub on_hand : {Item : Type 0} → (Hand → Hand) → Pass Item → Pass Item
 on_hand change p = record p { hand = change p.hand }
 

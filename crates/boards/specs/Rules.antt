@@ -1,5 +1,4 @@
--- The rule of a scan board's table: the words of the tiles and after them the claim word, and the pass of each seat. And what each step
--- tells.
+-- The rule of a scan board's table: the words of the tiles, then the claim word, and the pass of each seat; and what each step tells.
 -- Source: the bookkeeping behind Merrill and Garland's decoupled look-back, 2016.
 use Rattle.std.specs.Prelude.{◌≡◌, ℕ, ◌+◌, ◌≤◌, Bool, List, length, slice_index}
 use Rattle.atomic_table.specs.Table.{State, Me, Step}
@@ -13,7 +12,7 @@ pub record IsRuled {Item : Type 0} (m : Coding Item) (sums : List (Bool × Item)
   pub long : length s.words ≡ length sums + 1
   pub kept : IsRuleKept (code m sums) sums workers (slice_index s.words (length sums)) (slice_index s.words) s.views
 
--- the pass of a seat, and the slots that it holds, of which a scan board has none
+-- the pass of a seat, and the slots that it holds; a scan board has none
 abbrev pub PassOf : Type 0 → Type 0
 PassOf Item = Me (Unit {0}) (Pass Item)
 

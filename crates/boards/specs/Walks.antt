@@ -7,7 +7,7 @@ use Rattle.status_word.specs.Passes.{WasTold, known_at, seen_at, told_at}
 use Rattle.boards.specs.declared.look_back.Found.{Found}
 use Rattle.boards.specs.declared.look_back.Found.TheVariants.{Sum, Prefix}
 
--- what was found of tile `at` is so
+-- what was found of tile `at` is true
 abbrev pub IsTrueOfTile : {Item : Type 0} → (Item → Item → Item) → Item → List (Bool × Item) → ℕ → Found Item → Type 0
 IsTrueOfTile join unit sums at (Sum starts value) = (starts, value) ≡ own_sum unit sums at
 IsTrueOfTile join unit sums at (Prefix starts value) = (starts, value) ≡ upto_tile join unit sums at

@@ -18,9 +18,9 @@ use status_word::{code_law, rule_law};
 use std::alloc::Allocator;
 use std::marker::Model;
 
-/// What the workers of a single-pass scan share: a word for each tile, which says what has been told of the tile so far, and
-/// a word that counts the claims. Each call takes one atomic step on one word, or a bounded number of them, and waits for
-/// nobody. It is seen as which board it is, the sums of its tiles, and for how many workers it was made.
+/// Shared by the workers of a single-pass scan: a word for each tile, which says what has been told of the tile so far, and a
+/// word that counts the claims. Each call takes one atomic step on one word, or a bounded number of them, and waits for nobody.
+/// Its model is which board it is, the sums of its tiles, and for how many workers it was made.
 ///
 /// Source: Merrill and Garland, Single-pass Parallel Prefix Scan with Decoupled Look-back, 2016.
 #[derive(Drop)]
@@ -47,7 +47,7 @@ impl<T: Tiles, A: Allocator> Model for ScanBoard<T, A> {
         × (b.table.shared.table_id.slots ≡ 0) };
 }
 
-/// What a closed board tells.
+/// The answer of a closed board.
 #[derive(Clone, Copy, Debug)]
 pub struct Ended {
     /// How many tiles were given.
@@ -55,7 +55,7 @@ pub struct Ended {
 }
 
 impl<T: Tiles, A: Memory> ScanBoard<T, A> {
-    /// A board over these tiles, of which none is given yet, and a seat for each of the workers, of whom there are 1 to 64.
+    /// A board over these tiles, none of which is given yet, and a seat for each of the 1 to 64 workers.
     pub fn new(
         alloc: A,
         tiles: T,
@@ -82,8 +82,8 @@ impl<T: Tiles, A: Memory> ScanBoard<T, A> {
 }
 
 impl<T: Tiles, A: Allocator> ScanBoard<T, A> {
-    /// The worker of this seat asks for a tile: it gets one that no other seat gets, or is told that none is left; from then
-    /// on it takes no step and is told so again. One step on the claim word, which takes no memory.
+    /// Claims a tile for the worker of this seat: one that no other seat gets, or the answer that none is left; from then on it
+    /// takes no step and gets the same answer. One step on the claim word, which takes no memory.
     pub fn claim(&self, seat: &mut ScanSeat<T::M>) -> Claim
         requires { IsSeatOf self.now seat.old }
         ensures same { IsSeatOf self.now seat.new }
@@ -104,7 +104,7 @@ impl<T: Tiles, A: Allocator> ScanBoard<T, A> {
         answer
     }
 
-    /// Closes the board with all of its seats, and answers how many tiles were given. It takes no memory.
+    /// Closes the board with all of its seats, and returns how many tiles were given. It takes no memory.
     pub fn close(self, seats: Vec<ScanSeat<T::M>, A>) -> Ended
         requires seats { All (IsSeatOf self) seats.items }
         requires every { length seats.items ≡ self.workers }

@@ -1,5 +1,5 @@
-//! Boards: what the workers of a single-pass call share, so that each tile is given to one of them. The scan board stands
-//! here; the least board, and what a claim answers at either, stand in `least_boards` and are handed on.
+//! Boards: what the workers of a single-pass call share, so that each tile is given to one of them. The scan board is here; the
+//! least board, and the answer to a claim at either, are re-exported from `least_boards`.
 #![tactic(auto)]
 
 pub mod board;

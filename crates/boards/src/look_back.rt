@@ -14,12 +14,12 @@ use cvl_base::{Monoid, Seg};
 use status_word::Status;
 use std::alloc::Allocator;
 
-/// What a look-back answers.
+/// The answer of a look-back.
 #[derive(Clone, Copy, Debug)]
 pub struct Back<I> {
     /// What the elements of the tiles before join to, and whether a segment starts among them.
     pub before: (bool, I),
-    /// At how many tiles it looked.
+    /// How many tiles it looked at.
     pub looks: u32,
 }
 
@@ -32,9 +32,9 @@ enum Found<I> {
 }
 
 impl<T: Tiles, A: Allocator> ScanBoard<T, A> {
-    /// What the tiles before tile `t` join to. It looks at tile t-1, t-2 and so on, once at each, until it finds a prefix
-    /// or the first tile is done; a tile of which nothing is told yet it adds up itself, and tells its sum. So it looks at
-    /// no tile twice, waits for nobody, and takes no memory.
+    /// What the tiles before tile `t` join to. It looks at tile t-1, t-2 and so on, once at each, until it finds a prefix or the
+    /// first tile is done; if nothing is told of a tile yet, it adds it up itself, and tells its sum. So it looks at no tile
+    /// twice, waits for nobody, and takes no memory.
     ///
     /// Source: Merrill and Garland's decoupled look-back.
     pub fn look_back(&self, seat: &mut ScanSeat<T::M>, t: u32) -> Back<<T::M as Monoid>::Item>
@@ -67,7 +67,7 @@ impl<T: Tiles, A: Allocator> ScanBoard<T, A> {
         }
     }
 
-    /// One look at tile `at`; where nothing is told of the tile yet, it is added up and its sum is told.
+    /// One look at tile `at`; if nothing is told of the tile yet, it is added up and its sum is told.
     fn find(&self, seat: &mut ScanSeat<T::M>, at: u32) -> Found<<T::M as Monoid>::Item>
         requires seat { IsSeatOf self.now seat.old }
         requires tile { at < length self.now.sums }
@@ -87,7 +87,7 @@ impl<T: Tiles, A: Allocator> ScanBoard<T, A> {
         }
     }
 
-    /// How the sums of the tiles hang together, for the proof of a look-back: the call does nothing.
+    /// How the sums of the tiles fit together, for the proof of a look-back: the call does nothing.
     fn know_sums(&self)
         ensures { SumsLaws T.M.is_item T.M.join T.M.unit self.now.sums }
     {

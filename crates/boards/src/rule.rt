@@ -1,4 +1,4 @@
-//! The rule of a scan board's table, and what each of its steps tells. But for the tiles, these types are for proofs alone.
+//! The rule of a scan board's table, and what each of its steps tells. Except for the tiles, these types are only for proofs.
 
 ghost use Rattle.std.specs.Prelude.{◌≡◌, ◌≤◌, length};
 ghost use Rattle.std.specs.List.{AllPass};

@@ -7,8 +7,8 @@ use cvl_base::Monoid;
 use status_word::Pass;
 use std::marker::Model;
 
-/// What one worker holds of a scan board: its seat at the board's words, and whether it was told that no tile is left. It is
-/// seen as the board it belongs to, what the worker did, and that.
+/// One worker's part of a scan board: its seat at the board's words, and whether it was told that no tile is left. Its model is
+/// the board it belongs to, what the worker did, and that.
 #[derive(Drop)]
 pub struct ScanSeat<M: Monoid> {
     pub(crate) seat: Seat<(), Pass<M::Item>>,

@@ -37,7 +37,7 @@ impl<T: Tiles, A: Allocator> ScanBoard<T, A> {
         read_status::<T::M>(word)
     }
 
-    /// Tells the sum of tile `t`, which is added up for it. One fetch_max, which takes no memory.
+    /// Tells the sum of tile `t`, after adding it up. One fetch_max, which takes no memory.
     pub fn tell_sum(&self, seat: &mut ScanSeat<T::M>, t: u32)
         requires seat { IsSeatOf self.now seat.old }
         requires tile { t < length self.now.sums }
@@ -47,8 +47,8 @@ impl<T: Tiles, A: Allocator> ScanBoard<T, A> {
         self.tell_known_sum(seat, t, self.counted.tiles.sum(t));
     }
 
-    /// Tells the prefix of tile `t`, which is added up for it; `before` is what the tiles before it join to, as `look_back`
-    /// answers it. One fetch_max, which takes no memory.
+    /// Tells the prefix of tile `t`, after adding it up; `before` is what the tiles before it join to, as `look_back` gives it.
+    /// One fetch_max, which takes no memory.
     pub fn tell_prefix(
         &self,
         seat: &mut ScanSeat<T::M>,
