@@ -5,14 +5,14 @@ use Rattle.std.specs.List.{All}
 use Rattle.crew.specs.Facts.{HasFacts}
 use Rattle.crew.specs.Pieces.{ArePiecesOf, given_to}
 
--- seats of one board, at least one, to none of which a tile was given
+-- at least one seat of one board, none of which was given a tile
 pub record AreNewSeats {Seat : Type 0} (IsSeat : Seat → Type 0) (given : Seat → List ℕ) (seats : List Seat) : Type 0 where
   pub some : 1 ≤ length seats
   pub of_board : All IsSeat seats
   pub fresh : All (λ seat. given seat ≡ []) seats
 
 -- as many seats of that board as there were workers, each of which was told that no tile is left and has the facts of the tiles given to
--- it, and the pieces of these tiles where they are kept
+-- it, and the pieces of these tiles if they are kept
 pub record IsCrewed {Seat Item : Type 0} (count : ℕ) (items : ℕ → List Item)
     (IsSeat : Seat → Type 0) (HasFact : Seat → ℕ → Type 0) (given : Seat → List ℕ) (is_done : Seat → Bool)
     (workers : ℕ) (with_pieces : Bool) (seats : List Seat) (pieces : List (ℕ × List Item)) : Type 0 where

@@ -1,6 +1,6 @@
 //! The points that a worker passes, and gates at which a test holds it there.
 
-/// A point in a worker's way through one tile, in the order in which they are passed. Tiles count from 0.
+/// A point in a worker's way through one tile, in the order of passing. Tiles count from 0.
 #[derive(Clone, Copy, Debug, PartialEq, Eq)]
 pub enum Point {
     /// The tile was given to the worker.

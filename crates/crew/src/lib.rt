@@ -1,4 +1,4 @@
-//! A crew: several workers that take the tiles of one work, each until it is told that none is left.
+//! A crew: several workers that take the tiles of one work, until none is left.
 #![tactic(auto)]
 
 mod gate;

@@ -5,8 +5,8 @@ ghost use Rattle.tile_plan.specs.Pieces.{AreAllPieces};
 ghost use Rattle.tile_plan.specs.Ranges.{tile_count, length_of};
 ghost use Rattle.crew.specs.Pieces.{ArePiecesOf};
 
-/// Where each tile of a plan was given once and its items are as many as its range has places, a crew's pieces are all
-/// the pieces that the whole list is gathered from.
+/// If each tile of a plan was given once and has as many items as its range has places, a crew's pieces are all the pieces that
+/// the whole list is gathered from.
 pub fn pieces_law<T>()
     ensures { (len tile : ℕ) (items : ℕ → List T) (given : ℕ → ℕ) (pieces : List (ℕ × List T)) →
         ArePiecesOf (tile_count len tile) items given pieces →

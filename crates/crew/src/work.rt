@@ -1,4 +1,4 @@
-//! What a crew works at.
+//! The work of a crew.
 
 ghost use Rattle.std.specs.Prelude.{◌≡◌, ℕ, ◌<◌, ◌≤◌, Bool, List, IfOk, OnOk};
 ghost use Rattle.boards.specs.Claims.{Claims};
@@ -8,11 +8,11 @@ use crate::gate::Gate;
 use boards::Claim;
 use cvl_base::{Memory, NoResources};
 
-/// A work that is cut into tiles, which its board gives to those who have a seat of the board.
+/// A work that is cut into tiles, which its board gives to its seats.
 ///
-/// Its meaning is the number of tiles, the items of each tile, which seats are seats of its board, and of a seat as it is
-/// now the tiles that were given to it, the newest first, and whether it was told that none is left. It also names the fact
-/// of a tile: what a worker does at a tile for the others beside making its items, such as what it tells them of the tile.
+/// Its meaning is the number of tiles, the items of each tile, which seats are seats of its board, and for a seat as it is now
+/// the tiles that were given to it, the newest first, and whether it was told that none is left. It also names the fact of a
+/// tile: what a worker does at a tile for the others besides its items, such as what it tells them of the tile.
 pub trait Work: Sync {
     /// A worker's place at the board.
     type Seat: Send + Drop;
@@ -32,7 +32,7 @@ pub trait Work: Sync {
 
     ghost HasFact: { Self → Self.Seat → ℕ → Type 0 };
 
-    /// Asks the board for a tile that the seat doesn't have yet. The board answers it, or that none is left.
+    /// Asks the board for a tile that the seat doesn't have yet. The answer is the tile, or that none is left.
     fn claim(&self, seat: &mut Self::Seat) -> Claim
         requires { IsSeat self.now seat.old }
         ensures claims { Claims (count self.now) result
@@ -40,9 +40,9 @@ pub trait Work: Sync {
         ensures stays { IsSeat self.now seat.new }
         ensures facts { (t : ℕ) → HasFact self.now seat.old t → HasFact self.now seat.new t };
 
-    /// The items of tile `t`, which was given to the seat, or `NoResources` where there is no memory for them. `worker`
-    /// passes the gate's points between `Claimed` and `Finished` that the work has. The seat is given no tile. With the
-    /// items it has the fact of the tile, and it keeps those of other tiles in any case.
+    /// The items of tile `t`, which was given to the seat, or `NoResources` if there is no memory for them. `worker` passes the
+    /// gate's points between `Claimed` and `Finished` that the work has. The seat is given no tile. With the items it has the
+    /// fact of the tile, and it keeps those of other tiles in any case.
     fn tile<A: Memory, G: Gate>(
         &self,
         alloc: A,

@@ -1,4 +1,4 @@
-//! What one worker does.
+//! The loop of one worker.
 
 ghost use Rattle.std.specs.Prelude.{◌≡◌, ℕ, List, [], ◌∷◌, ◌++◌, IfOk, IsTrue, OnOk, map};
 ghost use Rattle.boards.specs.Passes.{times};
@@ -11,9 +11,9 @@ use boards::Claim;
 use cvl_base::{Memory, NoResources};
 use tile_plan::Piece;
 
-/// The pieces of the tiles that are given to the seat, until it is told that none is left; no piece where none is to be
-/// kept. Each claim gives a tile that the seat didn't have, so there are at most as many as the work has tiles. The seat then
-/// has the fact of each.
+/// The pieces of the tiles that are given to the seat, until it is told that none is left; no pieces if none are to be kept. Each
+/// claim gives a tile that the seat didn't have, so there are at most as many as the work has tiles. The seat then has the fact
+/// of each.
 pub(crate) fn take_tiles<A: Memory, W: Work, G: Gate>(
     alloc: A,
     work: &W,
@@ -41,7 +41,7 @@ pub(crate) fn take_tiles<A: Memory, W: Work, G: Gate>(
     Ok(pieces)
 }
 
-/// Adds the piece of a tile, where pieces are kept.
+/// Adds the piece of a tile, if pieces are kept.
 fn keep<T: Drop, A: Memory>(
     pieces: &mut Vec<Piece<T, A>, A>,
     with_pieces: bool,
