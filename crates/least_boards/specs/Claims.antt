@@ -1,5 +1,5 @@
--- What a claim answers a worker, by the tiles that were given to the worker, the newest first, and whether it was told that none is left;
--- and what is so of all claims. Boards differ in the passes of their workers, each of which has a hand.
+-- The answer to a worker's claim, by the tiles that were given to the worker, the newest first, and whether it was told that none is left;
+-- and what is true of all claims. Boards differ in the passes of their workers, each of which has a hand.
 -- Source: the tile counter of Merrill and Garland, Single-pass Parallel Prefix Scan with Decoupled Look-back, 2016.
 use Rattle.std.specs.Prelude.{◌≡◌, ℕ, ◌<◌, ◌≤◌, Bool, true, false, IsTrue, List, ◌∷◌, nat_lt, if◌then◌else◌}
 use Rattle.std.specs.List.{Any, sum_by}
@@ -9,7 +9,7 @@ use Rattle.least_boards.specs.declared.claim.Claim.{Claim}
 use Rattle.least_boards.specs.declared.claim.Claim.TheVariants.{Tile, Done}
 use Rattle.least_boards.specs.Seats.{Seated, with_pass}
 
--- of `count` tiles a new one is given, to a worker that was not told Done; or the worker is told Done, and no tile is given
+-- a new one of `count` tiles is given, to a worker that was not told Done; or the worker is told Done, and no tile is given
 abbrev pub Claims : ℕ → Claim → List ℕ → List ℕ → Bool → Bool → Type 0
 Claims count (Tile t) given given_after done done_after =
     (t < count) × (times t given ≡ 0) × (done ≡ false) × (given_after ≡ t ∷ given) × (done_after ≡ false)
@@ -28,7 +28,7 @@ is_last Done = true
 abbrev pub IsClaim : {P : Type 0} → (P → Hand) → ℕ → Claim → Seated P → Seated P → Type 0
 IsClaim hand tiles answer old new = Claims tiles answer (hand old.pass).given (hand new.pass).given old.is_done new.is_done
 
--- the seat after the answer of a claim; that no tile is left is marked the first time alone
+-- the seat after the answer to a claim; only the first answer that no tile is left is marked
 abbrev pub after_answer : {P : Type 0} → ((Hand → Hand) → P → P) → Seated P → Claim → Seated P
 after_answer on_hand seat (Tile t) = with_pass seat (on_hand (λ h. hand_given h t) seat.pass)
 after_answer on_hand seat Done =

@@ -33,7 +33,7 @@ pub record IsNewLeast (targets : List (Option ℕ)) (slots tiles workers : ℕ)
   pub as_many : board.workers ≡ workers
   pub seats_new : seats ≡ replicate workers (new_least_seat board)
 
--- What the seats of a board did in all, once it is closed, and what it then tells of each slot.
+-- What the seats of a board did in all, once it is closed, and its answer for each slot.
 pub record IsLeastEnd (board : LeastView) (seats : List (Seated LeastPass)) (leasts : List (Option ℕ)) : Type 0 where
   pub given : AreGivenOnce (λ p. p.hand) board.tiles seats
   pub as_many : length leasts ≡ board.slots

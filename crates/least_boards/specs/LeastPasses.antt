@@ -20,7 +20,7 @@ word_of_place (Some place) = place
 abbrev pub place_of_word : ℕ → Option ℕ
 place_of_word word = if nat_lt word 4294967296 then Some word else None
 
--- what is known at first: the board's targets and the number of its tiles, by one who stands for so many workers
+-- what is known at first: the board's targets and the number of its tiles, by one that stands for so many workers
 abbrev pub first_least_pass : List (Option ℕ) → ℕ → ℕ → LeastPass
 first_least_pass targets tiles workers =
     record { targets = targets; tiles = tiles; hand = new_hand workers; lowered = []; seen = [] }
@@ -28,11 +28,11 @@ first_least_pass targets tiles workers =
 abbrev pub new_least_pass : List (Option ℕ) → ℕ → LeastPass
 new_least_pass targets tiles = first_least_pass targets tiles 1
 
--- what stays behind where a pass is joined to another
+-- what is left of a pass that is joined to another
 abbrev pub spent_least_pass : LeastPass
 spent_least_pass = first_least_pass [] 0 0
 
--- the hand alone changes
+-- only the hand changes
 abbrev pub on_least_hand : (Hand → Hand) → LeastPass → LeastPass
 on_least_hand change p = record p { hand = change p.hand }
 

@@ -1,5 +1,4 @@
--- The rule of a least board's table: the words of the slots and after them the claim word, and the pass of each seat. And what each step
--- tells.
+-- The rule of a least board's table: the words of the slots, then the claim word, and the pass of each seat; and what each step tells.
 -- Source: the priority write of a parallel machine with concurrent writes, by which the least of all writers of a cell wins.
 use Rattle.std.specs.Prelude.{◌≡◌, ℕ, ◌+◌, ◌<◌, ◌≤◌, ◌⊎◌, List, [], length, slice_index, slice_index_or, Option, Some, None}
 use Rattle.std.specs.List.{All}
@@ -17,7 +16,7 @@ IsPlaced targets low = slice_index_or targets low.place None ≡ Some low.slot
 abbrev pub IsOfSlot : List (Option ℕ) → ℕ → ℕ → Type 0
 IsOfSlot targets slot n = (n ≡ no_place) ⊎ (slice_index_or targets n None ≡ Some slot)
 
--- What one pass keeps beside its hand: with a share it has the board's targets and tiles, and without one it is empty; and each place that
+-- What one pass keeps besides its hand: with a share it has the board's targets and tiles, and without one it is empty; and each place that
 -- it lowered has that slot.
 pub record IsLeastFair (targets : List (Option ℕ)) (tiles : ℕ) (p : LeastPass) : Type 0 where
   pub board : 1 ≤ p.hand.share → (p.targets ≡ targets) × (p.tiles ≡ tiles)
@@ -39,7 +38,7 @@ pub record IsLeastRuled (targets : List (Option ℕ)) (slots tiles workers : ℕ
   pub long : length s.words ≡ slots + 1
   pub kept : IsLeastKept targets slots tiles workers (slice_index s.words slots) (slice_index s.words) s.views
 
--- the pass of a seat, and what it holds of the table's own slots, of which a least board has none
+-- the pass of a seat, and what it holds of the table's own slots; a least board has none
 abbrev pub LeastPassOf : Type 0
 LeastPassOf = Me (Unit {0}) LeastPass
 

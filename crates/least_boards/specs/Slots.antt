@@ -8,7 +8,7 @@ abbrev pub is_slot : ℕ → Option ℕ → Bool
 is_slot slot None = false
 is_slot slot (Some x) = x == slot
 
--- the least place with this slot, where the first of all places has the number given
+-- the least place with this slot, if the first of all places has the number given
 abbrev pub least_from : ℕ → List (Option ℕ) → ℕ → Option ℕ
 least_from place [] slot = None
 least_from place (target ∷ targets) slot = if is_slot slot target then Some place else least_from (place + 1) targets slot

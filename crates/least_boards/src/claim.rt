@@ -1,9 +1,9 @@
-//! What a worker is told that asks for a tile.
+//! The answer to a worker that asks for a tile.
 
 ghost use Rattle.std.specs.Prelude.{◌≡◌};
 ghost use Rattle.least_boards.specs.Claims.{answer_at, is_last};
 
-/// What a claim is answered. Tiles count from 0.
+/// The answer to a claim. Tiles count from 0.
 #[derive(Clone, Copy, Debug)]
 pub enum Claim {
     /// This tile is the worker's alone.
@@ -13,8 +13,8 @@ pub enum Claim {
 }
 
 impl Claim {
-    /// The answer to a claim of a board with `count` tiles, before which there were `claims` claims: the tile of that
-    /// number, or that none is left where the number is no tile's. It takes no memory.
+    /// The answer to a claim on a board with `count` tiles, after `claims` claims: the tile of that number, or that none is left
+    /// if no tile has it. It takes no memory.
     pub fn after(claims: u64, count: u32) -> Claim
         ensures { result ≡ answer_at count claims }
     {

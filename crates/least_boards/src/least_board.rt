@@ -22,10 +22,9 @@ use std::alloc::Allocator;
 use std::marker::Model;
 use tile_plan::Plan;
 
-/// What the workers share that look for the least place of each slot: a word for each slot, in which the least place stands
-/// that was lowered there so far, and a word that counts the claims of tiles. Each call takes one atomic step on one word
-/// and waits for nobody. It is seen as which board it is, the slot of each place, how many slots and tiles there are, and
-/// for how many workers it was made.
+/// Shared by workers that look for the least place of each slot: a word for each slot, which holds the least place lowered there
+/// so far, and a word that counts the claims of tiles. Each call takes one atomic step on one word and waits for nobody. Its
+/// model is which board it is, the slot of each place, how many slots and tiles there are, and for how many workers it was made.
 ///
 /// Source: the priority write of a parallel machine with concurrent writes; the claim counter is that of Merrill and
 /// Garland, Single-pass Parallel Prefix Scan with Decoupled Look-back, 2016.
@@ -56,8 +55,8 @@ impl<T: Targets, A: Allocator> Model for LeastBoard<T, A> {
 }
 
 impl<T: Targets, A: Memory> LeastBoard<T, A> {
-    /// A board over these targets, where the plan has as many elements as there are places, and a seat for each of the
-    /// workers, of whom there are 1 to 64. No tile is given yet, and no place is lowered.
+    /// A board over these targets, with a seat for each of the 1 to 64 workers; the plan has as many elements as there are
+    /// places. No tile is given yet, and no place is lowered.
     pub fn new(
         alloc: A,
         targets: T,
@@ -91,8 +90,8 @@ impl<T: Targets, A: Memory> LeastBoard<T, A> {
 }
 
 impl<T: Targets, A: Allocator> LeastBoard<T, A> {
-    /// The worker of this seat asks for a tile: it gets one that no other seat gets, or is told that none is left; from then
-    /// on it takes no step and is told so again. One step on the claim word, which takes no memory.
+    /// Claims a tile for the worker of this seat: one that no other seat gets, or the answer that none is left; from then on it
+    /// takes no step and gets the same answer. One step on the claim word, which takes no memory.
     pub fn claim(&self, seat: &mut LeastSeat) -> Claim
         requires { IsLeastSeatOf self.now seat.old }
         ensures same { IsLeastSeatOf self.now seat.new }
@@ -112,7 +111,7 @@ impl<T: Targets, A: Allocator> LeastBoard<T, A> {
         answer
     }
 
-    /// Closes the board with all of its seats, and answers the least place of each slot that was lowered there. It takes no
+    /// Closes the board with all of its seats, and returns the least place of each slot that was lowered there. It takes no
     /// memory.
     pub fn close(self, seats: Vec<LeastSeat, A>) -> Leasts<A>
         requires seats { All (IsLeastSeatOf self) seats.items }

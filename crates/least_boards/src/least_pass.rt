@@ -1,5 +1,4 @@
-//! What is known of a worker at a least board: plain data, in which proofs speak of what the worker did. No value of it is
-//! made.
+//! What is known of a worker at a least board: plain data, about which proofs say what the worker did. No value of it is made.
 
 use status_word::Hand;
 use std::collections::LinkedList;
@@ -12,8 +11,8 @@ pub struct Low {
     pub place: u64,
 }
 
-/// What a worker of a race for least places did, the newest first; where passes were joined, what several did, one after
-/// the other. The targets, the slot of each place, and the number of tiles are those of the board.
+/// What a worker of a race for least places did, the newest first; if passes were joined, what several did, one after the other.
+/// The targets, the slot of each place, and the number of tiles are those of the board.
 pub struct LeastPass {
     /// The slot of each place, if it has one.
     pub targets: LinkedList<Option<u32>>,

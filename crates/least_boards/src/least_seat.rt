@@ -6,8 +6,8 @@ use crate::least_pass::LeastPass;
 use atomic_table::Seat;
 use std::marker::Model;
 
-/// What one worker holds of a least board: its seat at the board's words, and whether it was told that no tile is left. It
-/// is seen as the board it belongs to, what the worker did, and that.
+/// One worker's part of a least board: its seat at the board's words, and whether it was told that no tile is left. Its model is
+/// the board it belongs to, what the worker did, and that.
 #[derive(Drop)]
 pub struct LeastSeat {
     pub(crate) seat: Seat<(), LeastPass>,

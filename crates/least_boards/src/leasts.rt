@@ -1,4 +1,4 @@
-//! What a closed least board tells.
+//! The answer of a closed least board.
 
 ghost use Rattle.std.specs.Prelude.{◌≡◌, ◌<◌, None, length, slice_index_or, map, take};
 ghost use Rattle.std.specs.Slots.{IsFull, slots_items, slots_len};
@@ -9,8 +9,8 @@ use atomic_table::Closed;
 use std::alloc::Allocator;
 use std::marker::Model;
 
-/// The least place that was lowered in each slot of a closed least board. It is seen as the list of these places, and holds
-/// the words in which they were lowered.
+/// The least place that was lowered in each slot of a closed least board. Its model is the list of these places; it holds the
+/// words in which they were lowered.
 pub struct Leasts<A: Allocator> {
     closed: Closed<(), A>,
     slots: u32,
@@ -30,7 +30,7 @@ impl<A: Allocator> Model for Leasts<A> {
 }
 
 impl<A: Allocator> Leasts<A> {
-    /// The least places of so many slots, from the table's words.
+    /// The least places of `slots` slots, from the table's words.
     pub(crate) fn of(closed: Closed<(), A>, slots: u32) -> Leasts<A>
         requires full { IsFull closed.words }
         requires long { slots < slots_len closed.words }

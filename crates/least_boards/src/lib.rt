@@ -1,5 +1,5 @@
-//! The least board: what workers share that look for the least place of each slot. Also what a claim answers a worker, and
-//! what a seat is, at any board: `boards` has the scan board, and hands on what stands here.
+//! The least board, which workers share that look for the least place of each slot; the answer to a claim, and what a seat is, at
+//! any board. `boards` has the scan board, and re-exports what is here.
 #![tactic(auto)]
 
 pub mod claim;
