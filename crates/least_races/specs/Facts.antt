@@ -1,5 +1,5 @@
--- What each worker of a race for least places did by the time that it is done with a tile.
--- Source: the priority write of a parallel machine with concurrent writes; that a later place of a slot may be left out is this library's.
+-- What each worker of a race for least places has done by the time it finishes a tile.
+-- Source: the priority write of a parallel machine with concurrent writes; that a later place of a slot may be skipped is this library's.
 use Rattle.std.specs.Prelude.{◌≡◌, ℕ, ◌+◌, ◌<◌, ◌≤◌, ◌⊎◌, List, ◌++◌, slice_index_or, length, Option, Some, None}
 use Rattle.std.specs.List.{All}
 use Rattle.tile_plan.specs.Ranges.{range_of, tile_count}
@@ -35,7 +35,7 @@ pub record HasGoneOn (old new : Seated LeastPass) : Type 0 where
   pub lowered : (slot : ℕ) → lowered_in slot new.pass ≤ lowered_in slot old.pass
   pub seen : (slot : ℕ) → seen_in slot new.pass ≤ seen_in slot old.pass
 
--- from one time to a later one the worker lowered places of this range alone, and no more of them than it has
+-- from one time to a later one the worker lowered only places of this range, and no more of them than it has
 pub record HasLowered (from to : ℕ) (old new : LeastPass) : Type 0 where
   pub added : List Low
   pub lowered : new.lowered ≡ added ++ old.lowered

@@ -1,4 +1,4 @@
-//! What each worker does who races for the least places.
+//! The work of each worker who races for the least places.
 
 ghost use Rattle.std.specs.Prelude.{◌≡◌, ◌+◌, ◌<◌, ◌≤◌, ℕ, IfSome, IsTrue, None, Some, length, slice_index_or};
 ghost use Rattle.least_boards.specs.LeastBoards.{IsLeastSeatOf};
@@ -40,8 +40,8 @@ impl<'a, T: Targets> Targets for LentTargets<'a, T> {
     }
 }
 
-/// The work of all who race for the least places of targets: a board that gives the tiles of a plan, and in whose words places
-/// are lowered.
+/// The work of all who race for the least places of targets: a board that gives the tiles of a plan, and lowers places in its
+/// words.
 #[derive(Drop)]
 pub(crate) struct LeastWork<'a, T: Targets, A: Allocator> {
     pub(crate) board: LeastBoard<LentTargets<'a, T>, A>,
@@ -50,8 +50,8 @@ pub(crate) struct LeastWork<'a, T: Targets, A: Allocator> {
 }
 
 impl<'a, T: Targets, A: Allocator> LeastWork<'a, T, A> {
-    /// Whether a lesser place than this one is seen in the word of the slot, where there is one slot alone. A worker may then
-    /// leave out this place and all later ones.
+    /// Whether the word of the only slot shows a lesser place than this one. A worker may then skip this place and all later
+    /// ones.
     fn sees_lesser(&self, seat: &mut LeastSeat, place: u32) -> bool
         requires seat { IsLeastSeatOf self.now.board seat.old }
         requires over { IsOver self.now.board (T.targets self.now.targets.now) (T.slot_count self.now.targets.now) }
@@ -70,8 +70,8 @@ impl<'a, T: Targets, A: Allocator> LeastWork<'a, T, A> {
         }
     }
 
-    /// Tells the places of tile `t`: each that has a slot is lowered, or a lesser one of its slot is lowered or seen. Only places
-    /// of this tile are lowered, and no more of them than it has: none of an earlier tile is lowered again.
+    /// Tells the places of tile `t`: each that has a slot is lowered, or a lesser one of its slot is lowered or seen. Lowers only
+    /// places of this tile, and no more of them than it has: none of an earlier tile is lowered again.
     #[tactic(auto, using(crate::proofs::Answering::lowered_none, crate::proofs::Answering::lowered_later))]
     fn tell_tile(&self, seat: &mut LeastSeat, t: u32)
         requires seat { IsLeastSeatOf self.now.board seat.old }
@@ -90,8 +90,8 @@ impl<'a, T: Targets, A: Allocator> LeastWork<'a, T, A> {
         }
     }
 
-    /// Lowers each place from one up to another, which is not counted in, that has a slot. A place may be left out that follows
-    /// one of the same slot.
+    /// Lowers each place from one up to another, without that, that has a slot. It may skip a place that follows one of the same
+    /// slot.
     #[inline(never)]
     #[tactic(auto, using(crate::proofs::Answering::lowered_none, crate::proofs::Answering::lowered_on))]
     fn lower_each(&self, seat: &mut LeastSeat, from: u32, to: u32)
@@ -112,7 +112,7 @@ impl<'a, T: Targets, A: Allocator> LeastWork<'a, T, A> {
         }
     }
 
-    /// Lowers a place in its slot, if it has one, unless a place before it was the last one lowered and has that slot. It answers
+    /// Lowers a place in its slot, if it has one, unless a place before it was the last one lowered and has that slot. Returns
     /// the slot of the last place lowered.
     #[tactic(auto, using(crate::proofs::Answering::lowered_none))]
     fn lower_after(

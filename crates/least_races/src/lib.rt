@@ -1,4 +1,4 @@
-//! Races for the least place: of the places of a vector, cut into tiles, workers find the least of each slot.
+//! Races for the least place: workers find the least place of each slot in a vector cut into tiles.
 #![tactic(auto)]
 
 mod least_work;

@@ -11,8 +11,8 @@ use sharing::Pace;
 use std::thread::Threads;
 use tile_plan::Plan;
 
-/// The least place of each slot. As many workers as the pace says, but no more than there are tiles, race for tiles of the
-/// pace's length, and pass the gate at `Claimed` and `Finished` of each. Where there is one worker no thread is started.
+/// The least place of each slot. As many workers as the pace says, but no more than there are tiles, race for tiles of the pace's
+/// length, and pass the gate at `Claimed` and `Finished` of each. One worker starts no thread.
 pub fn race_for_leasts<R: Threads + Sync, A: Memory, T: Targets + Sync, G: Gate>(
     rt: &R,
     alloc: A,
@@ -36,7 +36,7 @@ pub fn race_for_leasts<R: Threads + Sync, A: Memory, T: Targets + Sync, G: Gate>
     Ok(board.close(seats))
 }
 
-/// The least place that has a slot, of places with one slot at most: the same race for one word.
+/// The least place that has a slot, if there is at most one slot: the same race for one word.
 pub fn race_for_least<R: Threads + Sync, A: Memory, T: Targets + Sync, G: Gate>(
     rt: &R,
     alloc: A,
