@@ -1,4 +1,4 @@
--- What the boards of a permute look for: for each place of the result the least place that is sent there, and then the least bad place.
+-- What the boards of a permute look for: the first place that is sent to each place of the result, and then the first bad place.
 -- Source: CVL's permute, d[i[k]] = s[k]; which of two places counts is this library's profile.
 use Rattle.std.specs.Prelude.{ℕ, ◌==◌, ℤ, not, if◌then◌else◌, unsigned_abs, List, length, map, take, slice_index, option_map, Option, Some}
 use Rattle.std.specs.Prelude.{None}
@@ -13,11 +13,11 @@ abbrev pub slot_of : ℕ → Option ℤ → Option ℕ
 slot_of m None = None
 slot_of m (Some i) = place_among m i
 
--- the same of each destination that a board has room for
+-- the same for each destination that a board has room for
 abbrev pub slots_of : ℕ → List (Option ℤ) → List (Option ℕ)
 slots_of m destinations = take most_elements (map (slot_of m) destinations)
 
--- what is wrong with the destination of a place, where these are the least places that are sent to each place of the result
+-- what is wrong with the destination of a place, if these are the least places that are sent to each place of the result
 abbrev pub wrong_beside : List ℕ → ℕ → Option ℤ → Option FaultNo
 wrong_beside senders place None = None
 wrong_beside senders place (Some i) =

@@ -1,4 +1,4 @@
-//! The race for the least bad place.
+//! The race for the first bad place.
 
 ghost use Rattle.std.specs.Prelude.{◌≡◌, ◌<◌, ◌≤◌, List, length, Ok, Option, None, slice_index_or};
 ghost use Rattle.cvl_base.specs.declared.fault.FaultNo.{FaultNo};
@@ -57,7 +57,7 @@ impl<'a, F: Faulty> Targets for BadPlaces<'a, F> {
     }
 }
 
-/// The fault of the least bad place, for which workers race over one slot.
+/// The fault of the first bad place, for which workers race over one slot.
 pub(crate) fn check_raced<R: Threads + Sync, A: Memory, F: Faulty + Sync, G: Gate>(
     rt: &R,
     alloc: A,

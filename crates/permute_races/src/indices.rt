@@ -1,4 +1,4 @@
-//! The race of a back permute for its least index outside.
+//! The race of a back permute for its first bad index.
 
 ghost use Rattle.std.specs.Prelude.{◌≤◌, length, Ok};
 ghost use Rattle.cvl_base.specs.Gives.{Gives, unless};
@@ -11,7 +11,7 @@ use cvl_base::{FaultNo, Memory, Refused, place_among};
 use sharing::Pace;
 use std::thread::Threads;
 
-/// Indices, which are bad where they are none of so many places.
+/// Indices; one outside the places is bad.
 #[derive(Drop)]
 struct Indices<'a> {
     index: &'a [i32],
@@ -36,8 +36,8 @@ impl<'a> Faulty for Indices<'a> {
     }
 }
 
-/// `IndexOutOfRange` at the first place whose index is none of so many places, for which workers race. Each passes the gate
-/// at `Claimed` and `Finished` of each of its tiles.
+/// `IndexOutOfRange` at the first place whose index is none of `places` places. Workers race for it; each passes the gate at
+/// `Claimed` and `Finished` of each of its tiles.
 pub fn check_indices_raced<R: Threads + Sync, A: Memory, G: Gate>(
     rt: &R,
     alloc: A,

@@ -1,5 +1,4 @@
-//! Races of permutes: workers find for each place of the result the least place that is sent there, and then the least bad
-//! place.
+//! Races of permutes: workers find the first place that is sent to each place of the result, and then the first bad place.
 #![tactic(auto)]
 
 mod bad_places;

@@ -8,9 +8,9 @@ use cvl_base::Config;
 use cvl_base::limits::MOST_ELEMENTS;
 use sharing::{LONG_TILE, Pace, race_pace};
 
-/// The tiles and the workers of the race of a permute of so many indices into so many places, or none where one thread walks
-/// them. Workers race where tiles of fewer than 1,024 elements are asked for, but for a result that has more places than a
-/// board has words. It hangs on the configuration and on these lengths alone, and no result depends on it.
+/// The tiles and the workers of the race of a permute of `indices` indices into `places` places, or none if one thread walks
+/// them. Workers race if you ask for tiles of fewer than 1,024 elements, unless the result has more places than a board has
+/// words. Only the configuration and these lengths decide, and no result depends on it.
 pub fn permute_pace(config: Config, indices: usize, places: usize) -> Option<Pace>
     ensures exact { result ≡ permute_race config indices places }
     ensures few { IfSome result (λ _. indices ≤ most_elements) }

@@ -51,7 +51,7 @@ impl<'a, D: Destinations> Targets for Slots<'a, D> {
     }
 }
 
-/// The places that take part, which are bad where their index is no place of the result, or another place is sent there.
+/// The places that take part. One is bad if its index is no place of the result, or another place is sent there.
 #[derive(Drop)]
 struct Sent<'a, D: Destinations> {
     destinations: &'a D,
@@ -83,7 +83,7 @@ impl<'a, D: Destinations> Faulty for Sent<'a, D> {
     }
 }
 
-/// The least place of each slot as a sender.
+/// The first place of each slot, as a sender.
 fn senders_told<A: Memory>(
     alloc: A,
     leasts: &Leasts<A>,
@@ -100,9 +100,9 @@ fn senders_told<A: Memory>(
     Ok(senders)
 }
 
-/// For each place of the result its sender, for which workers race: on a first board for the least place that is sent there,
-/// and on a second one for the least bad place, whose fault it is. Each worker passes the gate at `Claimed` and `Finished`
-/// of each of its tiles.
+/// The sender of each place of the result. Workers race on a first board for the first place that is sent there, and on a second
+/// one for the first bad place, which gives the fault. Each worker passes the gate at `Claimed` and `Finished` of each of its
+/// tiles.
 pub fn senders_raced<R: Threads + Sync, A: Memory, D: Destinations + Sync, G: Gate>(
     rt: &R,
     alloc: A,
