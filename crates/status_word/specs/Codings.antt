@@ -15,7 +15,7 @@ pub record Coding (Item : Type 0) : Type 0 where
   pub pack : Status Item → ℕ
   pub read : ℕ → Status Item
 
--- what is asked of the words of items: 0 tells nothing, each has 64 bits and is read again, and a lesser state has a lesser word
+-- what the words of items must satisfy: 0 tells nothing, each has 64 bits and is read again, and a lesser state has a lesser word
 pub record CodingLaws {Item : Type 0} (is_item : Item → Bool) (m : Coding Item) : Type 0 where
   pub silent : m.pack Silent ≡ 0
   pub fits : (status : Status Item) → IsTrue (is_item_status is_item status) → m.pack status < 2 ^ 64

@@ -44,17 +44,17 @@ pub record AreDealt {P : Type 0} (hand : P → Hand) (tiles workers claims : ℕ
   -- the tiles given are distinct, and are those below both the claim word and the number of tiles
   pub given : (t : ℕ) → sum_by (λ p. times t (hand p).given) passes ≡ once_claimed tiles claims t
   pub count : sum_by (λ p. length (hand p).given) passes ≡ min claims tiles
-  -- the claim word counts them and the marks, of which there is one only if all tiles were given
+  -- the claim word counts them and the marks; there is a mark only if all tiles were given
   pub done : sum_by (λ p. (hand p).done) passes ≡ claims - tiles
   pub shares : sum_by (λ p. (hand p).share) passes ≡ workers
   pub fair : (id : ℕ) (p : P) → get_elem? passes id ≡ some p → IsFairHand (hand p)
 
--- what the one hand knows that stands for all workers
+-- what the hand knows that stands for all workers
 pub record IsWhole (tiles claims : ℕ) (h : Hand) : Type 0 where
   pub given : (t : ℕ) → times t h.given ≡ once_claimed tiles claims t
   pub distinct : (t : ℕ) → times t h.given ≤ 1
   pub count : length h.given ≡ min claims tiles
   pub done : h.done ≡ claims - tiles
-  -- where one worker was told that no tile is left, all tiles were given
+  -- if any worker was told that no tile is left, all tiles were given
   pub all : 1 ≤ h.done → (t : ℕ) → t < tiles → times t h.given ≡ 1
   pub full : 1 ≤ h.done → length h.given ≡ tiles

@@ -1,6 +1,6 @@
 -- What a worker of a single-pass scan does: its step in each of its states, and the state that follows on the step's answer.
 -- Source: the decoupled look-back of Merrill and Garland, Single-pass Parallel Prefix Scan with Decoupled Look-back, 2016. That a worker
--- adds up a tile of which nothing is told yet, in place of waiting for it, is this library's profile.
+-- adds up a tile of which nothing is told yet, instead of waiting for it, is this library's profile.
 use Rattle.std.specs.Prelude.{ℕ, zero, suc, Bool, true, Option, Some, None}
 use Rattle.cvl_base.specs.SegmentMonoid.{seg_unit, seg_join}
 use Rattle.status_word.specs.declared.status.Status.{Status}
@@ -21,7 +21,7 @@ action_of (Helping t at after) = Some (TellSum at)
 action_of (Publishing t before) = Some (TellPrefix t before)
 action_of Stopped = None
 
--- the tiles from `at` to before t are added up: those before `at` come next, and where there are none the prefix of t is known
+-- the tiles from `at` to before t are added up: those before `at` come next; if there are none, the prefix of t is known
 abbrev pub added_up_to : {Item : Type 0} → ℕ → ℕ → Bool × Item → Local Item
 added_up_to t zero sum = Publishing t sum
 added_up_to t (suc at) sum = Looking t at sum

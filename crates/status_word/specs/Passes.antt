@@ -9,14 +9,14 @@ use Rattle.status_word.specs.declared.pass.Pass.{Pass}
 use Rattle.status_word.specs.Hands.{new_hand, hand_given, hand_done, hand_dealt, hands_joined, AreDealt}
 pub use Rattle.status_word.specs.Hands.{times}
 
--- what is known at first: the board's sums, by one who stands for so many workers
+-- what is known at first: the board's sums, by one that stands for so many workers
 abbrev pub first_pass : {Item : Type 0} → List (Bool × Item) → ℕ → Pass Item
 first_pass sums workers = record { sums = sums; hand = new_hand workers; told = []; seen = []; looks = 0 }
 
 abbrev pub new_pass : {Item : Type 0} → List (Bool × Item) → Pass Item
 new_pass sums = first_pass sums 1
 
--- what stays behind where a pass is joined to another
+-- what is left of a pass that is joined to another
 abbrev pub spent_pass : {Item : Type 0} → Pass Item
 spent_pass = first_pass [] 0
 
@@ -84,7 +84,7 @@ abbrev pub highest : {X : Type 0} → (X → ℕ) → List X → ℕ
 highest f [] = 0
 highest f (x ∷ xs) = max (f x) (highest f xs)
 
--- what one pass keeps beside its hand: with a share it has the board's sums, and without one it is empty
+-- what one pass keeps besides its hand: with a share it has the board's sums, and without one it is empty
 pub record IsFair {Item : Type 0} (sums : List (Bool × Item)) (p : Pass Item) : Type 0 where
   pub tiles : 1 ≤ p.hand.share → p.sums ≡ sums
   pub empty : p.hand.share ≡ 0 → (p.told ≡ []) × (p.seen ≡ []) × (p.looks ≡ 0)

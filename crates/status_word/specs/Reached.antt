@@ -15,7 +15,7 @@ use Rattle.status_word.specs.Codings.{Coding}
 use Rattle.status_word.specs.Locals.{action_of}
 use Rattle.status_word.specs.Worlds.{Scene, new_scene, scene_after}
 
--- a worker takes the step of its state, and is idle where it has stopped
+-- a worker takes the step of its state, or is idle if it has stopped
 abbrev pub stepped_by : {Item : Type 0} → Option (Action Item) → Stepped Item
 stepped_by None = Idle
 stepped_by (Some action) = Took action

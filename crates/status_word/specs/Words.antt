@@ -44,7 +44,7 @@ FitsWord Silent = Unit {0}
 FitsWord (Sum flag value) = IsTrue (is_word value)
 FitsWord (Prefix flag value) = IsTrue (is_word value)
 
--- the flag and the value of the bits below the state; none where a bit between them is 1
+-- the flag and the value of the bits below the state; none if a bit between them is 1
 abbrev pub read_rest : ℕ → Option (Bool × ℤ)
 read_rest rest = if nat_lt (rest % flag_place) (2 ^ 54) then Some (rest / flag_place == 1, value_of (rest % flag_place)) else None
 

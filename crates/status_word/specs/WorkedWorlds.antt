@@ -1,4 +1,4 @@
--- The world of the worked values: two tiles with the sums 5 and 7, in neither of which a segment starts, under addition.
+-- The world of the worked values: two tiles with the sums 5 and 7 in which no segment starts, under addition.
 use Rattle.std.specs.Prelude.{◌≡◌, ℕ, ℤ, pos, Bool, false, List, [], ◌∷◌, replicate}
 use Rattle.cvl_base.specs.Integers.{sum_of}
 use Rattle.cvl_base.specs.ItemWords.{same_word}

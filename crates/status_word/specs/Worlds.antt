@@ -139,7 +139,7 @@ tiles_held (Helping t at after) = t ∷ []
 tiles_held (Publishing t prior) = t ∷ []
 tiles_held Stopped = []
 
--- what a state holds is right: its tiles are tiles, and its sum is that of the tiles which it speaks of
+-- what a state holds is right: its tiles are tiles, and its sum is that of the tiles it stands for
 abbrev pub IsRight : {Item : Type 0} → Coding Item → List (Bool × Item) → Local Item → Type 0
 IsRight m sums Ready = Unit {0}
 IsRight m sums (Summing t) = t < length sums

@@ -1,4 +1,4 @@
-//! The steps of a worker, and what they are answered.
+//! The steps of a worker, and their answers.
 
 use crate::status::Status;
 
@@ -15,7 +15,7 @@ pub enum Action<T> {
     TellPrefix(u32, (bool, T)),
 }
 
-/// What a step is answered.
+/// The answer to a step.
 #[derive(Clone, Copy, Debug)]
 pub enum Answer<T> {
     /// To a claim: this tile is the worker's.

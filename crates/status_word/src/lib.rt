@@ -1,5 +1,5 @@
-//! Status words and the world of workers: what is known of a tile's sums, packed into one word of 64 bits, and how the
-//! workers of a single-pass scan act on such words, step by step.
+//! Status words and the world of workers: what is known of a tile's sums, packed into one word of 64 bits, and how the workers of
+//! a single-pass scan act on such words, step by step.
 #![tactic(auto)]
 
 mod action;

@@ -10,8 +10,8 @@ use cvl_base::{Monoid, Seg};
 
 /// The state of a worker of a single-pass scan. Tiles count from 0; a sum is a pair, as in [`Status`].
 ///
-/// Source: Merrill and Garland's decoupled look-back; that a worker adds up a silent tile, and doesn't wait for it, is
-/// this library's profile.
+/// Source: Merrill and Garland's decoupled look-back; that a worker adds up a silent tile, instead of waiting for it, is this
+/// library's profile.
 #[derive(Clone, Copy, Debug)]
 pub enum Local<T> {
     /// It has no tile, and claims one.
@@ -20,7 +20,7 @@ pub enum Local<T> {
     Summing(u32),
     /// It has the first tile, and looks at the second; the sum is that of the tiles between the two.
     Looking(u32, u32, (bool, T)),
-    /// The same where the second tile was silent: it tells that tile's sum.
+    /// The same if the second tile was silent: it tells that tile's sum.
     Helping(u32, u32, (bool, T)),
     /// It has this tile, knows the sum of the tiles before it, and tells the tile's prefix.
     Publishing(u32, (bool, T)),
@@ -29,7 +29,7 @@ pub enum Local<T> {
 }
 
 impl<T: Copy> Local<T> {
-    /// The step of a worker in this state; None where it has stopped. It takes no memory.
+    /// The step of a worker in this state; none if it has stopped. It takes no memory.
     pub fn action(&self) -> Option<Action<T>>
         ensures { result ≡ action_of self.now }
     {
@@ -66,7 +66,7 @@ pub fn next<M: Monoid>(local: Local<M::Item>, answer: Answer<M::Item>) -> Local<
     }
 }
 
-/// The state that follows where the tiles from `at` to before `tile` are added up to `sum`.
+/// The state that follows if the tiles from `at` to before `tile` are added up to `sum`.
 fn added_up<M: Monoid>(tile: u32, at: u32, sum: (bool, M::Item)) -> Local<M::Item>
     ensures { result ≡ added_up_to tile at sum }
 {
@@ -77,7 +77,7 @@ fn added_up<M: Monoid>(tile: u32, at: u32, sum: (bool, M::Item)) -> Local<M::Ite
     }
 }
 
-/// The state that follows where `status` was seen of the tile `at`, and `after` is the sum of the tiles after it.
+/// The state that follows if `status` was seen of the tile `at`, and `after` is the sum of the tiles after it.
 fn after_seeing<M: Monoid>(
     tile: u32,
     at: u32,

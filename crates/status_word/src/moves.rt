@@ -12,7 +12,7 @@ use crate::status::Status;
 use cvl_base::monoid::know_laws;
 use cvl_base::{Memory, Monoid, Packed, Seg};
 
-/// What a step is answered, over the sums of the tiles, the claim word and the words.
+/// The answer to a step, from the sums of the tiles, the claim word and the words.
 pub(crate) fn answer_to<M: Packed>(
     sums: &[(bool, M::Item)],
     claims: u64,

@@ -1,4 +1,4 @@
-//! What is known of a worker: plain data, in which proofs speak of what the worker did. No value of it is made.
+//! What is known of a worker: plain data, about which proofs say what the worker did. No value of it is made.
 
 use std::collections::LinkedList;
 
@@ -12,8 +12,8 @@ pub struct Mark {
     pub looks: u64,
 }
 
-/// What a pass has on every kind of board: the tiles that were given, the newest first, how often the worker was told that
-/// none is left, and for how many workers the pass stands.
+/// What a pass has on every kind of board: the tiles that were given, the newest first, how often the worker was told that none
+/// is left, and how many workers the pass stands for.
 pub struct Hand {
     /// The tiles given.
     pub given: LinkedList<u32>,
@@ -23,8 +23,8 @@ pub struct Hand {
     pub share: u64,
 }
 
-/// What a worker of a single-pass scan did, the newest first; where passes were joined, what several did, one after the
-/// other. The sums are those of the board's tiles.
+/// What a worker of a single-pass scan did, the newest first; if passes were joined, what several did, one after the other. The
+/// sums are those of the board's tiles.
 ///
 /// Source: the bookkeeping behind Merrill and Garland's decoupled look-back, 2016.
 pub struct Pass<I> {

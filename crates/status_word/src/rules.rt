@@ -1,5 +1,5 @@
-//! Laws of the boards' rules, each a function that takes and gives nothing and whose contract says what the steps of a
-//! board keep.
+//! Laws of the boards' rules, each a function that takes and gives nothing and whose contract says what the steps of a board
+//! keep.
 
 ghost use Rattle.std.specs.Prelude.{◌≡◌, Bool, List, [], ◌∷◌};
 ghost use Rattle.std.specs.List.{AllPass};

@@ -15,7 +15,7 @@ const FLAG: u64 = 0x2000_0000_0000_0000;
 /// How many values there are, in bits 53 to 0.
 const VALUES: u64 = 0x40_0000_0000_0000;
 
-/// The bit of a value that is 1 where it is negative, bit 53.
+/// The sign bit of a value, bit 53.
 const SIGN: u64 = 0x20_0000_0000_0000;
 
 /// The word of a status: bits 63 and 62 hold the state (0 Silent, 1 Sum, 2 Prefix), bit 61 the flag, bits 60 to 54 are 0,
@@ -33,7 +33,7 @@ pub fn pack(status: Status<i64>) -> u64
     }
 }
 
-/// The status of a word, and None for a word that is no status's. It takes no memory.
+/// The status of a word; none for a word that is no status's. It takes no memory.
 pub fn unpack(word: u64) -> Option<Status<i64>>
     ensures { result ≡ read_word word }
 {
@@ -58,7 +58,7 @@ fn rest(flag: bool, value: i64) -> u64
     if flag { FLAG + bits } else { bits }
 }
 
-/// The flag and the value of the bits below the state; None where a bit between them is 1.
+/// The flag and the value of the bits below the state; none if a bit between them is 1.
 fn unpack_rest(rest: u64) -> Option<(bool, i64)>
     requires { rest < state_place }
     ensures { result ≡ read_rest rest }

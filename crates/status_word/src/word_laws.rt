@@ -40,7 +40,7 @@ pub fn word_values()
     ensures of_state_three { read_word 13835058055282163712 ≡ None }
 {}
 
-/// That the words of a packed monoid ascend with their states and are read again, and how its sums hang together.
+/// That the words of a packed monoid ascend with their states and are read again, and how its sums fit together.
 #[tactic(auto, using(crate::proofs::Packed::coding_laws))]
 pub(crate) fn know_coding<M: Packed>()
     ensures coded { CodingLaws M.is_item (coding M.Packed) }

@@ -16,7 +16,7 @@ use cvl_base::{Memory, NoResources, Packed};
 use std::alloc::Allocator;
 use std::marker::Model;
 
-/// What a worker did when it was its turn.
+/// What a worker did in its turn.
 #[derive(Clone, Copy, Debug)]
 pub enum Stepped<T> {
     /// It took this step.
@@ -25,8 +25,8 @@ pub enum Stepped<T> {
     Idle,
 }
 
-/// A claim word, a word for each tile, and the state of each worker, over tiles that are given by their sums. It is seen as
-/// the four lists and numbers, and each world came from a new one by steps of its workers.
+/// A claim word, a word for each tile, and the state of each worker, over tiles given by their sums. Its model is these four
+/// lists and numbers, and each world came from a new one by steps of its workers.
 ///
 /// Source: Merrill and Garland's decoupled look-back, as an interleaving of atomic steps.
 #[derive(Drop)]
@@ -98,7 +98,7 @@ impl<M: Packed, A: Memory> World<M, A> {
         }
     }
 
-    /// Each of these workers takes its step in turn; the answer is how many steps were taken. It takes no memory.
+    /// Each of these workers takes its step in turn; returns how many steps were taken. It takes no memory.
     ///
     /// A step taken lowers what is left by at least one, so there are at most 3n + n(n-1) + W of them from a new world of n
     /// tiles and W workers on.
