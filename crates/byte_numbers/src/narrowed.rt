@@ -1,4 +1,4 @@
-//! Integers narrowed to bytes. The first walk looks whether each is a byte, and the second writes them.
+//! Integers narrowed to bytes. The first walk checks that each is a byte, and the second writes them.
 
 ghost use Rattle.std.specs.Prelude.{◌≡◌, ◌≤◌, Ok, Err, IfOk, MatchResult, length, map, true, unsigned_abs};
 ghost use Rattle.byte_numbers.specs.Bytes.{AreBytes, bytes_from_ints_of, is_byte};
@@ -55,7 +55,7 @@ pub fn write_bytes(a: &[i32], out: &mut [u8])
 /// Each integer as a byte.
 ///
 /// There are at most 2,147,483,647 integers. `Overflow` at the first that is negative or above 255; `LengthMismatch`, without a
-/// place, if the room has not as many places as there are integers. At a fault the room is as it was.
+/// place, if the room is not as long as the integers. After a fault the room is as before.
 pub fn bytes_from_ints_over(a: &[i32], out: &mut [u8]) -> Result<(), Fault>
     requires few { length a.now ≤ most_places }
     ensures { Overwrites (in_room (length out.old) (bytes_from_ints_of a.now)) result out.old out.new }

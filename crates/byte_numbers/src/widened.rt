@@ -19,7 +19,7 @@ fn write_ints(bytes: &[u8], out: &mut [i32])
 
 /// Each byte as an integer from 0 to 255.
 ///
-/// `LengthMismatch`, without a place, if the room has not as many places as there are bytes; it is then as it was.
+/// `LengthMismatch`, without a place, if the room is not as long as the bytes; it is then as before.
 pub fn ints_from_bytes_over(bytes: &[u8], out: &mut [i32]) -> Result<(), Fault>
     ensures { Overwrites (in_room (length out.old) (Ok (ints_from_bytes bytes.now))) result out.old out.new }
 {
