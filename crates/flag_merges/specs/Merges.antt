@@ -1,4 +1,4 @@
--- Merges by flags: the next element of one vector where the flag is true, of the other where it is false.
+-- Merges by flags: the next element of one vector if the flag is true, of the other if it is false.
 -- Source: Blelloch, Vector Models for Data-Parallel Computing, flag-merge; the faults are this library's profile.
 use Rattle.std.specs.Prelude.{◌≡◌, ℕ, ◌<◌, ◌==◌, ◌&&◌, Bool, true, false, not, List, [], ◌∷◌, length, map, Result, Ok}
 use Rattle.std.specs.Prelude.{EachIndex, slice_index, slice_index_or}
@@ -22,15 +22,15 @@ merged (false ∷ flags) xs (y ∷ ys) = y ∷ merged flags xs ys
 abbrev pub are_counts : List Bool → ℕ → ℕ → Bool
 are_counts flags trues falses = (count_of flags == trues) && (count_of (map not flags) == falses)
 
--- the merge, or a fault unless there are just as many elements as true flags, and as false ones
+-- the merge, or a fault unless there are exactly as many elements as true flags, and as false ones
 abbrev pub merge_or : {X : Type 0} → Fault → List Bool → List X → List X → Result (List X) Fault
 merge_or f flags xs ys = fault_if (not (are_counts flags (length xs) (length ys))) f (Ok (merged flags xs ys))
 
 abbrev pub merge_of : {X : Type 0} → List Bool → List X → List X → Result (List X) Fault
 merge_of flags xs ys = merge_or (fault LengthMismatch) flags xs ys
 
--- The same on each segment, where the fault stands at the number of the segment. The segments of the flags and of both vectors have
--- lengths of their own.
+-- The same on each segment; the fault is at the number of the segment. The segments of the flags and of both vectors have lengths of their
+-- own.
 abbrev pub seg_merge_of : {X : Type 0} → List Bool → List ℕ → List X → List ℕ → List X → List ℕ → Result (List X) Fault
 seg_merge_of flags lengths xs true_lengths ys false_lengths =
     end_to_end at_segment (of_three (merge_or (fault_at LengthMismatch 0)))
@@ -41,7 +41,7 @@ abbrev pub AreCounts : List Bool → List ℕ → List ℕ → List ℕ → Type
 AreCounts flags lengths trues falses =
     EachIndex lengths (λ s. are_counts (slice_index_or (cut_of lengths flags) s []) (slice_index trues s) (slice_index falses s) ≡ true)
 
--- at the first segment whose flags have other counts, and the fault there
+-- the fault at the first segment whose flags have other counts
 pub record IsFirstMiscount (flags : List Bool) (lengths trues falses : List ℕ) (f : Fault) : Type 0 where
   pub segment : ℕ
   pub within : segment < length lengths

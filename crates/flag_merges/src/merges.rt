@@ -9,7 +9,7 @@ ghost use Rattle.flag_merges.specs.Merges.{merge_of, merged};
 use cvl_base::{Fault, check_agree, true_count};
 
 /// Writes the merge of two vectors that have as many elements as there are true and false flags.
-// Which vector an element comes from is no branch, since flags at random would make the processor guess.
+// The choice of a vector is no branch, since random flags would make the processor guess.
 #[inline(never)]
 pub(crate) fn write_merged<T: Copy>(
     flags: &[bool],
@@ -36,11 +36,11 @@ pub(crate) fn write_merged<T: Copy>(
     }
 }
 
-/// The merge of two vectors by flags: place after place the next element of the first vector where the flag is true, and of the
-/// second where it is false. It is the inverse of two packs.
+/// The merge of two vectors by flags: place after place the next element of the first vector if the flag is true, and of the
+/// second if it is false. It is the inverse of two packs.
 ///
-/// There are at most 2,147,483,647 flags. `LengthMismatch`, without a place, if the first vector has not as many elements as
-/// there are true flags, the second as there are false ones, or the room as there are flags; it is then as it was.
+/// There are at most 2,147,483,647 flags. `LengthMismatch`, without a place, if the first vector does not have as many elements
+/// as there are true flags, the second as false ones, or the room as flags; the room is then as before.
 pub fn merge_by_flags_over<T: Copy>(
     flags: &[bool],
     when_true: &[T],

@@ -1,4 +1,4 @@
-//! The merge by flags of each segment. Where the counts of all segments fit, it is the merge of the whole vectors.
+//! The merge by flags of each segment. If the counts of all segments fit, it is the merge of the whole vectors.
 
 ghost use Rattle.std.specs.Prelude.{◌≡◌, ◌≤◌, Ok, Err, IfOk, MatchResult, length, map, not, sum};
 ghost use Rattle.cvl_base.specs.Limits.{most_places};
@@ -10,7 +10,7 @@ use crate::merges::write_merged;
 use cvl_base::{Fault, FaultNo, check_agree, true_count};
 use segdes::SegLengths;
 
-/// Whether there are so many true and so many false flags.
+/// Whether there are this many true and false flags.
 #[inline]
 fn are_counts(flags: &[bool], trues: usize, falses: usize) -> bool
     requires { length flags.now ≤ most_places }
@@ -46,7 +46,7 @@ fn check_counts(
     Ok(())
 }
 
-/// The faults of the merge of each segment, but for that of the room.
+/// The faults of the merge of each segment, except the room's.
 fn check_segments<T>(
     flags: &[bool],
     d: &SegLengths,
@@ -70,12 +70,12 @@ fn check_segments<T>(
     Ok(())
 }
 
-/// The merge of each segment of two vectors by the flags of the segment, one behind another.
+/// The merge of each segment of two vectors by the flags of the segment, in order.
 ///
-/// `LengthMismatch`, without a place, if segments do not add up to their vector, or if the vectors have not as many segments as
-/// the flags; at the number of the first segment that has not as many true flags as the first vector has elements there, or
-/// not as many false ones as the second; and without a place if the room has not as many places as there are flags. At a fault
-/// the room is as it was.
+/// `LengthMismatch`, without a place, if segments do not add up to their vector, or if the vectors do not have as many segments
+/// as the flags; at the number of the first segment that does not have as many true flags as the first vector has elements there,
+/// or as many false ones as the second; and without a place if the room is not as long as the flags. After a fault the room is as
+/// before.
 pub fn seg_merge_by_flags_over<T: Copy>(
     flags: &[bool],
     d: &SegLengths,
