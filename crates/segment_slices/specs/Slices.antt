@@ -1,7 +1,6 @@
--- Slices of a list one behind another: of each the place where it begins and how many elements it has. They may overlap, and come in
--- any order.
--- Source: the back permute of CVL, with a run of elements in the place of one; that a slice has to lie within the source, and the fault
--- of the first that does not, are this library's profile.
+-- Slices of a list in a row, each given by the place where it begins and its number of elements. They may overlap, and come in any order.
+-- Source: the back permute of CVL, with a run of elements instead of one; that a slice must lie within the source, and the fault of the
+-- first that does not, are this library's profile.
 use Rattle.std.specs.Prelude.{◌≡◌, ℕ, ◌+◌, ℤ, pos, negsuc, Bool, true, false, nat_le, if◌then◌else◌, List, length, map, take, drop}
 use Rattle.std.specs.Prelude.{unsigned_abs, Option, Some, None, Result, Ok, EachIndex, slice_index_or}
 use Rattle.std.specs.List.{zip}
@@ -17,7 +16,7 @@ is_slice m (pos start) (pos n) = nat_le (start + n) m
 is_slice m (pos start) (negsuc n) = false
 is_slice m (negsuc start) n = false
 
--- the elements of the source from a start on, so many of them
+-- so many elements of the source from a start on
 abbrev pub slice_at : {X : Type 0} → List X → ℤ × ℤ → List X
 slice_at source slice = take (unsigned_abs slice.1) (drop (unsigned_abs slice.0) source)
 
@@ -34,7 +33,7 @@ pub record AreSlices (m : ℕ) (starts lengths : List ℤ) : Type 0 where
   pub as_many : length starts ≡ length lengths
   pub within : EachIndex starts (λ s. is_slice m (slice_index_or starts s (pos 0)) (slice_index_or lengths s (pos 0)) ≡ true)
 
--- the slices one behind another, or the fault of the first that is not within the source
+-- the slices in a row, or the fault of the first that is not within the source
 abbrev pub gather_segments_of : {X : Type 0} → List X → List ℤ → List ℤ → Result (List X) Fault
 gather_segments_of source starts lengths = if_as_long starts lengths
     (values_from IndexOutOfRange 0 (map (slice_within source) (zip starts lengths)) >>= λ slices. Ok (joined slices))

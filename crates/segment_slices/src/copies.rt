@@ -2,7 +2,7 @@
 
 ghost use Rattle.std.specs.Prelude.{◌≡◌, ◌+◌, ◌≤◌, ◌++◌, drop, length, take};
 
-/// Copies so many elements, from place `first` of the source on, to the places of the room from `start` on.
+/// Copies `count` elements, from place `first` of the source on, to the places of the room from `start` on.
 #[inline]
 pub(crate) fn copy_slice<T: Copy>(
     source: &[T],

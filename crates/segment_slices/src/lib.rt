@@ -1,9 +1,8 @@
-//! Slices and segments of vectors, copied one behind another: slices of one vector that may overlap and come in any order, and
-//! the segments of one vector, each followed by that of another. A program that sorts by parts, joins tables or makes lists
-//! longer moves its elements so.
+//! Slices and segments of vectors, copied in a row: slices of one vector that may overlap and come in any order, and the segments
+//! of one vector, each followed by that of another. Use them to sort by parts, to join tables or to make lists longer.
 //!
-//! The calls write over a room of the caller's, by the thread that calls, without a runtime and without memory. Everything is
-//! checked before the first element is written, so that a fault leaves the room as it was. `slices` gathers, `pairs` appends.
+//! The calls write into the caller's room, on the calling thread, without a runtime and without memory. They check everything
+//! before they write the first element, so that a fault leaves the room as it was. `slices` gathers, `pairs` appends.
 #![tactic(auto)]
 
 mod copies;

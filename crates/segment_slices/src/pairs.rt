@@ -8,7 +8,7 @@ use crate::copies::copy_slice;
 use cvl_base::{Fault, check_agree};
 use segdes::SegLengths;
 
-/// Copies segment after segment of both vectors, by turns, over a room that is as long as both together.
+/// Copies the segments of both vectors, by turns, into a room that is as long as both together.
 #[inline(never)]
 fn write_pairs<T: Copy>(a: &[T], d: &SegLengths, b: &[T], other: &SegLengths, out: &mut [T])
     requires total { sum d.now ≡ length a.now }
@@ -29,11 +29,11 @@ fn write_pairs<T: Copy>(a: &[T], d: &SegLengths, b: &[T], other: &SegLengths, ou
     }
 }
 
-/// The segments of one vector, each followed by the segment of another that has its number, one behind another. Segment s of the
-/// result has as many elements as both segments together.
+/// The segments of one vector, each followed by the segment of another with the same number, in order. Segment s of the result
+/// has as many elements as both segments together.
 ///
-/// `LengthMismatch`, without a place, if segments do not add up to their vector, if the vectors have not as many segments as each
-/// other, or if the room is not as long as both vectors together. At a fault the room is as it was.
+/// `LengthMismatch`, without a place, if segments do not add up to their vector, if the vectors differ in the number of segments,
+/// or if the room is not as long as both vectors together. After a fault the room is as before.
 pub fn append_segments_over<T: Copy>(
     a: &[T],
     d: &SegLengths,

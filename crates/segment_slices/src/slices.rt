@@ -1,4 +1,4 @@
-//! Slices of a vector one behind another. The first walk looks at all slices, and the second copies them.
+//! Slices of a vector in a row. The first walk checks all slices, and the second copies them.
 
 ghost use Rattle.std.specs.Prelude.{◌≡◌, ◌≤◌, Ok, Err, IfOk, MatchResult, length, pos, unsigned_abs};
 ghost use Rattle.cvl_base.specs.Limits.{most_places};
@@ -9,7 +9,7 @@ ghost use Rattle.segment_slices.specs.Slices.{AreSlices, gather_segments_of, is_
 use crate::copies::copy_slice;
 use cvl_base::{Fault, FaultNo, check_agree};
 
-/// Whether so many elements from a start on are among `count`.
+/// Whether `length` elements from a start on are among `count`.
 #[inline]
 fn is_slice(count: usize, start: &i32, length: &i32) -> bool
     ensures { result ≡ is_slice count start.now length.now }
@@ -32,8 +32,8 @@ fn as_count(number: &i32) -> usize
 
 /// How many elements the slices have in all.
 ///
-/// `LengthMismatch`, without a place, if there are more or fewer starts than lengths; `IndexOutOfRange` at the number of the
-/// first slice that is not within the source: one with a negative start, a negative length or an end past the source.
+/// `LengthMismatch`, without a place, if there are not as many starts as lengths; `IndexOutOfRange` at the number of the first
+/// slice that is not within the source: one with a negative start, a negative length or an end past the source.
 #[inline(never)]
 pub fn check_slices<T>(source: &[T], starts: &[i32], lengths: &[i32]) -> Result<usize, Fault>
     requires few { length starts.now ≤ most_places }
@@ -54,7 +54,7 @@ pub fn check_slices<T>(source: &[T], starts: &[i32], lengths: &[i32]) -> Result<
     Ok(total)
 }
 
-/// Copies the slices, which were checked before, one behind another over a room that is as long as they are together.
+/// Copies the slices, checked before, in a row into a room that is as long as they are together.
 #[inline(never)]
 pub fn write_slices<T: Copy>(source: &[T], starts: &[i32], lengths: &[i32], out: &mut [T])
     requires slices { AreSlices (length source.now) starts.now lengths.now }
@@ -70,12 +70,12 @@ pub fn write_slices<T: Copy>(source: &[T], starts: &[i32], lengths: &[i32], out:
     }
 }
 
-/// The slices of a source one behind another: slice s begins at place `starts[s]` and has `lengths[s]` elements. Slices may
-/// overlap, come in any order and be empty; an empty one may begin where the source ends.
+/// The slices of a source in a row: slice s begins at place `starts[s]` and has `lengths[s]` elements. Slices may overlap, come
+/// in any order and be empty; an empty one may begin at the end of the source.
 ///
 /// There are as many starts as lengths, at most 2,147,483,647, else `LengthMismatch`, without a place. `IndexOutOfRange` at the
 /// number of the first slice that is not within the source: one with a negative start, a negative length or an end past the
-/// source. `LengthMismatch` if the room is not as long as all slices together. At a fault the room is as it was.
+/// source. `LengthMismatch` if the room is not as long as all slices together. After a fault the room is as before.
 pub fn gather_segments_over<T: Copy>(
     source: &[T],
     starts: &[i32],
