@@ -1,6 +1,5 @@
 -- One value of each segment; and the first true flag, as such a value.
--- Source: CVL's segmented reduces, with another function of a segment in the place of an operator; that -1 is none is this library's
--- profile.
+-- Source: CVL's segmented reduces, with another function of a segment instead of an operator; that -1 means none is this library's profile.
 use Rattle.std.specs.Prelude.{ℕ, ℤ, pos, negsuc, Bool, List, map, position, Option, Some, None, Result, Ok}
 use Rattle.cvl_base.specs.declared.fault.Fault.{Fault}
 use Rattle.cvl_base.specs.Gives.{◌>>=◌}
@@ -10,7 +9,7 @@ use Rattle.cvl_base.specs.Nests.{nest}
 abbrev pub each_of : {X V : Type 0} → (List X → V) → List X → List ℕ → Result (List V) Fault
 each_of value xs lengths = nest lengths xs >>= λ segments. Ok (map value segments)
 
--- the place, or -1 where there is none
+-- the place, or -1 if there is none
 abbrev pub place_or_none : Option ℕ → ℤ
 place_or_none (Some place) = pos place
 place_or_none None = negsuc 0

@@ -21,10 +21,10 @@ impl SegmentValue<i32, i64> for ExactSum {
     }
 }
 
-/// The sum of each segment over whole numbers, in 64 bits: no sum of at most 2,147,483,647 integers of 32 bits is outside them.
+/// The sum of each segment over whole numbers, in 64 bits: no sum of at most 2,147,483,647 integers of 32 bits exceeds them.
 ///
-/// `LengthMismatch`, without a place, if the segments do not add up to the vector, or if the room has not a place for each
-/// segment; it is then as it was.
+/// `LengthMismatch`, without a place, if the segments do not add up to the vector, or the room does not have a place for each
+/// segment; it is then as before.
 pub fn seg_exact_sums_over(a: &[i32], d: &SegLengths, out: &mut [i64]) -> Result<(), Fault>
     ensures { Overwrites (in_room (length out.old) (each_of total_of a.now d.now)) result out.old out.new }
 {

@@ -11,7 +11,7 @@ use cvl_base::{Fault, Single};
 use segdes::SegLengths;
 use std::marker::PhantomData;
 
-/// Stands where none passes.
+/// The place if none passes.
 pub const NONE: i32 = -1;
 
 /// How many elements are tested together.
@@ -29,7 +29,7 @@ fn passes_none<X: Copy, T: Single<X, bool>>(xs: &[X]) -> bool
     none
 }
 
-/// How many elements stand in the blocks with which they begin and in which none passes.
+/// How many elements the blocks at the front have in which none passes.
 fn count_passed_over<X: Copy, T: Single<X, bool>>(xs: &[X]) -> usize
     ensures within { result ≤ length xs.now }
     ensures none { list_all (λ x. not (T.value x)) (take result xs.now) ≡ true }
@@ -41,7 +41,7 @@ fn count_passed_over<X: Copy, T: Single<X, bool>>(xs: &[X]) -> usize
     over
 }
 
-/// The place of the first element that passes, if there is one, by a walk from element to element.
+/// The place of the first element that passes, if there is one, element by element.
 fn first_in_turn<X: Copy, T: Single<X, bool>>(xs: &[X]) -> Option<usize>
     ensures value { result ≡ position T.value xs.now }
     ensures within { IfSome result (λ place. place < length xs.now) }
@@ -49,7 +49,7 @@ fn first_in_turn<X: Copy, T: Single<X, bool>>(xs: &[X]) -> Option<usize>
     xs.iter().position(|x| T::apply(*x))
 }
 
-/// The place of the first element that passes, if there is one, which stands in the first block that has one.
+/// The place of the first element that passes, if there is one: it is in the first block that has one.
 fn first_place<X: Copy, T: Single<X, bool>>(xs: &[X]) -> Option<usize>
     ensures value { result ≡ position T.value xs.now }
     ensures within { IfSome result (λ place. place < length xs.now) }
@@ -85,8 +85,8 @@ impl<X: Copy, T: Single<X, bool>> SegmentValue<X, i32> for FirstThat<T> {
 
 /// The place of the first element of each segment that passes, counted from the start of the segment, or `NONE`.
 ///
-/// `LengthMismatch`, without a place, if the segments do not add up to the vector, or if the room has not a place for each
-/// segment; it is then as it was.
+/// `LengthMismatch`, without a place, if the segments do not add up to the vector, or the room does not have a place for each
+/// segment; it is then as before.
 pub fn seg_first_that_over<X: Copy, T: Single<X, bool>>(
     xs: &[X],
     d: &SegLengths,
@@ -118,8 +118,8 @@ pub fn first_true(flags: &[bool]) -> i32
 
 /// The place of the first true flag of each segment, counted from the start of the segment, or `NONE`.
 ///
-/// `LengthMismatch`, without a place, if the segments do not add up to the flags, or if the room has not a place for each
-/// segment; it is then as it was.
+/// `LengthMismatch`, without a place, if the segments do not add up to the flags, or the room does not have a place for each
+/// segment; it is then as before.
 pub fn seg_first_true_over(flags: &[bool], d: &SegLengths, out: &mut [i32]) -> Result<(), Fault>
     ensures { Overwrites (in_room (length out.old) (each_of first_true_of flags.now d.now)) result out.old out.new }
 {

@@ -1,8 +1,8 @@
-//! One value of each segment that no operator of the table joins: the place of its first true flag, and its sum over whole
-//! numbers, which no group is too long for.
+//! One value of each segment that no operator of the table gives: the place of its first true flag, and its sum over whole
+//! numbers, which fits a group of any length.
 //!
-//! The calls write over a room of the caller's, by the thread that calls, without a runtime and without memory. `values` has the
-//! one walk of both, `first_trues` and `exact_sums` the calls.
+//! The calls write into the caller's room, on the calling thread, without a runtime and without memory. `values` has the walk of
+//! both, `first_trues` and `exact_sums` the calls.
 #![tactic(auto)]
 
 pub mod exact_sums;

@@ -9,7 +9,7 @@ ghost use Rattle.segment_values.specs.Values.{each_of};
 use cvl_base::{Fault, check_agree};
 use segdes::SegLengths;
 
-/// What is made of the elements of a segment.
+/// Makes a value of the elements of a segment.
 pub(crate) trait SegmentValue<X, V> {
     ghost value: { List X → V };
 
@@ -35,7 +35,7 @@ fn write_values<X, V: Copy, S: SegmentValue<X, V>>(a: &[X], d: &SegLengths, out:
     }
 }
 
-/// The value of each segment over a room that has a place for each.
+/// The value of each segment, into a room that has a place for each.
 pub(crate) fn values_over<X, V: Copy, S: SegmentValue<X, V>>(
     a: &[X],
     d: &SegLengths,
