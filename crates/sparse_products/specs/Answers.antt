@@ -1,4 +1,4 @@
--- What the product of a sparse matrix with a vector answers: the product, or the first fault.
+-- The answer of the product of a sparse matrix with a vector: the product, or the first fault.
 -- Source: the product by four calls of CVL, whose faults come in their order: a descriptor is made of the lengths, the elements at the
 -- columns are gathered, the values are multiplied with them, and each segment is added up. Offsets are those of compressed sparse rows.
 use Rattle.std.specs.Prelude.{ℕ, ℤ, pos, ◌-ℤ◌, not, List, [], ◌∷◌, map, option_map, position, Result, Ok, Err, length}
@@ -16,8 +16,8 @@ use Rattle.cvl_base.specs.Nests.{nest}
 use Rattle.permute_walks.specs.Indices.{first_outside}
 use Rattle.sparse_products.specs.Products.{row_product, row_total}
 
--- the rows with these lengths, each as its entries, a column beside a value. The fault of the first column that is none of so many
--- places, or of columns and values that are not equally many, or of lengths that don't add up to their number
+-- the rows with these lengths, each as its entries, a column beside a value. The fault of the first column that is none of so many places,
+-- or of columns and values that differ in number, or of lengths that don't add up to it
 abbrev pub rows_within : ℕ → List ℕ → List ℤ → List ℤ → Result (List (List (ℤ × ℤ))) Fault
 rows_within places lengths columns values =
     unless (first_outside 0 places columns) (if_as_long values columns (nest lengths (zip columns values)))
@@ -52,8 +52,8 @@ lengths_after before (offset ∷ offsets) = (offset -ℤ before) ∷ lengths_aft
 abbrev pub none_negative : List ℤ → Result (List ℤ) Fault
 none_negative numbers = unless (option_map (fault_at no.NegativeLength) (position is_negative numbers)) (Ok numbers)
 
--- the lengths of the rows between offsets, of which the first is 0. The fault of another first one, or of none, or of the first row
--- that would have a negative length. That the last is the number of entries is what the lengths add up to
+-- the lengths of the rows between offsets, the first of which is 0. The fault of another first one, or of none, or of the first row with a
+-- negative length. That the last is the number of entries is what the lengths add up to
 abbrev pub row_lengths_of : List ℤ → Result (List ℤ) Fault
 row_lengths_of [] = Err (fault no.LengthMismatch)
 row_lengths_of (first ∷ offsets) =

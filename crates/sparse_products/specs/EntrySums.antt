@@ -1,4 +1,4 @@
--- Sums of the first entries of some rows, by which each row has its own sum.
+-- Sums of the first entries of some rows, from which each row gets its own sum.
 -- Source: a sum over a row is the sum up to its end, less the one up to its start.
 use Rattle.std.specs.Prelude.{◌≡◌, ℕ, ◌+◌, ◌≤◌, ℤ, pos, ◌-ℤ◌, true, List, [], ◌∷◌, length, slice_index_or, take}
 use Rattle.cvl_base.specs.Integers.{wrap}
@@ -10,7 +10,7 @@ pub record AreSums (x : List ℤ) (entries : List (ℤ × ℤ)) (sums : List ℤ
   pub within : are_within (length x) entries ≡ true
   pub each : (k : ℕ) → k ≤ length entries → slice_index_or sums k (pos 0) ≡ wrap (row_total x (take k entries))
 
--- the sum of each of the rows with these lengths, of which the first starts at a place
+-- the sum of each of the rows with these lengths, the first of which starts at a place
 abbrev pub between : List ℤ → ℕ → List ℕ → List ℤ
 between sums start [] = []
 between sums start (n ∷ lengths) =

@@ -1,5 +1,5 @@
--- The value of a row by a rule: none where a column is no place of x, or where the rule has none for the row's sum.
--- Source: a wrapped sum has a value always, and a checked one where it fits 32 bits, which is this library's profile.
+-- The value of a row by a rule: none if a column is no place of x, or the rule has none for the row's sum.
+-- Source: a wrapped sum always has a value, and a checked one if it fits 32 bits, which is this library's profile.
 use Rattle.std.specs.Prelude.{ℕ, ℤ, pos, Bool, if◌then◌else◌, List, length, map, Option, None, Some, Result, unwrap_or}
 use Rattle.std.specs.List.{list_all}
 use Rattle.cvl_base.specs.declared.fault.Fault.{Fault}
@@ -11,7 +11,7 @@ use Rattle.cvl_base.specs.Permutes.{is_place}
 use Rattle.sparse_products.specs.Answers.{rows_within}
 use Rattle.sparse_products.specs.Products.{row_total}
 
--- the rule of sums that wrap; that of sums that are checked is `fitting`
+-- the rule for sums that wrap; the rule for checked sums is `fitting`
 abbrev pub wrapping : ℤ → Option ℤ
 wrapping total = Some (wrap total)
 

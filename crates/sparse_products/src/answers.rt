@@ -1,4 +1,4 @@
-//! What a product answers: the faults that are found before the rows are walked, and those that the walk comes upon.
+//! The answers of a product: the faults found before the walk over the rows, and those that the walk finds.
 
 ghost use Rattle.std.specs.Prelude.{◌≡◌, ◌≤◌, ℕ, ℤ, List, Err, IfSome, MatchResult, length, map, sum};
 ghost use Rattle.std.specs.List.{zip};
@@ -14,8 +14,8 @@ use cvl_base::{Fault, FaultNo, Refused};
 use permute_walks::check_places_alone;
 use std::alloc::Allocator;
 
-/// Checks that columns and values are equally many, and that the rows have as many entries: else `IndexOutOfRange` at the first
-/// column that is none of so many places, and then `LengthMismatch`, without a place.
+/// Checks that columns and values are equal in number, and that the rows have as many entries: else `IndexOutOfRange` at the
+/// first column that is none of `places` places, then `LengthMismatch`, without a place.
 pub(crate) fn check_entries(
     columns: &[i32],
     values: &[i32],
@@ -33,8 +33,8 @@ pub(crate) fn check_entries(
     Err(Fault::new(FaultNo::LengthMismatch))
 }
 
-/// The product that was written, or where a row has no value the reason: `IndexOutOfRange` at the first column that is none of so
-/// many places, or else `Overflow` at the row.
+/// The product that was written, or why a row has no value: `IndexOutOfRange` at the first column that is none of `places`
+/// places, else `Overflow` at the row.
 pub(crate) fn product_or_fault<S: RowWalk, A: Allocator>(
     columns: &[i32],
     places: usize,

@@ -1,8 +1,8 @@
-//! The product of a sparse matrix with a vector in one walk over the rows: each gathers, multiplies and adds, and no vector
-//! stands between. The rows come by their lengths, or by offsets as those of compressed sparse rows.
+//! The product of a sparse matrix with a vector in one walk over the rows: each gathers, multiplies and adds, without a vector in
+//! between. The rows are given by lengths, or by offsets as in compressed sparse rows.
 //!
-//! A sum is wrapped to 32 bits, or is that of whole numbers and has to fit them. Beside the calls for Rattle, by several
-//! threads, stand those by the thread that calls, for code that has no runtime.
+//! A sum is wrapped to 32 bits, or is a whole number that must fit them. Besides the calls for Rattle, on several threads, there
+//! are those on the calling thread, for code that has no runtime.
 #![tactic(auto)]
 
 mod answers;

@@ -8,7 +8,7 @@ ghost use Rattle.sparse_products.specs.Answers.{lengths_after, none_negative, ro
 use cvl_base::{Fault, FaultNo, Refused};
 use std::alloc::Allocator;
 
-/// What an offset is more than the one before it, which isn't negative; none where it is less.
+/// By how much an offset exceeds the one before it, which isn't negative; none if it is less.
 #[inline(always)]
 fn length_between(before: &i32, offset: &i32) -> Option<i32>
     requires { pos 0 ≤ℤ before.now }
@@ -22,7 +22,7 @@ fn length_between(before: &i32, offset: &i32) -> Option<i32>
     }
 }
 
-/// What each offset is more than the one before it, of offsets after 0: `NegativeLength` at the first that is less.
+/// By how much each offset exceeds the one before it, of offsets after 0: `NegativeLength` at the first that is less.
 fn lengths_after_0<A: Allocator>(alloc: A, offsets: &[i32]) -> Result<Vec<i32, A>, Refused>
     requires { length offsets.now ≤ most_places }
     ensures lengths { Gives (λ lengths. lengths.items) result (none_negative (lengths_after (pos 0) offsets.now)) }
@@ -47,9 +47,8 @@ fn lengths_after_0<A: Allocator>(alloc: A, offsets: &[i32]) -> Result<Vec<i32, A
 /// The lengths of the rows between offsets, one fewer than there are offsets: row r has the entries from the one at offset r
 /// to the one before offset r + 1. There are at most 2,147,483,648 offsets.
 ///
-/// `LengthMismatch`, without a place, where there is no offset or the first isn't 0; `NegativeLength` at the first row whose
-/// offset is above the next one. That the last is the number of entries is asked where the lengths are. Source: compressed
-/// sparse rows.
+/// `LengthMismatch`, without a place, if there is no offset or the first isn't 0; `NegativeLength` at the first row whose offset
+/// is above the next one. Whether the last is the number of entries is checked with the lengths. Source: compressed sparse rows.
 pub fn row_lengths<A: Allocator>(alloc: A, offsets: &[i32]) -> Result<Vec<i32, A>, Refused>
     requires { length offsets.now ≤ most_places + 1 }
     ensures lengths { Gives (λ lengths. lengths.items) result (row_lengths_of offsets.now) }

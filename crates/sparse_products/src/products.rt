@@ -1,4 +1,4 @@
-//! The product by several threads where it pays. The rows are shared among them so that each has about as many entries.
+//! The product on several threads if that pays. Each thread gets rows with about as many entries.
 
 ghost use Rattle.std.specs.Prelude.{◌≤◌, ◌+◌, length};
 ghost use Rattle.cvl_base.specs.Gives.{Gives};
@@ -46,16 +46,15 @@ fn product_in_runs<S: RowWalk + Send + Sync, R: Threads + Sync, A: Memory>(
     product_or_fault::<S, A>(columns, x.len(), written, found)
 }
 
-/// The product of a sparse matrix with the vector `x`, in one walk over the rows by one thread or several.
+/// The product of a sparse matrix with the vector `x`, in one walk over the rows on one thread or several.
 ///
-/// Row r has `lengths[r]` entries; `columns` and `values` are those of all entries, row after row. The product has one
-/// element for each row, 0 for a row without entries. Sums and products are wrapped to 32 bits. There are at most 4,194,304
-/// lengths, and as many columns.
+/// Row r has `lengths[r]` entries; `columns` and `values` are those of all entries, row after row. The product has one element
+/// for each row, 0 if it has no entries. Sums and products wrap to 32 bits. There are at most 4,194,304 lengths, and as many
+/// columns.
 ///
-/// Faults come in this order: `NegativeLength` at the first negative length; `TooLong` where the lengths add up to more than
-/// 4,194,304; `IndexOutOfRange` at the first entry whose column is no place of `x`; `LengthMismatch` where columns and values
-/// are not equally many, or the lengths don't add up to their number. Source: Blelloch, Vector Models for Data-Parallel
-/// Computing, 1990.
+/// Faults come in this order: `NegativeLength` at the first negative length; `TooLong` if the lengths add up to more than
+/// 4,194,304; `IndexOutOfRange` at the first entry whose column is no place of `x`; `LengthMismatch` if columns and values differ
+/// in number, or the lengths don't add up to it. Source: Blelloch, Vector Models for Data-Parallel Computing, 1990.
 pub fn sparse_product<R: Threads + Sync, A: Memory>(
     rt: &R,
     alloc: A,
@@ -91,8 +90,8 @@ pub fn checked_sparse_product<R: Threads + Sync, A: Memory>(
     product_in_runs::<Checked, R, A>(rt, alloc, config, &rows, columns, values, x)
 }
 
-/// [`sparse_product`] of rows that come by their offsets, of which there is one more than rows: row r has the entries from
-/// the one at offset r to the one before offset r + 1. The faults of [`row_lengths`] come first.
+/// [`sparse_product`] of rows given by offsets, one more than rows: row r has the entries from the one at offset r to the one
+/// before offset r + 1. The faults of [`row_lengths`] come first.
 pub fn sparse_product_by_offsets<R: Threads + Sync, A: Memory>(
     rt: &R,
     alloc: A,
@@ -111,7 +110,7 @@ pub fn sparse_product_by_offsets<R: Threads + Sync, A: Memory>(
     sparse_product(rt, alloc, config, &lengths, columns, values, x)
 }
 
-/// [`checked_sparse_product`] of rows that come by their offsets.
+/// [`checked_sparse_product`] of rows given by their offsets.
 pub fn checked_sparse_product_by_offsets<R: Threads + Sync, A: Memory>(
     rt: &R,
     alloc: A,

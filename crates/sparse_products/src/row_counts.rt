@@ -1,4 +1,4 @@
-//! What is asked of rows by their lengths alone, where the caller has them: no start of a row is kept.
+//! Questions about rows that their lengths answer, in the caller's memory: no start of a row is kept.
 
 ghost use Rattle.std.specs.Prelude.{◌≡◌, ◌≤◌, length, map, sum, unsigned_abs, Err, MatchResult, Ok};
 ghost use Rattle.cvl_base.specs.Descriptors.{AreLengthsWithin, descriptor_of};
@@ -10,8 +10,8 @@ use cvl_base::{Fault, FaultNo};
 use segdes::SegLengths;
 use sharing::share_of_first;
 
-/// The rows with these lengths: NegativeLength at the first that is negative; TooLong, without a place, where none is and the
-/// total is above 4,194,304, as scripts and sessions have it.
+/// The rows with these lengths: `NegativeLength` at the first that is negative; else `TooLong`, without a place, if the total is
+/// above 4,194,304, the limit of scripts and sessions.
 pub(crate) fn rows_of(lengths: &[i32]) -> Result<SegLengths<'_>, Fault>
     requires { length lengths.now ≤ most_elements }
     ensures { MatchResult result (λ d. descriptor_of lengths.now ≡ Ok d) (λ f. descriptor_of lengths.now ≡ Err f) }

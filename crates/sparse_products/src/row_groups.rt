@@ -1,5 +1,5 @@
-//! The walk over the rows where sums are wrapped: the entries of some rows together are added up one after another, and each row
-//! is the sum at its end, less the one at its start. So no branch hangs on how long a short row is, which no processor foresees.
+//! The walk over the rows for sums that wrap: it adds up the entries of some rows together, and each row is the sum at its end,
+//! less the one at its start. So no branch depends on the length of a short row, which no processor foresees.
 
 ghost use Rattle.std.specs.Prelude.{◌≡◌, ◌+◌, ◌≤◌, ◌<◌, ◌-ℤ◌, length, map, sum, unsigned_abs, IsTrue};
 ghost use Rattle.std.specs.List.{zip};
@@ -22,14 +22,14 @@ use fresh::Run;
 /// How many rows are taken together.
 const GROUP: usize = 64;
 
-/// The sums of the entries of a group, with the one before the first entry. Where rows have more entries, each is added up by
+/// The sums of the entries of a group, with the one before the first entry. If rows have more entries, each is added up by
 /// itself, since the branch at its end is then rare.
 const SUMS: usize = 2049;
 
-/// From how many entries on groups pay, whose sums are cleared first.
+/// From this many entries on groups pay, whose sums are cleared first.
 const LEAST: usize = 1024;
 
-/// Writes the sum of the first entries for each number of them, and tells whether each column is a place of `x`.
+/// Writes the sum of the first k entries for each k, and returns whether each column is a place of `x`.
 fn sums_into(sums: &mut [i32], columns: &[i32], values: &[i32], x: &[i32]) -> bool
     requires as_many { length values.now ≡ length columns.now }
     requires room { length columns.now < length sums.old }
@@ -57,7 +57,7 @@ fn difference(sum: &i32, before: &i32) -> i32
     Sub::apply(*sum, *before)
 }
 
-/// Writes the sums of the rows with these lengths, by those of the first entries.
+/// Writes the sums of the rows with these lengths, from those of the first entries.
 fn differences_into(run: Run<i32>, lengths: &[i32], sums: &[i32]) -> Run<i32>
     requires lengths { AreLengthsWithin most_places lengths.now }
     requires covered { sum (map unsigned_abs lengths.now) < length sums.now }

@@ -11,13 +11,13 @@ ghost use Rattle.sparse_products.specs.Rows.{row_value, wrapping};
 use cvl_base::monoids::{Add, Mul};
 use cvl_base::{Binary, place_among};
 
-/// A rule by which the sum of a row has a value.
+/// A rule that gives the sum of a row a value.
 pub(crate) trait RowSum {
     ghost use Rattle.std.specs.Prelude.{ℤ, Option};
 
     ghost rule: { ℤ → Option ℤ };
 
-    /// The value of the row of these entries. None where a column is no place of `x`, or where the rule has none for the sum.
+    /// The value of the row of these entries. None if a column is no place of `x`, or the rule has none for the sum.
     fn value(columns: &[i32], values: &[i32], x: &[i32]) -> Option<i32>
         requires as_many { length values.now ≡ length columns.now }
         requires few { length columns.now ≤ most_places }
@@ -27,7 +27,7 @@ pub(crate) trait RowSum {
 /// Each sum is wrapped to 32 bits.
 pub(crate) struct Wrapping;
 
-/// Each sum has to fit 32 bits.
+/// Each sum must fit 32 bits.
 pub(crate) struct Checked;
 
 impl RowSum for Wrapping {
@@ -74,7 +74,7 @@ fn whole_product(value: &i32, element: &i32) -> i64
     i64::from(*value) * i64::from(*element)
 }
 
-/// The sum with one product more, which doesn't wrap where the sum is less than 2^93 away from 0.
+/// The sum with one product more, which doesn't wrap if the sum is less than 2^93 away from 0.
 #[inline(always)]
 fn with_whole_product(sum: &i128, value: &i32, element: &i32) -> i128
     requires { unsigned_abs sum.now ≤ 9903520314283042199192993792 }
@@ -108,7 +108,7 @@ fn wrapped_sum(columns: &[i32], values: &[i32], x: &[i32]) -> Option<i32>
     Some(sum)
 }
 
-/// The sum of a row, if it fits 32 bits. So many products add up to less than 2^93, so that no sum on the way wraps.
+/// The sum of a row, if it fits 32 bits. So many products add up to less than 2^93, so that no partial sum wraps.
 #[inline]
 fn fitting_sum(columns: &[i32], values: &[i32], x: &[i32]) -> Option<i32>
     requires as_many { length values.now ≡ length columns.now }

@@ -1,4 +1,4 @@
-//! The walk over the rows of a matrix, each of which is summed up and written; of all rows, or of one thread's share of them.
+//! The walk over the rows of a matrix, which sums up and writes each; of all rows, or of one thread's share.
 
 ghost use Rattle.std.specs.Prelude.{◌≡◌, ◌+◌, ◌≤◌, length, map, sum, unsigned_abs};
 ghost use Rattle.std.specs.List.{zip};
@@ -15,10 +15,9 @@ use fresh::{CheckedWriter, Run, first_found};
 use segdes::SegLengths;
 use std::marker::PhantomData;
 
-/// Writes the values of the rows with these lengths, 0 for a row that has none, and tells the place of the first of these.
+/// Writes the values of the rows with these lengths, 0 for a row that has none, and returns the first such place.
 ///
-/// The entries begin with those of the rows; what stands behind them is not read. The run must have room for one element for each
-/// row.
+/// The entries begin with those of the rows; what follows is not read. The run must have room for one element for each row.
 pub(crate) fn rows_into<S: RowSum>(
     run: Run<i32>,
     lengths: &[i32],
@@ -49,7 +48,7 @@ pub(crate) fn rows_into<S: RowSum>(
     (run, found)
 }
 
-/// A rule for the sum of a row, with the walk over rows that is fastest by it.
+/// A rule for the sum of a row, with the walk over rows that is fastest for it.
 pub(crate) trait RowWalk {
     ghost use Rattle.std.specs.Prelude.{◌≡◌, ◌+◌, ◌≤◌, ℤ, Option, length, map, sum, unsigned_abs};
     ghost use Rattle.std.specs.List.{zip};

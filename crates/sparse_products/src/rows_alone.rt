@@ -1,4 +1,4 @@
-//! The product by the thread that calls, for code that has no runtime.
+//! The product on the calling thread, for code that has no runtime.
 
 ghost use Rattle.std.specs.Prelude.{◌≤◌, length};
 ghost use Rattle.cvl_base.specs.Gives.{Gives};
@@ -31,13 +31,12 @@ fn product_alone<S: RowWalk, A: Allocator>(
     product_or_fault::<S, A>(columns, x.len(), room.into_vec(run), found)
 }
 
-/// The product of a sparse matrix with the vector `x`, whose sums and products are wrapped to 32 bits. It has one element for
-/// each row, 0 for a row without entries; `columns` and `values` are those of all entries, row after row, at most
-/// 2,147,483,647.
+/// The product of a sparse matrix with the vector `x`. Sums and products wrap to 32 bits. It has one element for each row, 0 if
+/// it has no entries; `columns` and `values` are those of all entries, row after row, at most 2,147,483,647.
 ///
-/// `IndexOutOfRange` at the first entry whose column is no place of `x`; `LengthMismatch`, without a place, where columns and
-/// values are not equally many, or the rows don't have as many entries. It takes memory for the product. Source: Blelloch,
-/// Vector Models for Data-Parallel Computing, 1990.
+/// `IndexOutOfRange` at the first entry whose column is no place of `x`; `LengthMismatch`, without a place, if columns and values
+/// differ in number, or the rows don't have as many entries. It takes memory for the product. Source: Blelloch, Vector Models for
+/// Data-Parallel Computing, 1990.
 pub fn rows_product<A: Allocator>(
     alloc: A,
     rows: &SegLengths,

@@ -1,4 +1,4 @@
-//! What the definitions of products mean, in a function that takes and gives nothing: values that were worked out by hand.
+//! What the definitions of products mean, in a function that takes and gives nothing: values worked out by hand.
 
 ghost use Rattle.std.specs.Prelude.{◌≡◌, negsuc, pos, [], ◌∷◌, Ok, Err};
 ghost use Rattle.cvl_base.specs.declared.fault.FaultNo.TheVariants as no;
@@ -6,7 +6,7 @@ ghost use Rattle.cvl_base.specs.Faults.{fault, fault_at};
 ghost use Rattle.sparse_products.specs.Answers.{checked_sparse_product_of, row_lengths_of};
 ghost use Rattle.sparse_products.specs.Answers.{sparse_product_by_offsets_of, sparse_product_of};
 
-/// A row without entries has 0; a sum wraps, or is at fault; of several faults the first is told; offsets are lengths.
+/// A row without entries has 0; a sum wraps, or is a fault; of several faults the first is reported; offsets are lengths.
 pub fn product_values()
     ensures rows { sparse_product_of (pos 2 ∷ pos 0 ∷ pos 2 ∷ []) (pos 0 ∷ pos 2 ∷ pos 1 ∷ pos 2 ∷ [])
         (pos 2 ∷ pos 1 ∷ pos 3 ∷ pos 4 ∷ []) (pos 1 ∷ pos 2 ∷ pos 3 ∷ [])
