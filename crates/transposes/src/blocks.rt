@@ -1,5 +1,5 @@
 //! Blocks of a matrix, transposed. A room may begin with any row of the transpose, which is a column of the matrix: column c of a
-//! call then is column `from + c` of the matrix.
+//! call is then column `from + c` of the matrix.
 
 ghost use Rattle.std.specs.Prelude.{◌≡◌, ◌+◌, ◌-◌, ◌*◌, ◌<◌, ◌≤◌, length};
 ghost use Rattle.cvl_base.specs.Limits.{most_places};
@@ -7,7 +7,7 @@ ghost use Rattle.transposes.specs.Transposes.{IsTransposedIn};
 
 use crate::strided::write_strided;
 
-/// How many rows and columns a block has at most: the lines in which its elements lie stay in the first cache.
+/// The most rows and columns of a block: the lines of its elements stay in the first cache.
 const BLOCK: usize = 32;
 
 /// Transposes the block of the rows from `top` up to before `bottom` and the columns from `left` up to before `right`.
@@ -45,7 +45,7 @@ fn write_block<T: Copy>(
     }
 }
 
-/// Transposes the rows from `top` up to before `bottom` of so many columns, block by block.
+/// Transposes the rows from `top` up to before `bottom`, all their columns, block by block.
 fn write_band<T: Copy>(
     source: &[T],
     rows: usize,
@@ -72,10 +72,10 @@ fn write_band<T: Copy>(
     }
 }
 
-/// Writes some neighbouring rows of the transpose, which are columns of the matrix: so many, from column `from` on.
+/// Writes neighbouring rows of the transpose, which are `count` columns of the matrix from column `from` on.
 ///
 /// The matrix has `rows` rows of `columns` elements each, at most 2,147,483,647 in all, and the room is as long as these columns
-/// together. A part of a transpose is such a call.
+/// together. Such a call makes a part of a transpose.
 pub fn transpose_columns<T: Copy>(
     source: &[T],
     rows: usize,

@@ -1,8 +1,8 @@
-//! The transpose of a matrix whose rows lie one behind another.
+//! The transpose of a matrix in row order.
 //!
-//! The call writes over a room of the caller's, by the thread that calls, without a runtime and without memory. It goes from
-//! block to block, so that the elements of a block are read while they are still in cache, and writes runs of places. A part of a
-//! transpose is a range of its places.
+//! The call writes into the caller's room, on the calling thread, without a runtime and without memory. It works block by block,
+//! so that it reads the elements of a block while they are in cache, and writes runs of places. A part of a transpose is a range
+//! of its places.
 #![tactic(auto)]
 
 pub mod blocks;

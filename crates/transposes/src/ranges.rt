@@ -1,4 +1,4 @@
-//! A range of the places of a transpose, as one of several callers writes it.
+//! A range of the places of a transpose, which one of several callers writes.
 
 ghost use Rattle.std.specs.Prelude.{◌≡◌, ◌+◌, ◌*◌, ◌<◌, ◌≤◌, MatchResult, length};
 ghost use Rattle.cvl_base.specs.Faults.{fault};
@@ -12,8 +12,8 @@ use crate::strided::write_strided;
 use crate::whole::check_shape;
 use cvl_base::{Fault, FaultNo};
 
-/// Writes the places of the transpose from the one of this row and column of the matrix on: what is left of the column, whole
-/// columns, and the beginning of one.
+/// Writes the places of the transpose from that of this row and column of the matrix on: the rest of the column, whole columns,
+/// and the beginning of one.
 fn write_from<T: Copy>(
     source: &[T],
     rows: usize,
@@ -51,7 +51,7 @@ fn write_from<T: Copy>(
     );
 }
 
-/// `LengthMismatch` if so many places from place `lowest` on end behind the last of so many elements.
+/// `LengthMismatch` if `count` places from place `lowest` on end beyond the last of the elements.
 fn check_range(lowest: usize, count: usize, elements: usize) -> Result<(), Fault>
     ensures { MatchResult result (λ _. lowest + count ≤ elements)
         (λ f. (f ≡ fault no.LengthMismatch) × (elements < lowest + count)) }
@@ -65,7 +65,7 @@ fn check_range(lowest: usize, count: usize, elements: usize) -> Result<(), Fault
 /// The places of a transpose from place `lowest` on, as many as the room has.
 ///
 /// The matrix has `rows` rows of `columns` elements each, at most 2,147,483,647 in all. `LengthMismatch`, without a place, if
-/// that is not the length of the source, or if the range ends behind its last place; the room is then as it was.
+/// that is not the length of the source, or if the range ends beyond its last place; the room is then as before.
 pub fn transpose_range_over<T: Copy>(
     source: &[T],
     rows: usize,

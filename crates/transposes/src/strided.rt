@@ -1,9 +1,9 @@
-//! Elements that stand at equal distances, written one behind another.
+//! Elements at equal distances, written in a row.
 
 ghost use Rattle.std.specs.Prelude.{◌≡◌, ◌+◌, ◌*◌, ◌<◌, ◌≤◌, ◌⊎◌, ℕ, length, slice_index_or};
 ghost use Rattle.cvl_base.specs.Limits.{most_places};
 
-/// Writes so many elements, that at place `first` of the source and each `step` places on, to the places from `start` on.
+/// Writes the element at place `first` of the source and those `step` places on to the places from `start` on.
 #[inline]
 pub(crate) fn write_strided<T: Copy>(
     source: &[T],

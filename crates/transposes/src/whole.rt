@@ -10,7 +10,7 @@ ghost use Rattle.transposes.specs.Transposes.{transpose_of};
 use crate::blocks::transpose_columns;
 use cvl_base::{Fault, FaultNo, check_agree};
 
-/// `LengthMismatch` unless a matrix of so many rows and columns has so many elements.
+/// `LengthMismatch` unless `rows` times `columns` is `elements`.
 pub(crate) fn check_shape(rows: usize, columns: usize, elements: usize) -> Result<(), Fault>
     requires { elements ≤ most_places }
     ensures { MatchResult result (λ _. rows * columns ≡ elements)
@@ -22,10 +22,10 @@ pub(crate) fn check_shape(rows: usize, columns: usize, elements: usize) -> Resul
     }
 }
 
-/// The transpose of a matrix of rows one behind another: element `r` of row `c` of the result is element `c` of row `r`.
+/// The transpose of a matrix in row order: element `r` of row `c` of the result is element `c` of row `r`.
 ///
 /// The matrix has `rows` rows of `columns` elements each, at most 2,147,483,647 in all. `LengthMismatch`, without a place, if
-/// that is not the length of the source, or if the room is not as long; it is then as it was.
+/// that is not the length of the source, or of the room, which is then as before.
 pub fn transpose_over<T: Copy>(
     source: &[T],
     rows: usize,
