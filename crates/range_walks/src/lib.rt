@@ -1,10 +1,10 @@
 //! The walks over a range of the places of a segmented vector: from segment to segment, with a plain loop over the elements of
 //! each. The elements are read as items of a monoid.
 //!
-//! A walk is named by what it gives: one that ends in `_into` writes a run of fresh memory, one in `_vec` gives a vector, and
-//! one with no such ending a value. `plain` has the loops over elements among which no segment starts, `ranges` the walks over
-//! segments, `segment_sums` the sum of one segment, and `range_parts` cuts a range where its first segment starts. The walks over
-//! whole vectors stand above, in the crate `scan_walks`.
+//! The ending of a walk's name says what it gives: `_into` writes a run of fresh memory, `_vec` gives a vector, and no such
+//! ending means a value. `plain` has the loops over elements among which no segment starts, `ranges` the walks over segments,
+//! `segment_sums` the sum of one segment, and `range_parts` cuts a range where its first segment starts. The walks over whole
+//! vectors are above, in the crate `scan_walks`.
 #![tactic(auto)]
 
 pub mod plain;

@@ -11,9 +11,9 @@ use cvl_base::{Monoid, NoResources};
 use fresh::{Room, Run};
 use std::alloc::Allocator;
 
-/// What stands before the elements, joined from left to right with what they are read as.
+/// What stands before the elements, joined from left to right with the items read from them.
 ///
-/// `before` must be an item of the monoid, as all that is read must. It takes no memory. Source: CVL's reduces.
+/// `before` and all items read must be items of the monoid. It takes no memory. Source: CVL's reduces.
 pub fn sum_from<M: Monoid, X: Copy, E: Reading<X, M::Item>>(before: M::Item, xs: &[X]) -> M::Item
     requires before { IsTrue (M.is_item before) }
     requires items { AllPass (λ x. M.is_item (E.item x)) xs.now }
@@ -27,10 +27,10 @@ pub fn sum_from<M: Monoid, X: Copy, E: Reading<X, M::Item>>(before: M::Item, xs:
     sum
 }
 
-/// Writes, for each of the elements, what stands before it: `before`, joined from left to right with what the elements in
-/// front of it are read as. The run must have room for what is written.
+/// Writes at each element's place what stands before it: `before`, joined from left to right with the items read from the
+/// elements before it. The run must have room for what is written.
 ///
-/// `before` must be an item of the monoid, as all that is read must. Source: Blelloch's prescan.
+/// `before` and all items read must be items of the monoid. Source: Blelloch's prescan.
 // inlined, so that what is known of the run stays in registers while the loop runs
 #[inline(always)]
 pub fn scan_into<M: Monoid, X: Copy, E: Reading<X, M::Item>>(
@@ -52,11 +52,10 @@ pub fn scan_into<M: Monoid, X: Copy, E: Reading<X, M::Item>>(
     run
 }
 
-/// For each of the elements what stands before it: `before`, joined from left to right with what the elements in front
-/// of it are read as.
+/// At each element's place what stands before it: `before`, joined from left to right with the items read from the elements
+/// before it.
 ///
-/// `before` must be an item of the monoid, as all that is read must. The result is as long as the elements. Source:
-/// Blelloch's prescan.
+/// `before` and all items read must be items of the monoid. The result is as long as the elements. Source: Blelloch's prescan.
 pub fn scan_vec<M: Monoid, X: Copy, E: Reading<X, M::Item>, A: Allocator>(
     alloc: A,
     before: M::Item,

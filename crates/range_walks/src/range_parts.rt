@@ -10,10 +10,10 @@ use segdes::SegDes;
 use std::alloc::Allocator;
 
 /// The range from place `from` to the one before place `to`: its elements before the first segment that starts in it, the lengths
-/// of the segments that start in it, and their elements. The last of the segments may be cut short by the end of the range.
+/// of the segments that start in it, and their elements. The end of the range may cut the last segment short.
 ///
-/// The lengths of the descriptor must add up to that of the vector. Places are counted from 0, and lengths in elements. It
-/// takes no memory. Source: Blelloch's segmented scans.
+/// The lengths of the descriptor must add up to the vector's. Places are counted from 0, and lengths in elements. It takes no
+/// memory. Source: Blelloch's segmented scans.
 #[inline(always)]
 pub fn parts_of_range<'a, X, A: Allocator>(
     a: &'a [X],

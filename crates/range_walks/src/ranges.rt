@@ -1,7 +1,7 @@
 //! Walks over a range of the places of a segmented vector.
 //!
-//! Segments may start in it anywhere, some of them empty, and it may begin or end inside a segment. Each walk goes from
-//! segment to segment, and has a plain loop over the elements of each.
+//! Segments may start anywhere in it, some of them empty, and it may begin or end inside a segment. Each walk goes from segment
+//! to segment, with a plain loop over the elements of each.
 
 ghost use Rattle.std.specs.Prelude.{◌≡◌, false, ◌+◌, ◌-◌, ◌<◌, ◌≤◌, IsTrue, length, map, slice_range, unsigned_abs, sum};
 ghost use Rattle.std.specs.List.{AllPass};
@@ -22,12 +22,12 @@ use fresh::Run;
 use segdes::SegDes;
 use std::alloc::Allocator;
 
-/// Writes the scans of the segments with these lengths, one after another, of what the elements are read as: for each
-/// element what those before it in its segment join to, and the unit where the segment starts.
+/// Writes the scans of the segments with these lengths, in order, of the items read from the elements: at each element's place
+/// the join of those before it in its segment, and the unit where the segment starts.
 ///
-/// The lengths are counted in elements. The segments must have all of the elements, and the last may be cut short by the
-/// end of the elements. The run must have room for one item for each element. All that is read must be items of the
-/// monoid. Source: Blelloch's segmented scans.
+/// The lengths are counted in elements. The segments must have all of the elements, and the end of the elements may cut the last
+/// one short. The run must have room for one item for each element. All items read must be items of the monoid. Source:
+/// Blelloch's segmented scans.
 // inlined for the loop that it calls
 #[inline(always)]
 pub fn scans_into<M: Monoid, X: Copy, E: Reading<X, M::Item>>(
@@ -52,12 +52,12 @@ pub fn scans_into<M: Monoid, X: Copy, E: Reading<X, M::Item>>(
     run
 }
 
-/// Writes the reduces of the segments with these lengths, of what the elements are read as: for each segment what its
-/// elements join to, from left to right, and the unit where it is empty.
+/// Writes the reduces of the segments with these lengths, of the items read from the elements: for each segment the join of its
+/// items, from left to right, and the unit if it is empty.
 ///
-/// The lengths are counted in elements. The elements must begin with those of the segments; what stands behind them is
-/// not read. The run must have room for one item for each segment. All elements must be read as items of the monoid.
-/// Source: CVL's segmented reduces.
+/// The lengths are counted in elements. The elements must begin with those of the segments; what follows is not read. The run
+/// must have room for one item for each segment. All elements must be read as items of the monoid. Source: CVL's segmented
+/// reduces.
 pub fn reduces_into<M: Monoid, X: Copy, E: Reading<X, M::Item>>(
     run: Run<M::Item>,
     lengths: &[i32],
@@ -79,12 +79,12 @@ pub fn reduces_into<M: Monoid, X: Copy, E: Reading<X, M::Item>>(
     run
 }
 
-/// Writes the reduces of the segments from number `first` to the one before number `next`, of what the elements are read
-/// as. The run must have room for one element for each of the segments.
+/// Writes the reduces of the segments from number `first` to the one before number `next`, of the items read from the elements.
+/// The run must have room for one element for each of the segments.
 ///
-/// The first of these segments holds place `from`, or ends or starts there, and `before` is what its elements before
-/// that place join to. It must be an item of the monoid, as all that is read must. No element before place `from` is
-/// read. Source: Blelloch's segmented scans.
+/// The first of these segments holds place `from`, or ends or starts there, and `before` is the join of its elements before that
+/// place. It and all items read must be items of the monoid. No element before place `from` is read. Source: Blelloch's segmented
+/// scans.
 pub fn seg_reduces_into<M: Monoid, X: Copy, E: Reading<X, M::Item>, A: Allocator>(
     mut run: Run<M::Item>,
     a: &[X],
@@ -113,14 +113,12 @@ pub fn seg_reduces_into<M: Monoid, X: Copy, E: Reading<X, M::Item>, A: Allocator
     reduces_into::<M, X, E>(run, &d.lengths()[first + 1..next], others)
 }
 
-/// The sum of the range from place `from` to the one before place `to`, of what the elements are read as: whether a segment
-/// starts in it, and what its elements since the last start join to. Where none starts, that is `before` joined with all of
-/// them.
+/// The sum of the range from place `from` to the one before place `to`, of the items read from the elements: whether a segment
+/// starts in it, and the join of its elements since the last start. If none starts, that is `before` joined with all of them.
 ///
-/// `before` is what the elements of the first segment that stand before the range join to. It must be an item of the
-/// monoid, as all that is read must. The sum is the range's fold under [`Seg`](cvl_base::Seg), so the sums of ranges one
-/// after another can be joined by it. It reads no element before the last start, and takes no memory. Source: Blelloch's
-/// segmented scans.
+/// `before` is the join of the first segment's elements before the range. It and all items read must be items of the monoid. The
+/// sum is the range's fold under [`Seg`](cvl_base::Seg), with which the sums of consecutive ranges can be joined. It reads no
+/// element before the last start, and takes no memory. Source: Blelloch's segmented scans.
 pub fn sum_of_range<M: Monoid, X: Copy, E: Reading<X, M::Item>, A: Allocator>(
     a: &[X],
     d: &SegDes<A>,
@@ -145,11 +143,11 @@ pub fn sum_of_range<M: Monoid, X: Copy, E: Reading<X, M::Item>, A: Allocator>(
     (false, sum_from::<M, X, E>(before, &a[from..to]))
 }
 
-/// Writes the scan of the range from place `from` to the one before place `to`, of what the elements are read as: for each
-/// of the elements there, what the elements before it in its segment join to. The run must have room for as many.
+/// Writes the scan of the range from place `from` to the one before place `to`, of the items read from the elements: at each
+/// place the join of the elements before it in its segment. The run must have room for as many.
 ///
-/// `before` is what the elements of the first segment that stand before the range join to. It must be an item of the
-/// monoid, as all that is read must. Source: Blelloch's segmented scans.
+/// `before` is the join of the first segment's elements before the range. It and all items read must be items of the monoid.
+/// Source: Blelloch's segmented scans.
 // inlined, so that what is known of the run stays in registers from segment to segment
 #[inline(always)]
 pub fn scan_range_into<M: Monoid, X: Copy, E: Reading<X, M::Item>, A: Allocator>(

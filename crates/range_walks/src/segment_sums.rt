@@ -9,10 +9,10 @@ use crate::readings::Reading;
 use cvl_base::Monoid;
 use cvl_base::monoid::know_laws;
 
-/// How many elements a short segment has at most.
+/// The most elements of a short segment.
 const SHORT: usize = 7;
 
-/// What stands before the elements joined with the first of them, and the elements behind it; none where there is no element.
+/// What stands before the elements joined with the first of them, and the elements after it; none if there is no element.
 #[inline(always)]
 fn with_first<M: Monoid, X: Copy, E: Reading<X, M::Item>>(
     before: M::Item,
@@ -31,7 +31,7 @@ fn with_first<M: Monoid, X: Copy, E: Reading<X, M::Item>>(
     Some((M::join(before, E::item(*first)), others))
 }
 
-/// `sum_from` without a loop where there are at most three elements.
+/// `sum_from`, without a loop if there are at most three elements.
 #[inline(always)]
 fn sum_of_few<M: Monoid, X: Copy, E: Reading<X, M::Item>>(before: M::Item, xs: &[X]) -> M::Item
     requires before { IsTrue (M.is_item before) }
@@ -50,8 +50,8 @@ fn sum_of_few<M: Monoid, X: Copy, E: Reading<X, M::Item>>(before: M::Item, xs: &
     sum_from::<M, X, E>(sum, xs)
 }
 
-/// The sum of one segment: what its elements join to, and the unit where it is empty.
-// The compiler makes of a loop one that takes many elements at a time, which costs a short segment more than its elements do.
+/// The sum of one segment: the join of its elements, and the unit if it is empty.
+// The compiler makes a loop take many elements at a time, which costs a short segment more than its elements do.
 #[inline(always)]
 pub(crate) fn sum_of_segment<M: Monoid, X: Copy, E: Reading<X, M::Item>>(xs: &[X]) -> M::Item
     requires items { AllPass (λ x. M.is_item (E.item x)) xs.now }
