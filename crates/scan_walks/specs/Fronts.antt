@@ -9,14 +9,14 @@ use Rattle.cvl_base.specs.ItemWords.{is_number}
 abbrev pub fitting_front : List ℤ → ℕ
 fitting_front zs = prefix_len is_number zs
 
--- what a walk over numbers answers that adds each to what stands before it: what all of them add up to, or the place of the first
--- one before which the sum does not fit 32 bits
+-- the answer of a walk that adds each number to what stands before it: the sum of all, or the place of the first one before which the sum
+-- does not fit 32 bits
 abbrev pub IsWalked : ℤ → List ℤ → Result ℤ ℕ → Type 0
 IsWalked before xs answer =
     MatchResult answer
     (λ sum. (fitting_front (scan_of ◌+ℤ◌ before xs) ≡ length xs) × (sum ≡ fold_of ◌+ℤ◌ before xs))
     (λ place. (place ≡ fitting_front (scan_of ◌+ℤ◌ before xs)) × (place < length xs))
 
--- the most elements of a block, whose sums are looked at together
+-- the most elements of a block, whose sums are tested together
 abbrev pub most_of_block : ℕ
 most_of_block = 512

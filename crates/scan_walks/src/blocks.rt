@@ -1,4 +1,4 @@
-//! What integers add up to, as long as the sum before each of them fits 32 bits: one by one, or a block at a time.
+//! Sums of integers, as long as the sum before each of them fits 32 bits: one by one, or a block at a time.
 
 ghost use Rattle.std.specs.Prelude.{◌≡◌, ◌+ℤ◌, ◌*ℤ◌, ◌≤◌, true, IfSome, IsTrue, Ok, length, pos};
 ghost use Rattle.cvl_base.specs.Folds.{fold_of};
@@ -14,7 +14,7 @@ use operators::monoids::{Add, Max, Min};
 /// The most elements of a block.
 pub(crate) const BLOCK: usize = 512;
 
-/// Between which bounds elements lie that stand one after another, and what they add up to.
+/// The bounds of neighbouring elements, and their sum.
 #[derive(Drop)]
 pub(crate) struct Bounds {
     /// The least of them and 0.
@@ -26,7 +26,7 @@ pub(crate) struct Bounds {
 }
 
 /// The bounds of a block. `before` stands before it.
-// the loop has no way out before its end, so that the compiler takes several elements at a time
+// the loop has no early exit, so that the compiler takes several elements at a time
 pub(crate) fn bounds_of(before: &i32, block: &[i32]) -> Bounds
     ensures least { result.least ≡ fold_of lesser_of (pos 0) block.now }
     ensures greatest { result.greatest ≡ fold_of greater_of (pos 0) block.now }
@@ -45,7 +45,7 @@ pub(crate) fn bounds_of(before: &i32, block: &[i32]) -> Bounds
     }
 }
 
-/// Where so many steps lead from a number on.
+/// Where this many steps lead from a number.
 fn reach(from: i32, steps: i32, step: i32) -> i64
     ensures { result ≡ from +ℤ (steps *ℤ step) }
 {
@@ -53,7 +53,7 @@ fn reach(from: i32, steps: i32, step: i32) -> i64
 }
 
 impl Bounds {
-    /// Whether so many steps from a number on, each of them the least or each of them the greatest element, lead to one of 32
+    /// Whether this many steps from a number, each of them the least or each of them the greatest element, lead to one of 32
     /// bits.
     pub(crate) fn leads_within(&self, from: i32, steps: i32) -> bool
         ensures { IsTrue result → (is_number (from +ℤ (steps *ℤ self.now.least)) ≡ true)
@@ -64,8 +64,8 @@ impl Bounds {
     }
 }
 
-/// What a block adds up to, where its least and its greatest element show that this and the sum before each element fit 32 bits.
-/// `before` stands before the block.
+/// The sum of a block, if its least and its greatest element show that it and the sum before each element fit 32 bits. `before`
+/// stands before the block.
 fn sum_within(before: &i32, block: &[i32]) -> Option<i32>
     requires { length block.now ≤ most_of_block }
     ensures { IfSome result (λ sum. IsWalked before.now block.now (Ok sum)) }
@@ -77,8 +77,8 @@ fn sum_within(before: &i32, block: &[i32]) -> Option<i32>
     None
 }
 
-/// What the integers add up to, or the place of the first one before which the sum does not fit 32 bits. `before` stands before
-/// the integers.
+/// The sum of the integers, or the place of the first one before which the sum does not fit 32 bits. `before` stands before the
+/// integers.
 // inlined, since a call takes longer than a short segment
 #[inline(always)]
 pub(crate) fn sum_one_by_one(before: i64, xs: &[i32]) -> Result<i64, usize>
@@ -94,7 +94,7 @@ pub(crate) fn sum_one_by_one(before: i64, xs: &[i32]) -> Result<i64, usize>
     Ok(so_far)
 }
 
-/// The same of a block, most often by its bounds alone.
+/// The same for a block, most often from its bounds alone.
 pub(crate) fn sum_of_block(before: i64, block: &[i32]) -> Result<i64, usize>
     requires { length block.now ≤ most_of_block }
     ensures { IsWalked before block.now result }

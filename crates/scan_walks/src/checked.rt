@@ -1,6 +1,6 @@
-//! Scans and sums that never wrap, by the thread that calls.
+//! Scans and sums that never wrap, on the calling thread.
 //!
-//! The first result of a scan that does not fit 32 bits is looked for before anything is written. Where there is none, the
+//! Before anything is written, the first result of a scan that does not fit 32 bits is searched for. If there is none, the
 //! results are those of the scan that wraps.
 
 ghost use Rattle.std.specs.Prelude.{◌≡◌, ◌≤◌, IfOk, MatchResult, Ok, Err, length, pos, vec_len};
@@ -26,8 +26,8 @@ use range_walks::{Itself, scan_vec};
 use segdes::{SegDes, SegLengths};
 use std::alloc::Allocator;
 
-/// Looks whether all results of the checked scan fit 32 bits, so that they are those of the scan that wraps: `Overflow` at the
-/// first one that does not.
+/// Checks that all results of the checked scan fit 32 bits, so that they are those of the scan that wraps: `Overflow` at the
+/// first that does not.
 pub(crate) fn check_scan(a: &[i32]) -> Result<(), Fault>
     requires in_limit { length a.now ≤ most_places }
     ensures { MatchResult result (λ _. checked_scan_of a.now ≡ Ok (scan_of sum_of (pos 0) a.now))
@@ -40,8 +40,8 @@ pub(crate) fn check_scan(a: &[i32]) -> Result<(), Fault>
     Ok(())
 }
 
-/// The same of the checked scans of segments: LengthMismatch, without a place, where the segments' total is not the number of
-/// elements, and else `Overflow` at the first result that does not fit, at its place in the vector.
+/// The same for the checked scans of segments: `LengthMismatch`, without a place, if the segments' total is not the number of
+/// elements, else `Overflow` at the first result that does not fit, at its place in the vector.
 pub(crate) fn check_seg_scan(a: &[i32], d: &SegLengths) -> Result<(), Fault>
     ensures { MatchResult result (λ _. checked_seg_scan_of a.now d.now ≡ seg_scan_of sum_of (pos 0) a.now d.now)
         (λ f. checked_seg_scan_of a.now d.now ≡ Err f) }
@@ -54,7 +54,7 @@ pub(crate) fn check_seg_scan(a: &[i32], d: &SegLengths) -> Result<(), Fault>
     Ok(())
 }
 
-/// For each integer the sum of those before it, which never wraps: `Overflow` at the first sum that does not fit 32 bits.
+/// At each place the sum of the integers before it, which never wraps: `Overflow` at the first that does not fit 32 bits.
 ///
 /// The result is as long as the vector, which has at most 2,147,483,647 elements. Source: Blelloch's prescan.
 pub fn checked_scan_vec<A: Allocator>(alloc: A, a: &[i32]) -> Result<Vec<i32, A>, Refused>
@@ -68,8 +68,8 @@ pub fn checked_scan_vec<A: Allocator>(alloc: A, a: &[i32]) -> Result<Vec<i32, A>
     Ok(sums)
 }
 
-/// Writes over a room for each integer the sum of those before it, which never wraps: `Overflow` at the first sum that does
-/// not fit 32 bits; else LengthMismatch, without a place, where the room isn't as long as the vector.
+/// Writes to each place of a room the sum of the integers before it, which never wraps: `Overflow` at the first sum that does not
+/// fit 32 bits; else `LengthMismatch`, without a place, if the room is not as long as the vector.
 ///
 /// The vector has at most 2,147,483,647 elements. Source: Blelloch's prescan.
 pub fn checked_scan_over(a: &[i32], out: &mut [i32]) -> Result<(), Fault>
@@ -83,8 +83,8 @@ pub fn checked_scan_over(a: &[i32], out: &mut [i32]) -> Result<(), Fault>
 
 /// The checked scan of each segment: `Overflow` at the first sum that does not fit 32 bits, at its place in the vector.
 ///
-/// The result is as long as the vector. LengthMismatch, without a place, where the segments' total is not the number of
-/// elements. Source: Blelloch's segmented scans.
+/// The result is as long as the vector. `LengthMismatch`, without a place, if the segments' total is not the number of elements.
+/// Source: Blelloch's segmented scans.
 pub fn checked_seg_scan_vec<A: Allocator, B: Allocator>(
     alloc: B,
     a: &[i32],
@@ -98,11 +98,11 @@ pub fn checked_seg_scan_vec<A: Allocator, B: Allocator>(
     seg_scan_vec::<Add, A, B>(alloc, a, d)
 }
 
-/// Writes the checked scan of each segment over a room: `Overflow` at the first sum that does not fit 32 bits, at its place in
+/// Writes the checked scan of each segment into a room: `Overflow` at the first sum that does not fit 32 bits, at its place in
 /// the vector.
 ///
-/// LengthMismatch, without a place, where the segments' total is not the number of elements, which is asked first, or where
-/// the room isn't as long as the vector, which is asked last. Source: Blelloch's segmented scans.
+/// `LengthMismatch`, without a place, if the segments' total is not the number of elements, which is checked first, or if the
+/// room is not as long as the vector, which is checked last. Source: Blelloch's segmented scans.
 pub fn checked_seg_scan_over(a: &[i32], d: &SegLengths, out: &mut [i32]) -> Result<(), Fault>
     ensures { Overwrites (in_room (length out.old) (checked_seg_scan_of a.now d.now)) result out.old out.new }
 {
@@ -119,7 +119,7 @@ fn fitting_total(xs: &[i32]) -> Option<i32>
     fitting(&total(xs))
 }
 
-/// The sum of the integers, which never wraps: `Overflow` at 0 where it does not fit 32 bits. It takes no memory.
+/// The sum of the integers, which never wraps: `Overflow` at 0 if it does not fit 32 bits. It takes no memory.
 ///
 /// The vector has at most 2,147,483,647 elements. Source: CVL's reduces.
 pub fn checked_sum(a: &[i32]) -> Result<i32, Fault>
@@ -134,8 +134,8 @@ pub fn checked_sum(a: &[i32]) -> Result<i32, Fault>
 
 /// The checked sum of each segment: `Overflow` at the first segment whose sum does not fit 32 bits.
 ///
-/// The result has one element for each segment. LengthMismatch, without a place, where the segments' total is not the
-/// number of elements. Source: CVL's segmented reduces.
+/// The result has one element for each segment. `LengthMismatch`, without a place, if the segments' total is not the number of
+/// elements. Source: CVL's segmented reduces.
 pub fn checked_seg_reduce_vec<A: Allocator>(
     alloc: A,
     a: &[i32],

@@ -11,7 +11,7 @@ use range_walks::parts_of_range;
 use segdes::SegDes;
 use std::alloc::Allocator;
 
-/// Fewer elements than so many are looked at one by one.
+/// Fewer elements than this are tested one by one.
 pub(crate) const SHORT: usize = 64;
 
 /// How many of the sums before each of the integers fit 32 bits, from the first one on. `before` stands before the integers.
@@ -39,8 +39,8 @@ pub fn fitting_of_scan(before: i64, xs: &[i32]) -> usize
     }
 }
 
-/// How many results of the checked scan of the range from place `from` to the one before place `to` fit 32 bits, from the
-/// first one on. `before` is what the elements of the first segment that stand before the range add up to.
+/// How many results of the checked scan of the range from place `from` to the one before place `to` fit 32 bits, from the first
+/// one on. `before` is the sum of the first segment's elements before the range.
 ///
 /// It takes no memory. Source: Blelloch's segmented scans, over whole numbers.
 pub fn fitting_of_range<A: Allocator>(

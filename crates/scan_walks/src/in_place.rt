@@ -1,4 +1,4 @@
-//! Scans in place, by the thread that calls: each is written over the vector that it scans. They ask for no memory.
+//! Scans in place, on the calling thread: each overwrites the vector that it scans. They take no memory.
 
 ghost use Rattle.std.specs.Prelude.{◌≡◌, ◌≤◌, IsTrue, length, sum};
 ghost use Rattle.std.specs.List.{AllPass};
@@ -16,8 +16,8 @@ use cvl_base::monoids::Add;
 use cvl_base::{Fault, Monoid};
 use segdes::SegLengths;
 
-/// Writes the exclusive scan over the vector: each element gives way to `before`, joined from left to right with those that
-/// stood in front of it.
+/// Writes the exclusive scan over the vector: each element becomes `before`, joined from left to right with the elements that
+/// stood before it.
 ///
 /// `before` and the elements must be items of the monoid. Source: Blelloch's prescan.
 // inlined, since a call takes longer than a short segment
@@ -51,7 +51,7 @@ fn scans_in<M: Monoid>(a: &mut [M::Item], d: &SegLengths)
     }
 }
 
-/// Writes the exclusive scan of each segment over the vector. LengthMismatch, without a place, where the segments' total is not
+/// Writes the exclusive scan of each segment over the vector. `LengthMismatch`, without a place, if the segments' total is not
 /// the number of elements, which are then as before.
 ///
 /// The elements must be items of the monoid. Source: Blelloch's segmented scans.
@@ -64,8 +64,8 @@ pub fn seg_scan_in<M: Monoid>(a: &mut [M::Item], d: &SegLengths) -> Result<(), F
     Ok(())
 }
 
-/// Writes over the vector for each integer the sum of those before it, which never wraps: `Overflow` at the first sum that does
-/// not fit 32 bits, and the vector is then as before.
+/// Writes over each integer the sum of those before it, which never wraps: `Overflow` at the first sum that does not fit 32 bits,
+/// and the vector is then as before.
 ///
 /// The vector has at most 2,147,483,647 elements. Source: Blelloch's prescan.
 pub fn checked_scan_in(a: &mut [i32]) -> Result<(), Fault>
@@ -78,9 +78,9 @@ pub fn checked_scan_in(a: &mut [i32]) -> Result<(), Fault>
     Ok(())
 }
 
-/// Writes the checked scan of each segment over the vector: LengthMismatch, without a place, where the segments' total is not
-/// the number of elements, and else `Overflow` at the first sum that does not fit 32 bits, at its place in the vector. Then the
-/// vector is as before. Source: Blelloch's segmented scans.
+/// Writes the checked scan of each segment over the vector: `LengthMismatch`, without a place, if the segments' total is not the
+/// number of elements, else `Overflow` at the first sum that does not fit 32 bits, at its place in the vector. Then the vector is
+/// as before. Source: Blelloch's segmented scans.
 pub fn checked_seg_scan_in(a: &mut [i32], d: &SegLengths) -> Result<(), Fault>
     ensures { Overwrites (checked_seg_scan_of a.old d.now) result a.old a.new }
 {

@@ -1,9 +1,9 @@
-//! The walks of scans and reduces over whole vectors, flat and by segments, by the thread that calls; and sums over whole
-//! numbers, of ranges too, by which a checked scan finds the first result that does not fit before anything is written.
+//! The walks of scans and reduces over whole vectors, flat and by segments, on the calling thread; and sums over whole numbers,
+//! of ranges too, with which a checked scan finds the first result that does not fit before it writes.
 //!
-//! A walk is named by what it gives: one that ends in `_over` writes a room of the caller's, one in `_in` the vector that it
-//! reads, one in `_vec` gives a vector, and one with no such ending a value. The walks over a range of the places stand in
-//! the crate `range_walks`, and are handed on here; there one that ends in `_into` writes a run of fresh memory.
+//! The ending of a walk's name says what it gives: `_over` writes the caller's room, `_in` the vector that it reads, `_vec` gives
+//! a vector, and no such ending means a value. The walks over a range of the places are in the crate `range_walks`, and
+//! re-exported here; there `_into` writes a run of fresh memory.
 #![tactic(auto)]
 
 mod blocks;

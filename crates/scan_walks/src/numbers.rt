@@ -1,4 +1,4 @@
-//! Whether a whole number fits 32 bits; and that integers do, which a proof has only of those that are read.
+//! Whether a whole number fits 32 bits; and that integers do, which a proof knows only of those that are read.
 
 ghost use Rattle.std.specs.Prelude.{◌≡◌, true};
 ghost use Rattle.std.specs.List.{AllPass};
@@ -12,8 +12,8 @@ pub fn fitting(number: &i64) -> Option<i32>
     i32::try_from(*number).ok()
 }
 
-/// Each integer of a vector fits 32 bits. The contract names the fact, which a proof has only of an integer that is read.
-/// The loop does nothing with what it reads, so that the compiler leaves it out.
+/// Each integer of a vector fits 32 bits. The contract names the fact, which a proof knows only of an integer that is read. The
+/// loop does nothing with what it reads, so that the compiler leaves it out.
 pub fn know_numbers(a: &[i32])
     ensures { AllPass is_number a.now }
 {

@@ -1,4 +1,4 @@
-//! Scans and reduces over a room of the caller's, by the thread that calls. They ask for no memory.
+//! Scans and reduces into the caller's room, on the calling thread. They take no memory.
 
 ghost use Rattle.std.specs.Prelude.{◌≡◌, ◌≤◌, IsTrue, Ok, [], length, map, sum, unsigned_abs};
 ghost use Rattle.std.specs.List.{AllPass};
@@ -16,8 +16,8 @@ use fresh::{Run, fill_slice};
 use range_walks::{Itself, Reading, reduces_into, scan_into, scans_into};
 use segdes::SegLengths;
 
-/// Writes the exclusive scan over a room: for each element `before`, joined from left to right with those in front of it.
-/// LengthMismatch, without a place, where the room isn't as long.
+/// Writes the exclusive scan into a room: at each place `before`, joined from left to right with the elements before it.
+/// `LengthMismatch`, without a place, if the room is not as long.
 ///
 /// `before` and the elements must be items of the monoid. Source: Blelloch's prescan.
 pub fn scan_over<M: Monoid>(
@@ -42,9 +42,9 @@ pub fn scan_over<M: Monoid>(
     Ok(())
 }
 
-/// Writes the exclusive scan of each segment over a room: for each element those before it in its segment, joined from left
-/// to right, and the unit where the segment starts. LengthMismatch, without a place, where the segments' total is not the
-/// number of elements, or the room isn't as long.
+/// Writes the exclusive scan of each segment into a room: at each place the elements before it in its segment, joined from left
+/// to right, and the unit where a segment starts. `LengthMismatch`, without a place, if the segments' total is not the number of
+/// elements, or the room is not as long.
 ///
 /// The elements must be items of the monoid. Source: Blelloch's segmented scans.
 pub fn seg_scan_over<M: Monoid>(
@@ -70,9 +70,8 @@ pub fn seg_scan_over<M: Monoid>(
     Ok(())
 }
 
-/// Writes for each segment its elements joined from left to right, and the unit where it is empty, over a room.
-/// LengthMismatch, without a place, where the segments' total is not the number of elements, or the room hasn't one place
-/// for each segment.
+/// Writes into a room each segment's elements joined from left to right, and the unit if it is empty. `LengthMismatch`, without a
+/// place, if the segments' total is not the number of elements, or the room hasn't one place for each segment.
 ///
 /// The elements must be items of the monoid. Source: CVL's segmented reduces.
 pub fn seg_reduce_over<M: Monoid>(
@@ -86,7 +85,7 @@ pub fn seg_reduce_over<M: Monoid>(
     seg_reduce_readings_over::<M, M::Item, Itself>(a, d, out)
 }
 
-/// The same as [`seg_reduce_over`], of what the elements are read as, which must be items of the monoid.
+/// [`seg_reduce_over`] of the items read from the elements, which must be items of the monoid.
 pub fn seg_reduce_readings_over<M: Monoid, X: Copy, E: Reading<X, M::Item>>(
     a: &[X],
     d: &SegLengths,

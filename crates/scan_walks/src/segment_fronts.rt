@@ -1,5 +1,5 @@
-//! How many results of the checked scans of segments fit 32 bits, from the first one on: of a group of segments at once, where
-//! they are short.
+//! How many results of the checked scans of segments fit 32 bits, from the first one on; for a group of segments at once, if they
+//! are short.
 
 ghost use Rattle.std.specs.Prelude.{◌≡◌, ◌+ℤ◌, ◌≤◌, length, map, pos, sum, unsigned_abs};
 ghost use Rattle.cvl_base.specs.Descriptors.{AreLengthsWithin};
@@ -14,13 +14,12 @@ use crate::fronts::{SHORT, fitting_of_scan};
 use operators::Binary;
 use operators::monoids::Max;
 
-/// How many segments are looked at together, so that they share what their bounds cost. The elements of so many short segments
-/// stay in the nearest cache until each segment is looked at by itself, where it has to be.
+/// How many segments are tested together, so that they share the cost of their bounds. The elements of so many short segments
+/// stay in the nearest cache until each segment is tested by itself, if it must be.
 const GROUP: usize = 32;
 
-/// How many of the results of the scans of the segments with these lengths, one after another, fit 32 bits, from the first one
-/// on. Each segment is looked at by itself. The segments have all of the integers, and the last may be cut short by the end of
-/// the integers.
+/// How many of the results of the scans of the segments with these lengths, in order, fit 32 bits, from the first one on. Each
+/// segment is tested by itself. The segments have all of the integers, and the end of the integers may cut the last one short.
 fn fitting_of_each(lengths: &[i32], xs: &[i32]) -> usize
     requires lengths { AreLengthsWithin most_places lengths.now }
     requires covered { length xs.now ≤ sum (map unsigned_abs lengths.now) }
@@ -41,8 +40,8 @@ fn fitting_of_each(lengths: &[i32], xs: &[i32]) -> usize
     done
 }
 
-/// What the segments with these lengths have together, and the greatest of the lengths.
-// the loop has no way out before its end, so that the compiler takes several lengths at a time
+/// The total of the lengths of these segments, and the greatest.
+// the loop has no early exit, so that the compiler takes several lengths at a time
 fn extent_of(lengths: &[i32]) -> (usize, i32)
     requires { AreLengthsWithin most_places lengths.now }
     ensures total { result.0 ≡ sum (map unsigned_abs lengths.now) }
@@ -56,7 +55,7 @@ fn extent_of(lengths: &[i32]) -> (usize, i32)
     (total, longest)
 }
 
-/// The same as [`fitting_of_each`], most often by the bounds of all of the integers, where the longest segment has so many.
+/// [`fitting_of_each`], most often from the bounds of all integers together; the longest segment has `longest`.
 fn fitting_of_group(lengths: &[i32], longest: i32, xs: &[i32]) -> usize
     requires lengths { AreLengthsWithin most_places lengths.now }
     requires longest { longest ≡ fold_of greater_of (pos 0) lengths.now }
@@ -70,7 +69,7 @@ fn fitting_of_group(lengths: &[i32], longest: i32, xs: &[i32]) -> usize
     fitting_of_each(lengths, xs)
 }
 
-/// The same as [`fitting_of_each`], group by group.
+/// [`fitting_of_each`], group by group.
 pub(crate) fn fitting_of_scans(lengths: &[i32], xs: &[i32]) -> usize
     requires lengths { AreLengthsWithin most_places lengths.now }
     requires covered { length xs.now ≤ sum (map unsigned_abs lengths.now) }

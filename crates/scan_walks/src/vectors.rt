@@ -1,4 +1,4 @@
-//! Scans and reduces of each segment, by the thread that calls: without a runtime and without a configuration.
+//! Scans and reduces of each segment, on the calling thread: without a runtime and without a configuration.
 
 ghost use Rattle.std.specs.Prelude.{◌≡◌, IfOk, length, map, vec_len};
 ghost use Rattle.std.specs.List.{AllPass};
@@ -12,11 +12,11 @@ use range_walks::{Itself, Reading, scans_into, seg_reduces_into};
 use segdes::{SegDes, check_total};
 use std::alloc::Allocator;
 
-/// The exclusive scan of each segment, by the thread that calls: element `k` of the result joins the elements of its segment
-/// before place `k`, and is the unit where a segment starts.
+/// The exclusive scan of each segment, on the calling thread: element `k` of the result joins the elements of its segment before
+/// place `k`, and is the unit where a segment starts.
 ///
-/// The elements must be items of the monoid. The result is as long as they are. LengthMismatch, without a place, where
-/// the segments' total is not the number of elements. Source: Blelloch's segmented scans.
+/// The elements must be items of the monoid. The result is as long as they are. `LengthMismatch`, without a place, if the
+/// segments' total is not the number of elements. Source: Blelloch's segmented scans.
 pub fn seg_scan_vec<M: Monoid, A: Allocator, B: Allocator>(
     alloc: B,
     a: &[M::Item],
@@ -34,11 +34,10 @@ pub fn seg_scan_vec<M: Monoid, A: Allocator, B: Allocator>(
     Ok(room.into_vec(run))
 }
 
-/// For each segment its elements joined from left to right, and the unit where it is empty, by the thread that calls, of
-/// what the elements are read as.
+/// The items read from each segment's elements, joined from left to right, and the unit if it is empty, on the calling thread.
 ///
-/// The elements must be read as items of the monoid. The result has one element for each segment. LengthMismatch, without
-/// a place, where the segments' total is not the number of elements. Source: CVL's segmented reduces.
+/// The elements must be read as items of the monoid. The result has one element for each segment. `LengthMismatch`, without a
+/// place, if the segments' total is not the number of elements. Source: CVL's segmented reduces.
 pub fn seg_reduce_vec<M: Monoid, X: Copy, E: Reading<X, M::Item>, A: Allocator>(
     alloc: A,
     a: &[X],

@@ -1,4 +1,4 @@
-//! Sums over whole numbers, which never wrap: those of as many integers as a vector has fit 63 bits.
+//! Sums over whole numbers, which never wrap: the sum of as many integers as a vector has fits 63 bits.
 
 ghost use Rattle.std.specs.Prelude.{◌≡◌, ◌+ℤ◌, ◌≤◌, length, pos, sum};
 ghost use Rattle.cvl_base.specs.Exact.{total_of};
