@@ -12,7 +12,7 @@ use Rattle.cvl_base.specs.Nests.{nest}
 use Rattle.cvl_base.specs.Permutes.{all_destinations, first_fault, flagged_destinations, is_destination, is_place}
 use Rattle.cvl_base.specs.Segmented.{beside, end_to_end, in_vector, of_two}
 
--- the place, or -1 where there is none
+-- the place, or -1 if there is none
 abbrev pub sender_or_none : Option ℕ → ℤ
 sender_or_none (Some place) = pos place
 sender_or_none None = negsuc 0
@@ -25,7 +25,7 @@ first_sender destinations d = sender_or_none (position (is_destination (pos d)) 
 abbrev pub first_senders : List (Option ℤ) → ℕ → ℕ → List ℤ
 first_senders destinations lowest n = map (first_sender destinations) (range_with_len lowest n)
 
--- what is wrong with a destination where the result has m places
+-- what is wrong with a destination if the result has m places
 abbrev pub wrong_in : ℕ → Option ℤ → Option FaultNo
 wrong_in m None = None
 wrong_in m (Some i) = if is_place m i then None else Some IndexOutOfRange

@@ -20,9 +20,9 @@ fn both_walks<D: Destinations + Copy>(destinations: &D, out: &mut [i32]) -> Resu
     Ok(())
 }
 
-/// The first senders of the places of the room: for each the least place whose index names it, or -1.
+/// The first sender of each place of the room: the least place whose index names it, or -1.
 ///
-/// The room has any number of places. `IndexOutOfRange` at the first index that is none of them; the room is then as it was.
+/// The room has any number of places. `IndexOutOfRange` at the first index that is none of them; the room is then as before.
 pub fn first_senders_over(index: &[i32], out: &mut [i32]) -> Result<(), Fault>
     requires in_limit { length index.now ≤ most_places }
     ensures { Overwrites (first_senders_of index.now (length out.old)) result out.old out.new }
@@ -30,9 +30,9 @@ pub fn first_senders_over(index: &[i32], out: &mut [i32]) -> Result<(), Fault>
     both_walks(&AllDestinations { index }, out)
 }
 
-/// The same among the places whose flag is true. An index whose flag is false is not looked at.
+/// The same for the places whose flag is true. An index whose flag is false is not checked.
 ///
-/// `LengthMismatch`, without a place, where there are more or fewer flags than indices.
+/// `LengthMismatch`, without a place, if there are not as many flags as indices.
 pub fn select_first_senders_over(
     index: &[i32],
     flags: &[bool],

@@ -1,5 +1,5 @@
-//! The first senders of each segment, of which an index counts from the start of its segment of the result, and a sender from the
-//! start of its own. Both walks go through the segments in turn, the second only where the first found no fault.
+//! The first senders of each segment. An index counts from the start of its segment of the result, and a sender from the start of
+//! its own. Both walks take the segments in turn, the second only if the first found no fault.
 
 ghost use Rattle.std.specs.Prelude.{◌≡◌, ◌≤◌, length, sum};
 ghost use Rattle.cvl_base.specs.Limits.{most_places};
@@ -33,7 +33,7 @@ fn check_segments<D: Destinations>(
     Ok(())
 }
 
-/// Writes the first senders of each segment, one segment after another.
+/// Writes the first senders of each segment, in order.
 fn write_segments<D: Destinations + Copy>(
     destinations: &D,
     d: &SegLengths,
@@ -56,8 +56,8 @@ fn write_segments<D: Destinations + Copy>(
     }
 }
 
-/// The first senders of each segment over a room, by both walks. The faults of lengths that do not agree come first, and that of
-/// the room last.
+/// The first senders of each segment into a room, by both walks. The faults of lengths that do not agree come first, and the
+/// room's last.
 fn both_walks<D: Destinations + Copy>(
     destinations: &D,
     d: &SegLengths,
@@ -79,9 +79,9 @@ fn both_walks<D: Destinations + Copy>(
 /// The first senders of each segment: for each place of a segment of the result the least place of the same segment of the index
 /// that names it, counted from the start of the segment, or -1.
 ///
-/// `LengthMismatch`, without a place, where the segments of the index do not add up to it, or there are not as many segments of
-/// the result; `IndexOutOfRange` at the first index that is no place of its segment of the result; `LengthMismatch` where the
-/// room is not as long as all segments of the result. At a fault the room is as it was.
+/// `LengthMismatch`, without a place, if the segments of the index do not add up to it, or the result does not have as many
+/// segments; `IndexOutOfRange` at the first index that is no place of its segment of the result; `LengthMismatch` if the room is
+/// not as long as all segments of the result. After a fault the room is as before.
 pub fn seg_first_senders_over(
     index: &[i32],
     d: &SegLengths,
@@ -94,8 +94,8 @@ pub fn seg_first_senders_over(
     both_walks(&AllDestinations { index }, d, result_d, out)
 }
 
-/// The same among the places whose flag is true. An index whose flag is false is not looked at. `LengthMismatch`, without a
-/// place, also where there are more or fewer flags than indices.
+/// The same for the places whose flag is true. An index whose flag is false is not checked. `LengthMismatch`, without a place,
+/// also if there are not as many flags as indices.
 pub fn seg_select_first_senders_over(
     index: &[i32],
     flags: &[bool],

@@ -1,4 +1,4 @@
-//! The two walks over some neighbouring places: the first looks whether each that takes part names a place of the result, and
+//! The two walks over some neighbouring places: the first checks that each one that takes part names a place of the result, and
 //! the second, from the last to the first, writes each at the place that it names.
 
 ghost use Rattle.std.specs.Prelude.{◌≡◌, ◌+◌, ◌≤◌, count_by, drop, length, map, take};
@@ -10,10 +10,10 @@ ghost use Rattle.permute_walks.specs.Senders.{fault_told, is_between};
 use cvl_base::{Fault, FaultNo, place_among};
 use permute_walks::Destinations;
 
-/// Stands where no index names the place.
+/// Marks a place that no index names.
 pub const NONE: i32 = -1;
 
-/// `IndexOutOfRange` at the first of so many places, from place `first` on, that takes part and whose index is no place of the
+/// `IndexOutOfRange` at the first of some places, from place `first` on, that takes part and whose index is no place of the
 /// result.
 #[inline(never)]
 pub(crate) fn check_indices<D: Destinations>(
@@ -38,9 +38,9 @@ pub(crate) fn check_indices<D: Destinations>(
     Ok(())
 }
 
-/// Writes the first sender of each place of a range of the result, which begins at place `lowest`: the least of so many places
-/// from place `first` on that takes part and names it, counted from that one, or `NONE`. Tells how many of these places name
-/// one of the range.
+/// Writes the first sender of each place of a range of the result, which begins at place `lowest`: the least place from place
+/// `first` on that takes part and names it, counted from that one, or `NONE`. Returns how many of these places name one of the
+/// range.
 #[inline(never)]
 pub fn write_first<D: Destinations + Copy>(
     destinations: &D,
