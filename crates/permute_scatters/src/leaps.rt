@@ -3,17 +3,16 @@
 ghost use Rattle.std.specs.Prelude.{◌≤◌, length};
 ghost use Rattle.cvl_base.specs.Limits.{most_places};
 
-/// From how many places on it pays to ask. A shorter result stays in a cache with whatever is kept of its places.
+/// From this many places on it pays to ask. A shorter result stays in a cache with whatever is kept of its places.
 const LONG: usize = 65_536;
 
-/// About so many indices are looked at, and the one behind each.
+/// About how many indices are compared with the one after each.
 const LOOKS: usize = 64;
 
-/// Indices that name places of one block of so many run along.
+/// Indices that name places of one block of this size run along.
 const BLOCK: u32 = 1024;
 
-/// Whether most indices of a long permute name a place far from that of the index before them. It looks at few of them, spread
-/// evenly.
+/// Whether most indices of a long permute name a place far from that of the index before them. It samples a few of them, evenly.
 pub fn jumps(index: &[i32]) -> bool
     requires { length index.now ≤ most_places }
 {

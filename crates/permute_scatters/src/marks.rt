@@ -1,4 +1,4 @@
-//! The first walk: a bit for each place of the result that an index names. They are as many as the indices exactly where none is
+//! The first walk: a bit for each place of the result that an index names. There are as many as indices exactly if none is
 //! outside or repeated.
 
 ghost use Rattle.std.specs.Prelude.{◌≡◌, ◌<◌, ◌≤◌, ◌/◌, ◌↔◌, Bool, List, None, length, replicate, set, true, IfOk, IsTrue};
@@ -24,7 +24,7 @@ fn mark_place(marks: &mut [u32], place: usize)
     marks[place / WORD_BITS] |= 1 << (place % WORD_BITS);
 }
 
-/// Marks the place that each index names; false where an index names none, and then the marks are of no use.
+/// Marks the place that each index names; false if an index names none, and then the marks mean nothing.
 // Without its sign an index below 0 is beyond the longest vector, so that one comparison is enough.
 // Inlined into a large function the loop keeps its pointers on the stack.
 #[inline(never)]
@@ -44,7 +44,7 @@ fn mark_each(index: &[i32], places: usize, marks: &mut [u32]) -> bool
     true
 }
 
-/// Whether each index names one of so many places, and no two the same. No place is marked to begin with.
+/// Whether each index names one of `places` places, and no two the same. At first no place is marked.
 fn are_apart(index: &[i32], places: usize, marks: &mut [u32]) -> bool
     requires unmarked { marks.old ≡ replicate (words_for places) 0 }
     requires in_limit { (length index.now ≤ most_places) × (places ≤ most_places) }
@@ -53,9 +53,9 @@ fn are_apart(index: &[i32], places: usize, marks: &mut [u32]) -> bool
     mark_each(index, places, marks) && count_marks(marks) == index.len()
 }
 
-/// Whether the index of a long permute jumps from place to place, and each index names one of so many places, no two the same, so
-/// that a scatter makes the permute. Only where the index jumps are its places marked. `NoResources` where there is no memory for
-/// a bit a place.
+/// Whether the index of a long permute jumps from place to place, and each index names one of `places` places, no two the same,
+/// so that a scatter makes the permute. Places are marked only if the index jumps. `NoResources` if there is no memory for a bit
+/// a place.
 pub fn is_scattered<A: Memory>(alloc: A, index: &[i32], places: usize) -> Result<bool, NoResources>
     requires in_limit { length index.now ≤ most_places }
     ensures { IfOk result (λ is. IsTrue is

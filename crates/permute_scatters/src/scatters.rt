@@ -1,11 +1,11 @@
-//! The second walk, which writes each element straight to its place, where no place is bad.
+//! The second walk, which writes each element to its place if no place is bad.
 
 ghost use Rattle.std.specs.Prelude.{◌≡◌, ◌≤◌, length, None};
 ghost use Rattle.cvl_base.specs.Limits.{most_places};
 ghost use Rattle.cvl_base.specs.Permutes.{all_destinations, first_fault, wrongs};
 ghost use Rattle.permute_walks.specs.Senders.{senders_of, written_over};
 
-/// Writes each element to its index over what stands there, where each index names a place of the room, and no two the same.
+/// Writes each element to its index over what stands there; each index names a place of the room, and no two the same.
 #[inline(never)]
 pub fn scatter<T: Copy>(source: &[T], index: &[i32], out: &mut [T])
     requires as_long { length source.now ≡ length index.now }
