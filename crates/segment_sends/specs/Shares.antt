@@ -24,8 +24,7 @@ fault_behind segments s = fault_from (destinations_in (take s segments)) (drop s
 abbrev pub AreWithin : ℕ → List (ℕ × List (Option ℤ)) → Type 0
 AreWithin widest segments = (s : ℕ) → s < length segments → (segment_at segments s).0 ≤ widest
 
--- What is sent: the elements, the segments' destinations, what stands before in the result, and a number of places that no segment
--- exceeds.
+-- What is sent: the elements, the segments' destinations, what stands before in the result, and a number of places that no segment exceeds.
 pub record Sending (X : Type 0) : Type 0 where
   pub source : List X
   pub segments : List (ℕ × List (Option ℤ))
@@ -35,8 +34,7 @@ pub record Sending (X : Type 0) : Type 0 where
 abbrev pub sending : {X : Type 0} → List X → List (ℕ × List (Option ℤ)) → List X → ℕ → Sending X
 sending source segments before widest = record { source = source; segments = segments; before = before; widest = widest }
 
--- The segments from `begin` up to before `end`, whose places an empty run has. What stands before has as many places as all
--- segments.
+-- The segments from `begin` up to before `end`, whose places an empty run has. What stands before has as many places as all segments.
 pub record IsShare {X : Type 0} (w : Sending X) (begin end : ℕ) (run : Stretch X) : Type 0 where
   pub few : destinations_in w.segments ≤ most_places
   pub as_long : places_in w.segments ≡ length w.before
@@ -47,8 +45,8 @@ pub record IsShare {X : Type 0} (w : Sending X) (begin end : ℕ) (run : Stretch
   pub ends : run.first + run.room ≡ places_in (take end w.segments)
   pub empty : run.items ≡ []
 
--- What was written of a share: all its places, and where it is told to be right, the first bad place lies behind it, and the places
--- hold their part of the result.
+-- What was written of a share: all its places, and if it is found right, the first bad place lies after it, and the places hold their part
+-- of the result.
 pub record IsWritten {X : Type 0} (w : Sending X) (begin end : ℕ) (run written : Stretch X) (right : Bool) : Type 0 where
   pub full : (items : List X) × (length items ≡ run.room) × (written ≡ stretch run.block run.first items 0)
   pub no_fault : right ≡ true → fault_behind w.segments begin ≡ fault_behind w.segments end

@@ -1,4 +1,4 @@
-//! The first walk of a permute by segments, segment by segment, by the thread that calls.
+//! The first walk of a permute by segments, segment by segment, on the calling thread.
 
 ghost use Rattle.std.specs.Prelude.{◌≡◌, ◌≤◌, IfOk, Ok, OnOk, length, replicate, vec_len};
 ghost use Rattle.cvl_base.specs.Gives.{Gives, unless};
@@ -10,8 +10,8 @@ use crate::segment_destinations::{SegmentDestinations, segment_count};
 use cvl_base::{Fault, Memory, Refused};
 use permute_walks::{Destinations, NOBODY, send_places};
 
-/// Sends the places of each segment that take part. The senders are those of the whole result, nobody to begin with. The
-/// fault is that of the first bad place, a place of the whole index.
+/// Sends the places of each segment that take part. The senders are those of the whole result, at first nobody. The fault is that
+/// of the first bad place, a place of the whole index.
 fn send_segments<D: SegmentDestinations>(senders: &mut [u32], segments: &D) -> Result<(), Fault>
     requires cut { D.AreCut segments.now }
     requires fresh { senders.old ≡ replicate (length senders.old) nobody }
@@ -32,8 +32,8 @@ fn send_segments<D: SegmentDestinations>(senders: &mut [u32], segments: &D) -> R
     Ok(())
 }
 
-/// For each place of a result by segments, which has so many places, its sender, or the fault of the first bad place, a place of
-/// the whole index. `NoResources` where there is no memory for the senders.
+/// The sender of each of the `places` places of a result by segments, or the fault of the first bad place, a place of the whole
+/// index. `NoResources` if there is no memory for the senders.
 pub fn segment_senders_alone<A: Memory, D: SegmentDestinations>(
     alloc: A,
     places: usize,

@@ -1,5 +1,5 @@
-//! The two walks of a simple permute straight into a room, over one segment. A short segment takes no call: the marks of its
-//! places are the bits of a word, and a segment of one place has no loop.
+//! The two walks of a simple permute into a room, over one segment. A short segment takes no call: the marks of its places are
+//! the bits of a word, and a segment of one place has no loop.
 
 ghost use Rattle.std.specs.Prelude.{◌≡◌, ◌≤◌, ◌↔◌, filter_map, length, slice_get, IsTrue, None};
 ghost use Rattle.cvl_base.specs.Limits.{most_places};
@@ -8,7 +8,7 @@ ghost use Rattle.permute_walks.specs.Senders.{senders_of};
 
 use permute_walks::{is_permutation_by, scatter_over};
 
-/// How many places a short segment has at most, as many as a word has bits.
+/// The most places of a short segment, as many as a word has bits.
 const SHORT: usize = 32;
 
 /// Whether the indices of a short segment are a permutation of its places.
@@ -30,8 +30,8 @@ fn is_short_permutation(index: &[i32]) -> bool
     marks.count_ones() as usize == places
 }
 
-/// The first walk: whether the indices of a segment are a permutation of its places. There is a mark for each index, and it does
-/// not matter what they hold.
+/// The first walk: whether the indices of a segment are a permutation of its places. There is a mark for each index; what the
+/// marks hold does not matter.
 #[inline(always)]
 pub(crate) fn is_segment_permutation(marks: &mut [bool], index: &[i32]) -> bool
     requires as_long { length marks.old ≡ length index.now }
@@ -48,7 +48,7 @@ pub(crate) fn is_segment_permutation(marks: &mut [bool], index: &[i32]) -> bool
 }
 
 /// Writes the element of each place of a short segment to its index.
-// No index is outside. A loop that may be left is not unrolled by the compiler, and of a few elements takes less time.
+// No index is outside. The compiler does not unroll a loop with an exit, which for a few elements is faster.
 #[inline(always)]
 fn scatter_short_over<T: Copy>(source: &[T], index: &[i32], out: &mut [T])
     requires as_long { (length source.now ≡ length index.now) × (length out.old ≡ length index.now) }
@@ -66,8 +66,7 @@ fn scatter_short_over<T: Copy>(source: &[T], index: &[i32], out: &mut [T])
     }
 }
 
-/// The second walk: writes the element of each place of a segment to its index, where the indices are a permutation of its
-/// places.
+/// The second walk: writes the element of each place of a segment to its index; the indices are a permutation of its places.
 #[inline(always)]
 pub(crate) fn scatter_segment_over<T: Copy>(source: &[T], index: &[i32], out: &mut [T])
     requires as_long { (length source.now ≡ length index.now) × (length out.old ≡ length index.now) }

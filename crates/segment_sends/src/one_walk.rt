@@ -1,6 +1,6 @@
-//! A permute by segments in one walk, by one thread. A buffer holds the senders of one segment at a time, whose elements are
-//! pushed as soon as no place of it is bad, and is cleared as they are. So it stays in the processor's cache, and nothing else is
-//! written but the result.
+//! A permute by segments in one walk, on one thread. A buffer holds the senders of one segment at a time. Their elements are
+//! pushed as soon as no place of it is bad, and clear it. So it stays in the processor's cache, and only the result is written
+//! besides.
 
 ghost use Rattle.std.specs.Prelude.{◌≡◌, ◌+◌, ◌≤◌, false, true, length, replicate, None};
 ghost use Rattle.fresh.specs.Parts.{part};
@@ -15,10 +15,10 @@ use cvl_base::Memory;
 use fresh::Run;
 use permute_walks::{Destinations, NOBODY, element_of, send_places};
 
-/// How many places a short segment of the result has at most.
+/// The most places of a short segment of the result.
 const SHORT: usize = 32;
 
-/// Pushes for each sender its element, or the value at its place where it is nobody.
+/// Pushes the element of each sender, or the value at its place if it is nobody.
 // Inlined, so that what is known of the run stays in registers from segment to segment.
 #[inline(always)]
 fn push_elements<T: Copy>(run: Run<T>, source: &[T], values: &[T], senders: &[u32]) -> Run<T>
@@ -49,7 +49,7 @@ fn push_and_clear<T: Copy>(run: Run<T>, source: &[T], values: &[T], senders: &mu
     run
 }
 
-/// Pushes for each sender its element, or what stands before at the same place of the run where it is nobody. Then each sender is
+/// Pushes the element of each sender, or what stands before at the same place of the run if it is nobody. Then each sender is
 /// nobody.
 // A loop that clears what it reads takes longer for each place than two loops; only a short segment is walked once.
 #[inline(always)]
@@ -70,7 +70,7 @@ fn push_over<T: Copy>(run: Run<T>, source: &[T], before: &[T], senders: &mut [u3
     run
 }
 
-/// Pushes what stands before into the places that are left.
+/// Pushes what stands before into the remaining places.
 fn push_rest<T: Copy>(run: Run<T>, before: &[T]) -> Run<T>
     requires { run.first + length run.items + run.room ≤ length before.now }
     ensures { result ≡ with_items run (part before.now (run.first + length run.items) run.room) }
@@ -80,9 +80,9 @@ fn push_rest<T: Copy>(run: Run<T>, before: &[T]) -> Run<T>
     run.extend_from_slice(rest)
 }
 
-/// Pushes the elements of one segment, whose first place stands at place `first`; false where one of its places is bad, and then
-/// nothing is pushed. The buffer of senders is as long as the segment of the result; each is nobody to begin with, and
-/// after elements were pushed.
+/// Pushes the elements of one segment, whose first place stands at place `first`; false if one of its places is bad, and then
+/// nothing is pushed. The buffer of senders is as long as the segment of the result; each is nobody at first, and again after
+/// elements were pushed.
 #[inline(always)]
 fn push_segment<T: Copy, D: Destinations>(
     run: Run<T>,
@@ -109,8 +109,8 @@ fn push_segment<T: Copy, D: Destinations>(
     }
 }
 
-/// Writes the places of the segments from the one numbered `begin` on up to the one before `end`; false where a place of theirs
-/// is bad. The buffer of senders is as long as the widest segment of the result, and each is nobody.
+/// Writes the places of the segments from number `begin` up to the one before `end`; false if one of their places is bad. The
+/// buffer of senders is as long as the widest segment of the result, and each is nobody.
 fn write_segments<T: Copy, D: SegmentDestinations>(
     source: &[T],
     before: &[T],
@@ -141,7 +141,7 @@ fn write_segments<T: Copy, D: SegmentDestinations>(
     (run, true)
 }
 
-/// The same by a buffer of its own; false, too, where there is no memory for it.
+/// The same with a buffer of its own; false also if there is no memory for it.
 pub(crate) fn write_by_buffer<T: Copy, A: Memory, D: SegmentDestinations>(
     alloc: A,
     source: &[T],

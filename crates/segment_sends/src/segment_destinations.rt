@@ -10,10 +10,10 @@ use permute_walks::{AllDestinations, Destinations, FlaggedDestinations};
 use segdes::{SegDes, SegLengths};
 use std::alloc::Allocator;
 
-/// The destinations of a permute by segments: for each segment where its places are sent, among how many places.
+/// The destinations of a permute by segments: for each segment where its places are sent, and among how many.
 ///
 /// Its meaning is how many places each segment of the result has, with the destinations of the segment, and whether the vectors
-/// are as long as the segments in all.
+/// are as long as the segments together.
 pub trait SegmentDestinations {
     /// The destinations of a segment.
     type OfSegment: Destinations + Send + Sync + Drop;
@@ -36,7 +36,7 @@ pub trait SegmentDestinations {
         requires within { s < length (segments self.now) }
         ensures { slice_index_or (segments self.now) s (0, []) ≡ (result.0, Self.OfSegment.destinations result.1) };
 
-    /// How many places the segments of the result before segment `s` have, and all where there is no such segment.
+    /// How many places the segments of the result before segment `s` have; all if there is no such segment.
     fn places_before(&self, s: usize) -> usize
         requires { AreCut self.now }
         ensures { result ≡ places_in (take s (segments self.now)) };
@@ -47,7 +47,7 @@ pub trait SegmentDestinations {
         ensures { AreWithin result (segments self.now) };
 }
 
-/// How many segments there are.
+/// The number of segments.
 #[tactic(auto, using(crate::proofs::Through::mapped))]
 pub fn segment_count<D: SegmentDestinations>(segments: &D) -> usize
     requires { D.AreCut segments.now }
@@ -56,7 +56,7 @@ pub fn segment_count<D: SegmentDestinations>(segments: &D) -> usize
     segments.descriptor().count()
 }
 
-/// How many destinations the segments before segment `s` have, and all segments where there is no such one.
+/// How many destinations the segments before segment `s` have; all if there is no such segment.
 #[tactic(auto, using(crate::proofs::Through::mapped))]
 pub(crate) fn destinations_before<D: SegmentDestinations>(segments: &D, s: usize) -> usize
     requires { D.AreCut segments.now }
@@ -125,9 +125,9 @@ impl<'a, A: Memory> SegmentDestinations for AllInSegments<'a, A> {
 /// The places whose flag is true take part, and a segment of the result has as many places.
 #[derive(Drop)]
 pub struct FlaggedInSegments<'a, A: Allocator> {
-    /// For each place the one that it is sent to, counted from the start of its segment, where its flag is true.
+    /// For each place whose flag is true the one that it is sent to, counted from the start of its segment.
     pub index: &'a [i32],
-    /// Which places take part, as many flags as indices.
+    /// Which places take part: as many flags as indices.
     pub flags: &'a [bool],
     /// The segments of the index and the flags.
     pub d: &'a SegDes<A>,
@@ -167,7 +167,7 @@ impl<'a, A: Memory> SegmentDestinations for FlaggedInSegments<'a, A> {
         true_count(flags)
     }
 
-    // Of its flags no segment has more that are true.
+    // No segment has more true flags than flags.
     fn widest(&self) -> usize {
         longest(&self.d.as_lengths())
     }

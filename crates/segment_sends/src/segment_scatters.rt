@@ -1,5 +1,5 @@
-//! The two walks of a simple permute by segments straight into a room. The first marks the place that each index names, segment
-//! by segment in the same bytes, and those of a short segment in a word. The second writes each element to its index.
+//! The two walks of a simple permute by segments into a room. The first marks the place that each index names, segment by segment
+//! in the same bytes, and those of a short segment in a word. The second writes each element to its index.
 
 ghost use Rattle.std.specs.Prelude.{◌≡◌, ◌≤◌, ◌↔◌, filter_map, length, slice_get, slice_index, sum, ℕ, ◌<◌, IfOk, IsTrue, None};
 ghost use Rattle.cvl_base.specs.Limits.{most_places};
@@ -31,7 +31,7 @@ fn are_permutations_by(marks: &mut [bool], index: &[i32], d: &SegLengths) -> boo
 }
 
 /// The first walk: whether the indices of each segment are a permutation of its places, so that none is out of range or repeated.
-/// `NoResources` where there is no memory for a byte for each place of the longest segment.
+/// `NoResources` if there is no memory for a byte for each place of the longest segment.
 pub fn are_permutations<A: Memory>(
     alloc: A,
     index: &[i32],
@@ -45,8 +45,7 @@ pub fn are_permutations<A: Memory>(
     Ok(are_permutations_by(&mut marks, index, d))
 }
 
-/// The second walk: writes the element of each place to its index, where the indices of each segment are a permutation of its
-/// places.
+/// The second walk: writes the element of each place to its index; the indices of each segment are a permutation of its places.
 pub fn scatter_segments_over<T: Copy>(source: &[T], index: &[i32], d: &SegLengths, out: &mut [T])
     requires total { sum d.now ≡ length index.now }
     requires as_long { (length source.now ≡ length index.now) × (length out.old ≡ length index.now) }
