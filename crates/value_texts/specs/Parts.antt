@@ -1,4 +1,4 @@
--- A whole that is cut into parts, each of which one thread writes.
+-- A whole that is cut into parts, one for each thread that writes.
 use Rattle.std.specs.Prelude.{◌≡◌, ℕ, ◌+◌, ◌<◌, ◌≤◌, ℤ, List, [], ◌∷◌, Option, length, map, sum, take, unsigned_abs}
 use Rattle.std.specs.List.{flat_map}
 use Rattle.fresh.specs.Counted.{found_in}
@@ -16,7 +16,7 @@ module _ {P : Type 0} (IsCut : P → ℕ → P → P → Type 0) where
   AreCutInTurn whole (front ∷ next ∷ parts) = (others : P) × IsCut whole (length parts + 2) front others
       × AreCutInTurn others (next ∷ parts)
 
--- the first n segments take at least so much to write, or are all, and one fewer take less: a segment takes its elements and one more
+-- the first n segments take at least this much to write, or are all, and one fewer take less: a segment takes its elements and one more
 pub record AreFewest (lengths : List ℤ) (least n : ℕ) : Type 0 where
   pub enough : n < length lengths → least ≤ sum (map unsigned_abs (take n lengths)) + n
   pub fewer : (k : ℕ) → k + 1 ≡ n → sum (map unsigned_abs (take k lengths)) + k < least

@@ -40,18 +40,18 @@ text_of (value.Descriptor lengths) = vector_text decimal lengths
 text_of (value.Integer n) = signed_decimal n
 text_of (value.Boolean b) = boolean_text b
 
--- bytes, and after them a text where there is one
+-- bytes, and after them a text if there is one
 abbrev pub after_bytes : List ℕ → Result (List ℕ) Fault → Result (List ℕ) Fault
 after_bytes bytes text = text >>= λ added. Ok (bytes ++ added)
 
 module _ {A : Type 0} where
-  -- the text of a vector's nest, where the lengths add up to the vector; no other value has a nest
+  -- the text of a vector's nest, if the lengths add up to the vector; no other value has a nest
   abbrev pub cut_text : List ℕ → Value A → Result (List ℕ) Fault
   cut_text lengths (value.Integers xs) = nest lengths xs >>= λ lists. Ok (nest_text signed_decimal lists)
   cut_text lengths (value.Booleans bs) = nest lengths bs >>= λ lists. Ok (nest_text boolean_text lists)
   cut_text lengths other = Err (fault LengthMismatch)
 
-  -- the text of a value, or that of a vector beside a descriptor of these lengths
+  -- the text of a value, or that of a vector cut by a descriptor of these lengths
   abbrev pub value_text : Option (List ℕ) → Value A → Result (List ℕ) Fault
   value_text None v = Ok (text_of v)
   value_text (Some lengths) v = cut_text lengths v

@@ -1,4 +1,4 @@
-//! The texts of vectors and of nests by the thread that calls, for code that has no runtime.
+//! The texts of vectors and of nests on the calling thread, for code that has no runtime.
 
 ghost use Rattle.std.specs.Prelude.{◌≡◌, IfOk, length, sum};
 ghost use Rattle.cvl_base.specs.Nests.{cut_of};

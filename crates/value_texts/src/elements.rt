@@ -12,7 +12,7 @@ use fresh::{Part, Run};
 use sharing::share_of_first;
 use std::alloc::AllocError;
 
-/// How many bytes the texts of the elements have with a space before each.
+/// How many bytes the texts of the elements have, each after a space.
 pub(crate) fn count_spaced<T: Written>(xs: &[T]) -> u32
     requires { length xs.now ≤ most_elements }
     ensures count { result ≡ length (spaced T.text_of xs.now) }
@@ -25,7 +25,7 @@ pub(crate) fn count_spaced<T: Written>(xs: &[T]) -> u32
     bytes
 }
 
-/// Writes the texts of the elements with a space before each behind what is written in the run.
+/// Writes the texts of the elements, each after a space, after what the run holds.
 pub(crate) fn write_into_run<T: Written>(xs: &[T], page: &mut Page, run: Run<u8>) -> Run<u8>
     requires { length (spaced T.text_of xs.now) ≤ run.room }
     ensures { result ≡ with_items run (spaced T.text_of xs.now) }

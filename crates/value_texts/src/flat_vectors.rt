@@ -1,11 +1,11 @@
-//! Vectors as they are written where no descriptor is beside them.
+//! Vectors as they are written without a descriptor.
 
 ghost use Rattle.std.specs.Prelude.{◌≡◌, IfSome};
 ghost use Rattle.value_texts.specs.Texts.{flat_text, text_of};
 
 use cvl_base::{Memory, Value};
 
-/// How many elements a vector has at most whose text is made whole before it is put anywhere.
+/// The most elements of a vector whose text is made whole before it is put anywhere.
 const MOST_WHOLE: usize = 262_144;
 
 /// The elements of a vector, or the lengths of a descriptor.
@@ -29,8 +29,8 @@ fn flat_vector<A: Memory>(value: &Value<A>) -> Option<FlatVector<'_>>
     }
 }
 
-/// The elements of a vector or the lengths of a descriptor, where they are so many that their text is better made piece by piece,
-/// more than 262,144.
+/// The elements of a vector or the lengths of a descriptor, if there are more than 262,144, so that their text is better made
+/// piece by piece.
 pub fn long_vector<A: Memory>(value: &Value<A>) -> Option<FlatVector<'_>>
     ensures { IfSome result (λ vector. flat_text vector ≡ text_of value.now) }
 {

@@ -1,4 +1,4 @@
-//! The parts of a text written by several threads, each into a run of one fresh text.
+//! The parts of a text, each written by its own thread into a run of one fresh text.
 
 ghost use Rattle.std.specs.Prelude.{◌≡◌, ℕ, ◌+◌, ◌-◌, ◌^◌, ◌<◌, ◌≤◌, ◌++◌, IfOk, MatchOption, OnOk, OnErr, length, vec_len};
 ghost use Rattle.std.specs.List.{flat_map};
@@ -9,16 +9,16 @@ use fresh::{CountedParts, Part, Room, count_parts, extend_in_parts, write_in_par
 use sharing::ThreadCount;
 use std::thread::Threads;
 
-/// Room for what ends a text after its parts: brackets and the end of a line.
+/// Room for what follows the parts of a text: brackets and the end of a line.
 const SPARE_BYTES: usize = 64;
 
-/// A part that can be cut in two. Its meaning is also where it is cut for the first of so many threads.
+/// A part that can be cut in two. Its meaning is also where to cut it for the first of so many threads.
 pub trait Cut<T>: Part<T> {
     ghost use Rattle.std.specs.Option.{option_or};
 
     ghost IsCut: { Self → ℕ → Self → Self → Type 0 };
 
-    /// The part in two, of which the first has about as much to write as each of so many equal parts.
+    /// The part in two, the first of which has about as much to write as each of `parts` equal parts.
     fn cut(self, parts: usize) -> (Self, Self)
         requires { 1 < parts }
         ensures cut { IsCut self parts result.0 result.1 }
@@ -27,7 +27,7 @@ pub trait Cut<T>: Part<T> {
             (Self.found result.1 (first + length (Self.items result.0))) ≡ Self.found self first };
 }
 
-/// A part of the whole for each thread, about equally much to write in each.
+/// A part of the whole for each thread, with about the same to write in each.
 fn parts_of<T, A: Memory, P: Cut<T>>(
     alloc: A,
     threads: ThreadCount,
@@ -50,8 +50,8 @@ fn parts_of<T, A: Memory, P: Cut<T>>(
     Ok(parts)
 }
 
-/// The items of a whole, written in parts, one for each thread, and the first place whose item has no value; none where there are
-/// more of them than `most`.
+/// The items of a whole, written in parts, one for each thread, and the first place whose item has no value; none if there are
+/// more than `most` items.
 pub fn made_in_parts<T: Send + Sync + Drop, R: Threads + Sync, A: Memory, P: Cut<T> + Sync>(
     rt: &R,
     alloc: A,
@@ -74,8 +74,7 @@ pub fn made_in_parts<T: Send + Sync + Drop, R: Threads + Sync, A: Memory, P: Cut
     Ok(Some(made))
 }
 
-/// Appends the text of a whole in parts, one for each thread. The text moves to where there is room. After a refusal it is as
-/// before.
+/// Appends the text of a whole in parts, one for each thread. The text moves into fresh memory. After a refusal it is as before.
 pub(crate) fn put_in_parts<R: Threads + Sync, A: Memory, P: Cut<u8> + Sync>(
     rt: &R,
     alloc: A,
@@ -90,8 +89,8 @@ pub(crate) fn put_in_parts<R: Threads + Sync, A: Memory, P: Cut<u8> + Sync>(
     put_parts(rt, alloc, threads, parts.as_slice(), text)
 }
 
-/// Appends the texts of the parts, of which there are at most `threads`, one after another, each written by a thread of its own.
-/// The text moves to where there is room for the parts. After a refusal it is as before.
+/// Appends the texts of the parts, at most `threads` of them, in order, each written by a thread of its own. The text moves into
+/// fresh memory. After a refusal it is as before.
 fn put_parts<R: Threads + Sync, A: Memory, P: Part<u8> + Sync>(
     rt: &R,
     alloc: A,

@@ -16,7 +16,7 @@ use fresh::{Part, Run};
 use sharing::share_of_first;
 use std::alloc::AllocError;
 
-/// How many bytes the text of a vector has.
+/// The number of bytes of a vector's text.
 #[tactic(auto, using(crate::proofs::SegmentWalk::text_size))]
 fn count_vector<T: Written>(xs: &[T]) -> u32
     requires { length xs.now ≤ most_elements }
@@ -30,7 +30,7 @@ fn count_vector<T: Written>(xs: &[T]) -> u32
     1 + count_spaced(xs)
 }
 
-/// How many bytes the texts of the segments have with a space before each.
+/// How many bytes the texts of the segments have, each after a space.
 fn count_segments<T: Written>(lengths: &[i32], xs: &[T]) -> u32
     requires few_segments { length lengths.now ≤ most_elements }
     requires few { length xs.now ≤ most_elements }
@@ -47,7 +47,7 @@ fn count_segments<T: Written>(lengths: &[i32], xs: &[T]) -> u32
     bytes
 }
 
-/// Writes the texts of the elements with a space between each two behind what is written in the run.
+/// Writes the texts of the elements, with spaces between them, after what the run holds.
 fn write_joined<T: Written>(xs: &[T], page: &mut Page, run: Run<u8>) -> Run<u8>
     requires { length (join_with_byte 32 (map T.text_of xs.now)) ≤ run.room }
     ensures { result ≡ with_items run (join_with_byte 32 (map T.text_of xs.now)) }
@@ -59,7 +59,7 @@ fn write_joined<T: Written>(xs: &[T], page: &mut Page, run: Run<u8>) -> Run<u8>
     write_into_run(others, page, run)
 }
 
-/// Writes a space and the text of a vector behind what is written in the run.
+/// Writes a space and the text of a vector after what the run holds.
 fn write_vector<T: Written>(xs: &[T], page: &mut Page, run: Run<u8>) -> Run<u8>
     requires { 1 + length (vector_text T.text_of xs.now) ≤ run.room }
     ensures { result ≡ with_items run (spaced (vector_text T.text_of) (xs.now ∷ [])) }
@@ -69,7 +69,7 @@ fn write_vector<T: Written>(xs: &[T], page: &mut Page, run: Run<u8>) -> Run<u8>
     run.extend_from_slice(b"]")
 }
 
-/// Writes the texts of the segments with a space before each behind what is written in the run.
+/// Writes the texts of the segments, each after a space, after what the run holds.
 fn write_segments<T: Written>(lengths: &[i32], xs: &[T], page: &mut Page, run: Run<u8>) -> Run<u8>
     requires cut { sum (map unsigned_abs lengths.now) ≡ length xs.now }
     requires room { length (spaced (vector_text T.text_of) (cut_of (map unsigned_abs lengths.now) xs.now)) ≤ run.room }
@@ -134,7 +134,7 @@ impl<'a, T: Written> Part<u8> for SegmentTexts<'a, T> {
     }
 }
 
-/// How many of the first segments take at least so much to write, or all segments, and how many elements they have. A segment
+/// How many of the first segments take at least this much to write, or all segments, and how many elements they have. A segment
 /// takes about as much as its elements and one more.
 fn leading(lengths: &[i32], least: usize) -> (usize, usize)
     requires few_segments { length lengths.now ≤ most_elements }

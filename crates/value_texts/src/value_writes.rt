@@ -31,7 +31,7 @@ fn put_plain<R: Threads + Sync, A: Memory>(
     }
 }
 
-/// Appends the text of a vector that the lengths cut. After a refusal the text begins as before.
+/// Appends the text of a vector cut by lengths. After a refusal the text begins as before.
 fn put_nested<R: Threads + Sync, A: Memory>(
     rt: &R,
     alloc: A,
@@ -69,7 +69,7 @@ fn put_nested<R: Threads + Sync, A: Memory>(
     }
 }
 
-/// Appends the text of a value, beside a descriptor if there is one. After a refusal the text begins as before.
+/// Appends the text of a value, cut by a descriptor if there is one. After a refusal the text begins as before.
 fn put_beside<R: Threads + Sync, A: Memory>(
     rt: &R,
     alloc: A,
@@ -98,13 +98,13 @@ fn put_beside<R: Threads + Sync, A: Memory>(
     }
 }
 
-/// Appends the text of a value: integers in decimal, booleans as `T` and `F`, vectors as `[0 3 4]`, the empty vector
-/// as `[]`, a descriptor as its lengths, and a vector beside a descriptor as the vectors of its segments, `[[] [5 1]]`.
+/// Appends the text of a value: integers in decimal, booleans as `T` and `F`, vectors as `[0 3 4]`, the empty vector as `[]`, a
+/// descriptor as its lengths, and a vector cut by a descriptor as the vectors of its segments, `[[] [5 1]]`.
 ///
-/// Beside a descriptor the value is a vector as long as the descriptor's total. A long vector is written by several threads,
-/// no more than the configuration has workers, into fresh memory with room for all its bytes; else the text grows by the
-/// bytes of up to 1,024 elements of a vector or of a segment at a time. Where a growth is refused the text is as before. The
-/// form is this library's text format.
+/// With a descriptor the value is a vector as long as the descriptor's total. Several threads, no more than the configuration has
+/// workers, write a long vector into fresh memory with room for all its bytes; a shorter text grows by the bytes of up to 1,024
+/// elements of a vector or of a segment at a time. If memory is refused, the text is as before. Source: this library's text
+/// format.
 pub fn put_value<R: Threads + Sync, A: Memory>(
     rt: &R,
     alloc: A,

@@ -12,14 +12,14 @@ use sharing::{ThreadCount, threads_writing_text};
 use std::alloc::Allocator;
 use std::thread::Threads;
 
-/// How many elements' texts are put together in a page before they are appended.
+/// How many elements' texts are collected in a page before they are appended.
 pub(crate) const PAGE_ELEMENTS: usize = 1024;
 
-/// The bytes of a page: room for the texts of its elements with a space before each.
+/// The bytes of a page: room for the texts of its elements, each after a space.
 pub(crate) const PAGE_BYTES: usize = PAGE_ELEMENTS * (MOST_TEXT_BYTES + 1);
 
-/// Where texts are put together, from its end to its front, before they are appended: one copy of many bytes is
-/// faster than one for each element.
+/// Where texts are collected, from its end to its front, before they are appended: one copy of many bytes is faster than one for
+/// each element.
 pub(crate) type Page = [u8; PAGE_BYTES];
 
 /// Writes the text of one element at the end of the page, and returns it.
@@ -31,8 +31,7 @@ pub(crate) fn text_in_page<'a, T: Written>(x: &T, page: &'a mut Page) -> &'a [u8
     &page[start..]
 }
 
-/// Writes the texts of at most 1,024 elements, with a space before each, at the end of the page, and returns where
-/// they start.
+/// Writes the texts of at most 1,024 elements, each after a space, at the end of the page, and returns where they start.
 pub(crate) fn write_spaced<T: Written>(xs: &[T], page: &mut Page) -> usize
     requires { length xs.now ≤ PAGE_ELEMENTS }
     ensures written { drop result page.new ≡ spaced T.text_of xs.now }
@@ -49,8 +48,8 @@ pub(crate) fn write_spaced<T: Written>(xs: &[T], page: &mut Page) -> usize
     at
 }
 
-/// Appends the texts of the elements with a space before each. After a refusal the text begins as before. None comes where the
-/// text has room for twelve bytes an element.
+/// Appends the texts of the elements, each after a space. After a refusal the text begins as before. There is none if the text
+/// has room for twelve bytes an element.
 pub(crate) fn put_spaced_alone<T: Written, A: Allocator>(
     xs: &[T],
     page: &mut Page,
@@ -108,7 +107,7 @@ fn put_first<'a, T: Written, A: Allocator>(
 }
 
 /// Appends the beginning of a vector's text, `[` and the text of the first element, if there is one, and returns the others:
-/// these follow with a space before each, and then `]`. After a refusal the text may have a part of it.
+/// these follow, each after a space, and then `]`. After a refusal the text may have a part of it.
 pub fn put_opening<'a, T: Written, A: Allocator>(
     xs: &'a [T],
     text: &mut Vec<u8, A>,
@@ -121,7 +120,7 @@ pub fn put_opening<'a, T: Written, A: Allocator>(
     put_first(xs, &mut page, text)
 }
 
-/// Appends the text of a vector by the thread that calls. After a refusal the text begins as before.
+/// Appends the text of a vector on the calling thread. After a refusal the text begins as before.
 pub(crate) fn put_vector_alone<T: Written, A: Allocator>(
     xs: &[T],
     page: &mut Page,
@@ -136,7 +135,7 @@ pub(crate) fn put_vector_alone<T: Written, A: Allocator>(
     Ok(())
 }
 
-/// `put_vector_alone` by so many threads. It moves the text to where there is room.
+/// `put_vector_alone` on `threads` threads. The text moves into fresh memory.
 fn put_vector_in_parts<R: Threads + Sync, T: Written + Sync, A: Memory>(
     rt: &R,
     alloc: A,

@@ -3,7 +3,7 @@
 ghost use Rattle.std.specs.Prelude.{◌≡◌, ◌+◌, ◌≤◌, ◌++◌, length, drop};
 ghost use Rattle.std.specs.Fmt.{decimal};
 
-/// The most bytes of an element's text, which `-2147483648` has.
+/// The most bytes of an element's text, that of `-2147483648`.
 pub const MOST_TEXT_BYTES: usize = 11;
 
 /// An element of a vector, which has a text of at most 11 bytes.
@@ -25,7 +25,7 @@ pub trait Written {
         ensures few { result ≤ MOST_TEXT_BYTES };
 }
 
-/// The least number of eleven digits, which are one digit more than the magnitude of an element has at most.
+/// The least number of eleven digits, one more than the magnitude of any element has.
 const LEAST_OF_ELEVEN_DIGITS: u64 = 10_000_000_000;
 
 /// How many digits a number has in decimal.
@@ -55,7 +55,7 @@ impl Written for i32 {
     fn write_before(&self, page: &mut [u8], end: usize) -> usize {
         let number = *self;
         let magnitude = number.unsigned_abs();
-        // eleven digits and a sign for every number, of which its text is the end: with no branch on its length or sign
+        // eleven digits and a sign for every number, whose text is their end: with no branch on its length or sign
         itoa::write_digits(LEAST_OF_ELEVEN_DIGITS + u64::from(magnitude), page, end);
         let start = end - digit_count(magnitude) as usize;
         page[start - 1] = b'-';
