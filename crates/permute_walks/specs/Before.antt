@@ -1,5 +1,5 @@
 -- What stands in the places of a permute's result before elements are sent there.
--- Source: CVL's permutes: to each place of a simple or select permute an element is sent, and of a default permute a default stays.
+-- Source: CVL's permutes: a simple or select permute sends an element to each place, and in a default permute a default stays.
 use Rattle.std.specs.Prelude.{◌≡◌, ℕ, List, [], ◌∷◌, length, replicate, Option, Result, Ok}
 use Rattle.cvl_base.specs.declared.fault.Fault.{Fault}
 use Rattle.cvl_base.specs.Gives.{unless}
@@ -7,7 +7,7 @@ use Rattle.permute_walks.specs.declared.before.Before.{Before}
 use Rattle.permute_walks.specs.declared.before.Before.TheVariants as before
 use Rattle.permute_walks.specs.Senders.{written_over}
 
--- the first of a list in the place of each
+-- the first of a list in place of each
 abbrev pub copies_of_first : {X : Type 0} → List X → List X
 copies_of_first [] = []
 copies_of_first (x ∷ xs) = x ∷ replicate (length xs) x
@@ -18,7 +18,7 @@ module _ {X : Type 0} where
   values_of (before.Any values) = values.now
   values_of (before.Defaults values) = values.now
 
-  -- what is written there: one for all of them, where they are of no account
+  -- what is written there: one for all of them, if they do not matter
   abbrev pub written_of : Before X → List X
   written_of (before.Any values) = copies_of_first values.now
   written_of (before.Defaults values) = values.now

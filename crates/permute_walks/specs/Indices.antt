@@ -12,7 +12,7 @@ use Rattle.cvl_base.specs.Permutes.{first_fault, is_place}
 abbrev pub outside : ℕ → ℤ → Option FaultNo
 outside places i = if is_place places i then None else Some IndexOutOfRange
 
--- the fault of the first index outside, where the first index stands at the place given
+-- the fault of the first index outside; the first index stands at the place given
 abbrev pub first_outside : ℕ → ℕ → List ℤ → Option Fault
 first_outside place places index = first_fault place (map (outside places) index)
 
@@ -28,6 +28,6 @@ AreInside places index = All (λ i. is_place places i ≡ true) index
 abbrev pub elements_at : {X : Type 0} → List X → List ℤ → List X
 elements_at source index = filter_map (element_at source) index
 
--- each value, or another where there is none
+-- each value, or another if there is none
 abbrev pub each_or : {X : Type 0} → X → List (Option X) → List X
 each_or other values = map (λ v. unwrap_or v other) values

@@ -1,4 +1,4 @@
--- Marks, 32 in a word: bit b of word w is mark 32 w + b, and the bits behind the last mark are 0.
+-- Marks, 32 in a word: bit b of word w is mark 32 w + b, and the bits after the last mark are 0.
 use Rattle.std.specs.Prelude.{ℕ, zero, suc, ◌+◌, ◌/◌, Bool, List, [], ◌∷◌, drop, length, take}
 use Rattle.std.specs.Simd.Lanes.{mask_l}
 

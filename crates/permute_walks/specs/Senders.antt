@@ -12,7 +12,7 @@ pub use Rattle.sent_places.specs.Senders.{IsStored, count_sent, fault_told, nobo
 abbrev pub sent_marks : List ℕ → List Bool
 sent_marks senders = map (λ s. not (s == nobody)) senders
 
--- the place of the last destination that is d, or the other number where none is; the first of all stands at the place given
+-- the place of the last destination that is d, or the other number if none is; the first of all stands at the place given
 abbrev pub last_sender_from : ℕ → ℕ → List (Option ℤ) → ℕ → ℕ
 last_sender_from other place [] d = other
 last_sender_from other place (t ∷ ts) d = last_sender_from (if is_destination (pos d) t then place else other) (place + 1) ts d
@@ -25,7 +25,7 @@ last_senders place destinations lowest n = map (last_sender_from nobody place de
 abbrev pub count_destinations : List (Option ℤ) → ℕ
 count_destinations destinations = count_by is_some destinations
 
--- what stands where the elements of senders were written over values: nobody has no element, and the value stays
+-- the values after the elements of senders were written over them: nobody has no element, and the value stays
 abbrev pub written_over : {X : Type 0} → List X → List ℕ → List X → List X
 written_over source senders values = map (λ p. unwrap_or (slice_get source p.0) p.1) (zip senders values)
 

@@ -1,5 +1,5 @@
-//! The two walks of a back permute over a room, which is written only where no index is outside. The first looks at all indices,
-//! so that the second has an element for each.
+//! The two walks of a back permute into a room, which is written only if no index is outside. The first checks all indices, so
+//! that the second has an element for each.
 
 ghost use Rattle.std.specs.Prelude.{◌≡◌, ◌+◌, ◌-◌, ◌≤◌, ◌++◌, [], length};
 ghost use Rattle.fresh.specs.Parts.{part};
@@ -12,10 +12,10 @@ use crate::index_counts::count_outside;
 use cvl_base::{Fault, FaultNo, place_among};
 use fresh::{Run, Writer};
 
-/// From how many indices on they are counted before they are looked at in turn.
+/// From this many indices on they are counted before they are checked in turn.
 const LONG: usize = 32;
 
-/// `IndexOutOfRange` at the first place whose index is none of so many places. The first index stands at place `first`.
+/// `IndexOutOfRange` at the first place whose index is none of `places` places. The first index stands at place `first`.
 #[inline]
 fn check_each(index: &[i32], places: usize, first: usize) -> Result<(), Fault>
     requires { first + length index.now ≤ most_places }
@@ -29,9 +29,9 @@ fn check_each(index: &[i32], places: usize, first: usize) -> Result<(), Fault>
     Ok(())
 }
 
-/// The first walk: `IndexOutOfRange` at the first place whose index is none of so many places of the source. The first index
+/// The first walk: `IndexOutOfRange` at the first place whose index is none of `places` places of the source. The first index
 /// stands at place `first`.
-// Inlined for a short segment, in which each index is looked at here.
+// Inlined for a short segment, whose indices are each checked here.
 #[inline]
 #[tactic(auto, using(crate::proofs::Outside::none_outside))]
 pub fn check_places_alone(index: &[i32], places: usize, first: usize) -> Result<(), Fault>

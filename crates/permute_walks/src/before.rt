@@ -10,9 +10,9 @@ use fresh::{Copies, Run, Writer};
 /// What stands in the places of a permute's result before elements are sent there: a value for each place.
 #[derive(Clone, Copy)]
 pub enum Before<'a, T> {
-    /// To each place an element is sent, so that these are of no account.
+    /// Each place is sent an element, so that these do not matter.
     Any(&'a [T]),
-    /// Each stays where none is sent.
+    /// Each stays if none is sent there.
     Defaults(&'a [T]),
 }
 

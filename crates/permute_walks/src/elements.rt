@@ -21,7 +21,7 @@ pub fn element_of<T: Copy>(source: &[T], place: usize) -> Option<T>
     }
 }
 
-/// Writes the element of each sender, and for nobody what stands before in the same place.
+/// Writes the element of each sender, and for nobody what stood there before.
 #[derive(Drop)]
 pub struct Elements<'a, T> {
     /// The elements.

@@ -7,8 +7,8 @@ ghost use Rattle.permute_walks.specs.Indices.{count_outside};
 /// How many places an index of 32 bits can name, from 0 on.
 const NAMED_PLACES: usize = 2_147_483_648;
 
-/// How many indices are none of so many places.
-// Without its sign an index below 0 is beyond all places, so that one comparison is enough.
+/// How many indices are none of `places` places.
+// Without its sign an index below 0 exceeds all places, so that one comparison is enough.
 #[inline(never)]
 pub(crate) fn count_outside(index: &[i32], places: usize) -> u32
     requires { length index.now ≤ most_places }

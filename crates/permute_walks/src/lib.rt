@@ -1,8 +1,8 @@
-//! The walks of a permute over one range. The first, which finds the sender of each place of the result, is that of
-//! `sent_places`, which is handed on. `elements` has the second, which writes the elements of the senders over what `before` says
-//! of the places. `owners` has both in one, by threads each of which owns a range of the result, with `ranges` for one range and
-//! `marks` for the places that are written. `takes` has the walk of a back permute; over a room it has the two of `backs`, the
-//! first of which counts indices by `index_counts`. `scatters` has those of a simple permute straight into a room.
+//! The walks of a permute over one range. The first, which finds the sender of each place of the result, is re-exported from
+//! `sent_places`. `elements` has the second, which writes the elements of the senders over what `before` says of the places.
+//! `owners` has both in one, by threads each of which owns a range of the result, with `ranges` for one range and `marks` for the
+//! written places. `takes` has the walk of a back permute; `backs` has the two of one into a room, the first of which counts
+//! indices by `index_counts`. `scatters` has those of a simple permute into a room.
 #![tactic(auto)]
 
 pub mod backs;

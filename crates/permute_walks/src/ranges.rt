@@ -1,8 +1,7 @@
 //! The walk of a permute by the owner of one range of the result: it reads all indices, and writes and marks the places of the
-//! range to which one sends. It lists the places of a block of indices that are sent there, and then writes their elements. Each
-//! of the two loops has no branch on where a place is sent, which a processor guesses wrongly where the indices are in no order.
-//! Where they are in order most blocks have no such place: behind one of these a block is counted first, which takes less time
-//! than a list.
+//! range to which one sends. It lists the places of a block of indices that are sent there, and then writes their elements.
+//! Neither loop has a branch on where a place is sent, which a processor guesses wrongly if the indices are in no order. If they
+//! are in order, most blocks have no such place: after one of these a block is counted first, which is faster than a list.
 
 ghost use Rattle.std.specs.Prelude.{◌≡◌, ◌+◌, ◌<◌, ◌≤◌, pos, List, true, length, replicate, slice_get, slice_index_or, take};
 ghost use Rattle.std.specs.Prelude.{Some, None};
@@ -14,10 +13,10 @@ ghost use Rattle.permute_walks.specs.Senders.{IsWrittenTo, is_between, last_send
 use crate::marks::mark;
 use sent_places::Destinations;
 
-/// So many places are listed at a time; their list stays in the nearest memory of a processor.
+/// How many places are listed at a time; their list stays in the nearest cache of a processor.
 const BLOCK: usize = 1024;
 
-/// Whether a place takes part and is sent to one of so many places from `lowest` on.
+/// Whether a place takes part and is sent to one of `places` places from `lowest` on.
 // Without its sign an index below 0, or one below `lowest`, is beyond the longest vector, so that one comparison is enough.
 #[inline]
 fn is_sent_between(index: &i32, takes_part: bool, lowest: u32, places: u32) -> bool
@@ -27,7 +26,7 @@ fn is_sent_between(index: &i32, takes_part: bool, lowest: u32, places: u32) -> b
     takes_part & (index.cast_unsigned().wrapping_sub(lowest) < places)
 }
 
-/// How many places of a block are sent to one of so many places from `lowest` on. It begins at place `first`, and has so many
+/// How many places of a block are sent to one of `places` places from `lowest` on. It begins at place `first`, and has `many`
 /// places.
 // Vector code takes several at once.
 #[inline(never)]
@@ -53,9 +52,9 @@ fn count_block<D: Destinations>(
     count
 }
 
-/// Lists the places of a block that are sent to one of so many places from `lowest` on, and tells how many they are. The block
-/// begins at place `first`, and has as many places as the list has room for. Where they may be none they are counted first.
-// Each place is written behind the list, and stays where it counts, so that the machine code has no branch on it.
+/// Lists the places of a block that are sent to one of `places` places from `lowest` on, and returns their number. The block
+/// begins at place `first`, and has as many places as the list has room for. If there may be none, they are counted first.
+// Each place is written after the list, and stays if it counts, so that the machine code has no branch on it.
 #[inline(never)]
 fn list_block<D: Destinations>(
     destinations: &D,
@@ -86,7 +85,7 @@ fn list_block<D: Destinations>(
     count
 }
 
-/// The place of a range to which place `k` is sent, where that is a place of it, counted from its first, and the element.
+/// The place of a range to which place `k` is sent, if it is one, counted from the range's first, and the element.
 #[inline]
 fn sent_from<T: Copy, D: Destinations>(
     source: &[T],
@@ -108,7 +107,7 @@ fn sent_from<T: Copy, D: Destinations>(
 }
 
 /// `write_range` for the places of one block, which begins at place `first` and has as many places as the list has room for.
-/// Tells how many are sent to the range.
+/// Returns how many are sent to the range.
 #[inline(never)]
 fn write_block<T: Copy, D: Destinations>(
     source: &[T],
@@ -148,9 +147,9 @@ fn write_block<T: Copy, D: Destinations>(
     count
 }
 
-/// Writes the element of each place that takes part at its index, and marks it there, where that is a place of one range of the
-/// result. The range begins at place `lowest`, and no place of it is marked to begin with. Of several elements that are sent to
-/// one place the last stays.
+/// Writes the element of each place that takes part at its index, and marks it there, if that is a place of one range of the
+/// result. The range begins at place `lowest`, and at first no place of it is marked. Of several elements that are sent to one
+/// place the last stays.
 pub fn write_range<T: Copy, D: Destinations>(
     source: &[T],
     destinations: &D,

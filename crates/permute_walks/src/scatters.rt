@@ -1,5 +1,5 @@
-//! The two walks of a simple permute straight into a room. The first marks the place that each index names, a byte a place; a
-//! sender would need four. The second writes each element to its index.
+//! The two walks of a simple permute into a room. The first marks the place that each index names, a byte a place; a sender would
+//! need four. The second writes each element to its index.
 
 ghost use Rattle.std.specs.Prelude.{◌≡◌, ◌≤◌, ◌↔◌, false, filter_map, length, replicate, slice_get, IfOk, IsTrue, None};
 ghost use Rattle.cvl_base.specs.Limits.{most_places};
@@ -8,10 +8,9 @@ ghost use Rattle.permute_walks.specs.Senders.{last_senders, senders_of, sent_mar
 
 use cvl_base::{Memory, NoResources, true_count};
 
-/// Marks the place that each index names; false where an index names none, and then the marks are of no use.
-// Without its sign an index below 0 is beyond the longest vector, so that one comparison is enough. Nothing that stands
-// there is looked at.
-// Inlined into a large function the loop keeps its pointers on the stack.
+/// Marks the place that each index names; false if an index names none, and then the marks mean nothing.
+// Without its sign an index below 0 is beyond the longest vector, so that one comparison is enough. Nothing that stands there is
+// read. Inlined into a large function the loop keeps its pointers on the stack.
 #[inline(never)]
 fn mark_each(marks: &mut [bool], index: &[i32]) -> bool
     requires fresh { marks.old ≡ replicate (length marks.old) false }
@@ -30,7 +29,7 @@ fn mark_each(marks: &mut [bool], index: &[i32]) -> bool
     true
 }
 
-/// Whether each index names one of the places that are marked, and no two the same.
+/// Whether each index names one of the marked places, and no two the same.
 fn are_apart(marks: &mut [bool], index: &[i32]) -> bool
     requires fresh { marks.old ≡ replicate (length marks.old) false }
     requires in_limit { (length index.now ≤ most_places) × (length marks.old ≤ most_places) }
@@ -40,7 +39,7 @@ fn are_apart(marks: &mut [bool], index: &[i32]) -> bool
 }
 
 /// The first walk: whether the indices are a permutation of their own places, so that none is out of range or repeated.
-/// `NoResources` where there is no memory for a byte a place.
+/// `NoResources` if there is no memory for a byte a place.
 pub fn is_permutation<A: Memory>(alloc: A, index: &[i32]) -> Result<bool, NoResources>
     requires in_limit { length index.now ≤ most_places }
     ensures { IfOk result (λ is.
@@ -50,7 +49,7 @@ pub fn is_permutation<A: Memory>(alloc: A, index: &[i32]) -> Result<bool, NoReso
     Ok(are_apart(&mut marks, index))
 }
 
-/// The same by marks of the caller's, one for each index. It does not matter what they hold.
+/// The same with the caller's marks, one for each index. What they hold does not matter.
 pub fn is_permutation_by(marks: &mut [bool], index: &[i32]) -> bool
     requires as_long { length marks.old ≡ length index.now }
     requires in_limit { length index.now ≤ most_places }
@@ -60,7 +59,7 @@ pub fn is_permutation_by(marks: &mut [bool], index: &[i32]) -> bool
     are_apart(marks, index)
 }
 
-/// The second walk: writes the element of each place to its index, where the indices are a permutation of their own places.
+/// The second walk: writes the element of each place to its index; the indices are a permutation of their own places.
 #[inline(never)]
 pub fn scatter_over<T: Copy>(source: &[T], index: &[i32], out: &mut [T])
     requires as_long { (length source.now ≡ length index.now) × (length out.old ≡ length index.now) }

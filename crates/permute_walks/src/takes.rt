@@ -1,5 +1,5 @@
-//! A back permute in one walk, which several threads may share: each looks at indices and writes the elements there at once. An
-//! index that is no place of the source takes another element, so that every place is written, and the first of them is told.
+//! A back permute in one walk, which several threads may share: each checks indices and writes their elements at once. An index
+//! that is no place of the source takes another element, so that every place is written, and the first such index is reported.
 
 ghost use Rattle.std.specs.Prelude.{◌≡◌, ◌+◌, ◌≤◌, IfOk, List, [], None, Option, length, map, vec_len};
 ghost use Rattle.std.specs.List.{All};
@@ -34,10 +34,10 @@ fn element_at<T: Copy>(source: &[T], index: &i32) -> Option<T>
     }
 }
 
-/// How many indices are looked at before their elements are taken, at most. So many stay in the nearest cache.
+/// The most indices that are checked before their elements are taken. So many stay in the nearest cache.
 const BLOCK: usize = 4096;
 
-/// Pushes the element at each index, or another one where an index is no place of the source, and tells the place of the first
+/// Pushes the element at each index, or another one if an index is no place of the source, and returns the place of the first
 /// such index in the block of the run.
 // Over a long vector one loop fetches indices while it takes elements; two loops over each block would wait for them.
 #[inline(never)]
@@ -60,8 +60,8 @@ fn push_or_other<T: Copy>(
     (run, found)
 }
 
-/// The same for a block of indices, which are looked at first: where each is a place of the source, as most often, the loop that
-/// takes the elements has no branch for each.
+/// The same for a block of indices, which are checked first: if each is a place of the source, as most often, the loop that takes
+/// the elements has no branch for each.
 #[inline(always)]
 fn push_block<T: Copy>(
     run: Run<T>,
@@ -82,16 +82,15 @@ fn push_block<T: Copy>(
 
 /// How the elements at some indices are pushed.
 pub trait PushAt<T: Copy> {
-    /// Pushes the element at each index, or another one where an index is no place of the source, and tells the place of the
-    /// first such index in the block of the run.
+    /// Pushes the element at each index, or another one if an index is no place of the source, and returns the place of the first
+    /// such index in the block of the run.
     fn push_at(run: Run<T>, source: &[T], index: &[i32], other: T) -> (Run<T>, Option<usize>)
         requires room { length index.now ≤ run.room }
         ensures run { result.0 ≡ with_items run (each_or other (map (element_at source.now) index.now)) }
         ensures found { result.1 ≡ first_without (run.first + length run.items) (map (element_at source.now) index.now) };
 }
 
-/// Index by index, which is for few of them: the loop is left at the first index that is no place of the source, and keeps
-/// nothing but the run.
+/// Index by index, for few of them: the loop ends at the first index that is no place of the source, and keeps only the run.
 pub struct OneByOne;
 
 impl<T: Copy> PushAt<T> for OneByOne {
@@ -114,7 +113,7 @@ impl<T: Copy> PushAt<T> for OneByOne {
     }
 }
 
-/// Block by block, which is for many indices: those of a block are looked at before their elements are taken.
+/// Block by block, for many indices: those of a block are checked before their elements are taken.
 pub struct ByBlocks;
 
 impl<T: Copy> PushAt<T> for ByBlocks {
@@ -142,7 +141,7 @@ pub struct ElementsTaken<'a, T> {
     pub source: &'a [T],
     /// The index of each place.
     pub index: &'a [i32],
-    /// Taken where an index is no place of the source.
+    /// Taken if an index is no place of the source.
     pub other: T,
 }
 
@@ -177,8 +176,8 @@ impl<'a, T: Copy> CheckedWriter<T> for ElementsTaken<'a, T> {
     }
 }
 
-/// What a writer takes by so many indices, in one walk, which at most `threads` threads share: `IndexOutOfRange` at the first
-/// place whose index takes nothing. `NoResources` where there is no memory for the result.
+/// What a writer takes at `indices` indices, in one walk, which at most `threads` threads share: `IndexOutOfRange` at the first
+/// place whose index takes nothing. `NoResources` if there is no memory for the result.
 pub fn take_in_runs<T, R, A, W>(
     rt: &R,
     alloc: A,
@@ -204,7 +203,7 @@ where
     }
 }
 
-/// The same where the source has no element, so that no index is a place of it.
+/// The same if the source has no element, so that no index is a place of it.
 #[tactic(auto, using(crate::proofs::TakenOr::nothing_taken))]
 pub fn take_nothing<T: Copy, A: Memory>(alloc: A, indices: usize) -> Result<Vec<T, A>, Refused>
     ensures values { (values : List (Option T)) → length values ≡ indices → All (λ v. v ≡ None) values
