@@ -1,6 +1,6 @@
-//! The first walk of a permute: for each place of a range of the result its sender, the place whose element goes there, or the
+//! The first walk of a permute: it finds each place's sender in a range of the result, the place whose element goes there, or the
 //! first bad index. `destinations` says which places take part and where each is sent, `sends` has the walk, and `stores` the
-//! fast one that it makes first.
+//! fast one that it tries first.
 #![tactic(auto)]
 
 pub mod destinations;

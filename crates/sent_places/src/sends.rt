@@ -1,5 +1,5 @@
-//! The first walk of a permute: for each place of the result its sender. The places of a long segment are stored at their
-//! indices first, and sent in turn only where that shows that an index is bad.
+//! The first walk of a permute: it finds the sender of each place of the result. The places of a long segment are first stored at
+//! their indices, and sent in turn only if that shows a bad index.
 
 ghost use Rattle.std.specs.Prelude.{◌≡◌, ◌+◌, ◌≤◌, unsigned_abs, length, OnOk, option_map, replicate, slice_set};
 ghost use Rattle.cvl_base.specs.Faults.{fault_at};
@@ -11,15 +11,15 @@ use crate::destinations::Destinations;
 use crate::stores::{count_senders, store_each};
 use cvl_base::{Fault, FaultNo, place_among};
 
-/// Stands among the senders where no element goes.
+/// The sender of a place that gets no element.
 pub const NOBODY: u32 = u32::MAX;
 
-/// From how many places on a segment is stored before it is looked at. Fewer are sent in turn sooner than they are stored
-/// and counted.
+/// From this many places on a segment is stored before it is checked. Fewer are sent in turn faster than they are stored and
+/// counted.
 const LONG: usize = 32;
 
-/// Sends the element of a place to its index: `IndexOutOfRange` at the place where the index is no place of the result,
-/// else `IndexRepeated` at it where the index has a sender already.
+/// Sends the element of a place to its index: `IndexOutOfRange` at the place if the index is no place of the result, else
+/// `IndexRepeated` at it if the index has a sender already.
 #[inline]
 fn send_one(senders: &mut [u32], index: &i32, place: u32) -> Result<(), Fault>
     ensures fault { fault_told result
@@ -61,8 +61,8 @@ fn send_each<T: Destinations>(
 }
 
 /// Sends the places of a segment that take part, the first of which stands at place `first`. The senders are those of the
-/// segment's part of the result, nobody to begin with. The fault is that of the first bad place; an index of a place that
-/// does not take part is never bad.
+/// segment's part of the result, at first nobody. The fault is that of the first bad place; an index of a place that does not
+/// take part is never bad.
 // Inlined for a short segment, whose places are then sent in turn without a call.
 #[inline]
 pub fn send_places<T: Destinations>(
@@ -78,7 +78,7 @@ pub fn send_places<T: Destinations>(
         (senders.new ≡ senders_of first (T.destinations destinations.now) (length senders.old)) }
 {
     if destinations.count() >= LONG {
-        // No two were sent to one place where as many places have a sender.
+        // No two were sent to one place if as many places have a sender.
         if let Some(sent) = store_each(senders, first, destinations) {
             if count_senders(senders) as usize == sent {
                 return Ok(());

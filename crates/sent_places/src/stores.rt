@@ -1,6 +1,5 @@
-//! The fast first walk of a permute, which stores each place at its index and looks at nothing that stands there. A store
-//! alone takes less time than a load, a comparison and a store. How many places have a sender then tells whether an index
-//! was repeated.
+//! The fast first walk of a permute, which stores each place at its index and reads nothing there. A store alone is faster than a
+//! load, a comparison and a store. How many places have a sender then shows whether an index was repeated.
 
 ghost use Rattle.std.specs.Prelude.{◌≡◌, ◌+◌, ◌≤◌, length, replicate, IfSome};
 ghost use Rattle.cvl_base.specs.Limits.{most_places};
@@ -10,12 +9,11 @@ use crate::destinations::Destinations;
 use crate::sends::NOBODY;
 use cvl_base::limits::MOST_PLACES;
 
-/// Stores each place of a segment that takes part at its index, and tells how many they are; none where an index is no place
-/// of the result, or lies beyond the longest vector, and then the senders are of no use.
-// Without its sign an index below 0 is beyond the longest vector, so that one comparison is enough. A place that does not
-// take part stores the sender before it once more. So the machine code has no branch on a flag, which a processor guesses
-// wrongly every other time where flags are in no order.
-// Inlined into a large function the loop keeps its pointers on the stack.
+/// Stores each place of a segment that takes part at its index, and returns their number; none if an index is no place of the
+/// result, or lies beyond the longest vector, and then the senders mean nothing.
+// Without its sign an index below 0 is beyond the longest vector, so that one comparison is enough. A place that does not take
+// part stores the sender before it once more. So the machine code has no branch on a flag, which a processor guesses wrongly
+// every other time if flags are in no order. Inlined into a large function the loop keeps its pointers on the stack.
 #[inline(never)]
 pub(crate) fn store_each<T: Destinations>(
     senders: &mut [u32],
