@@ -8,14 +8,14 @@ ghost use Rattle.fresh.specs.Places.{stretch};
 
 use fresh::{Run, Writer};
 
-/// Writes at each place the element of the first vector where the flag is true, else that of the second.
+/// Writes at each place the element of the first vector if the flag is true, else that of the second.
 #[derive(Drop)]
 pub struct Chosen<'a, T> {
     /// Whether the element at a place is that of the first vector.
     pub flags: &'a [bool],
-    /// The elements where the flag is true.
+    /// The elements for a true flag.
     pub first: &'a [T],
-    /// The elements where it is false.
+    /// The elements for a false one.
     pub second: &'a [T],
 }
 
@@ -41,7 +41,7 @@ impl<'a, T: Copy> Writer<T> for Chosen<'a, T> {
     }
 }
 
-/// `a` where the flag is true, else `b`.
+/// `a` if the flag is true, else `b`.
 #[inline]
 fn choose<T: Copy>(flag: bool, a: T, b: T) -> T
     ensures { result ≡ chosen flag (a, b) }

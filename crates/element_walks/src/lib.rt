@@ -1,5 +1,5 @@
 //! Writers of vectors place by place: by an operator on one element or on two, which may have no value on some pairs, by a
-//! choice, and of plain copies.
+//! choice, and by copying.
 #![tactic(auto)]
 
 pub mod choice;

@@ -12,9 +12,9 @@ use std::marker::PhantomData;
 /// Writes an operator's values on the pairs of elements of two vectors.
 #[derive(Drop)]
 pub struct OnPairs<'a, O, X> {
-    /// The elements that the operator takes first.
+    /// The first operand at each place.
     pub first: &'a [X],
-    /// Those that it takes second.
+    /// The second.
     pub second: &'a [X],
     operator: PhantomData<O>,
 }

@@ -1,4 +1,4 @@
-//! An operator that has a value on all pairs, made of one that has none on some.
+//! Makes an operator with a value on all pairs of one without a value on some.
 
 ghost use Rattle.std.specs.Prelude.{pos};
 ghost use Rattle.std.specs.Option.{unwrap_or};
@@ -6,7 +6,7 @@ ghost use Rattle.std.specs.Option.{unwrap_or};
 use cvl_base::{Binary, PartialBinary};
 use std::marker::PhantomData;
 
-/// The operator's value where it has one, and else 0.
+/// The operator's value if it has one, else 0.
 #[derive(Drop)]
 pub struct OrZero<O> {
     operator: PhantomData<O>,
