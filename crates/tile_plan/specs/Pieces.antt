@@ -16,7 +16,7 @@ pub record AreOfTiles {X : Type 0} (count : ℕ) (made : ℕ → List X) (pieces
   pub once : (t : ℕ) → t < count → count_by (λ p. p.0 == t) pieces ≡ 1
   pub as_made : All (λ p. p.1 ≡ made p.0) pieces
 
--- what the tiles are made into, one tile after another
+-- what the tiles are made into, in order
 abbrev pub in_order_of_tiles : {X : Type 0} → ℕ → (ℕ → List X) → List X
 in_order_of_tiles count made = flat_map made (range_with_len 0 count)
 
@@ -25,12 +25,12 @@ pub record IsGathered {X : Type 0} (len tile : ℕ) (pieces : List (ℕ × List 
   pub as_long : length whole ≡ len
   pub in_place : All (λ p. slice_range whole (range_of len tile p.0).0 (range_of len tile p.0).1 ≡ p.1) pieces
 
--- a list that is made of pieces: where they are the pieces of all tiles, it is what the tiles are made into, in order
+-- a list that is made of pieces: if they are the pieces of all tiles, it is what the tiles are made into, in order
 abbrev pub IsWholeOfTiles : {X : Type 0} → List (ℕ × List X) → List X → Type 0
 IsWholeOfTiles {X} pieces whole = (count : ℕ) (made : ℕ → List X) → AreOfTiles count made pieces
     → whole ≡ in_order_of_tiles count made
 
--- the same where each piece is as long as its tile of a plan: it stands at the range of its tile
+-- the same if each piece is as long as its tile of a plan: it stands at the range of its tile
 abbrev pub IsWholeOfRanges : {X : Type 0} → List (ℕ × List X) → List X → Type 0
 IsWholeOfRanges pieces whole = (len tile : ℕ) → 1 ≤ tile → AreAllPieces len tile pieces
     → IsGathered len tile pieces whole

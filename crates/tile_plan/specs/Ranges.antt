@@ -1,4 +1,4 @@
--- How a list is cut into tiles: runs of one length, one after another, the last of which may be shorter.
+-- How a list is cut into tiles: runs of one length in order, the last of which may be shorter.
 -- Source: the tiles of Merrill and Garland, Single-pass Parallel Prefix Scan with Decoupled Look-back, 2016.
 use Rattle.std.specs.Prelude.{◌≡◌, ℕ, ◌+◌, ◌-◌, ◌*◌, ◌<◌, min, List, [], length, slice_index_or}
 use Rattle.std.specs.Int.{div_ceil}
@@ -8,7 +8,7 @@ use Rattle.cvl_base.specs.Lists.{joined}
 abbrev pub tile_count : ℕ → ℕ → ℕ
 tile_count len tile = div_ceil len tile
 
--- where tile t starts, and where it ends, which is not counted in
+-- where tile t starts and ends, without the end
 abbrev pub range_of : ℕ → ℕ → ℕ → ℕ × ℕ
 range_of len tile t = (t * tile, min len ((t + 1) * tile))
 
@@ -25,7 +25,7 @@ pub record IsPartition (len count : ℕ) (range : ℕ → ℕ × ℕ) : Type 0 w
   pub filled : (t : ℕ) → t < count → (range t).0 < (range t).1
   pub none : count ≡ 0 → len ≡ 0
 
--- the tiles that a plan cuts a list into: as many as its ranges, each as long as its range, and one after another the list
+-- the tiles that a plan cuts a list into: as many as its ranges, each as long as its range, and in order the list
 pub record IsCutBy {Element : Type 0} (len tile : ℕ) (xs : List Element) (tiles : List (List Element)) : Type 0 where
   pub whole : joined tiles ≡ xs
   pub as_many : length tiles ≡ tile_count len tile

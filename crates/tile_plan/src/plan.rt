@@ -5,8 +5,8 @@ ghost use Rattle.tile_plan.specs.Ranges.{tile_count, range_of};
 
 use std::marker::Model;
 
-/// A list of elements cut into tiles of one length, the last of which may be shorter. It is seen as the number of the
-/// elements and the length of a tile, and takes no memory.
+/// A list of elements cut into tiles of one length, except that the last may be shorter. Its model is the number of elements and
+/// the length of a tile; it takes no memory.
 #[derive(Clone, Copy, Debug)]
 pub struct Plan {
     len: u32,
@@ -58,8 +58,7 @@ impl Plan {
         self.len.div_ceil(self.tile)
     }
 
-    /// Where tile `t` starts and where it ends, in places of the list, the end not counted in. `t` must be below the
-    /// count.
+    /// Where tile `t` starts and ends, in places of the list, without the end. `t` must be below the count.
     pub fn range(self, t: u32) -> (u32, u32)
         requires { t < tile_count self.0 self.1 }
         ensures value { result ≡ range_of self.0 self.1 t }
@@ -70,7 +69,7 @@ impl Plan {
         (start, start + self.tile.min(self.len - start))
     }
 
-    /// The tile in whose range a place of the list lies.
+    /// The tile whose range has a place of the list.
     pub fn tile_at(self, place: u32) -> u32
         requires { place < self.0 }
         ensures within { result < tile_count self.0 self.1 }

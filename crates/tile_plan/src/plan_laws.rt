@@ -13,8 +13,8 @@ pub fn range_law()
     ensures { (len tile : ℕ) → 1 ≤ tile → IsPartition len (tile_count len tile) (range_of len tile) }
 {}
 
-/// The sum of the tiles up to a tile, that tile counted in, is the fold of the list's front that ends where the tile's
-/// range ends: for each monoid, and each list of items that a plan cuts into tiles.
+/// The sum of the tiles up to and with a tile is the fold of the list's front that ends where the tile's range ends: for each
+/// monoid, and each list of items that a plan cuts into tiles.
 #[tactic(auto, using(crate::proofs::Cut::front_is))]
 pub fn plan_law<M: Monoid>()
     ensures { (len tile : ℕ) (xs : List (Bool × M.Item)) (tiles : List (List (Bool × M.Item))) →
