@@ -18,8 +18,8 @@ pub record IsKept (lengths starts : List ℕ) (total : ℕ) : Type 0 where
   pub total_is : total ≡ sum lengths
   pub in_limit : total ≤ most_places
 
--- the places from `first` up to the one before `past` begin behind the first `from` elements of segment `begin`, and `last` is the
--- last segment that starts before their end
+-- the places from `first` up to the one before `past` begin after the first `from` elements of segment `begin`, and `last` is the last
+-- segment that starts before their end
 pub record Spans (lengths : List ℕ) (first past begin from last : ℕ) : Type 0 where
   pub in_order : begin ≤ last
   pub within : last < length lengths

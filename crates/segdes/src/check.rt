@@ -1,4 +1,4 @@
-//! The check that numbers are the lengths of a descriptor.
+//! Checks that numbers are the lengths of a descriptor.
 
 ghost use Rattle.std.specs.Prelude.{◌≡◌, ◌≤◌, length, map, sum, unsigned_abs, IfOk, MatchResult};
 ghost use Rattle.std.specs.Int.{is_negative};
@@ -14,10 +14,10 @@ fn is_below_zero(number: &i32) -> bool
     *number < 0
 }
 
-/// The total of numbers that are read without their signs. A negative number is then at least 2,147,483,648, so that in a total
-/// below that there is none.
-// The total of fewer than 2^31 numbers below 2^32 fits 64 bits. The loop leaves nothing to a branch, so that vector code takes
-// several numbers at once.
+/// The total of numbers read without their signs. A negative number then is at least 2,147,483,648, so that a total below that
+/// has none.
+// The total of fewer than 2^31 numbers below 2^32 fits 64 bits. The loop has no branch, so that vector code takes several numbers
+// at once.
 fn unsigned_total(numbers: &[i32]) -> u64
     requires few { length numbers.now ≤ most_places }
     ensures { result ≤ most_places → AreLengthsWithin most_places numbers.now × (result ≡ sum (map unsigned_abs numbers.now)) }
@@ -29,7 +29,7 @@ fn unsigned_total(numbers: &[i32]) -> u64
     total
 }
 
-/// `check_lengths` by each number in turn.
+/// `check_lengths`, number by number.
 fn check_each(numbers: &[i32], most: usize) -> Result<u32, Fault>
     requires limit { most ≤ most_places }
     requires few { length numbers.now ≤ most }
@@ -52,8 +52,8 @@ fn check_each(numbers: &[i32], most: usize) -> Result<u32, Fault>
     Ok(total as u32)
 }
 
-/// Checks that the numbers are the lengths of a descriptor: none is negative, else NegativeLength at the first that is, and their
-/// total is at most `most`, else TooLong. The answer is the total.
+/// Checks that the numbers are the lengths of a descriptor: none is negative, else `NegativeLength` at the first that is, and
+/// their total is at most `most`, else `TooLong`. Returns the total.
 pub(crate) fn check_lengths(numbers: &[i32], most: usize) -> Result<u32, Fault>
     requires limit { most ≤ most_places }
     requires few { length numbers.now ≤ most }

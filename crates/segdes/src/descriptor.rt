@@ -18,11 +18,11 @@ use sharing::share_of_first;
 use std::alloc::Allocator;
 use std::marker::Model;
 
-/// The descriptor of a segmented vector, seen as the list of its segments' lengths: at most
-/// 2,147,483,647 segments with at most 2,147,483,647 elements in all.
+/// The descriptor of a segmented vector, with the list of its segments' lengths as model: at most 2,147,483,647 segments with at
+/// most 2,147,483,647 elements.
 ///
-/// It keeps the start of each segment and the total, so that each question is answered in constant time and without
-/// memory. Segments and elements are counted by `usize`, since they index slices.
+/// It keeps the start of each segment and the total, so that it answers each question in constant time and without memory.
+/// Segments and elements are counted by `usize`, since they index slices.
 #[derive(Drop)]
 #[derive_where(Debug; A)]
 pub struct SegDes<A: Allocator> {
@@ -46,10 +46,10 @@ impl<A: Allocator> Model for SegDes<A> {
 }
 
 impl<A: Memory> SegDes<A> {
-    /// The descriptor of segments with these lengths (CVL's make-descriptor): NegativeLength at the first length that
-    /// is negative; TooLong, without a place, where none is and the total is above 4,194,304, as scripts and sessions have it.
+    /// The descriptor of segments with these lengths (CVL's make-descriptor): `NegativeLength` at the first negative length;
+    /// `TooLong`, without a place, if none is and the total is above 4,194,304, the limit of scripts and sessions.
     ///
-    /// The lengths are at most 4,194,304 themselves, as the elements of their vectors are.
+    /// There are at most 4,194,304 lengths, as of elements in their vectors.
     pub fn from_lengths(alloc: A, lengths: &[i32]) -> Result<SegDes<A>, Refused>
         requires { length lengths.now ≤ most_elements }
         ensures values { Gives (λ d. d) result (descriptor_of lengths.now) }
@@ -59,7 +59,7 @@ impl<A: Memory> SegDes<A> {
         SegDes::from_lengths_within(alloc, lengths, MOST_ELEMENTS)
     }
 
-    /// The same for a caller of another language, whose segments have up to 2,147,483,647 elements in all.
+    /// The same for a caller in another language, whose segments have up to 2,147,483,647 elements together.
     pub fn from_long_lengths(alloc: A, lengths: &[i32]) -> Result<SegDes<A>, Refused>
         requires { length lengths.now ≤ most_places }
         ensures { Gives (λ d. d) result (descriptor_within most_places lengths.now) }
@@ -67,7 +67,7 @@ impl<A: Memory> SegDes<A> {
         SegDes::from_lengths_within(alloc, lengths, MOST_PLACES)
     }
 
-    /// The descriptor of segments with these lengths, which have at most `most` elements in all.
+    /// The descriptor of segments with these lengths, which have at most `most` elements together.
     fn from_lengths_within(alloc: A, lengths: &[i32], most: usize) -> Result<SegDes<A>, Refused>
         requires limit { most ≤ most_places }
         requires few { length lengths.now ≤ most }
@@ -88,7 +88,7 @@ impl<A: Memory> SegDes<A> {
         SegDes::new(alloc, lengths)
     }
 
-    /// The descriptor of segments with lengths that lie elsewhere, which are copied.
+    /// The descriptor of segments with lengths stored elsewhere, which are copied.
     #[tactic(auto, using(cvl_base::proofs::Descriptors::abs_pos))]
     pub fn of_lengths(alloc: A, d: &SegLengths) -> Result<SegDes<A>, NoResources>
         ensures { IfOk result (λ kept. kept ≡ d.now) }
@@ -146,7 +146,7 @@ impl<A: Allocator> SegDes<A> {
         self.starts[s] as usize
     }
 
-    /// Where segment `s` starts, and the total where there is no such segment: the sum of the lengths before it.
+    /// Where segment `s` starts, the sum of the lengths before it; the total if there is no such segment.
     #[tactic(auto, using(std::proofs::lemmas::List::take_all))]
     pub fn start_or_total(&self, s: usize) -> usize
         ensures { result ≡ start_of self.now s }
@@ -169,8 +169,8 @@ impl<A: Allocator> SegDes<A> {
             .partition_point(|start| (*start as usize) < place)
     }
 
-    /// Before which segment the share of the first few of so many threads ends, of the segments from `begin` up to before `end`:
-    /// each thread has about as many places, and no segment is cut.
+    /// Before which of the segments from `begin` up to before `end` the share of the first `few` of `threads` threads ends: each
+    /// thread has about as many places, and no segment is cut.
     pub fn share_end(&self, begin: usize, end: usize, few: usize, threads: usize) -> usize
         requires some { 1 ≤ threads }
         requires no_more { few ≤ threads }
@@ -186,7 +186,7 @@ impl<A: Allocator> SegDes<A> {
         self.starts_before(place).max(begin).min(end)
     }
 
-    /// How many elements the segments have in all.
+    /// The number of elements of all segments.
     pub fn total(&self) -> usize
         ensures value { result ≡ sum self.now }
         ensures in_limit { result ≤ most_places }
@@ -211,7 +211,7 @@ impl<A: Allocator> SegDes<A> {
         self.lengths.as_slice()
     }
 
-    /// A copy of the lengths of the segments as a descriptor value, where they are in its limit.
+    /// A copy of the lengths of the segments as a descriptor value, if they are within its limit.
     #[tactic(auto, using(cvl_base::proofs::Descriptors::abs_pos))]
     pub fn to_lengths(&self, alloc: A) -> Result<Lengths<A>, NoResources>
         requires few { length self.now ≤ most_elements }
@@ -223,7 +223,7 @@ impl<A: Allocator> SegDes<A> {
     }
 }
 
-/// Checks that the segments have as many elements in all as the vector, else `LengthMismatch`, without a place.
+/// Checks that the vector has as many elements as the segments together, else `LengthMismatch`, without a place.
 pub fn check_total<T, A: Allocator>(a: &[T], d: &SegDes<A>) -> Result<(), Fault>
     ensures agrees { MatchResult result (λ _. sum d.now ≡ length a.now)
         (λ f. nest d.now a.now ≡ Err f) }

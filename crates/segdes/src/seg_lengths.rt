@@ -1,4 +1,4 @@
-//! Descriptors that are no more than lengths, which lie elsewhere.
+//! Descriptors that are only lengths, stored elsewhere.
 
 ghost use Rattle.std.specs.Prelude.{◌≡◌, ◌<◌, ◌≤◌, IfOk, MatchResult, Err, length, map, pos, slice_index, sum, unsigned_abs, Ok};
 ghost use Rattle.cvl_base.specs.Descriptors.{AreLengthsWithin, descriptor_within};
@@ -10,9 +10,9 @@ use cvl_base::limits::MOST_PLACES;
 use cvl_base::{Fault, check_agree};
 use std::marker::Model;
 
-/// The lengths of segments, where they lie: a descriptor that needs no memory, seen as the list of the lengths.
+/// The lengths of segments, in place: a descriptor that takes no memory. Its model is the list of the lengths.
 ///
-/// It serves a walk over whole segments in turn. It does not tell where a segment starts, as [`SegDes`](crate::SegDes) does.
+/// Use it to walk over whole segments in turn. Only [`SegDes`](crate::SegDes) knows where a segment starts.
 #[derive(Drop)]
 pub struct SegLengths<'a> {
     lengths: &'a [i32],
@@ -32,10 +32,10 @@ impl<'a> Model for SegLengths<'a> {
 }
 
 impl<'a> SegLengths<'a> {
-    /// The descriptor of segments with these lengths, which are checked in one pass: NegativeLength at the first length that
-    /// is negative; TooLong, without a place, where none is and the total is above 2,147,483,647.
+    /// The descriptor of segments with these lengths, which are checked in one pass: `NegativeLength` at the first negative one;
+    /// `TooLong`, without a place, if none is and the total is above 2,147,483,647.
     ///
-    /// The lengths are at most 2,147,483,647 themselves.
+    /// There are at most 2,147,483,647 lengths.
     pub fn of(lengths: &'a [i32]) -> Result<SegLengths<'a>, Fault>
         requires { length lengths.now ≤ most_places }
         ensures { MatchResult result (λ d. descriptor_within most_places lengths.now ≡ Ok d)
@@ -71,7 +71,7 @@ impl<'a> SegLengths<'a> {
         self.lengths()[s] as usize
     }
 
-    /// How many elements the segments have in all.
+    /// The number of elements of all segments.
     pub fn total(&self) -> usize
         ensures value { result ≡ sum self.now }
         ensures in_limit { result ≤ most_places }
@@ -89,7 +89,7 @@ impl<'a> SegLengths<'a> {
         self.lengths
     }
 
-    /// Checks that the segments have as many elements in all as the vector, else `LengthMismatch`, without a place.
+    /// Checks that the vector has as many elements as the segments together, else `LengthMismatch`, without a place.
     pub fn check_total<T>(&self, a: &[T]) -> Result<(), Fault>
         ensures agrees { MatchResult result (λ _. sum self.now ≡ length a.now)
             (λ f. nest self.now a.now ≡ Err f) }

@@ -25,7 +25,7 @@ pub trait Segments {
     fn descriptor(&self) -> &SegDes<Self::A>
         ensures { result.now ≡ map length (lists self.now) };
 
-    /// Pushes so many items of segment `s`, from the one at `from` on.
+    /// Pushes `count` items of segment `s`, from the one at `from` on.
     fn push_part(
         &self,
         run: Run<Self::Item>,
@@ -40,7 +40,7 @@ pub trait Segments {
             (run.room - count) };
 }
 
-/// Writes the lists of segments one after another.
+/// Writes the lists of segments in order.
 #[derive(Drop)]
 pub struct EndToEnd<S: Segments + Copy> {
     /// The segments.
@@ -50,8 +50,8 @@ pub struct EndToEnd<S: Segments + Copy> {
 impl<S: Segments + Copy> Writer<S::Item> for EndToEnd<S> {
     ghost whole = { λ e. joined (S.lists e.segments) };
 
-    /// Goes from the segment in which the run begins, of which the items that stand before the run are left out, to the last
-    /// one that starts before its end, of which as many are written as there is room for.
+    /// Goes from the segment in which the run begins, without the items that stand before the run, to the last one that starts
+    /// before its end, of which it writes as many items as there is room for.
     fn write(&self, mut run: Run<S::Item>) -> Run<S::Item>
         requires empty { run.items ≡ [] }
         requires within { run.first + run.room ≤ length (joined (S.lists self.now.segments)) }
@@ -68,7 +68,7 @@ impl<S: Segments + Copy> Writer<S::Item> for EndToEnd<S> {
             let count = run.room();
             return segments.push_part(run, last, from, count);
         }
-        // by itself, so that nothing is left out in the loop over the others
+        // by itself, so that the loop over the others leaves nothing out
         let count = d.length(begin) - from;
         run = segments.push_part(run, begin, from, count);
         for s in begin + 1..last {
@@ -80,7 +80,7 @@ impl<S: Segments + Copy> Writer<S::Item> for EndToEnd<S> {
 }
 
 /// The segment in which the places from `first` to the one before `past` begin, how many items of it stand before them, and the
-/// last segment that starts before their end; none where there is no place.
+/// last segment that starts before their end; none if there is no place.
 fn span<A: Allocator>(d: &SegDes<A>, first: usize, past: usize) -> Option<(usize, usize, usize)>
     requires in_order { first ≤ past }
     requires within { past ≤ sum d.now }
