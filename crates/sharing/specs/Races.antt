@@ -1,16 +1,16 @@
--- The tile and the workers of a race, or none where one thread walks all elements at once. No result depends on it.
--- What is asked for is a tile and a number of workers, too.
+-- The tile and the workers of a race, or none if one thread walks all elements at once. No result depends on it.
+-- What you ask for is a tile and a number of workers, too.
 -- Source: this library's profile.
 use Rattle.std.specs.Prelude.{ℕ, ◌*◌, ◌/◌, ◌==◌, ◌||◌, Bool, false, max, min, nat_le, nat_lt, if◌then◌else◌, Option, Some, None}
 use Rattle.cvl_base.specs.Limits.{longest_tile, most_elements}
 use Rattle.sharing.specs.Thresholds.{least_raced, least_reduced, least_scanned, least_searched, long_tile, tiles_each}
 
--- a race of so many workers, of whom there must be two, in tiles that are long, but leave some to each worker
+-- a race of so many workers, at least two, in tiles that are long, but leave some to each worker
 abbrev pub race_in_long_tiles : ℕ → ℕ → ℕ → Option (ℕ × ℕ)
 race_in_long_tiles tile workers elements =
     if nat_lt workers 2 then None else Some (max (min (elements / (workers * tiles_each)) longest_tile) tile, workers)
 
--- what is asked for where its tile is short; else, where a race pays, a race of workers who have enough elements each
+-- what you ask for if its tile is short; else, if a race pays, a race of workers who have enough elements each
 abbrev pub race_of : Bool → ℕ × ℕ → ℕ → Option (ℕ × ℕ)
 race_of pays asked elements =
     if (elements == 0) || nat_lt most_elements elements then None else
@@ -27,7 +27,7 @@ reduce_race asked elements bytes = race_of (nat_le least_reduced bytes) asked el
 abbrev pub search_race : ℕ × ℕ → ℕ → Option (ℕ × ℕ)
 search_race asked elements = race_of (nat_le least_searched elements) asked elements
 
--- a permute of so many indices into so many places, which is raced for in short tiles alone
+-- a permute of so many indices into so many places, which is raced for only in short tiles
 abbrev pub permute_race : ℕ × ℕ → ℕ → ℕ → Option (ℕ × ℕ)
 permute_race asked indices places =
     if nat_lt most_elements places || nat_le long_tile asked.0 then None else race_of false asked indices

@@ -9,7 +9,7 @@ least_shared = 262144
 abbrev pub least_each : ℕ
 least_each = 131072
 
--- elements in a tile, from which on it hangs on the length whether workers race
+-- the tile length from which on a vector's length decides whether workers race
 abbrev pub long_tile : ℕ
 long_tile = 1024
 
@@ -23,7 +23,7 @@ least_reduced = 1048576
 abbrev pub least_searched : ℕ
 least_searched = 262144
 
--- elements for each worker of a race, and tiles for each where tiles are made longer
+-- elements for each worker of a race, and tiles for each if tiles are made longer
 abbrev pub least_raced : ℕ
 least_raced = 131072
 

@@ -5,8 +5,8 @@ ghost use Rattle.sharing.specs.Shares.{first_of_two};
 
 use crate::LONGEST_CHAIN;
 
-/// How many of so many threads a fork gives to the thread that it starts, where the one that forks goes on with the others: one,
-/// so that it starts all others itself, and half of them where there are more than eight.
+/// How many of `threads` threads a fork gives to the thread that it starts; the forking thread continues with the others. One, so
+/// that it starts all others itself; half of them if there are more than eight.
 pub fn first_of_two(threads: usize) -> usize
     requires { 2 ≤ threads }
     ensures exact { result ≡ first_of_two threads }

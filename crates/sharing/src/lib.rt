@@ -1,10 +1,10 @@
 //! Rules of thumb: how many threads share a call, by how many elements it writes, how a fork cuts them in two, how much of the
 //! call the first few of them have, and whether workers race for its tiles. No result depends on them.
 //!
-//! What forks takes a [`ThreadCount`], or a [`Pace`] of a race. Both are made here alone, of a configuration, and neither has
-//! more threads than the configuration has workers.
+//! A fork takes a [`ThreadCount`], or a [`Pace`] of a race. Only this crate makes them, from a configuration; neither has more
+//! threads than the configuration has workers.
 //!
-//! All thresholds of the library stand here, and as definitions in `specs/Thresholds.antt`, to which the contracts tie them. They
+//! All thresholds of the library are here, and as definitions in `specs/Thresholds.antt`, to which the contracts tie them. They
 //! were measured on a machine with four processors.
 #![tactic(auto)]
 
@@ -23,54 +23,53 @@ pub use threads::{
     threads_writing_text,
 };
 
-/// From how many elements on a second thread pays where they are written. One thread is done with fewer before another has
-/// started.
+/// The least number of elements to write for which a second thread pays. One thread writes fewer before another has started.
 pub const LEAST_SHARED: usize = 262_144;
 
 /// How many elements each thread writes at least.
 pub const LEAST_EACH: usize = 131_072;
 
-/// From how many elements in a tile on it hangs on a vector's length whether workers race for its tiles. Who asks for shorter
-/// tiles asks for the race itself, and gets the tiles and the workers that are asked for.
+/// From this tile length on, in elements, a vector's length decides whether workers race for its tiles. If you ask for shorter
+/// tiles, you ask for the race itself, and get the tiles and the workers that you ask for.
 pub const LONG_TILE: u32 = 1_024;
 
-/// From how many elements on workers race for a scan, which is written by several threads after the race.
+/// From this many elements on workers race for a scan, which several threads write after the race.
 pub const LEAST_SCANNED: usize = 262_144;
 
-/// From how many bytes of elements on workers race for a reduce, which takes as long as reading them.
+/// From this many bytes of elements on workers race for a reduce, which takes as long as reading them.
 pub const LEAST_REDUCED: usize = 1_048_576;
 
-/// From how many elements on workers race for the least place of a fault, which takes as long as looking at each element.
+/// From this many elements on workers race for the first place of a fault, which takes as long as testing each element.
 pub const LEAST_SEARCHED: usize = 262_144;
 
 /// How many elements each worker of a race has at least.
 pub const LEAST_RACED: u32 = 131_072;
 
-/// How many tiles there are for each worker at least where tiles are made longer than is asked for. A worker that starts
-/// late, or is held up, then leaves some of its tiles to the others.
+/// The least number of tiles for each worker if tiles are made longer than you asked for. A worker that starts late, or is held
+/// up, then leaves some of its tiles to the others.
 pub const TILES_EACH: u32 = 16;
 
-/// From how many bytes on several threads pay where an input is read. They walk the bytes twice: they count the tokens before
-/// they read them, which takes far less time.
+/// From this many bytes on several threads pay to read an input. They walk the bytes twice: they count the tokens before they
+/// read them, which is far faster.
 pub const LEAST_READ: usize = 131_072;
 
 /// How many bytes of an input each thread reads at least.
 pub const LEAST_READ_EACH: usize = 32_768;
 
-/// From how many bytes on several threads pay where fresh memory for a file is written before the file is read to it. The system
-/// makes its pages then, which takes twice as long as to read the file's bytes.
+/// From this many bytes on several threads pay to write fresh memory for a file before the file is read into it. The system makes
+/// its pages then, which takes twice as long as reading the file's bytes.
 pub const LEAST_CLEARED: usize = 1_048_576;
 
 /// How many bytes of such memory each thread writes at least.
 pub const LEAST_CLEARED_EACH: usize = 262_144;
 
-/// From how many elements on a second thread pays where their texts are written. Several threads walk the elements twice: they
-/// count the bytes of their texts before they write them.
+/// From this many elements on a second thread pays to write their texts. Several threads walk the elements twice: they count the
+/// bytes of their texts before they write them.
 pub const LEAST_WRITTEN: usize = 32_768;
 
 /// How many elements' texts each thread writes at least.
 pub const LEAST_WRITTEN_EACH: usize = 16_384;
 
-/// Up to how many threads one of them starts all others, one after another. A thread that starts others has to wake before it
-/// does, and each such wait comes behind the one before; but where there are many, one thread takes longer to start them all.
+/// Up to this many threads, one of them starts all others in turn. A thread that starts others must wake up first, and each such
+/// wait follows the one before; but one thread takes longer to start very many.
 pub const LONGEST_CHAIN: usize = 8;

@@ -1,4 +1,4 @@
-//! Whether workers race for the tiles of a vector, how many of them, and for tiles of which length.
+//! Whether workers race for the tiles of a vector, how many, and for tiles of which length.
 
 ghost use Rattle.std.specs.Prelude.{◌≡◌, ◌≤◌, IfSome};
 ghost use Rattle.cvl_base.specs.Limits.{longest_tile, most_elements, most_workers};
@@ -12,7 +12,7 @@ use cvl_base::Config;
 use cvl_base::limits::{LONGEST_TILE, MOST_ELEMENTS};
 use std::marker::Model;
 
-/// A length of tiles, in elements, and how many workers race for them. Only this crate makes one, by a configuration.
+/// A length of tiles, in elements, and how many workers race for them. Only this crate makes one, from a configuration.
 #[derive(Clone, Copy, Debug, PartialEq, Eq)]
 pub struct Pace {
     tile: u32,
@@ -60,7 +60,7 @@ impl Pace {
         }
     }
 
-    /// How many of the workers share the writing of so many elements after the race: one where a second doesn't pay.
+    /// How many of the workers share the writing of this many elements after the race: one if a second doesn't pay.
     pub fn threads_writing(self, elements: usize) -> ThreadCount
         ensures exact { result ≡ writing_threads self.1 elements }
         ensures least { 1 ≤ result }
@@ -70,10 +70,10 @@ impl Pace {
     }
 }
 
-/// The tiles and the workers of the race for so many elements, or none where one thread walks them at once: what is asked for
-/// where its tiles are short; for long tiles a share of the elements for each worker where the race pays, in tiles that are
-/// made longer. None where there is no board for the race: a vector of no elements has no tile, and one of more than 4,194,304
-/// may have more tiles than a board. It hangs on the configuration and on the length alone.
+/// The tiles and the workers of the race for this many elements, or none if one thread walks them at once: those you ask for if
+/// the tiles are short; for long tiles, if the race pays, a share of the elements for each worker, in tiles that are made longer.
+/// None if there is no board for the race: a vector without elements has no tile, and one of more than 4,194,304 may have more
+/// tiles than a board. Only the configuration and the length decide.
 pub fn race_pace(pays: bool, config: Config, elements: usize) -> Option<Pace>
     ensures exact { result ≡ race_of pays config elements }
     ensures some { IfSome result (λ _. 1 ≤ elements) }

@@ -3,8 +3,8 @@
 ghost use Rattle.std.specs.Prelude.{◌≡◌, ◌≤◌};
 ghost use Rattle.sharing.specs.Shares.{share_of_first};
 
-/// How many of so many items the first `few` of so many threads have. Each thread has as many, and the last ones also have
-/// what is left over.
+/// How many of `items` items the first `few` of `threads` threads have. Each thread has the same number, and the last ones also
+/// have the rest.
 pub fn share_of_first(few: usize, threads: usize, items: usize) -> usize
     requires some { 1 ≤ threads }
     requires no_more { few ≤ threads }

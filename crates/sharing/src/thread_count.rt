@@ -1,4 +1,4 @@
-//! A number of threads that no caller can make up.
+//! A number of threads that no caller can invent.
 
 ghost use Rattle.std.specs.Prelude.{◌≡◌, ◌+◌, ◌≤◌, max, min};
 ghost use Rattle.cvl_base.specs.Limits.{most_workers};
@@ -7,8 +7,7 @@ ghost use Rattle.sharing.specs.Shares.{first_of_two};
 use crate::forks::first_of_two;
 use std::marker::Model;
 
-/// How many threads share something, 1 to 64. Only this crate makes one, by a configuration, and from a count only smaller ones
-/// can be made.
+/// How many threads share something, 1 to 64. Only this crate makes one, from a configuration, and a count can only get smaller.
 #[derive(Clone, Copy, Debug, PartialEq, Eq)]
 pub struct ThreadCount {
     threads: u32,
@@ -28,7 +27,7 @@ impl Model for ThreadCount {
 }
 
 impl ThreadCount {
-    /// So many threads.
+    /// This many threads.
     pub(crate) fn new(threads: u32) -> ThreadCount
         requires some { 1 ≤ threads }
         requires most { threads ≤ most_workers }
@@ -37,7 +36,7 @@ impl ThreadCount {
         ThreadCount { threads }
     }
 
-    /// One thread, by which nothing is shared.
+    /// One thread, which shares nothing.
     pub fn one() -> ThreadCount
         ensures { result ≡ 1 }
     {
@@ -53,7 +52,7 @@ impl ThreadCount {
         self.threads as usize
     }
 
-    /// No more threads than there are things to share, and one where there is none.
+    /// No more threads than there are things to share, and one if there is none.
     pub fn at_most(self, things: usize) -> ThreadCount
         ensures exact { result ≡ max (min self things) 1 }
         ensures no_more { result ≤ self }
@@ -63,8 +62,7 @@ impl ThreadCount {
         }
     }
 
-    /// The threads in two: those that a fork gives to the thread that it starts, and no fewer, with which the one that forks goes
-    /// on.
+    /// The threads in two: those that a fork gives to the thread that it starts, and those that the forking one keeps, no fewer.
     pub fn split(self) -> (ThreadCount, ThreadCount)
         requires { 2 ≤ self }
         ensures fewer { result.0 ≡ first_of_two self }

@@ -13,8 +13,8 @@ use crate::{
 use cvl_base::Config;
 use cvl_base::limits::MOST_ELEMENTS;
 
-/// How many threads share so many elements or bytes, where each has at least `each` of them: at most `most`, and one where they
-/// are fewer than `least`.
+/// How many threads share so many elements or bytes, if each has at least `each` of them: at most `most`, and one if they are
+/// fewer than `least`.
 fn share_of(most: u32, items: usize, least: usize, each: usize) -> u32
     requires most { 1 ≤ most }
     requires each { 1 ≤ each }
@@ -28,7 +28,7 @@ fn share_of(most: u32, items: usize, least: usize, each: usize) -> u32
     (items / each).min(most as usize).max(1) as u32
 }
 
-/// The same of the configuration's workers.
+/// The same for the configuration's workers.
 fn threads_sharing(config: Config, items: usize, least: usize, each: usize) -> ThreadCount
     requires { 1 ≤ each }
     ensures exact { result ≡ share_among config.1 items least each }
@@ -38,14 +38,14 @@ fn threads_sharing(config: Config, items: usize, least: usize, each: usize) -> T
     ThreadCount::new(share_of(config.workers(), items, least, each))
 }
 
-/// As many threads as the configuration has workers, whatever they share: for who has a reason to start them all.
+/// As many threads as the configuration has workers, whatever they share: use it if you need them all.
 pub fn all_workers(config: Config) -> ThreadCount
     ensures { result ≡ config.1 }
 {
     ThreadCount::new(config.workers())
 }
 
-/// How many threads share the writing of so many elements: at most as many as the configuration has workers, and one where a
+/// How many threads share the writing of this many elements: at most as many as the configuration has workers, and one if a
 /// second doesn't pay.
 pub fn threads_writing(config: Config, elements: usize) -> ThreadCount
     ensures exact { result ≡ writing_threads config.1 elements }
@@ -55,8 +55,8 @@ pub fn threads_writing(config: Config, elements: usize) -> ThreadCount
     threads_sharing(config, elements, LEAST_SHARED, LEAST_EACH)
 }
 
-/// The same of at most so many threads, of which there is at least one, where another library starts them: a plain number, by
-/// which nothing of this library forks.
+/// The same for at most `most` threads, at least one, that another library starts: a plain number, with which nothing of this
+/// library forks.
 pub fn threads_among(most: u32, elements: usize) -> u32
     requires { 1 ≤ most }
     ensures exact { result ≡ writing_threads most elements }
@@ -66,8 +66,8 @@ pub fn threads_among(most: u32, elements: usize) -> u32
     share_of(most, elements, LEAST_SHARED, LEAST_EACH)
 }
 
-/// How many threads share the reading of an input of so many bytes: at most as many as the configuration has workers, and one
-/// where a second doesn't pay.
+/// How many threads share the reading of an input of this many bytes: at most as many as the configuration has workers, and one
+/// if a second doesn't pay.
 pub fn threads_reading(config: Config, bytes: usize) -> ThreadCount
     ensures exact { result ≡ reading_threads config.1 bytes }
     ensures least { 1 ≤ result }
@@ -76,8 +76,8 @@ pub fn threads_reading(config: Config, bytes: usize) -> ThreadCount
     threads_sharing(config, bytes, LEAST_READ, LEAST_READ_EACH)
 }
 
-/// How many threads share the clearing of fresh memory for a file of so many bytes: at most as many as the configuration has
-/// workers, and one where a second doesn't pay.
+/// How many threads share the clearing of fresh memory for a file of this many bytes: at most as many as the configuration has
+/// workers, and one if a second doesn't pay.
 pub fn threads_clearing(config: Config, bytes: usize) -> ThreadCount
     ensures exact { result ≡ clearing_threads config.1 bytes }
     ensures least { 1 ≤ result }
@@ -86,8 +86,8 @@ pub fn threads_clearing(config: Config, bytes: usize) -> ThreadCount
     threads_sharing(config, bytes, LEAST_CLEARED, LEAST_CLEARED_EACH)
 }
 
-/// How many threads share the writing of so many elements' texts: at most as many as the configuration has workers, and one
-/// where a second doesn't pay, or where there are more than 4,194,304.
+/// How many threads share the writing of this many elements' texts: at most as many as the configuration has workers, and one if
+/// a second doesn't pay, or if there are more than 4,194,304.
 pub fn threads_writing_text(config: Config, elements: usize) -> ThreadCount
     ensures exact { result ≡ text_threads config.1 elements }
     ensures least { 1 ≤ result }
