@@ -1,5 +1,4 @@
--- The table of calls: the name of each, the kinds of the arguments that it takes, in their order, and of the values that
--- it gives.
+-- The table of calls: the name of each, the kinds of its arguments, in order, and of the values that it gives.
 -- Source: the calls of CVL, the C Vector Library (Blelloch and others, 1993); names, orders and exceptions are this library's profile.
 use Rattle.std.specs.Prelude.{ℕ, Bool, true, false, if◌then◌else◌, ◌&&◌, ◌||◌, ◌==◌}
 use Rattle.std.specs.Prelude.{List, [], ◌∷◌, ◌++◌, length, slice_get, codes, Option, Some, None}
@@ -33,7 +32,7 @@ abbrev pub each_of : Cut → Element → Kind
 each_of Flat element = single_of element
 each_of Segmented element = vector_of element
 
--- how long a vector is to be: a count, or the lengths of its segments
+-- how long a vector will be: a count, or the lengths of its segments
 abbrev pub extent_of : Cut → Kind
 extent_of Flat = Integer
 extent_of Segmented = Descriptor
@@ -64,7 +63,7 @@ extracted_by cut element = vector_of element ∷ each_of cut of.Integer ∷ cut_
 abbrev replaced_by : Cut → Element → List Kind
 replaced_by cut element = vector_of element ∷ each_of cut of.Integer ∷ each_of cut element ∷ cut_by cut
 
--- those of an index: an init and a stride, and how long the vector is to be
+-- those of an index: an init and a stride, and how long the vector will be
 abbrev indexed_by : Cut → List Kind
 indexed_by cut = each_of cut of.Integer ∷ each_of cut of.Integer ∷ extent_of cut ∷ []
 

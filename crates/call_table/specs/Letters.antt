@@ -19,7 +19,7 @@ use Rattle.call_table.specs.declared.families.Cut.TheVariants.{Flat, Segmented}
 use Rattle.call_table.specs.declared.families.Element.{Element}
 use Rattle.call_table.specs.declared.families.Element.TheVariants.{Integer, Boolean}
 
--- how an operator is named: by three letters in scripts, and by a number, which it has for ever
+-- how an operator is named: by three letters in scripts, and by a number, which never changes
 pub record OperatorLabel : Type 0 where
   pub letters : List ℕ
   pub number : ℕ

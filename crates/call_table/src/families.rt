@@ -1,4 +1,4 @@
-//! In what the calls of one family differ: the operator, the form, the cut and the elements, with their letters in names.
+//! How the calls of one family differ: the operator, the form, the cut and the elements, with their letters in names.
 
 ghost use Rattle.std.specs.Prelude.{◌≡◌};
 ghost use Rattle.call_table.specs.Letters.{bool_binary_label, comparison_label, int_binary_label, int_monoid_label, unary_label};
@@ -81,9 +81,8 @@ pub enum Unary {
     Copy,
 }
 
-/// The operators of each enum, each once, with its letters and its number where these are its own. They are handed to a macro, in
-/// brackets behind the enum's name and before what else the macro takes. Those of `IntBinary` are its own alone, without the
-/// monoids.
+/// The operators of each enum, each once, with its letters and its number if these are its own. A macro gets them in brackets
+/// after the enum's name and before its other arguments. Those of `IntBinary` are only its own, without the monoids.
 macro_rules! operators_of {
     (IntMonoid $then:ident $($more:tt)*) => {
         $then!(
@@ -114,7 +113,7 @@ macro_rules! operators_of {
 
 pub(crate) use operators_of;
 
-/// The label of an operator, told apart; arms for others come first.
+/// The label of an operator, by a match; arms for others come first.
 macro_rules! label {
     ([$of:ident $(($name:ident $letters:literal $number:literal))*] $operator:ident $($arm:tt)*) => {
         match $operator {
@@ -223,7 +222,7 @@ pub enum Form {
     Simple,
     /// Each place of the result takes the source element that its index names.
     Back,
-    /// The same as `Simple`, for the places alone whose flag is true.
+    /// The same as `Simple`, for only the places whose flag is true.
     Select,
     /// The same as `Simple`, into a copy of a vector of defaults.
     Default,

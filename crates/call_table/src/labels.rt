@@ -1,4 +1,4 @@
-//! By what callers name an operator: letters in scripts, and a number in C.
+//! How callers name an operator: letters in scripts, and a number in C.
 
 ghost use Rattle.std.specs.Prelude.{◌≡◌, List, Some, find, nat_eq};
 ghost use Rattle.std.specs.List.{IsDistinct};
@@ -17,7 +17,7 @@ ghost use Rattle.call_table.specs.Operators.{unary_of};
 pub struct Label {
     /// The three letters with which its calls begin.
     pub letters: &'static str,
-    /// Its number, which it has for ever.
+    /// Its number, which never changes.
     pub number: u32,
 }
 
@@ -47,7 +47,7 @@ pub trait Family: Copy + 'static {
         ensures { result.now ≡ all };
 }
 
-/// The operator of the family that has the number, or none where none has it.
+/// The operator of the family that has the number, or none if none has it.
 pub fn numbered<F: Family>(number: u32) -> Option<F>
     ensures { result ≡ find (has_number F.label number) F.all }
 {
@@ -57,9 +57,9 @@ pub fn numbered<F: Family>(number: u32) -> Option<F>
         .find(|operator| operator.label().number == number)
 }
 
-/// What the numbers of operators have to do with one another, for whoever builds on the table: each names its operator in its
-/// family; and where an operator on two integers, a comparison or an operator on one vector has a number, no other has it. An
-/// operator on booleans has that of one on integers, by its definition.
+/// How the numbers of operators relate, for code that builds on the table: each names its operator in its family; and if an
+/// operator on two integers, a comparison or an operator on one vector has a number, no other has it. An operator on booleans has
+/// that of one on integers, by its definition.
 #[tactic(auto, using(crate::proofs::Labelled::int_binary_read, crate::proofs::Labelled::int_monoid_read, crate::proofs::Labelled::comparison_read, crate::proofs::Labelled::bool_binary_read, crate::proofs::Labelled::unary_read, crate::proofs::Labelled::numbers_differ))]
 pub fn know_labels()
     ensures int_binaries { (operator : IntBinary) → int_binary_of (int_binary_label operator).number ≡ Some operator }

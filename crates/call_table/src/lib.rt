@@ -1,5 +1,5 @@
-//! The table of calls: the families of calls and their operators, the name of each call, the kinds of the arguments
-//! that it takes, in their order, and the kinds of what it gives.
+//! The table of calls: the families of calls and their operators, the name of each call, the kinds of its arguments, in order,
+//! and the kinds of what it gives.
 #![tactic(auto)]
 
 pub mod families;

@@ -35,7 +35,7 @@ fn is_joined(word: &[u8], front: &str, back: &str) -> bool
     }
 }
 
-/// Calls in an array: of each family one for each operator of an enum, and then others.
+/// Calls in an array: one of each family for each operator of an enum, and then others.
 macro_rules! calls {
     ([$($done:tt)*] $family:ident $parts:tt by $of:ident, $($rest:tt)*) => {
         operators_of!($of calls [$($done)*] $family $parts $($rest)*)
@@ -46,7 +46,7 @@ macro_rules! calls {
     ([$($done:tt)*] $($other:expr),*) => { [$($done)* $($other),*] };
 }
 
-/// A call of a family: the operator, as it is or as one of another enum, and what else the family's calls differ in.
+/// A call of a family: the operator, as it is or as one of another enum, and how else the family's calls differ.
 macro_rules! call {
     ($family:ident $of:ident $operator:ident ($($part:expr),*)) => { Op::$family($of::$operator $(, $part)*) };
     ($family:ident $of:ident $operator:ident [$as:path]) => { Op::$family($as($of::$operator)) };
@@ -102,7 +102,7 @@ fn other_call_named(word: &[u8]) -> Option<Op>
     first_spelled(&calls, word)
 }
 
-/// The call with this name, or none where no call has it; `write` is no call.
+/// The call with this name, or none if no call has it; `write` is no call.
 pub fn op_of(word: &[u8]) -> Option<Op>
     ensures { result ≡ op_of word.now }
 {
@@ -112,7 +112,7 @@ pub fn op_of(word: &[u8]) -> Option<Op>
         .or(other_call_named(word))
 }
 
-/// What reading a name and spelling a call have to do with each other, for whoever builds on the table.
+/// How reading a name and spelling a call relate, for code that builds on the table.
 #[tactic(auto, using(crate::proofs::Spelled::read_back, crate::proofs::SpelledLaws::read_spelled, crate::proofs::SpelledLaws::read_no_write, crate::proofs::SpelledLaws::unread))]
 pub fn know_names()
     ensures every_call_reads_back { (op : Op) → is_write op ≡ false → op_of (spelling_of op) ≡ Some op }

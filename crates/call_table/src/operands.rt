@@ -1,5 +1,4 @@
-//! The kinds of what calls take and give, where a family's calls differ in them: by how they take their vectors, or what
-//! these hold.
+//! The kinds of what calls take and give, if a family's calls differ in them: by how they take their vectors, or what these hold.
 
 ghost use Rattle.std.specs.Prelude.{◌≡◌, ◌∷◌, []};
 ghost use Rattle.call_table.specs.Calls.{operands_of, cut_by, each_of, vector_of};
@@ -59,8 +58,8 @@ pub(crate) fn of_vector(cut: Cut, element: Element) -> &'static [Kind]
     kinds!(cut, element; vector; vector Descriptor)
 }
 
-/// A source and an index vector; beside them flags in a select permute, and defaults in a default one. Two descriptors
-/// where the result has segments of its own lengths, as the index has in a back permute or the defaults in a default one.
+/// A source and an index vector; besides, flags in a select permute, and defaults in a default one. Two descriptors if the result
+/// has segments of its own lengths, as the index has in a back permute or the defaults in a default one.
 pub(crate) fn of_permute(form: Form, cut: Cut, element: Element) -> &'static [Kind]
     ensures { result.now ≡ operands_of (op.Permute form cut element) }
 {

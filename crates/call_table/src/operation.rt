@@ -31,11 +31,11 @@ pub enum Op {
     Choose(Element),
     /// `int_wub`: 1 for true and 0 for false.
     IntFromBool,
-    /// `boo_wuz`: true where the number isn't 0.
+    /// `boo_wuz`: true for each number but 0.
     BoolFromInt,
     /// `add_suz` and its like: the exclusive scan of an integer vector.
     Scan(IntMonoid, Cut),
-    /// `add_ruz` and its like: all elements of an integer vector, or of each segment, in one.
+    /// `add_ruz` and its like: all elements of an integer vector, or of each segment, joined.
     Reduce(IntMonoid, Cut),
     /// `tot_suz`, `tot_sez`: the exclusive scan of an integer vector by sums that don't wrap.
     CheckedScan(Cut),
@@ -43,7 +43,7 @@ pub enum Op {
     CheckedReduce(Cut),
     /// `and_sub` and its like: the exclusive scan of a boolean vector.
     BoolScan(BoolBinary, Cut),
-    /// `and_rub` and its like: all elements of a boolean vector, or of each segment, in one.
+    /// `and_rub` and its like: all elements of a boolean vector, or of each segment, joined.
     BoolReduce(BoolBinary, Cut),
     /// `smp_puz` and its like: the elements of a source moved by an index vector.
     Permute(Form, Cut, Element),
@@ -88,15 +88,15 @@ impl Op {
         row_of(self).gives
     }
 
-    /// How many names stand before `=` in its line, which it binds: two for `nested`, one for every other call, and none
-    /// for `write`.
+    /// How many names stand before `=` in its line, which it binds: two for `nested`, one for every other call, and none for
+    /// `write`.
     pub fn binds(self) -> usize
         ensures { result ≡ binds_of self }
     {
         self.gives().len()
     }
 
-    /// Whether `count` arguments are as many as it takes: a call one for each operand, `write` one or two.
+    /// Whether it takes `count` arguments: a call one for each operand, `write` one or two.
     pub fn takes(self, count: usize) -> bool
         ensures { result ≡ takes_of self count }
     {
@@ -109,8 +109,8 @@ impl Op {
 
     /// Whether, among `count` arguments, the one at `place`, counted from 0, may have this kind.
     ///
-    /// A call wants at each place the kind of its operand there. `write` takes alone a value of any kind, and of two
-    /// arguments a vector first and then a descriptor.
+    /// A call takes at each place the kind of its operand there. `write` takes one value of any kind, or a vector and then a
+    /// descriptor.
     pub fn accepts(self, count: usize, place: usize, kind: Kind) -> bool
         ensures { result ≡ accepts_of self count place kind }
     {

@@ -10,7 +10,7 @@ use crate::operation::Op;
 use crate::table::row_of;
 use std::fmt;
 
-/// A call's name in its parts, which `Display` writes one after the other.
+/// A call's name in its parts, which `Display` writes in order.
 #[derive(Clone, Copy, Debug)]
 pub struct Spelling {
     /// The letters of the operator, for example `add`, or a whole name.
@@ -30,7 +30,7 @@ impl Op {
     }
 }
 
-/// A name that is not put together.
+/// A name without parts.
 pub(crate) fn whole(name: &'static str) -> Spelling
     ensures { bytes_of result ≡ name.now }
 {

@@ -26,7 +26,7 @@ pub(crate) struct Row {
     pub gives: &'static [Kind],
 }
 
-/// A row as it stands in the table: a whole name or the parts of one, the arguments, and what the call gives.
+/// A row of the table: a whole name or the parts of one, the arguments, and what the call gives.
 macro_rules! row {
     ($name:literal, $operands:expr => $gives:expr) => {
         Row { name: whole($name), operands: $operands, gives: $gives }
