@@ -27,7 +27,7 @@ checked_scan_of xs = values_from Overflow 0 (map fitting (totals_of xs))
 abbrev pub checked_reduce_of : List ℤ → Result ℤ Fault
 checked_reduce_of xs = ok_or (fitting (total_of xs)) (fault_at Overflow 0)
 
--- a fault of a scan stands at the place in the whole vector
+-- a scan's fault has its place in the whole vector
 abbrev pub checked_seg_scan_of : List ℤ → List ℕ → Result (List ℤ) Fault
 checked_seg_scan_of xs lengths = end_to_end (in_vector lengths) checked_scan_of (nest lengths xs)
 

@@ -19,8 +19,8 @@ pub record AreLengthsWithin (most : ℕ) (numbers : List ℤ) : Type 0 where
 abbrev pub AreLengths : List ℤ → Type 0
 AreLengths = AreLengthsWithin most_elements
 
--- making a descriptor (CVL's make-descriptor, with a limit): a fault at the first negative number, else a fault where
--- the total is above the limit, else the lengths
+-- making a descriptor (CVL's make-descriptor, with a limit): a fault at the first negative number, else a fault if the total is above the
+-- limit, else the lengths
 abbrev pub descriptor_within : ℕ → List ℤ → Result (List ℕ) Fault
 descriptor_within most numbers =
     unless (option_map (fault_at no.NegativeLength) (position is_negative numbers))
@@ -31,7 +31,7 @@ descriptor_within most numbers =
 abbrev pub descriptor_of : List ℤ → Result (List ℕ) Fault
 descriptor_of = descriptor_within most_elements
 
--- the first negative number stands at place k: before it there are lengths alone
+-- the first negative number stands at place k: before it there are only lengths
 pub record IsFirstNegative (numbers : List ℤ) (k : ℕ) : Type 0 where
   pub before : (j : ℕ) → j < k → (n : ℕ) × (slice_get numbers j ≡ Some (pos n))
   pub here : (n : ℕ) × (slice_get numbers k ≡ Some (negsuc n))

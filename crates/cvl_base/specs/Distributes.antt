@@ -9,7 +9,7 @@ use Rattle.cvl_base.specs.Gives.{◌>>=◌, fault_if}
 use Rattle.operators.specs.Integers.{wrap}
 use Rattle.cvl_base.specs.Limits.{most_elements}
 
--- the length that a single count asks for, where it is at most `most`
+-- the length that a single count asks for, if it is at most `most`
 abbrev pub length_within : ℕ → ℤ → Result ℕ Fault
 length_within most (pos n) = fault_if (nat_lt most n) (fault no.TooLong) (Ok n)
 length_within most (negsuc n) = Err (fault no.NegativeLength)

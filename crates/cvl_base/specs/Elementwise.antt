@@ -1,5 +1,5 @@
--- Elementwise calls: element k of the result is the operator on the elements k, and the fault is that of the least k
--- at which the operator has no value. The vectors of a call are equally long.
+-- Elementwise calls: element k of the result is the operator on the elements k, and the fault is at the least k for which the operator has
+-- no value. The vectors of a call have the same length.
 -- Source: CVL's elementwise calls.
 use Rattle.std.specs.Prelude.{ℕ, ◌+◌, ◌==◌, Bool, true, false, not, List, [], ◌∷◌, length, map, Option, Result, Ok, ℤ}
 use Rattle.std.specs.Option.{ok_or}
@@ -21,7 +21,7 @@ use Rattle.cvl_base.specs.Scans.{bool_join_of, int_join_of}
 use Rattle.operators.specs.Integers.{difference_of, quotient_of, remainder_of, left_shift_of, right_shift_of, not_of}
 use Rattle.operators.specs.Integers.{is_greater, is_less, is_at_least, is_at_most, is_equal, is_unequal}
 
--- all the values, or the fault at the least place that has none, where the first stands at the place given
+-- all the values, or the fault at the first place that has none; the first of all stands at the place given
 abbrev pub values_from : {Y : Type 0} → FaultNo → ℕ → List (Option Y) → Result (List Y) Fault
 values_from number place [] = Ok []
 values_from number place (v ∷ vs) =
@@ -65,7 +65,7 @@ abbrev pub bools1_of : Unary → List Bool → List Bool
 bools1_of Not xs = map not xs
 bools1_of Copy xs = xs
 
--- the first of two where the flag is true, else the second
+-- the first of two if the flag is true, else the second
 abbrev pub chosen : {X : Type 0} → Bool → X × X → X
 chosen true pair = pair.0
 chosen false pair = pair.1

@@ -1,4 +1,4 @@
--- The limits that a fault or a type speaks of, as numbers.
+-- The limits in faults and types, as numbers.
 -- Source: this library's profile.
 use Rattle.std.specs.Prelude.{ℕ}
 
@@ -6,8 +6,8 @@ use Rattle.std.specs.Prelude.{ℕ}
 abbrev pub most_elements : ℕ
 most_elements = 4194304
 
--- the greatest integer of 32 bits, 2^31 - 1. A vector of a caller in another language has as many elements at most, and segments add
--- up to as many at most, so that a length, and each place, is such an integer.
+-- the greatest integer of 32 bits, 2^31 - 1. A vector of a caller in another language has at most as many elements, and segments add up to
+-- at most as many, so that a length, and each place, is such an integer.
 abbrev pub most_places : ℕ
 most_places = 2147483647
 

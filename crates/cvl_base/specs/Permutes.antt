@@ -14,7 +14,7 @@ use Rattle.operators.specs.Folds.{fronts}
 use Rattle.cvl_base.specs.Gives.{unless}
 use Rattle.cvl_base.specs.Packs.{count_of}
 
--- ---- the pairs: the destination of a place k is its index where k takes part, and then (index, k) is a pair
+-- ---- the pairs: the destination of a place k is its index if k takes part, and then (index, k) is a pair
 
 abbrev pub all_destinations : List ℤ → List (Option ℤ)
 all_destinations index = map (λ i. Some i) index
@@ -41,7 +41,7 @@ is_place m (negsuc d) = false
 abbrev pub place_among : ℕ → ℤ → Option ℕ
 place_among m i = if is_place m i then Some (unsigned_abs i) else None
 
--- what is wrong with a place's destination where the result has m places and the earlier places have those destinations
+-- what is wrong with a place's destination if the result has m places and the earlier places have those destinations
 abbrev pub wrong_at : ℕ → List (Option ℤ) → Option ℤ → Option FaultNo
 wrong_at m earlier None = None
 wrong_at m earlier (Some i) =
@@ -51,7 +51,7 @@ wrong_at m earlier (Some i) =
 abbrev pub wrongs : ℕ → List (Option ℤ) → List (Option FaultNo)
 wrongs m destinations = map (λ p. wrong_at m p.0 p.1) (zip (fronts destinations) destinations)
 
--- the fault of the least bad place, where the first stands at the place given
+-- the fault of the first bad place; the first of all stands at the place given
 abbrev pub first_fault : ℕ → List (Option FaultNo) → Option Fault
 first_fault place [] = None
 first_fault place (None ∷ others) = first_fault (place + 1) others

@@ -1,4 +1,4 @@
--- A call that writes its result over a room of its caller's.
+-- A call that writes its result into its caller's room.
 -- Source: this library's profile: which answers a call may give.
 use Rattle.std.specs.Prelude.{◌≡◌, ℕ, ◌==◌, nat_lt, not, List, ◌++◌, drop, length, Result, Ok, Err, IfErr, MatchResult}
 use Rattle.cvl_base.specs.declared.fault.Fault.{Fault}
@@ -11,11 +11,11 @@ use Rattle.cvl_base.specs.Gives.{◌>>=◌, Gives, fault_if}
 abbrev pub in_room : {X : Type 0} → ℕ → Result (List X) Fault → Result (List X) Fault
 in_room room meaning = meaning >>= λ xs. fault_if (not (length xs == room)) (fault no.LengthMismatch) (Ok xs)
 
--- The room holds the list that the definition gives, or the call told its fault and left the room as it was.
+-- The room holds the list that the definition gives, or there is a fault and the room is as it was.
 abbrev pub Overwrites : {X : Type 0} → Result (List X) Fault → Result (Unit {0}) Fault → List X → List X → Type 0
 Overwrites meaning answer before now = MatchResult answer (λ _. meaning ≡ Ok now) (λ f. (meaning ≡ Err f) × (now ≡ before))
 
--- The same of a call that takes memory: it may be out of memory, and the room is then as it was, too.
+-- The same for a call that takes memory: it may be out of memory, and the room is then as it was, too.
 abbrev pub OverwritesOr : {X : Type 0} → Result (List X) Fault → Result (Unit {0}) Refused → List X → List X → Type 0
 OverwritesOr meaning answer before now = Gives (λ _. now) answer meaning × IfErr answer (λ _. now ≡ before)
 
@@ -28,8 +28,8 @@ abbrev pub count_or : {X : Type 0} → ℕ → Result (List X) Fault → ℕ
 count_or before (Ok xs) = length xs
 count_or before (Err f) = before
 
--- The list, whose length the caller may not know, stands at the front of the room, or the room is too short and as before; in both
--- cases the count is its length. Or the call told its fault, and left room and count as they were.
+-- The list, whose length the caller may not know, stands at the front of the room, or the room is too short and as before; in both cases
+-- the count is its length. Or there is a fault, and room and count are as they were.
 abbrev pub OverwritesFront : {X : Type 0} → Result (List X) Fault → Result (Unit {0}) Fault → List X → List X → ℕ → ℕ → Type 0
 OverwritesFront meaning answer before now count counted =
     Overwrites (meaning >>= at_front before) answer before now × (counted ≡ count_or count meaning)

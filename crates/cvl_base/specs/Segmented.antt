@@ -1,5 +1,5 @@
 -- Segmented calls: the flat call on the inner lists of each segment.
--- Source: CVL's segmented operations; that of several faults the first segment's counts, and where it stands, is this library's profile.
+-- Source: CVL's segmented operations; that the first segment's fault is reported, and its place, is this library's profile.
 use Rattle.std.specs.Prelude.{ℕ, ◌+◌, List, [], ◌∷◌, sum, take, option_map, Result, Ok, Err}
 use Rattle.std.specs.List.{zip}
 use Rattle.cvl_base.specs.declared.fault.Fault.{Fault}
@@ -7,7 +7,7 @@ use Rattle.cvl_base.specs.Elementwise.{if_as_long}
 use Rattle.cvl_base.specs.Gives.{◌>>=◌}
 use Rattle.operators.specs.Lists.{joined}
 
--- the arguments of each segment, from two lists of them that must be equally many
+-- the arguments of each segment, from two lists of them that must be equal in number
 abbrev pub beside : {A B : Type 0} → Result (List A) Fault → Result (List B) Fault → Result (List (A × B)) Fault
 beside firsts seconds = firsts >>= λ xs. seconds >>= λ ys. if_as_long xs ys (Ok (zip xs ys))
 
@@ -41,6 +41,6 @@ results_from place call s (x ∷ xs) =
 abbrev pub one_each : {S R : Type 0} → (ℕ → ℕ → ℕ) → (S → Result R Fault) → Result (List S) Fault → Result (List R) Fault
 one_each place call segments = segments >>= λ xs. results_from place call 0 xs
 
--- a call whose flat results are lists: one after another
+-- a call whose flat results are lists: in order
 abbrev pub end_to_end : {S X : Type 0} → (ℕ → ℕ → ℕ) → (S → Result (List X) Fault) → Result (List S) Fault → Result (List X) Fault
 end_to_end place call segments = one_each place call segments >>= λ lists. Ok (joined lists)

@@ -20,7 +20,7 @@ seg_scan_of join unit xs lengths = end_to_end (in_vector lengths) (λ ys. Ok (sc
 abbrev pub seg_reduce_of : {Item : Type 0} → (Item → Item → Item) → Item → List Item → List ℕ → Result (List Item) Fault
 seg_reduce_of join unit xs lengths = one_each (in_vector lengths) (λ ys. Ok (fold_of join unit ys)) (nest lengths xs)
 
--- ---- permutes; a fault stands at its place in the index
+-- ---- permutes; a fault has its place in the index
 
 abbrev pub seg_simple_of : {X : Type 0} → List X → List ℤ → List ℕ → Result (List X) Fault
 seg_simple_of source index lengths =
@@ -70,7 +70,7 @@ seg_distribute_of = seg_distribute_within most_elements
 abbrev pub seg_index_of : List ℤ → List ℤ → List ℕ → Result (List ℤ) Fault
 seg_index_of = seg_index_within most_elements
 
--- ---- extract and replace: one index for each segment, and a fault stands at the segment
+-- ---- extract and replace: one index for each segment, and a fault has the segment's number
 
 abbrev pub seg_extract_of : {X : Type 0} → List X → List ℤ → List ℕ → Result (List X) Fault
 seg_extract_of xs index lengths = one_each at_segment (of_two extract_of) (beside (nest lengths xs) (Ok index))

@@ -16,7 +16,7 @@ is_word [] = false
 is_word (first ∷ others) =
     is_ascii_alphabetic first && list_all is_word_byte others && nat_le (length (first ∷ others)) most_word_bytes
 
--- a word that stands for nothing else in a line
+-- a word with no other meaning in a line
 abbrev pub is_name : List ℕ → Bool
 is_name bytes =
     is_word bytes

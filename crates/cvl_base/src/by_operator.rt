@@ -1,8 +1,8 @@
-//! The table of the operators: of each that a call names, the type that stands for it in generic code. Each macro calls a
-//! function for the type of an operator; among the function's types `_` stands for that one. So an operator is told apart once
-//! a call, outside of the loop over the elements.
+//! The table of the operators: the type that stands in generic code for each that a call names. Each macro calls a function for
+//! the type of an operator; among the function's types `_` stands for that one. So an operator is matched once a call, outside
+//! the loop over the elements.
 
-/// A call by an operator on two integers: of the first function where it has a value on all pairs, and else of the second.
+/// A call by an operator on two integers: of the first function if it has a value on all pairs, else of the second.
 #[macro_export]
 macro_rules! by_int_binary {
     (

@@ -19,7 +19,7 @@ pub enum Arg {
     Boolean(bool),
 }
 
-/// The arguments of a call, seen as their list. They are made from a `Vec` and give it back without taking memory.
+/// The arguments of a call. Their model is their list. They are made from a `Vec` and give it back without memory.
 #[derive(Drop)]
 #[derive_where(Debug; A)]
 pub struct Args<A: Allocator> {

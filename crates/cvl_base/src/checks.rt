@@ -1,4 +1,4 @@
-//! The check that two lengths agree.
+//! Checks that two lengths agree.
 
 ghost use Rattle.std.specs.Prelude.{◌≡◌, ◌≢◌, MatchResult};
 ghost use Rattle.cvl_base.specs.Faults.{fault};

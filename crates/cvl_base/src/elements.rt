@@ -6,8 +6,8 @@ ghost use Rattle.cvl_base.specs.Limits.{most_elements};
 use std::alloc::Allocator;
 use std::marker::Model;
 
-/// A vector of at most 4,194,304 elements, seen as the list of its elements. It is made from a `Vec` and gives it
-/// back without taking memory.
+/// A vector of at most 4,194,304 elements. Its model is the list of its elements. It is made from a `Vec` and gives it back
+/// without memory.
 #[derive(Drop)]
 #[derive_where(Debug; T, A)]
 pub struct Elements<T, A: Allocator> {

@@ -25,7 +25,7 @@ pub enum FaultNo {
     DivideByZero,
     /// A shift is outside 0 to 31.
     ShiftOutOfRange,
-    /// An index lies outside of what it counts in.
+    /// An index is no place of what it points into.
     IndexOutOfRange,
     /// An earlier index of the permute is the same.
     IndexRepeated,
@@ -37,7 +37,7 @@ pub enum FaultNo {
     NoSuchInput,
     /// A token of the input is no integer of 32 bits.
     BadInput,
-    /// As many names as may be are bound already.
+    /// No more names may be bound.
     TooManyNames,
     /// The script has more bytes than it may have.
     ScriptTooLong,
@@ -88,12 +88,12 @@ impl fmt::Display for FaultNo {
     }
 }
 
-/// A fault with its place. It is shown as its number and name, and then its place, where it has one.
+/// A fault with its place. It is shown as its number and name, and its place, if it has one.
 #[derive(Clone, Copy, Debug, PartialEq, Eq)]
 pub struct Fault {
     /// Which fault it is.
     pub number: FaultNo,
-    /// The element, index, token or segment at fault, counted from 0; none where the whole call or line is at fault.
+    /// The element, index, token or segment at fault, counted from 0; none if it is the whole call or line.
     pub place: Option<u32>,
 }
 

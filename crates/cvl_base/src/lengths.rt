@@ -7,8 +7,8 @@ ghost use Rattle.cvl_base.specs.Descriptors.{AreLengths};
 use std::alloc::Allocator;
 use std::marker::Model;
 
-/// The lengths of a descriptor's segments, none negative, at most 4,194,304 of them and with a total of at most
-/// 4,194,304, seen as the list of the lengths. They are made from a `Vec` and give it back without taking memory.
+/// The lengths of a descriptor's segments, none negative, at most 4,194,304 of them and with a total of at most 4,194,304. Their
+/// model is the list of the lengths. They are made from a `Vec` and give it back without memory.
 #[derive(Drop)]
 #[derive_where(Debug; A)]
 pub struct Lengths<A: Allocator> {
@@ -27,8 +27,7 @@ impl<A: Allocator> Model for Lengths<A> {
 }
 
 impl<A: Allocator> Lengths<A> {
-    /// The lengths in a `Vec` that has at most 4,194,304 numbers, none of them negative, and whose total is at most
-    /// 4,194,304.
+    /// The lengths in a `Vec` that has at most 4,194,304 numbers, none of them negative, and whose total is at most 4,194,304.
     pub fn from_vec(items: Vec<i32, A>) -> Lengths<A>
         requires { AreLengths items.items }
         ensures { result ≡ map unsigned_abs items.items }

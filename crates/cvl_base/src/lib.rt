@@ -1,7 +1,7 @@
-//! What every layer of the vector library speaks of: numbers, operators, monoids, faults, values and calls.
+//! What every layer of the vector library uses: numbers, operators, monoids, faults, values and calls.
 //!
-//! Numbers, operators and monoids stand in the crate `operators`, and the table of calls in `call_table`; both are
-//! handed on here under their names.
+//! Numbers, operators and monoids are in the crate `operators`, and the table of calls in `call_table`; both are re-exported here
+//! under their names.
 #![tactic(auto)]
 
 pub mod by_operator;

@@ -1,4 +1,4 @@
-//! The limits of the library, which faults and types speak of.
+//! The limits of the library, in faults and types.
 
 /// The most elements that a vector of a script or a session has, and the greatest total of its descriptor.
 pub const MOST_ELEMENTS: usize = 4_194_304;

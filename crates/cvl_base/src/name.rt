@@ -43,8 +43,8 @@ pub fn is_name_text(bytes: &[u8]) -> bool
         && !(bytes == b"write".as_slice() || bytes == b"T".as_slice() || bytes == b"F".as_slice())
 }
 
-/// A name that a value is bound to: a word other than `write`, `T` and `F`. It is seen as its bytes, by which names
-/// are ordered, and takes no memory.
+/// A name that a value is bound to: a word other than `write`, `T` and `F`. Its model is its bytes, by which names are ordered;
+/// it takes no memory.
 #[derive(Clone, Copy)]
 pub struct Name {
     /// The bytes of the name, and zeros after them.
@@ -73,7 +73,7 @@ impl Model for Name {
 }
 
 impl Name {
-    /// The name with these bytes, where they are a name.
+    /// The name with these bytes, if they are a name.
     pub fn new(bytes: &[u8]) -> Option<Name>
         ensures { SomeIff result (IsTrue (is_name bytes.now)) bytes.now }
     {

@@ -1,4 +1,4 @@
-//! The operators that have no value on some pairs of integers, each with the fault of such a pair.
+//! The operators without a value on some pairs of integers, each with the fault of such a pair.
 
 ghost use Rattle.std.specs.Prelude.{◌≡◌, ℤ, Option};
 ghost use Rattle.std.specs.Option.{is_some};
@@ -9,7 +9,7 @@ ghost use Rattle.cvl_base.specs.declared.fault.FaultNo.TheVariants as no;
 use crate::fault::FaultNo;
 use operators::integer;
 
-/// An operator that has no value on some pairs of integers.
+/// An operator without a value on some pairs of integers.
 pub trait PartialBinary {
     ghost value: { ℤ → ℤ → Option ℤ };
 
@@ -27,7 +27,7 @@ pub trait PartialBinary {
         ensures { result ≡ fault };
 }
 
-/// The quotient, truncated toward zero; none where the divisor is 0.
+/// The quotient, truncated toward zero; none if the divisor is 0.
 pub struct Div;
 
 impl PartialBinary for Div {
@@ -48,7 +48,7 @@ impl PartialBinary for Div {
     }
 }
 
-/// The remainder of that quotient; none where the divisor is 0.
+/// The remainder of that quotient; none if the divisor is 0.
 pub struct Mod;
 
 impl PartialBinary for Mod {
@@ -69,7 +69,7 @@ impl PartialBinary for Mod {
     }
 }
 
-/// The shift to the left; none where the places aren't in 0 to 31.
+/// The shift to the left; none if the places aren't in 0 to 31.
 pub struct Lsh;
 
 impl PartialBinary for Lsh {
@@ -90,7 +90,7 @@ impl PartialBinary for Lsh {
     }
 }
 
-/// The shift to the right; none where the places aren't in 0 to 31.
+/// The shift to the right; none if the places aren't in 0 to 31.
 pub struct Rsh;
 
 impl PartialBinary for Rsh {
