@@ -7,7 +7,7 @@ module _ {P X : Type 0} (items : P → List X) where
   abbrev pub item_counts : List P → List ℕ
   item_counts parts = map (λ part. length (items part)) parts
 
-  -- the first place whose item has no value, where a part tells its first one and the first item of all has the place given
+  -- the first place whose item has no value; a part gives its first one, and the first item of all has the place given
   abbrev pub found_in : (P → ℕ → Option ℕ) → List P → ℕ → Option ℕ
   found_in found [] first = None
   found_in found (part ∷ parts) first = option_or (found part first) (found_in found parts (first + length (items part)))

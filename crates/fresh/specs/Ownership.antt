@@ -30,6 +30,6 @@ module _ (R : RattleType) where
   cells_own (block_ptr b o) from cs = fsep (fit from cs) (slots b (from * type_size R + o) cs)
   cells_own null_ptr from cs = ffalse
 
-  -- the allocator's token for a block of n places, of which there is none for no place
+  -- the allocator's token for a block of n places; there is none for no place
   abbrev pub deed_owns : (Ty → Ptr → Fml) → Ptr → ℕ → Fml
   deed_owns token p n = owns_if (has_block n) (token (raw (ty_array (lone R.mir) n)) p)

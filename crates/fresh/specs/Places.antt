@@ -5,8 +5,8 @@ use Rattle.std.specs.Coded.{Coded, code_by, coded×, coded_list, coded_ℕ}
 use denote.RawPtr.{Ptr, coded_ptr}
 use Rattle.fresh.specs.declared.cells.Cells.{Cells}
 
--- a run: the block that it is a part of, the number of its first place there, the items written so far from that place on,
--- and how many empty places follow
+-- a run: the block that it is a part of, the number of its first place there, the items written so far from that place on, and how many
+-- empty places follow
 pub record Stretch (X : Type 0) : Type 0 where
   pub block : Ptr
   pub first : ℕ
@@ -27,7 +27,7 @@ module _ {X : Type 0} where
   abbrev pub stretch : Ptr → ℕ → List X → ℕ → Stretch X
   stretch block first items room = record { block = block; first = first; items = items; room = room }
 
-  -- the run after these items were written behind those that it has
+  -- the run after these items were written after its own
   abbrev pub with_items : Stretch X → List X → Stretch X
   with_items s xs = stretch s.block s.first (s.items ++ xs) (s.room - length xs)
 
@@ -57,7 +57,7 @@ module _ {X : Type 0} where
   abbrev pub filled : List X → ℕ → List (Option X)
   filled xs room = map Some xs ++ replicate room None
 
-  -- what holds of the fields of a run of len places from the one numbered `first` on, of which the first `written` are written
+  -- what holds of the fields of a run of len places from the one numbered `first` on, the first `written` of which are written
   pub record IsRun (c : Cells X) (base : Ptr) (first len written : ℕ) : Type 0 where
     pub place : (c.at ≡ base) × (c.from ≡ first)
     pub count : (length (somes c.slots) ≡ written) × (written ≤ len) × (first + len < 2 ^ 63)

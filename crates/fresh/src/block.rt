@@ -10,7 +10,7 @@ use crate::cells::{Base, Cells};
 use std::alloc::Allocator;
 use std::marker::{Model, PhantomData, Send, Sync};
 
-/// The right to free the block of `len` places at `at`, and with it the duty to: it can't be let go. It takes no space.
+/// The right to free the block of `len` places at `at`, and the duty to: it can't be dropped. It takes no space.
 pub struct Deed<T, A: Allocator> {
     mark: PhantomData<*const (T, A)>,
     ghost at: { Ptr },
@@ -38,8 +38,7 @@ struct VecFields<T, A: Allocator> {
     alloc: A,
 }
 
-/// Takes the block out of a vector, which is left without one. Its places begin with the vector's items, and the others are
-/// empty.
+/// Takes the block out of a vector, which keeps none. Its places begin with the vector's items, and the others are empty.
 pub(crate) fn take_block<T, A: Allocator>(v: &mut Vec<T, A>) -> (Base<T>, Cells<T>, Deed<T, A>)
     ensures cells { (result.1.at ≡ result.0.ptr) × (result.1.from ≡ 0)
         × (result.1.slots ≡ filled v.old.items (vec_capacity v.old - vec_len v.old)) }
@@ -62,7 +61,7 @@ pub(crate) fn take_block<T, A: Allocator>(v: &mut Vec<T, A>) -> (Base<T>, Cells<
     )
 }
 
-/// Gives a block to a vector without one. Of its `cap` places the first `len` hold the items, and the others are empty.
+/// Gives a block to a vector without one. The first `len` of its `cap` places hold the items, and the others are empty.
 pub(crate) fn give_block<T, A: Allocator>(
     v: &mut Vec<T, A>,
     base: Base<T>,

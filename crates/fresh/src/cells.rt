@@ -17,7 +17,7 @@ unsafe impl<T> Send for Base<T> {}
 
 unsafe impl<T> Sync for Base<T> {}
 
-/// The owner of places that lie side by side in a block. It takes no space. Let go, it leaks what its places hold.
+/// The owner of neighbouring places in a block. It takes no space. If dropped, it leaks what its places hold.
 #[derive(Drop)]
 pub struct Cells<T> {
     pub(crate) mark: PhantomData<*const T>,
@@ -38,7 +38,7 @@ unsafe impl<T: Send> Send for Cells<T> {}
 unsafe impl<T> Sync for Cells<T> {}
 
 impl<T> Cells<T> {
-    /// Writes the empty place of the number `index`.
+    /// Writes the empty place with this index.
     pub(crate) fn write(&mut self, base: Base<T>, index: usize, item: T)
         requires { (base.ptr ≡ self.old.at) × (self.old.from ≤ index) × (index - self.old.from < length self.old.slots)
             × (get_or self.old.slots (index - self.old.from) None ≡ None) }
@@ -58,7 +58,7 @@ impl<T> Cells<T> {
         (Cells { mark: PhantomData }, Cells { mark: PhantomData })
     }
 
-    /// The places of both, where the others begin at the end of these.
+    /// The places of both; the others begin at the end of these.
     pub(crate) fn merge(self, next: Cells<T>) -> Cells<T>
         requires { (next.at ≡ self.at) × (next.from ≡ self.from + length self.slots) }
         ensures { (result.at ≡ self.at) × (result.from ≡ self.from) × (result.slots ≡ self.slots ++ next.slots) }

@@ -35,7 +35,7 @@ impl<T: Copy> Writer<T> for Copies<T> {
     }
 }
 
-/// Appends copies of an item to a vector that has room for them, written by at most so many threads.
+/// Appends copies of an item to a vector that has room for them, on at most `threads` threads.
 pub fn extend_by_copies<T: Copy + Send + Sync + Drop, R: Threads + Sync, A: Allocator>(
     rt: &R,
     threads: ThreadCount,

@@ -1,4 +1,4 @@
-//! Runs written whole: by the numbers of their places, or by the elements of slices.
+//! Runs written whole: from the numbers of their places or the elements of slices.
 ghost use Rattle.std.specs.Prelude.{◌≡◌, ℕ, ◌+◌, ◌-◌, ◌<◌, ◌≤◌, List, ◌++◌, length, map};
 ghost use Rattle.std.specs.List.{AllZip, zip};
 ghost use Rattle.fresh.specs.Parts.{part};
@@ -7,7 +7,7 @@ ghost use Rattle.fresh.specs.Places.{stretch, with_items, GoWith};
 use crate::run::Run;
 
 impl<T> Run<T> {
-    /// Writes each empty place by its number in the block: `f(place)`.
+    /// Writes each empty place from its number in the block: `f(place)`.
     pub fn fill<F: Fn(usize) -> T + Drop>(mut self, f: F) -> Run<T>
         requires { (place : ℕ) → self.first + length self.items ≤ place → place < self.first + length self.items + self.room
             → F.pre f place }
@@ -21,7 +21,7 @@ impl<T> Run<T> {
         self
     }
 
-    /// Writes the empty places by the elements of a slice, as many as there are: `f(x)`.
+    /// Writes the empty places from the elements of a slice, equal in number: `f(x)`.
     pub fn fill_from<X: Copy, F: Fn(X) -> T + Drop>(mut self, xs: &[X], f: F) -> Run<T>
         requires callable { F.IsAlwaysCallable f }
         requires as_long { length xs.now ≡ self.room }
@@ -36,7 +36,7 @@ impl<T> Run<T> {
         self
     }
 
-    /// Writes each empty place by the element of a slice that has its number: `f(xs[place])`.
+    /// Writes each empty place from the element of a slice with its number: `f(xs[place])`.
     pub fn fill_by<X: Copy, F: Fn(X) -> T + Drop>(self, xs: &[X], f: F) -> Run<T>
         requires callable { F.IsAlwaysCallable f }
         requires within { self.first + length self.items + self.room ≤ length xs.now }
@@ -51,7 +51,7 @@ impl<T> Run<T> {
         self.fill_from(xs, f)
     }
 
-    /// Writes each empty place by the elements of two slices that have its number: `f(xs[place], ys[place])`.
+    /// Writes each empty place from the elements of two slices with its number: `f(xs[place], ys[place])`.
     pub fn fill_by_both<X: Copy, Y: Copy, F: Fn(X, Y) -> T + Drop>(
         self,
         xs: &[X],
@@ -72,7 +72,7 @@ impl<T> Run<T> {
         self.fill_from_both(xs, ys, f)
     }
 
-    /// Writes the empty places by the elements of two slices, as many as there are.
+    /// Writes the empty places from the elements of two slices, equal in number.
     fn fill_from_both<X: Copy, Y: Copy, F: Fn(X, Y) -> T + Drop>(
         mut self,
         xs: &[X],
@@ -92,7 +92,7 @@ impl<T> Run<T> {
 }
 
 impl<T: Copy> Run<T> {
-    /// Writes the next places by the elements of a slice, which has at most as many as there is room for.
+    /// Copies the elements of a slice, at most as many as there is room for, to the next places.
     pub fn extend_from_slice(mut self, items: &[T]) -> Run<T>
         requires { length items.now ≤ self.room }
         ensures { result ≡ with_items self items.now }

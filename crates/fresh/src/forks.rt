@@ -1,4 +1,4 @@
-//! A vector that several threads write, each a run of it.
+//! A vector written in runs, on several threads.
 
 ghost use Rattle.std.specs.Prelude.{◌≡◌, ℕ, ◌+◌, ◌<◌, ◌≤◌, List, [], Option, IfOk, length};
 ghost use Rattle.fresh.specs.Found.{first_without};
@@ -13,7 +13,7 @@ use sharing::{ThreadCount, first_of_two, share_of_first};
 use std::alloc::{AllocError, Allocator};
 use std::thread::Threads;
 
-/// What writes any run of a vector. Its meaning is the list of all the items.
+/// Writes any run of a vector. Its meaning is the list of all the items.
 pub trait Writer<T> {
     ghost whole: { Self → List T };
 
@@ -24,9 +24,9 @@ pub trait Writer<T> {
         ensures { result ≡ stretch run.block run.first (part (whole self.now) run.first run.room) 0 };
 }
 
-/// What writes any run of a vector of which some items may have no value, and finds the first of these. Its meaning is the list
-/// of all items as they are written, whatever is written for those without a value, the list of the values, and of the places
-/// from one on, so many, how many the first few of so many threads write.
+/// Writes any run of a vector, some items of which may have no value, and finds the first such item. Its meaning is the list of
+/// all items as they are written, whatever is written for those without a value, the list of the values, and how many of some
+/// places from one on the first few of some threads write.
 pub trait CheckedWriter<T> {
     ghost whole: { Self → List T };
 
@@ -34,14 +34,14 @@ pub trait CheckedWriter<T> {
 
     ghost IsShare: { Self → ℕ → ℕ → ℕ → ℕ → ℕ → Type 0 };
 
-    /// Writes all places of an empty run, and tells the first place of them whose item has no value.
+    /// Writes all places of an empty run, and returns the first of them whose item has no value.
     fn write(&self, run: Run<T>) -> (Run<T>, Option<usize>)
         requires empty { run.items ≡ [] }
         requires within { run.first + run.room ≤ length (whole self.now) }
         ensures run { result.0 ≡ stretch run.block run.first (part (whole self.now) run.first run.room) 0 }
         ensures found { result.1 ≡ first_without run.first (part (values self.now) run.first run.room) };
 
-    /// How many of `room` places from the one at `first` on the first `few` of so many threads write.
+    /// How many of `room` places from place `first` on the first `few` of `threads` threads write.
     fn share(&self, first: usize, room: usize, few: usize, threads: usize) -> usize
         requires some { 1 ≤ threads }
         requires no_more { few ≤ threads }
@@ -50,7 +50,7 @@ pub trait CheckedWriter<T> {
         ensures within { result ≤ room };
 }
 
-/// A writer as one that looks for no item without a value. Each thread writes as many places.
+/// A writer without a search for items without a value. Each thread writes as many places.
 #[derive(Drop)]
 struct Unchecked<'a, W> {
     writer: &'a W,
@@ -80,7 +80,7 @@ impl<'a, T, W: Writer<T>> CheckedWriter<T> for Unchecked<'a, W> {
     }
 }
 
-/// The places that a writer writes, in as many parts as there are threads.
+/// The places that a writer writes, in a part for each thread.
 #[derive(Drop)]
 struct Places<'a, W> {
     writer: &'a W,
@@ -163,9 +163,9 @@ pub fn write_checked_in_runs<
 
 /// The writer's items as a vector, written by at most `threads` threads.
 ///
-/// The thread that calls starts one for each run but the last, which it writes itself. Of more than eight threads it gives half
-/// to the first one that it starts, and so on. Where no thread can be made the runs are written in turn. For one thread, or an
-/// item or none, no thread is started.
+/// The calling thread starts one for each run but the last, which it writes itself. With more than eight threads it gives half to
+/// the first one that it starts, and so on. If no thread can be started, the runs are written in turn. For one thread, or at most
+/// one item, no thread is started.
 pub fn write_in_runs<T: Send + Drop, R: Threads + Sync, A: Allocator, W: Writer<T> + Sync>(
     rt: &R,
     alloc: A,
@@ -180,7 +180,7 @@ pub fn write_in_runs<T: Send + Drop, R: Threads + Sync, A: Allocator, W: Writer<
     write_runs(rt, alloc, Starts::ByStd, threads, writer, items)
 }
 
-/// The same by so many threads, all of which but the one that calls `rayon` starts.
+/// The same on this many threads, all of which but the calling one `rayon` starts.
 pub fn write_in_runs_by_rayon<T: Send + Drop, R: Threads + Sync, A: Allocator, W: Writer<T> + Sync>(
     rt: &R,
     alloc: A,
@@ -194,7 +194,7 @@ pub fn write_in_runs_by_rayon<T: Send + Drop, R: Threads + Sync, A: Allocator, W
     write_runs(rt, alloc, Starts::ByRayon, threads, writer, items)
 }
 
-/// The writer's items as a vector, in as many runs as there are threads.
+/// The writer's items as a vector, in a run for each thread.
 fn write_runs<T: Send + Drop, R: Threads + Sync, A: Allocator, W: Writer<T> + Sync>(
     rt: &R,
     alloc: A,
@@ -218,8 +218,7 @@ fn write_runs<T: Send + Drop, R: Threads + Sync, A: Allocator, W: Writer<T> + Sy
     Ok(room.into_vec(run))
 }
 
-/// Writes the next places of a run behind the items that it has, each by the writer's item of its number, by at most `threads`
-/// threads.
+/// Writes the next places of a run after its items, each from the writer's item with its number, on at most `threads` threads.
 pub fn extend_in_runs<T: Send + Drop, R: Threads + Sync, W: Writer<T> + Sync>(
     rt: &R,
     threads: ThreadCount,
@@ -239,7 +238,7 @@ pub fn extend_in_runs<T: Send + Drop, R: Threads + Sync, W: Writer<T> + Sync>(
     run
 }
 
-/// The writer's items as a vector, written by the thread that calls.
+/// The writer's items as a vector, written on the calling thread.
 pub fn write_alone<T: Drop, A: Allocator, W: Writer<T>>(
     alloc: A,
     writer: &W,

@@ -4,7 +4,7 @@ ghost use Rattle.std.specs.Prelude.{◌≡◌, ◌∷◌, []};
 ghost use Rattle.std.specs.Option.{option_or};
 ghost use Rattle.fresh.specs.Found.{first_without};
 
-/// The place of the first item without a value: the one that was found before, or else that of this item if it has no value.
+/// The place of the first item without a value: the one found before, or else that of this item if it has no value.
 #[inline(always)]
 pub fn first_found<T: Drop>(found: Option<usize>, value: Option<T>, place: usize) -> Option<usize>
     ensures { result ≡ option_or found (first_without place (value ∷ [])) }

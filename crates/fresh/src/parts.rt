@@ -1,4 +1,4 @@
-//! Parts of a list, each of which is counted and then written by a thread of its own.
+//! Parts of a list, each counted and then written by a thread of its own.
 
 ghost use Rattle.std.specs.Prelude.{◌≡◌, ◌+◌, ◌-◌, ◌<◌, ◌≤◌, ◌^◌, [], IfOk, length, min, sum};
 ghost use Rattle.std.specs.List.{flat_map};
@@ -15,7 +15,7 @@ use std::marker::PhantomData;
 use std::thread::Threads;
 
 /// A part of a list, whose items are counted before they are written. Its meaning is its items, and the first place whose item
-/// has no value, if it looks for one, where its first item has a place given.
+/// has no value, if it looks for one, given the place of its first item.
 pub trait Part<T>: Copy {
     ghost use Rattle.std.specs.Prelude.{ℕ, List, Option};
 
@@ -27,7 +27,7 @@ pub trait Part<T>: Copy {
     fn count(&self) -> usize
         ensures { result ≡ length (items self.now) };
 
-    /// Writes the part into an empty run of as many places, and tells the first place whose item has no value.
+    /// Writes the part into an empty run of as many places, and returns the first place whose item has no value.
     fn write(&self, run: Run<T>) -> (Run<T>, Option<usize>)
         requires empty { run.items ≡ [] }
         requires room { run.room ≡ length (items self.now) }
@@ -61,7 +61,7 @@ impl<'a, T, P: Part<T>> Writer<usize> for Counts<'a, T, P> {
     }
 }
 
-/// The sum of the counts, or the greatest number where that is less.
+/// The sum of the counts, or the greatest number if that is less.
 fn total(counts: &[usize]) -> usize
     ensures { result ≡ min (sum counts.now) (2 ^ 64 - 1) }
 {
@@ -72,8 +72,8 @@ fn total(counts: &[usize]) -> usize
     total
 }
 
-/// How many items each part has, counted by at most so many threads, and how many all have, or the greatest number where that
-/// is less.
+/// How many items each part has, counted on at most `threads` threads, and how many all have, or the greatest number if that is
+/// less.
 #[tactic(auto, using(crate::proofs::PartWalk::counted))]
 pub fn count_parts<T: Sync, R: Threads + Sync, A: Allocator, P: Part<T> + Sync>(
     rt: &R,

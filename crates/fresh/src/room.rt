@@ -9,10 +9,10 @@ use crate::run::Run;
 use std::alloc::{AllocError, Allocator};
 use std::marker::Model;
 
-/// The room of a vector to be: unwritten memory of an allocator, whose places are handed out as a [`Run`].
+/// The room of a future vector: unwritten memory of an allocator, whose places are lent as a [`Run`].
 ///
-/// It can't be let go, so that its memory can't be lost: [`into_vec`](Room::into_vec) alone ends it, by the run of all its
-/// places. Where a thread stops early, join what there is, written or not, or write the rest, and drop the vector.
+/// It can't be dropped, so that its memory can't be lost: only [`into_vec`](Room::into_vec) ends it, with the run of all its
+/// places. If a thread stops early, join what there is, written or not, or write the rest, and drop the vector.
 pub struct Room<T, A: Allocator> {
     base: Base<T>,
     places: usize,
@@ -34,7 +34,7 @@ impl<T, A: Allocator> Model for Room<T, A> {
 }
 
 impl<T, A: Allocator> Room<T, A> {
-    /// The room for so many items, and the run of all its places.
+    /// The room for `places` items, and the run of all its places.
     pub fn new(alloc: A, places: usize) -> Result<(Room<T, A>, Run<T>), AllocError>
         ensures room { IfOk result (λ r. r.0.places ≡ places) }
         ensures fits { IfOk result (λ _. places < 2 ^ 63) }
@@ -64,7 +64,7 @@ impl<T, A: Allocator> Room<T, A> {
         (room, run)
     }
 
-    /// The vector of the items that are written in the run of all places.
+    /// The vector of the items written in the run of all places.
     #[tactic(auto, using(crate::proofs::Places::somes_filled))]
     pub fn into_vec(self, run: Run<T>) -> Vec<T, A>
         requires { IsAllOf self run }

@@ -5,9 +5,9 @@ ghost use Rattle.fresh.specs.Places.{stretch, filled, somes, Follows};
 use crate::cells::{Base, Cells};
 use std::marker::Model;
 
-/// Some neighbouring places of a block, of which the first ones are written and the others are empty.
+/// Some neighbouring places of a block; the first ones are written and the others are empty.
 ///
-/// A run may go to another thread where its items may. Let go, it leaks its items, and its block can't be freed, which the
+/// A run may go to another thread if its items may. If dropped, it leaks its items, and its block can't be freed, which the
 /// block's [`Room`](crate::Room) shows.
 #[derive(Drop)]
 pub struct Run<T> {
@@ -32,7 +32,7 @@ impl<T> Model for Run<T> {
 }
 
 impl<T> Run<T> {
-    /// All the places of a block, of which the first ones are written.
+    /// All the places of a block, the first ones of which are written.
     pub(crate) fn begun(base: Base<T>, len: usize, written: usize, cells: Cells<T>) -> Run<T>
         requires place { (cells.at ≡ base.ptr) × (cells.from ≡ 0) × (len < 2 ^ 63) }
         requires laid { (items : List T) × (length items ≡ written) × (written ≤ len)
@@ -79,7 +79,7 @@ impl<T> Run<T> {
         self.len
     }
 
-    /// The number of the next place to be written.
+    /// The number of the next place to write.
     pub fn next_place(&self) -> usize
         ensures place { result ≡ self.now.first + length self.now.items }
         ensures within { result + self.now.room < 2 ^ 63 }
@@ -94,7 +94,7 @@ impl<T> Run<T> {
         self.len - self.written
     }
 
-    /// The first `k` places and the others, where all that is written lies in the first.
+    /// The first `k` places and the others; all that is written lies in the first.
     pub fn split_at(self, k: usize) -> (Run<T>, Run<T>)
         requires { (length self.items ≤ k) × (k ≤ length self.items + self.room) }
         ensures first { result.0 ≡ stretch self.block self.first self.items (k - length self.items) }
@@ -126,7 +126,7 @@ impl<T> Run<T> {
         )
     }
 
-    /// The places of both runs, where `next` begins at this one's end, and this one is full or nothing is written in `next`.
+    /// The places of both runs; `next` begins at this one's end, and this one is full or nothing is written in `next`.
     pub fn joined(self, next: Run<T>) -> Run<T>
         requires { Follows self next × ((self.room ≡ 0) ⊎ (next.items ≡ [])) }
         ensures { result ≡ stretch self.block self.first (self.items ++ next.items) (self.room + next.room) }

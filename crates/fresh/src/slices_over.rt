@@ -1,4 +1,4 @@
-//! A slice that the items of a run are written over.
+//! A slice overwritten by the items of a run.
 ghost use Rattle.std.specs.Prelude.{◌≡◌, ◌<◌, ◌^◌, List, Some, None, [], length, map, replicate};
 ghost use denote.RawPtr.{Ptr};
 ghost use Rattle.fresh.specs.Places.{IsWhole, Stretch, stretch};
@@ -10,9 +10,9 @@ use crate::run::Run;
 use core::slots::{Slots, with_slots};
 use std::marker::PhantomData;
 
-/// Writes the items of a run over a slice of as many, by the thread that calls. It asks for no memory.
+/// Writes the items of a run over a slice of as many, on the calling thread. It takes no memory.
 ///
-/// `write` is given an empty run of as many places as the slice has, and gives it back full.
+/// `write` takes an empty run of as many places as the slice has, and returns it full.
 pub fn fill_slice<T: Copy, F: FnOnce(Run<T>) -> Run<T>>(out: &mut [T], write: F)
     requires fits { length out.old < 2 ^ 63 }
     requires callable { (block : Ptr) → F.pre write (stretch block 0 [] (length out.old)) }
@@ -23,7 +23,7 @@ pub fn fill_slice<T: Copy, F: FnOnce(Run<T>) -> Run<T>>(out: &mut [T], write: F)
     unsafe { with_slots(out, &mut (), write, write_row::<T, F>) }
 }
 
-/// Writes a writer's items over a slice that has as many, by the thread that calls. It asks for no memory.
+/// Writes a writer's items over a slice that has as many, on the calling thread. It takes no memory.
 pub fn write_over<T: Copy, W: Writer<T>>(out: &mut [T], writer: &W)
     requires as_long { length out.old ≡ length (W.whole writer.now) }
     requires fits { length out.old < 2 ^ 63 }

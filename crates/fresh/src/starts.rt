@@ -1,10 +1,10 @@
-//! Who starts the thread of a fork.
+//! What starts the thread of a fork.
 
 ghost use Rattle.std.specs.Prelude.{◌≡◌};
 
 use std::thread::Threads;
 
-/// Who starts the thread of a fork: the standard library, or `rayon`.
+/// What starts the thread of a fork: the standard library, or `rayon`.
 #[derive(Clone, Copy)]
 pub(crate) enum Starts {
     ByStd,
@@ -12,7 +12,7 @@ pub(crate) enum Starts {
 }
 
 impl Starts {
-    /// Calls both, the first in a thread of its own; where none can be made, one after the other.
+    /// Calls both, the first in a thread of its own; if none can be made, one after the other.
     pub(crate) fn both<
         R: Threads + Sync,
         X: Send + Drop,
