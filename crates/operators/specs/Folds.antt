@@ -12,6 +12,6 @@ abbrev pub fronts : {Item : Type 0} → List Item → List (List Item)
 fronts [] = []
 fronts (x ∷ xs) = [] ∷ map (λ front. x ∷ front) (fronts xs)
 
--- each element gives way to the fold of those before it
+-- at each place the fold of the elements before it
 abbrev pub scan_of : {Item : Type 0} → (Item → Item → Item) → Item → List Item → List Item
 scan_of join unit xs = map (fold_of join unit) (fronts xs)

@@ -23,7 +23,7 @@ difference_of a b = wrap (a -ℤ b)
 abbrev pub product_of : ℤ → ℤ → ℤ
 product_of a b = wrap (a *ℤ b)
 
--- the quotient, truncated toward zero; none where the divisor is 0
+-- the quotient, truncated toward zero; none if the divisor is 0
 abbrev pub quotient_of : ℤ → ℤ → Option ℤ
 quotient_of a b = if int_eq b (pos 0) then None else Some (wrap (int_div a b))
 
@@ -43,7 +43,7 @@ lesser_of a b = int_min a b
 abbrev pub greater_of : ℤ → ℤ → ℤ
 greater_of a b = int_max a b
 
--- a * 2^s without its high bits; none where s is not in 0..31
+-- a * 2^s without its high bits; none if s is not in 0..31
 abbrev pub left_shift_of : ℤ → ℤ → Option ℤ
 left_shift_of a (pos s) = if nat_lt s 32 then Some (wrap (a *ℤ pos (2 ^ s))) else None
 left_shift_of a (negsuc s) = None
@@ -59,7 +59,7 @@ pub record IsFloor (a : ℤ) (n : ℕ) (q : ℤ) : Type 0 where
   pub again : a ≡ q *ℤ pos n +ℤ pos left
   pub smaller : left < n
 
--- the floor of a / 2^s; none where s is not in 0..31
+-- the floor of a / 2^s; none if s is not in 0..31
 abbrev pub right_shift_of : ℤ → ℤ → Option ℤ
 right_shift_of a (pos s) = if nat_lt s 32 then Some (floor_of a (2 ^ s)) else None
 right_shift_of a (negsuc s) = None

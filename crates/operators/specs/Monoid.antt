@@ -1,5 +1,5 @@
--- What a monoid is. Its items are some of the values of a type, and the laws hold of items alone.
--- Source: Blelloch, Vector Models for Data-Parallel Computing, 1990 (a scan asks for an associative operator with an identity).
+-- What a monoid is. Its items are some of the values of a type, and the laws hold only of items.
+-- Source: Blelloch, Vector Models for Data-Parallel Computing, 1990 (a scan requires an associative operator with an identity).
 use Rattle.std.specs.Prelude.{◌≡◌, Bool, IsTrue}
 
 pub record MonoidLaws {Item : Type 0} (is_item : Item → Bool) (unit : Item) (join : Item → Item → Item) : Type 0 where

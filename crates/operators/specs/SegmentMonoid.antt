@@ -3,7 +3,7 @@
 use Rattle.std.specs.Prelude.{Bool, false, if◌then◌else◌}
 use Rattle.operators.specs.Booleans.{either}
 
--- a pair is an item where its value is
+-- a pair is an item if its value is
 abbrev pub is_seg_item : {Item : Type 0} → (Item → Bool) → Bool × Item → Bool
 is_seg_item is_item (starts, value) = is_item value
 

@@ -28,7 +28,7 @@ before join unit tiles (suc t) = upto join unit tiles t
 abbrev pub between : {Item : Type 0} → (Item → Item → Item) → Item → List (List (Bool × Item)) → ℕ → ℕ → Bool × Item
 between join unit tiles first t = sum_of_tiles join unit (take (t - first) (drop first tiles))
 
--- ---- the same where each tile is given by its sum alone
+-- ---- the same if each tile is given only by its sum
 
 -- the sum of each tile, in order
 abbrev pub listed_sums : {Item : Type 0} → (Item → Item → Item) → Item → List (List (Bool × Item)) → List (Bool × Item)
@@ -50,7 +50,7 @@ upto_tile join unit sums t = before_tile join unit sums (t + 1)
 abbrev pub between_tiles : {Item : Type 0} → (Item → Item → Item) → Item → List (Bool × Item) → ℕ → ℕ → Bool × Item
 between_tiles join unit sums first t = fold_of (seg_join join) (seg_unit unit) (take (t - first) (drop first sums))
 
--- how these hang together, and how a look-back nears the tiles before tile t: it starts from no tile, takes one tile more in front, and is
+-- how these fit together, and how a look-back nears the tiles before tile t: it starts from no tile, takes one tile more in front, and is
 -- done at a tile before which the sum is known
 pub record SumsLaws {Item : Type 0} (is_item : Item → Bool) (join : Item → Item → Item) (unit : Item)
     (sums : List (Bool × Item)) : Type 0 where

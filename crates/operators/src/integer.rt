@@ -1,4 +1,4 @@
-//! The operators on two 32-bit integers in two's complement that have no unit. Those that have no value on some pairs say so.
+//! The operators on two 32-bit integers in two's complement that have no unit. Those without a value on some pairs say so.
 
 ghost use Rattle.std.specs.Prelude.{◌≡◌};
 ghost use Rattle.operators.specs.Integers.{difference_of, left_shift_of, quotient_of, remainder_of, right_shift_of};
@@ -20,7 +20,7 @@ impl Binary<i32, i32> for Sub {
 
 /// The quotient of `a` by `b`, truncated toward zero; -2147483648 by -1 wraps to -2147483648.
 ///
-/// None where `b` is 0.
+/// None if `b` is 0.
 #[inline]
 #[tactic(auto, using(crate::proofs::Wrapping::wrapping_div_is))]
 pub fn div(a: i32, b: i32) -> Option<i32>
@@ -35,7 +35,7 @@ pub fn div(a: i32, b: i32) -> Option<i32>
 
 /// What [`div`] leaves of `a`, with the sign of `a`.
 ///
-/// None where `b` is 0.
+/// None if `b` is 0.
 #[inline]
 pub fn modulo(a: i32, b: i32) -> Option<i32>
     ensures { result ≡ remainder_of a b }
@@ -49,7 +49,7 @@ pub fn modulo(a: i32, b: i32) -> Option<i32>
 
 /// The bits of `a` moved up by `places`: `a * 2^places`, wrapped to 32 bits.
 ///
-/// None where `places` is not in 0..=31.
+/// None if `places` is not in 0..=31.
 #[inline]
 #[tactic(auto, using(crate::proofs::Wrapping::shl_is))]
 pub fn lsh(a: i32, places: i32) -> Option<i32>
@@ -61,7 +61,7 @@ pub fn lsh(a: i32, places: i32) -> Option<i32>
 
 /// The bits of `a` moved down by `places`, the sign copied: the floor of `a / 2^places`.
 ///
-/// None where `places` is not in 0..=31.
+/// None if `places` is not in 0..=31.
 #[inline]
 pub fn rsh(a: i32, places: i32) -> Option<i32>
     ensures { result ≡ right_shift_of a places }

@@ -1,5 +1,5 @@
-//! Numbers and operators: integers of 32 bits, booleans, the operators on them, which of these are monoids that vectors
-//! are scanned and reduced by, and the laws of folds, scans and sums of tiles over any monoid.
+//! Numbers and operators: integers of 32 bits, booleans, the operators on them, the monoids among these, by which vectors are
+//! scanned and reduced, and the laws of folds, scans and sums of tiles over any monoid.
 #![tactic(auto)]
 
 pub mod comparisons;

@@ -1,4 +1,4 @@
-//! Associative operators with a unit: what scans and reduces are taken over.
+//! Associative operators with a unit, for scans and reduces.
 
 ghost use Rattle.std.specs.Prelude.{◌≡◌, Bool, IsTrue, ℤ};
 ghost use Rattle.operators.specs.Monoid.{MonoidLaws};
@@ -6,14 +6,14 @@ ghost use Rattle.operators.specs.ItemWords.{WordLaws};
 
 /// An associative operator with a unit, over the items among the values of a type.
 ///
-/// The unit is an item, joining two items gives an item, joining is associative on items, and the
-/// unit changes no item on either side. Of other values nothing is claimed, and what is handed to
-/// `join` must be items. An operator that isn't commutative may be one, so the order counts.
+/// The unit is an item, joining two items gives an item, joining is associative on items, and the unit changes no item on either
+/// side. Nothing is claimed of other values, and `join` must get items. An operator that isn't commutative may be one, so the
+/// order counts.
 ///
-/// The trait says nothing of threads, so that single-threaded generic code asks for no more than it
-/// uses. Code that joins in several threads asks for `M: Send + Sync` and `M::Item: Send + Sync`.
+/// The trait says nothing of threads, so that single-threaded generic code requires no more than it uses. Code that joins in
+/// several threads requires `M: Send + Sync` and `M::Item: Send + Sync`.
 pub trait Monoid {
-    /// The values, of which some or all are items.
+    /// The values, some or all of which are items.
     type Item: Copy;
 
     ghost is_item: { Self.Item → Bool };
@@ -50,7 +50,7 @@ pub trait Packed: Monoid {
         requires { IsTrue (Self.is_item x) }
         ensures { result ≡ to_word x };
 
-    /// The item of a word. Of a word that is no item's nothing is claimed.
+    /// The item of a word. Nothing is claimed of a word that is no item's.
     fn from_word(word: i64) -> Self::Item
         ensures { result ≡ from_word word };
 

@@ -1,4 +1,4 @@
-//! What scans and reduces are taken over: the operators on integers and on booleans that have a unit, and the exact sum.
+//! The monoids of scans and reduces: the operators on integers and on booleans that have a unit, and the exact sum.
 
 mod booleans;
 mod exact;

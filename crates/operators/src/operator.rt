@@ -1,5 +1,5 @@
-//! Operators by what is their own: their values, and those of a monoid their unit. Their monoids, and the words of their items,
-//! are said once, for each of them.
+//! Operators by what is their own: their values, and a monoid's unit. Their monoids, and the words of their items, are defined
+//! once, for each of them.
 
 ghost use Rattle.std.specs.Prelude.{◌≡◌, Bool, IsTrue, ℤ};
 ghost use Rattle.operators.specs.ItemWords.{WordLaws};
@@ -23,7 +23,7 @@ pub trait Binary<X, Z> {
         ensures { result ≡ value a b };
 }
 
-/// A type of which some or all values are items, each of which can be kept as a word: a number from -2^53 to 2^53 - 1.
+/// A type, some or all of whose values are items, each of which can be kept as a word: a number from -2^53 to 2^53 - 1.
 pub trait Packable: Copy {
     ghost is_item: { Self → Bool };
 
@@ -40,7 +40,7 @@ pub trait Packable: Copy {
         requires { IsTrue (is_item self) }
         ensures { result ≡ to_word self };
 
-    /// The item of a word. Of a word that is no item's nothing is claimed.
+    /// The item of a word. Nothing is claimed of a word that is no item's.
     fn from_word(word: i64) -> Self
         ensures { result ≡ from_word word };
 
@@ -49,7 +49,7 @@ pub trait Packable: Copy {
 
 /// An associative operator with a unit, over the items of a type.
 pub trait Operator: Binary<Self::Value, Self::Value> {
-    /// The values, of which some or all are items.
+    /// The values, some or all of which are items.
     type Value: Packable;
 
     ghost UNIT: { Self.Value };

@@ -8,14 +8,14 @@ ghost use Rattle.operators.specs.Integers.{IsDivided, IsFloor, IsWrapped, floor_
 ghost use Rattle.operators.specs.Integers.{right_shift_of, wrap};
 ghost use Rattle.operators.specs.ItemWords.{is_number, is_word};
 
-/// `wrap` gives, of each whole number, the one number that fits 32 bits and is congruent to it modulo 2^32.
+/// `wrap` gives the one number that fits 32 bits and is congruent to a whole number modulo 2^32.
 pub fn wrap_law()
     ensures wrapped { (x : ℤ) → IsWrapped x (wrap x) }
     ensures only { (x wrapped : ℤ) → IsWrapped x wrapped → wrapped ≡ wrap x }
 {}
 
-/// Where the divisor isn't 0, the quotient, before it is wrapped, times the divisor and with the remainder is the dividend
-/// again; the remainder is nearer to 0 than the divisor, and is 0 or has the dividend's sign. By 0 there is neither.
+/// If the divisor isn't 0, the quotient, before it is wrapped, times the divisor and with the remainder is the dividend again;
+/// the remainder is nearer to 0 than the divisor, and is 0 or has the dividend's sign. By 0 there is neither.
 pub fn division_law()
     ensures divided { (a b : ℤ) → b ≢ pos 0 →
         (q r : ℤ) × (quotient_of a b ≡ Some (wrap q)) × (remainder_of a b ≡ Some r) × IsDivided a b q r }
@@ -41,14 +41,14 @@ pub fn shift_law()
     ensures no_right_by_less { (a : ℤ) (n : ℕ) → right_shift_of a (negsuc n) ≡ None }
 {}
 
-/// `wrap_word` gives, of each whole number, the one number from -2^53 to 2^53 - 1 that is congruent to it modulo 2^54.
+/// `wrap_word` gives the one number from -2^53 to 2^53 - 1 that is congruent to a whole number modulo 2^54.
 pub fn word_wrap_law()
     ensures wrapped { (x : ℤ) → IsWordWrapped x (wrap_word x) }
     ensures only { (x wrapped : ℤ) → IsWordWrapped x wrapped → wrapped ≡ wrap_word x }
 {}
 
-/// The exact sum of at most 4,194,304 numbers of 32 bits is their sum over whole numbers, also where the fold goes on
-/// from the sum of those before; and that sum is an item of `Exact`.
+/// The exact sum of at most 4,194,304 numbers of 32 bits is their sum over whole numbers, also if the fold continues from the sum
+/// of those before; and that sum is an item of `Exact`.
 pub fn exact_fold_law()
     ensures total { (xs : List ℤ) → length xs ≤ 4194304 → AllPass is_number xs →
         fold_of exact_sum_of (pos 0) xs ≡ total_of xs }

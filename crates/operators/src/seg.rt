@@ -9,8 +9,8 @@ use std::marker::PhantomData;
 
 /// The monoid of `M` over a flat vector that is cut into segments.
 ///
-/// An item says of a run of elements whether a segment starts in it, and what its elements join to
-/// since the last start. It isn't commutative.
+/// An item says of a run of elements whether a segment starts in it, and what its elements join to since the last start. It isn't
+/// commutative.
 ///
 /// Source: the pair operator of Blelloch's segmented scans.
 pub struct Seg<M>(PhantomData<M>);

@@ -18,7 +18,7 @@ impl Single<i32, i32> for NotInt {
     }
 }
 
-/// True where the boolean is false.
+/// True if the boolean is false.
 pub struct NotBool;
 
 impl Single<bool, bool> for NotBool {

@@ -10,8 +10,8 @@ ghost use Rattle.operators.specs.TileSums.{between_tiles, worked_tiles, AllTiles
 
 use crate::monoid::Monoid;
 
-/// That the sums of tiles are the same where each tile is given by its sum alone, as a board and the world of workers
-/// have them, and that these sums are items. So [`know_sums`] says of both how they hang together.
+/// That the sums of tiles are the same if each tile is given only by its sum, as a board and the world of workers have them, and
+/// that these sums are items. So [`know_sums`] says how both fit together.
 ///
 /// The call does nothing; its contract names the laws.
 pub fn know_listed_sums<M: Monoid>()
@@ -27,15 +27,15 @@ pub fn know_listed_sums<M: Monoid>()
         between_tiles M.join M.unit (listed_sums M.join M.unit tiles) first t ≡ between M.join M.unit tiles first t }
 {}
 
-/// How the sums of tiles hang together where each tile is given by its sum: a tile's own sum, that of the tiles before
-/// it, and that of the tiles between two, as a look-back nears them.
+/// How the sums of tiles fit together if each tile is given by its sum: a tile's own sum, that of the tiles before it, and that
+/// of the tiles between two, as a look-back nears them.
 ///
 /// The call does nothing; its contract names the laws.
 pub fn know_sums<M: Monoid>()
     ensures { (sums : List (Bool × M.Item)) → AllPass (is_seg_item M.is_item) sums → SumsLaws M.is_item M.join M.unit sums }
 {}
 
-/// Worked values of the sums of tiles: a tile in which a segment starts doesn't count in what stood before it.
+/// Worked values of the sums of tiles: a tile in which a segment starts doesn't count what stood before it.
 pub fn tile_sum_values()
     ensures fronts_of_three { fronts (pos 3 ∷ (pos 1 ∷ (pos 7 ∷ []))) ≡ [] ∷ ((pos 3 ∷ []) ∷ ((pos 3 ∷ (pos 1 ∷ [])) ∷ [])) }
     ensures before_each { scan_of (seg_join sum_of) (seg_unit (pos 0)) ((true, pos 5) ∷ ((false, pos 1) ∷ ((true, pos 7) ∷ [])))

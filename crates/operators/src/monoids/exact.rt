@@ -1,4 +1,4 @@
-//! Sums that are exact: those of numbers of 54 bits.
+//! Exact sums of numbers of 54 bits.
 
 ghost use Rattle.std.specs.Prelude.{◌≡◌, IsTrue, pos};
 ghost use Rattle.operators.specs.Exact.{exact_sum_of};

@@ -1,5 +1,4 @@
-//! The operators on two integers by which vectors are scanned and reduced, too. Each number of 32 bits is an item, and is its own
-//! word.
+//! The operators on two integers that also scan and reduce vectors. Each number of 32 bits is an item, and is its own word.
 
 ghost use Rattle.std.specs.Prelude.{◌≡◌, pos, negsuc};
 ghost use Rattle.operators.specs.Integers.{sum_of, product_of, lesser_of, greater_of, and_of, ior_of, xor_of, wrap};
@@ -34,7 +33,7 @@ impl Packable for i32 {
     }
 }
 
-/// The number of 32 bits that is congruent to `word` modulo 2^32: of a number's word the number itself.
+/// The number of 32 bits that is congruent to `word` modulo 2^32: for a number's word the number itself.
 #[tactic(auto, using(crate::proofs::Wrapping::wrap_64))]
 fn number_of(word: i64) -> i32
     ensures { result ≡ wrap word }
