@@ -1,5 +1,5 @@
--- Segmented scans and reduces in parts. A cut may lie inside a segment: the part behind it has what is left of that segment
--- for its first one, which goes on from the carry, what the segment's elements before the cut join to.
+-- Segmented scans and reduces in parts. A cut may lie inside a segment: the first segment of the part after it is then the rest of that
+-- segment, which continues from the carry, the join of the segment's elements before the cut.
 -- Source: Blelloch's segmented scans (Vector Models for Data-Parallel Computing, 1990).
 use Rattle.std.specs.Prelude.{ℕ, List, [], ◌∷◌, map, Result, Ok}
 use Rattle.cvl_base.specs.declared.fault.Fault.{Fault}
@@ -18,8 +18,7 @@ abbrev pub seg_scan_after : {Item : Type 0} → (Item → Item → Item) → Ite
     → Result (List Item) Fault
 seg_scan_after join unit carry xs lengths = nest lengths xs >>= λ segments. Ok (joined (each_after (scan_of join) unit carry segments))
 
--- the segmented reduce of a part; where the cut behind the part lies inside its last segment, the last reduce is the carry
--- into the next part
+-- the segmented reduce of a part; if the cut after the part lies inside its last segment, the last reduce is the carry into the next part
 abbrev pub seg_reduce_after : {Item : Type 0} → (Item → Item → Item) → Item → Item → List Item → List ℕ
     → Result (List Item) Fault
 seg_reduce_after join unit carry xs lengths = nest lengths xs >>= λ segments. Ok (each_after (fold_of join) unit carry segments)

@@ -13,8 +13,8 @@ use Rattle.cvl_base.specs.Segmented.{moved}
 abbrev pub scans_after : {Item : Type 0} → (Item → Item → Item) → List Item → List (List Item) → List (List Item)
 scans_after join befores parts = map (λ p. scan_of join p.0 p.1) (zip befores parts)
 
--- what two parts give together, where the second starts at a place of the whole: the items of the first, and then those of the
--- second; the fault is that of the first part, else that of the second, at its place in the whole
+-- what two parts give together, if the second starts at a place of the whole: the items of the first, then those of the second; the fault
+-- is that of the first part, else that of the second, at its place in the whole
 abbrev pub in_two : {X : Type 0} → ℕ → Result (List X) Fault → Result (List X) Fault → Result (List X) Fault
 in_two start first second = first >>= λ done. after done (moved (λ place. start + place) second)
 
@@ -23,8 +23,8 @@ abbrev pub placed_fault : {X : Type 0} → Result X Fault → Option Fault
 placed_fault (Ok x) = None
 placed_fault (Err f) = option_map (λ _. f) f.place
 
--- the descriptor of lengths in two parts, where the second starts at a place of the whole. A negative length is at fault, which has a
--- place, the first part's before the second's; else the total is, which is both parts' totals added, where it is above `most`
+-- the descriptor of lengths in two parts, if the second starts at a place of the whole. The fault is a negative length, which has a place,
+-- the first part's before the second's; else the total, the sum of both parts' totals, if it is above `most`
 abbrev pub descriptor_in_two : ℕ → ℕ → Result (List ℕ) Fault → Result (List ℕ) Fault → Result (List ℕ) Fault
 descriptor_in_two most start first second =
     unless (placed_fault first)
@@ -32,8 +32,8 @@ descriptor_in_two most start first second =
     (first >>= λ lengths. second >>= λ more.
     fault_if (nat_lt most (sum lengths + sum more)) (fault no.TooLong) (Ok (lengths ++ more))))
 
--- a replace on a copy in two parts: the first part's where it has the index, beside the second part as it was, else the second part's
--- behind the first as it was
+-- a replace on a copy in two parts: the first part's if it has the index, beside the second part as it was, else the second part's after
+-- the first as it was
 abbrev pub replaced_in_two : {X : Type 0} → List X → List X → Result (List X) Fault → Result (List X) Fault → Result (List X) Fault
 replaced_in_two xs ys (Ok changed) second = Ok (changed ++ ys)
 replaced_in_two xs ys (Err f) second = after xs second

@@ -1,5 +1,5 @@
--- What the owner of some places of a permute's result is sent: the pairs of a destination and an element whose destination it owns, in the
--- order of the senders. And what is found wrong there and where the index stands, of which the fault at the least place is the permute's.
+-- What the owner of some places of a permute's result is sent: the pairs of a destination that it owns and an element, in the order of the
+-- senders; and what is found wrong there and where the index stands. The permute's fault is the one at the least place.
 -- Source: CVL's permute, d[i[k]] = s[k], between processors that own ranges of the result; the owners are this library's.
 use Rattle.std.specs.Prelude.{◌≡◌, ℕ, ◌<◌, ℤ, pos, Bool, true, ◌&&◌, nat_lt, if◌then◌else◌, List, map, Option, Some, None, unwrap_or}
 use Rattle.std.specs.List.{filter, fold, list_any, zip}
@@ -31,12 +31,12 @@ HaveOwners owners m = (d : ℕ) → d < m → list_any (λ owns. owns (Some (pos
 
 -- ---- the first fault
 
--- what a sender finds wrong with its destination, where the result has m places
+-- what a sender finds wrong with its destination, if the result has m places
 abbrev pub found_by_sender : ℕ → Option ℤ → Option FaultNo
 found_by_sender m None = None
 found_by_sender m (Some i) = if is_place m i then None else Some IndexOutOfRange
 
--- what an owner finds wrong with a destination that it is sent behind these: that it has been sent it before
+-- what an owner finds wrong with a destination that it is sent after these: that it has been sent it before
 abbrev pub found_by_owner : (Option ℤ → Bool) → List (Option ℤ) → Option ℤ → Option FaultNo
 found_by_owner owns earlier None = None
 found_by_owner owns earlier (Some i) =
@@ -49,7 +49,7 @@ first_of_senders m destinations = first_fault 0 (map (found_by_sender m) destina
 abbrev pub first_of_owner : List (Option ℤ) → (Option ℤ → Bool) → Option Fault
 first_of_owner destinations owns = first_fault 0 (map (λ p. found_by_owner owns p.0 p.1) (zip (fronts destinations) destinations))
 
--- of two faults the one at the lesser place, the first of two at one place
+-- the fault at the lesser place of two, the first of two at one place
 abbrev pub earlier_fault : Option Fault → Option Fault → Option Fault
 earlier_fault None g = g
 earlier_fault (Some f) None = Some f

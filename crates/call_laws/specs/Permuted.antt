@@ -1,4 +1,4 @@
--- What it means to be a permute of a source, told place by place.
+-- What it means to be a permute of a source, place by place.
 -- Source: CVL's permute, d[i[k]] = s[k], and back permute, d[k] = s[i[k]].
 use Rattle.std.specs.Prelude.{◌≡◌, ◌≢◌, ℕ, ◌<◌, ℤ, pos, Bool, true, IsTrue, List, length, slice_get, Option, Some}
 use Rattle.cvl_base.specs.Extracts.{element_at}
@@ -13,7 +13,7 @@ pub record IsSimplePermute {X : Type 0} (source : List X) (index : List ℤ) (re
   pub once : (j k : ℕ) (i : ℤ) → slice_get index j ≡ Some i → slice_get index k ≡ Some i → j ≡ k
   pub sent : (k d : ℕ) → slice_get index k ≡ Some (pos d) → slice_get result d ≡ slice_get source k
 
--- the same for the places alone whose flag is true, which are as many as the result has places
+-- the same for only the places whose flag is true, which are as many as the result has places
 pub record IsSelectPermute {X : Type 0} (source : List X) (index : List ℤ) (flags : List Bool) (result : List X) : Type 0 where
   pub one_index_each : length source ≡ length index
   pub one_flag_each : length index ≡ length flags
@@ -25,7 +25,7 @@ pub record IsSelectPermute {X : Type 0} (source : List X) (index : List ℤ) (fl
   pub sent : (k d : ℕ) → slice_get flags k ≡ Some true → slice_get index k ≡ Some (pos d)
       → slice_get result d ≡ slice_get source k
 
--- each element goes to its index, and a place to which none goes keeps its default
+-- each element goes to its index, and a place that gets none keeps its default
 pub record IsDefaultPermute {X : Type 0} (source : List X) (index : List ℤ) (defaults result : List X) : Type 0 where
   pub one_index_each : length source ≡ length index
   pub as_long : length result ≡ length defaults
@@ -53,7 +53,7 @@ AreWithin m index k = (j : ℕ) (i : ℤ) → j < k → slice_get index j ≡ So
 abbrev pub AreOnce : List ℤ → ℕ → Type 0
 AreOnce index k = (h j : ℕ) (i : ℤ) → h < j → j < k → slice_get index h ≡ Some i → slice_get index j ≢ Some i
 
--- the same of those indices alone whose flag is true
+-- the same for only those indices whose flag is true
 abbrev pub AreWithinFlagged : ℕ → List ℤ → List Bool → ℕ → Type 0
 AreWithinFlagged m index flags k =
     (j : ℕ) (i : ℤ) → j < k → slice_get flags j ≡ Some true → slice_get index j ≡ Some i → IsTrue (is_place m i)

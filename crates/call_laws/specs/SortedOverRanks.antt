@@ -1,6 +1,6 @@
 -- The sort of a vector whose keys lie on ranks, each with its place in the whole. Each rank sorts its own, and all cut what they sorted at
--- the same splitters; what stands between two of these goes to one rank, in the order of the senders, and that rank sorts it. A splitter
--- is a key with a place, so that equal keys are cut too.
+-- the same splitters; what lies between two of these goes to one rank, in the order of the senders, and that rank sorts it. A splitter is a
+-- key with a place, so that equal keys are cut too.
 -- Source: Blelloch, Leiserson, Maggs, Plaxton, Smith and Zagha, A Comparison of Sorting Algorithms for the Connection Machine CM-2, 1991,
 -- sample sort; Cheng, Shah, Gilbert and Edelman, A Novel Parallel Sorting Algorithm for Contemporary Architectures, 2007, splitters that
 -- cut exactly.
@@ -32,7 +32,7 @@ abbrev pub cut_at : List (ℕ × ℤ) → List (ℕ × ℤ) → List (List (ℕ 
 cut_at [] sorted = sorted ∷ []
 cut_at (splitter ∷ others) sorted = up_to splitter sorted ∷ cut_at others (from_on splitter sorted)
 
--- what each rank has in the end, where these are the sorted keys of each
+-- what each rank has in the end, if these are the sorted keys of each
 abbrev pub exchanged_at : List (ℕ × ℤ) → List (List (ℕ × ℤ)) → List (List (ℕ × ℤ))
 exchanged_at [] pieces = stably_sorted has_lesser_key (joined pieces) ∷ []
 exchanged_at (splitter ∷ others) pieces =
@@ -50,7 +50,7 @@ lesser_keys k keys = count_by (λ key. int_lt key k) keys
 abbrev pub equal_keys : ℤ → List ℤ → ℕ
 equal_keys k keys = count_by (λ key. int_eq key k) keys
 
--- how many of a rank's own keys go before a splitter with the key k, before which n of the whole go: the lesser ones, and of the equal
--- ones what the ranks before leave
+-- how many of a rank's own keys go before a splitter with the key k, before which n of the whole go: the lesser ones, and the equal ones
+-- that the ranks before leave
 abbrev pub cut_in_rank_order : ℤ → ℕ → List ℤ → List ℤ → List ℤ → ℕ
 cut_in_rank_order k n whole before own = lesser_keys k own + min (equal_keys k own) (n - lesser_keys k whole - equal_keys k before)

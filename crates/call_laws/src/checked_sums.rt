@@ -16,8 +16,8 @@ ghost use Rattle.cvl_base.specs.Folds.{fold_of};
 ghost use Rattle.cvl_base.specs.ItemWords.{is_number};
 ghost use Rattle.part_calls.specs.Sums.{all_fitting, checked_scan_after};
 
-/// A checked scan in two parts: the second goes on from what the first adds up to, which need not fit 32 bits. A checked reduce
-/// adds the parts' sums up and then looks whether the whole fits.
+/// A checked scan in two parts: the second continues from the sum of the first, which need not fit 32 bits. A checked reduce adds
+/// the parts' sums and then checks whether the whole fits.
 pub fn checked_sums_in_parts()
     ensures scan { (carry : ℤ) (xs ys : List ℤ) →
         checked_scan_after carry (xs ++ ys) ≡ in_two (length xs) (checked_scan_after carry xs)
@@ -27,9 +27,9 @@ pub fn checked_sums_in_parts()
         checked_reduce_of (xs ++ ys) ≡ ok_or (fitting (total_of xs +ℤ total_of ys)) (fault_at no.Overflow 0) }
 {}
 
-/// Checked scans and reduces by segments in two parts. Where the cut lies inside a segment, the second part goes on from the
-/// last of the first part's reduces over whole numbers; behind a cut between segments it starts anew. The fault of a reduce
-/// stands at its segment.
+/// Checked scans and reduces by segments in two parts. If the cut lies inside a segment, the second part continues from the last
+/// of the first part's reduces over whole numbers; after a cut between segments it starts anew. The fault of a reduce has the
+/// segment's number.
 pub fn checked_segments_in_parts()
     ensures scan { (carry out : ℤ) (xs ys closed : List ℤ) (lengths more : List ℕ) (m n : ℕ) →
         sum lengths + m ≡ length xs → n + sum more ≡ length ys →
@@ -55,7 +55,7 @@ pub fn checked_segments_in_parts()
         → checked_seg_reduce_after (pos 0) xs lengths ≡ checked_seg_reduce_of xs lengths }
 {}
 
-/// 64 bits hold what up to 4,294,967,296 numbers of 32 bits add up to.
+/// 64 bits hold the sum of up to 4,294,967,296 numbers of 32 bits.
 pub fn carry_fits()
     ensures { (xs : List ℤ) → length xs ≤ 2 ^ 32 → AllPass is_number xs → FitsSigned w64 (total_of xs) }
 {}

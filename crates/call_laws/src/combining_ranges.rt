@@ -6,8 +6,8 @@ ghost use Rattle.combining_permutes.specs.CombiningPermutes.{combined, place_cou
 ghost use Rattle.part_calls.specs.CombineRanges.{named_between};
 ghost use Rattle.permute_walks.specs.Indices.{first_outside};
 
-/// What is joined at the places of a range is what is joined in its parts, one after another, and so are counts. As many indices
-/// name a place of the range as name one of its parts. All indices name one of all places exactly if none is out of range.
+/// What is joined at the places of a range is what is joined in its parts, in order, and so are counts. As many indices name a
+/// place of the range as name one of its parts. All indices name one of all places exactly if none is out of range.
 pub fn combining_by_ranges<T>()
     ensures joined { (join : T → T → T) (sends : List (ℤ × T)) (low : ℕ) (front back : List T) →
         combined join sends low (front ++ back)

@@ -14,9 +14,9 @@ ghost use Rattle.cvl_base.specs.SegmentedCalls.{seg_reduce_of, seg_scan_of};
 
 use cvl_base::monoid::Monoid;
 
-/// A segmented call whose segments are cut in two lists of them is the call on the first ones and the call on the others. The
-/// place of a fault of the others is moved by the length of the first segments, or by their number where a call takes one
-/// index for each segment.
+/// A segmented call whose segments are cut into two lists is the call on the first ones and the call on the others. The place of
+/// a fault of the others moves by the length of the first segments, or by their number if a call takes one index for each
+/// segment.
 pub fn segmented_in_parts<S, T>()
     ensures values { (call : S → Result T Fault) (first others : List S) (lengths more : List ℕ) → length first ≡ length lengths →
         one_each (in_vector (lengths ++ more)) call (Ok (first ++ others))
@@ -33,8 +33,8 @@ pub fn segmented_in_parts<S, T>()
         ≡ in_two (length first) (end_to_end at_segment call (Ok first)) (end_to_end at_segment call (Ok others)) }
 {}
 
-/// The same of a segmented call on one vector, as a scan, a reduce or a count, where the first lengths are those of the first
-/// part and the others those of the second.
+/// The same for a segmented call on one vector, as a scan, a reduce or a count; the first lengths are those of the first part and
+/// the others those of the second.
 pub fn segmented_vector_in_parts<S, T>()
     ensures values { (call : List S → Result T Fault) (xs ys : List S) (lengths more : List ℕ) → sum lengths ≡ length xs
         → sum more ≡ length ys →
@@ -48,8 +48,8 @@ pub fn segmented_vector_in_parts<S, T>()
         (end_to_end (in_vector more) call (nest more ys)) }
 {}
 
-/// A segmented call that gives lists may be cut inside a segment too, where the flat call on it is that on two parts, of which m
-/// places are in the first: so are segmented back permutes, packs, distributes and indexes.
+/// A segmented call that gives lists may be cut inside a segment too, if the flat call on it is that on two parts, with m places
+/// in the first: so are segmented back permutes, packs, distributes and indexes.
 pub fn cut_segment_in_parts<S, T>()
     ensures { (call : S → Result (List T) Fault) (first : List S) (whole front back : S) (others : List S) (lengths more : List ℕ)
         (m n : ℕ) →
@@ -60,8 +60,8 @@ pub fn cut_segment_in_parts<S, T>()
 {}
 
 /// A segmented scan in two parts. A cut inside a segment leaves m of its elements to the first part and n to the second, either
-/// of which may be none; the second part then goes on from the last reduce of the first. Behind a cut between segments, which
-/// has a segment before it, the second part starts anew. A scan that goes on from the unit is the call's.
+/// of which may be none; the second part then continues from the last reduce of the first. After a cut between segments, with a
+/// segment before it, the second part starts anew. A scan that continues from the unit is the call's.
 pub fn segmented_scan_in_parts<M: Monoid>()
     ensures inside { (carry out : M.Item) (xs ys closed : List M.Item) (lengths more : List ℕ) (m n : ℕ) →
         sum lengths + m ≡ length xs → n + sum more ≡ length ys →
@@ -77,8 +77,8 @@ pub fn segmented_scan_in_parts<M: Monoid>()
         seg_scan_after M.join M.unit M.unit xs lengths ≡ seg_scan_of M.join M.unit xs lengths }
 {}
 
-/// A segmented reduce in two parts. Where the cut lies inside a segment, that segment's reduce is the second part's first one,
-/// which goes on from the last reduce of the first part; the reduces before that one are the first part's own.
+/// A segmented reduce in two parts. If the cut lies inside a segment, that segment's reduce is the second part's first one, which
+/// continues from the last reduce of the first part; the reduces before that one are the first part's own.
 pub fn segmented_reduce_in_parts<M: Monoid>()
     ensures inside { (carry out : M.Item) (xs ys closed : List M.Item) (lengths more : List ℕ) (m n : ℕ) →
         sum lengths + m ≡ length xs → n + sum more ≡ length ys →
@@ -94,8 +94,8 @@ pub fn segmented_reduce_in_parts<M: Monoid>()
 {}
 
 /// The carry out of a part is the carry into it joined with the part's own pair, by the monoid of segments: whether a segment
-/// starts in the part behind its first, which may go on, and the part's last reduce by itself. So the carries into all parts are
-/// the scan of their pairs.
+/// starts in the part after its first, which may continue, and the part's last reduce by itself. So the carries into all parts
+/// are the scan of their pairs.
 pub fn know_carries<M: Monoid>()
     ensures { (started : Bool) (carry last : M.Item) (xs closed : List M.Item) (n : ℕ) (lengths : List ℕ) →
         IsTrue (M.is_item carry) → AllPass M.is_item xs →

@@ -6,8 +6,8 @@ ghost use Rattle.call_laws.specs.InParts.{in_two};
 ghost use Rattle.cvl_base.specs.SegmentedCalls.{seg_back_of, seg_default_of, seg_distribute_within, seg_extract_of};
 ghost use Rattle.cvl_base.specs.SegmentedCalls.{seg_index_within, seg_pack_of, seg_replace_of, seg_select_of, seg_simple_of};
 
-/// A segmented permute or pack whose vectors are all cut between the same two segments is that of the first segments and that
-/// of the others. The place of a fault of the others is moved by the length of the first part of the index.
+/// A segmented permute or pack whose vectors are all cut between the same two segments is that of the first segments and that of
+/// the others. The place of a fault of the others moves by the length of the first part of the index.
 pub fn segmented_permutes_in_parts<T>()
     ensures simple { (source more : List T) (index others : List ℤ) (lengths later : List ℕ) →
         sum lengths ≡ length source → sum lengths ≡ length index → sum later ≡ length more → sum later ≡ length others →
@@ -40,8 +40,8 @@ pub fn segmented_permutes_in_parts<T>()
         ≡ in_two (sum lengths) (seg_pack_of xs flags lengths) (seg_pack_of more more_flags later) }
 {}
 
-/// The same of segmented calls that take one value or index for each segment, which are cut where the lengths are. The place of
-/// a fault of an extract or a replace is moved by the number of the first segments.
+/// The same for segmented calls that take one value or index for each segment, which are cut where the lengths are. The place of
+/// a fault of an extract or a replace moves by the number of the first segments.
 pub fn segmented_values_in_parts<T>()
     ensures distribute { (most : ℕ) (lengths later : List ℕ) (values more : List T) → length values ≡ length lengths
         → length more ≡ length later →

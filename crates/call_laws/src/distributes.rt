@@ -9,8 +9,8 @@ ghost use Rattle.cvl_base.specs.Distributes.{distribute_within, index_within, le
 ghost use Rattle.cvl_base.specs.Faults.{fault};
 ghost use Rattle.cvl_base.specs.Integers.{wrap};
 
-/// Whatever the limit: a count up to it gives a vector of that length, copies of a value, or the numbers that go by steps of a
-/// stride. A greater count is `TooLong` and a negative one `NegativeLength`, without a place.
+/// Whatever the limit: a count up to it gives a vector of that length, copies of a value, or the numbers in steps of a stride. A
+/// greater count is `TooLong` and a negative one `NegativeLength`, without a place.
 pub fn count_law<T>()
     ensures copies { (most : ℕ) (value : T) (n : ℕ) → n ≤ most → distribute_within most value (pos n) ≡ Ok (replicate n value) }
     ensures steps { (most : ℕ) (init stride : ℤ) (n : ℕ) → n ≤ most →

@@ -12,7 +12,7 @@ ghost use Rattle.cvl_base.specs.Elementwise.{bools1_of, bools2_of, bools_from_in
 ghost use Rattle.cvl_base.specs.Elementwise.{ints_from_bools, values_from};
 ghost use Rattle.cvl_base.specs.Faults.{fault_at};
 
-/// Where every place has a value, the call gives these values; else its fault is that of the first place without one.
+/// If every place has a value, the call gives these values; else its fault is that of the first place without one.
 pub fn least_fault_law<T>()
     ensures values { (number : FaultNo) (place : ℕ) (values : List (Option T)) (results : List T) →
         (values_from number place values ≡ Ok results) ↔ (values ≡ map (λ result. Some result) results) }
@@ -21,8 +21,8 @@ pub fn least_fault_law<T>()
         ≡ Err (fault_at number (place + length results)) }
 {}
 
-/// Calls place by place on vectors that are cut in two, each of them at the same place, are the calls on the two parts: the
-/// fault is that of the first part, else that of the second, its place moved by the first part's length.
+/// Calls place by place on vectors that are all cut in two at the same place are the calls on the two parts: the fault is that of
+/// the first part, else that of the second, its place moved by the first part's length.
 pub fn elementwise_in_parts<T>()
     ensures numbers { (operator : IntBinary) (xs ys more others : List ℤ) → length xs ≡ length ys → length more ≡ length others →
         ints2_of operator (xs ++ more) (ys ++ others)

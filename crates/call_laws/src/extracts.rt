@@ -10,7 +10,7 @@ ghost use Rattle.cvl_base.specs.Faults.{fault_at};
 ghost use Rattle.cvl_base.specs.Integers.{wrap};
 ghost use Rattle.cvl_base.specs.Limits.{most_elements};
 
-/// An extract gives the element at the index, and has one exactly where the index is a place of the vector.
+/// An extract gives the element at the index, and has one exactly if the index is a place of the vector.
 pub fn extract_law<T>()
     ensures meaning { (xs : List T) (k : ℕ) (x : T) → (extract_of xs (pos k) ≡ Ok x) ↔ (slice_get xs k ≡ Some x) }
     ensures exists { (xs : List T) (k : ℕ) → k < length xs → IsOk (extract_of xs (pos k)) }
@@ -18,8 +18,8 @@ pub fn extract_law<T>()
     ensures negative { (xs : List T) (k : ℕ) → extract_of xs (negsuc k) ≡ Err (fault_at no.IndexOutOfRange 0) }
 {}
 
-/// A replace gives the one vector of the same length that has the value at the index and the old element at each other
-/// place, and has one exactly where the index is a place of the vector. An extract at the index then gives the value.
+/// A replace gives the one vector of the same length that has the value at the index and the old element at each other place, and
+/// has one exactly if the index is a place of the vector. An extract at the index then gives the value.
 pub fn replace_law<T>()
     ensures meaning { (xs : List T) (k : ℕ) (x : T) (result : List T) →
         (replace_of xs (pos k) x ≡ Ok result)
@@ -33,8 +33,8 @@ pub fn replace_law<T>()
         extract_of result index ≡ Ok x }
 {}
 
-/// A replace on a copy that is cut in two is the replace on the part that has the index, beside the other part as it was. In the
-/// second part the index is less by the first part's length. The fault, 10 at 0, comes exactly where neither part has the index.
+/// A replace on a copy cut in two is the replace on the part that has the index, beside the other part as it was. In the second
+/// part the index is less by the first part's length. The fault, 10 at 0, comes exactly if neither part has the index.
 pub fn replace_in_parts<T>()
     ensures copy { (xs ys : List T) (index : ℤ) (x : T) →
         replace_of (xs ++ ys) index x

@@ -5,9 +5,8 @@ ghost use Rattle.cvl_base.specs.declared.fault.FaultNo.TheVariants as no;
 ghost use Rattle.cvl_base.specs.Faults.{fault};
 ghost use Rattle.cvl_base.specs.Nests.{IsNest, nest};
 
-/// A nest is the one list of lists with the given lengths whose concatenation is the given list. It exists exactly
-/// where the lengths add up to the length of the list; else there is no such list of lists, and the fault is
-/// LengthMismatch.
+/// A nest is the one list of lists with the given lengths whose concatenation is the given list. It exists exactly if the lengths
+/// add up to the length of the list; else there is no such list of lists, and the fault is `LengthMismatch`.
 pub fn nest_law<T>()
     ensures meaning { (lengths : List ℕ) (xs : List T) (lists : List (List T))
         → (nest lengths xs ≡ Ok lists) ↔ IsNest lengths xs lists }

@@ -8,9 +8,9 @@ ghost use Rattle.cvl_base.specs.SegmentedCalls.{seg_reduce_of, seg_scan_of};
 
 use cvl_base::monoid::Monoid;
 
-/// Segmented scans and reduces over ranks, where no segment is open before the first of them. Each rank scans its part after
-/// what is open behind the ranks before it, and reduces the segments that start in its part, the last one joined with what goes
-/// on from it in the ranks behind: one after another, these are the plain call's results on the whole vector.
+/// Segmented scans and reduces over ranks, if no segment is open before the first of them. Each rank scans its part after what is
+/// open at the end of the ranks before it, and reduces the segments that start in its part, the last one joined with what
+/// continues it in later ranks: in order, these are the plain call's results on the whole vector.
 pub fn segments_over_ranks<M: Monoid>()
     ensures scan { (parts : List (List M.Item × List (List M.Item))) → (together parts).0 ≡ [] →
         seg_scan_of M.join M.unit (elements_of parts) (map length (together parts).1)

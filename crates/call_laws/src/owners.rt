@@ -7,7 +7,7 @@ ghost use Rattle.combining_permutes.specs.CombiningPermutes.{names, sent_there};
 ghost use Rattle.cvl_base.specs.Permutes.{first_fault, is_destination, sent_to, wrongs};
 
 /// The owner of a place finds in what it is sent, in the order of senders, the element that the whole permute sends to the place,
-/// and it finds an index repeated exactly where the whole has it at an earlier place.
+/// and it finds a repeated index exactly if the whole has it at an earlier place.
 pub fn permute_by_owners<T>()
     ensures sent { (owns : Option ℤ → Bool) (source : List T) (destinations : List (Option ℤ)) (d : ℕ) → HasPlace owns (pos d) →
         option_map (λ p. p.1) (find (λ p. is_destination (pos d) p.0) (owned_pairs owns source destinations))
@@ -16,8 +16,8 @@ pub fn permute_by_owners<T>()
         list_any (is_destination d) (owned_destinations owns earlier) ≡ list_any (is_destination d) earlier }
 {}
 
-/// The fault of a permute is, of what senders find out of range and owners find repeated, the one at the least place, if each
-/// place of the result has an owner; there is none where none of them finds any.
+/// The fault of a permute is the one at the least place, of those that senders find out of range and owners find repeated, if
+/// each place of the result has an owner; there is none if none of them finds any.
 pub fn fault_by_owners()
     ensures { (owners : List (Option ℤ → Bool)) (m : ℕ) (destinations : List (Option ℤ)) → HaveOwners owners m →
         first_fault 0 (wrongs m destinations) ≡ agreed_fault owners m destinations }

@@ -7,8 +7,8 @@ ghost use Rattle.cvl_base.specs.Faults.{fault};
 ghost use Rattle.cvl_base.specs.Packs.{count_of, pack_of};
 ghost use Rattle.cvl_base.specs.SegmentedCalls.{seg_count_of};
 
-/// A pack is the filter by the flags: by a test's flags it keeps what passes the test, in order; of one element more it
-/// keeps that one too, last, if its flag is true; and it keeps as many elements as there are true flags.
+/// A pack is the filter by the flags: by a test's flags it keeps what passes the test, in order; of one element more it keeps
+/// that one too, last, if its flag is true; and it keeps as many elements as there are true flags.
 pub fn pack_law<T>()
     ensures filter { (xs : List T) (test : T → Bool) → pack_of xs (map test xs) ≡ Ok (filter test xs) }
     ensures nothing { pack_of {X = T} [] [] ≡ Ok [] }
@@ -20,8 +20,8 @@ pub fn pack_law<T>()
         pack_of xs flags ≡ Err (fault no.LengthMismatch) }
 {}
 
-/// A pack in two parts is the packs of the parts, and a count their counts added. So it is with the counts of segments, which
-/// are the packed lengths, where the cut lies inside a segment: its two counts are added.
+/// A pack in two parts is the packs of the parts, and a count the sum of their counts. If the cut lies inside a segment, so are
+/// the counts of segments, which are the packed lengths: its two counts are added.
 pub fn pack_in_parts<T>()
     ensures pack { (xs ys : List T) (flags more : List Bool) → length xs ≡ length flags → length ys ≡ length more →
         pack_of (xs ++ ys) (flags ++ more) ≡ in_two (length xs) (pack_of xs flags) (pack_of ys more) }

@@ -8,9 +8,9 @@ ghost use Rattle.call_laws.specs.Permuted.{AreOnce, AreOnceFlagged, AreWithin, A
 ghost use Rattle.call_laws.specs.Permuted.{IsGoodBefore, IsSelectPermute, IsSimplePermute};
 ghost use Rattle.cvl_base.specs.Permutes.{back_of, default_of, first_fault, is_place, select_of, simple_of, wrongs};
 
-/// A simple permute gives the one vector in which element k of the source stands at the index of k, and gives it exactly
-/// where the indices are the places of the source, each once. So each place of the result is the index of some place,
-/// and a back permute of the result by the same index gives the source again.
+/// A simple permute gives the one vector in which element k of the source stands at the index of k, and gives it exactly if the
+/// indices are the places of the source, each once. So each place of the result is the index of some place, and a back permute of
+/// the result by the same index gives the source again.
 pub fn simple_permute_law<T>()
     ensures meaning { (source : List T) (index : List ℤ) (result : List T) →
         (simple_of source index ≡ Ok result) ↔ IsSimplePermute source index result }
@@ -26,21 +26,21 @@ pub fn back_permute_law<T>()
         (back_of source index ≡ Ok result) ↔ IsBackPermute source index result }
 {}
 
-/// A select permute gives the one vector, as long as there are true flags, in which the elements whose flag is true stand
-/// at their indices, and gives it exactly where these indices are its places, each once.
+/// A select permute gives the one vector, as long as there are true flags, in which the elements whose flag is true stand at
+/// their indices, and gives it exactly if these indices are its places, each once.
 pub fn select_permute_law<T>()
     ensures { (source : List T) (index : List ℤ) (flags : List Bool) (result : List T) →
         (select_of source index flags ≡ Ok result) ↔ IsSelectPermute source index flags result }
 {}
 
-/// A default permute gives the one vector, as long as the defaults, in which each element stands at its index, and the
-/// default where no index points, and gives it exactly where the indices are places of the defaults, none of them twice.
+/// A default permute gives the one vector, as long as the defaults, in which each element stands at its index, and the default
+/// where no index points; it gives it exactly if the indices are places of the defaults, none of them twice.
 pub fn default_permute_law<T>()
     ensures { (source : List T) (index : List ℤ) (defaults result : List T) →
         (default_of source index defaults ≡ Ok result) ↔ IsDefaultPermute source index defaults result }
 {}
 
-/// The fault of simple, select and default permutes is that of the first bad place: one whose destination lies outside of the
+/// The fault of simple, select and default permutes is that of the first bad place: one whose destination lies outside the
 /// result, or else is that of an earlier place.
 pub fn first_bad_place_law()
     ensures none { (m : ℕ) (destinations : List (Option ℤ)) → IsGoodBefore m destinations (length destinations) →
@@ -53,9 +53,9 @@ pub fn first_bad_place_law()
         first_fault 0 (wrongs m destinations) ≡ Some (fault_at no.IndexRepeated k) }
 {}
 
-/// The faults of a simple permute. With another number of indices than elements it is `LengthMismatch`. Else, where the
-/// indices before place k are places of the result and no two are the same, an index at k that is no place of the result
-/// is `IndexOutOfRange` at k, and one that stands at an earlier place too is `IndexRepeated` at k.
+/// The faults of a simple permute. If there are not as many indices as elements, it is `LengthMismatch`. Else, if the indices
+/// before place k are places of the result and no two are the same, an index at k that is no place of the result is
+/// `IndexOutOfRange` at k, and one that an earlier place has too is `IndexRepeated` at k.
 pub fn simple_fault_law<T>()
     ensures mismatch { (source : List T) (index : List ℤ) → length source ≢ length index →
         simple_of source index ≡ Err (fault no.LengthMismatch) }
@@ -69,10 +69,10 @@ pub fn simple_fault_law<T>()
         simple_of source index ≡ Err (fault_at no.IndexRepeated k) }
 {}
 
-/// The faults of a select permute. With another number of indices than elements or of flags than indices it is
-/// `LengthMismatch`. Else only the places whose flag is true count: where their indices before place k are places of the
-/// result and no two are the same, an index at k that is no place of the result is `IndexOutOfRange` at k, and one that
-/// stands at an earlier of these places too is `IndexRepeated` at k.
+/// The faults of a select permute. If there are not as many indices as elements, or flags as indices, it is `LengthMismatch`.
+/// Else only the places whose flag is true count: if their indices before place k are places of the result and no two are the
+/// same, an index at k that is no place of the result is `IndexOutOfRange` at k, and one that an earlier of these places has too
+/// is `IndexRepeated` at k.
 pub fn select_fault_law<T>()
     ensures index_mismatch { (source : List T) (index : List ℤ) (flags : List Bool) → length source ≢ length index →
         select_of source index flags ≡ Err (fault no.LengthMismatch) }

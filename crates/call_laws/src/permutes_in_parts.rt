@@ -7,13 +7,13 @@ ghost use Rattle.cvl_base.specs.Packs.{count_of};
 ghost use Rattle.cvl_base.specs.Permutes.{all_destinations, back_of, default_of, flagged_destinations, select_of, simple_of};
 ghost use Rattle.part_calls.specs.Ranges.{count_of_range, room_of_range};
 
-/// A back permute by an index that is cut in two is the back permutes by the two parts, each from the whole source.
+/// A back permute by an index cut in two is the back permutes by the two parts, each from the whole source.
 pub fn back_permute_in_parts<T>()
     ensures { (source : List T) (index more : List ℤ) →
         back_of source (index ++ more) ≡ in_two (length index) (back_of source index) (back_of source more) }
 {}
 
-/// A range of a permute's result that is cut in two is written as the two ranges are, and its count is theirs added.
+/// A range of a permute's result cut in two is written as the two ranges are, and its count is the sum of theirs.
 pub fn range_in_parts<T>()
     ensures written { (source : List T) (destinations : List (Option ℤ)) (low : ℕ) (room more : List T) →
         room_of_range source destinations low (room ++ more)
@@ -22,8 +22,8 @@ pub fn range_in_parts<T>()
         count_of_range destinations low (n + m) ≡ count_of_range destinations low n + count_of_range destinations (low + n) m }
 {}
 
-/// A simple permute by ranges of its result: it has one exactly where as many places are sent something as there are indices,
-/// and that is then what was written, over any room of its length.
+/// A simple permute by ranges of its result: it has one exactly if as many places get an element as there are indices, and that
+/// is then what was written, over any room of its length.
 pub fn simple_permute_by_ranges<T>()
     ensures written { (source room : List T) (index : List ℤ) → length source ≡ length index → length index ≤ most_places →
         length room ≡ length index → count_of_range (all_destinations index) 0 (length room) ≡ length index →
@@ -34,7 +34,7 @@ pub fn simple_permute_by_ranges<T>()
         count_of_range (all_destinations index) 0 (length room) ≡ length index }
 {}
 
-/// The same of a select permute, in which as many indices take part as there are true flags.
+/// The same for a select permute, in which as many indices take part as there are true flags.
 pub fn select_permute_by_ranges<T>()
     ensures written { (source room : List T) (index : List ℤ) (flags : List Bool) → length source ≡ length index
         → length index ≤ most_places →
@@ -47,7 +47,7 @@ pub fn select_permute_by_ranges<T>()
         count_of_range (flagged_destinations index flags) 0 (length room) ≡ count_of flags }
 {}
 
-/// The same of a default permute, whose room holds the defaults.
+/// The same for a default permute, whose room holds the defaults.
 pub fn default_permute_by_ranges<T>()
     ensures written { (source defaults : List T) (index : List ℤ) → length source ≡ length index → length index ≤ most_places →
         count_of_range (all_destinations index) 0 (length defaults) ≡ length index →

@@ -1,4 +1,4 @@
-//! How scans and reduces hang together, as a function that takes and gives nothing and whose contract is the law.
+//! How scans and reduces relate, as a function that takes and gives nothing and whose contract is the law.
 
 ghost use Rattle.std.specs.Prelude.{◌≡◌, List, [], ◌∷◌, ◌++◌, length, map, slice_get};
 ghost use Rattle.std.specs.List.{All, AllPass};
@@ -15,8 +15,8 @@ pub fn know_reduces<M: Monoid>()
         fold_of M.join M.unit (xs ++ x ∷ []) ≡ M.join before x }
 {}
 
-/// A scan in parts: the scan of a vector is that of each of its parts after what stands before the part, one after another,
-/// and what stands before each part is the scan of the parts' reduces.
+/// A scan in parts: the scan of a vector is that of each of its parts after what stands before the part, in order, and what
+/// stands before each part is the scan of the parts' reduces.
 pub fn know_scans_in_parts<M: Monoid>()
     ensures { (parts : List (List M.Item)) → All (AllPass M.is_item) parts →
         scan_of M.join M.unit (joined parts)

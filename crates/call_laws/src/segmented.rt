@@ -19,8 +19,8 @@ ghost use Rattle.cvl_base.specs.SegmentedCalls.{seg_select_of, seg_simple_of};
 
 use cvl_base::monoid::Monoid;
 
-/// A segmented call has results exactly where the flat call has one on each segment, and they are these, one for each.
-/// Its fault is the flat fault of the first segment that has one, at its place in the whole.
+/// A segmented call has results exactly if the flat call has one on each segment, and they are these, one for each. Its fault is
+/// the flat fault of the first segment that has one, at its place in the whole.
 pub fn segmented_call_law<S, R>()
     ensures results { (place : ℕ → ℕ → ℕ) (call : S → Result R Fault) (segments : List S) (results : List R) →
         (one_each place call (Ok segments) ≡ Ok results) ↔ (map call segments ≡ map (λ r. Ok r) results) }
@@ -30,8 +30,8 @@ pub fn segmented_call_law<S, R>()
         one_each place call (Ok (good ++ bad ∷ others)) ≡ moved (place (length good)) (Err f) }
 {}
 
-/// The same of a call whose flat results are lists: they follow one after another, and the lengths of the flat results cut
-/// the whole into them again.
+/// The same for a call whose flat results are lists: they follow in order, and the lengths of the flat results cut the whole into
+/// them again.
 pub fn segmented_lists_law<S, T>()
     ensures results { (place : ℕ → ℕ → ℕ) (call : S → Result (List T) Fault) (segments : List S) (result : List T) →
         (end_to_end place call (Ok segments) ≡ Ok result)

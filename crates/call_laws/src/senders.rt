@@ -6,8 +6,8 @@ ghost use Rattle.cvl_base.specs.Permutes.{all_destinations, back_of, first_fault
 ghost use Rattle.first_senders.specs.FirstSenders.{first_sender, first_senders, wrong_in};
 ghost use Rattle.permute_walks.specs.Senders.{count_destinations, is_between};
 
-/// The first sender of a place has this place as its destination, and no place before it has; where there is none, no place has.
-/// So no two places have one sender.
+/// The first sender of a place has this place as its destination, and no place before it has; if there is none, no place has. So
+/// no two places have one sender.
 pub fn first_sender_law()
     ensures names { (destinations : List (Option ℤ)) (d k : ℕ) → first_sender destinations d ≡ pos k →
         slice_get destinations k ≡ Some (Some (pos d)) }
@@ -25,8 +25,8 @@ pub fn one_of_each_law()
         ≡ Ok (map (λ d. pos d) (named_places (all_destinations index) m)) }
 {}
 
-/// The first senders of a range are those of its parts, one after another, and as many places name one of the range as name one
-/// of its parts. As many as take part name one of all places exactly where none is at fault.
+/// The first senders of a range are those of its parts, in order, and as many places name one of the range as name one of its
+/// parts. As many as take part name one of all places exactly if none has a fault.
 pub fn first_senders_by_ranges()
     ensures ranges { (destinations : List (Option ℤ)) (low m n : ℕ) →
         first_senders destinations low (m + n) ≡ first_senders destinations low m ++ first_senders destinations (low + m) n }

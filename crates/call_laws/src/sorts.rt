@@ -7,8 +7,8 @@ ghost use Rattle.orders.specs.Orders.{by_key, sorted_of};
 ghost use Rattle.call_laws.specs.SortedOverRanks.{cut_at, cut_in_rank_order, goes_before, sorted_over_ranks, up_to};
 
 /// Each rank gets its range of the stable sort of the whole: what stands there between the same two splitters, whatever these
-/// are. So one after another the ranks have the sort. The place with its key that stands at n in the order is a splitter before
-/// which n keys go, so that each rank may get as many as it has room for.
+/// are. So in order the ranks have the sort. The place with its key that stands at n in the order is a splitter before which n
+/// keys go, so that each rank may get as many as it has room for.
 pub fn sorts_over_ranks()
     ensures ranges { (parts : List (List ℤ)) (splitters : List (ℕ × ℤ)) →
         sorted_over_ranks splitters parts ≡ cut_at splitters (by_key (joined parts)) }
@@ -19,8 +19,8 @@ pub fn sorts_over_ranks()
     ensures keys { (keys : List ℤ) → map (λ p. p.1) (by_key keys) ≡ sorted_of keys }
 {}
 
-/// A rank knows from counts where to cut: before the splitter that stands at n in the order go its lesser keys, and of those that
-/// equal the splitter's as many as are left of n behind all lesser ones and the equal ones of the ranks before.
+/// A rank knows from counts where to cut: before the splitter at n in the order go its lesser keys, and of those that equal the
+/// splitter's as many as are left of n after all lesser ones and the equal ones of the ranks before.
 pub fn equal_keys_in_rank_order()
     ensures { (before own behind : List ℤ) (n : ℕ) (splitter : ℕ × ℤ) → n < length (before ++ (own ++ behind)) →
         splitter ≡ slice_index_or (by_key (before ++ (own ++ behind))) n (0, pos 0) →

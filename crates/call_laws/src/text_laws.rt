@@ -8,9 +8,9 @@ ghost use Rattle.line_reader.specs.Tokens.{tokens_by};
 ghost use Rattle.cvl_base.specs.Limits.{most_elements};
 ghost use Rattle.value_texts.specs.Texts.{vector_text};
 
-/// An input that is cut at white space: its tokens are those of the two parts, and so are its numbers; the place of a bad
-/// token of the second part is moved by the number of tokens of the first. The text of a vector has the texts of its parts
-/// between brackets, and a blank between them.
+/// An input cut at white space: its tokens are those of the two parts, and so are its numbers; the place of a bad token of the
+/// second part moves by the number of tokens of the first. The text of a vector has the texts of its parts between brackets, and
+/// a blank between them.
 pub fn texts_in_parts<T>()
     ensures tokens { (first others : List ℕ) (byte : ℕ) → IsTrue (is_white_space byte) →
         tokens_by input_class (first ++ byte ∷ others) ≡ tokens_by input_class first ++ tokens_by input_class others }
