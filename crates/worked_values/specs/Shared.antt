@@ -7,7 +7,7 @@ use Rattle.sharing.specs.Shares.{first_of_two, share_of_first}
 abbrev pub by_workers : (ℕ → ℕ → ℕ) → ℕ → List ℕ
 by_workers threads items = map (λ workers. threads workers items) (1 ∷ 3 ∷ 4 ∷ 64 ∷ [])
 
--- what each of the threads has where forks cut them in two, so many in a row at most, until each stands alone
+-- what each of the threads has if forks cut them in two, at most so many in a row, until each stands alone
 abbrev pub forked : ℕ → ℕ → ℕ → List ℕ
 forked (suc times) (suc (suc more)) items =
     let threads = suc (suc more) in
@@ -16,7 +16,7 @@ forked (suc times) (suc (suc more)) items =
     forked times few front ++ forked times (threads - few) (items - front)
 forked times threads items = items ∷ []
 
--- what each has where one thread after another takes its share of what is left
+-- what each has if one thread after another takes its share of the rest
 abbrev pub in_turn : ℕ → ℕ → List ℕ
 in_turn (suc (suc others)) items =
     let front = share_of_first 1 (suc (suc others)) items in

@@ -22,7 +22,7 @@ lengths text = map (λ word. digits_value 10 word) (words text)
 abbrev pub bools : String → List Bool
 bools text = map (λ word. slice_index word 0 == 84) (words text)
 
--- the segments where no others are named
+-- the segments, unless others are named
 abbrev pub segments : List ℕ
 segments = lengths "2 0 3"
 

@@ -8,8 +8,8 @@ ghost use Rattle.cvl_base.specs.Limits.{most_places};
 ghost use Rattle.cvl_base.specs.SegmentedCalls.{seg_distribute_of, seg_index_of};
 ghost use Rattle.worked_values.specs.Written.{bools, ints, length_mismatch, lengths, segments};
 
-/// As many copies of a value as a count says, which may be as great as the limit and is else at fault without a place;
-/// by segments one value for each, the empty one too.
+/// As many copies of a value as a count says, which may be as great as the limit and else is a fault without a place; by segments
+/// one value for each, the empty one too.
 pub fn distribute()
     ensures integers { distribute_of (pos 7) (pos 3) ≡ Ok (ints "7 7 7") }
     ensures booleans { distribute_of true (pos 3) ≡ Ok (bools "T T T") }

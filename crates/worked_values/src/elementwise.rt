@@ -12,9 +12,8 @@ ghost use Rattle.cvl_base.specs.Elementwise.{ints_from_bools};
 ghost use Rattle.cvl_base.specs.Faults.{fault_at};
 ghost use Rattle.worked_values.specs.Written.{bools, ints, length_mismatch};
 
-/// An operator on two integer vectors: values wrap past either end, a quotient is truncated toward zero, and the
-/// least place with a divisor of 0 or a shift out of range is at fault, but vectors that aren't equally long are so
-/// before it.
+/// An operator on two integer vectors: values wrap past either end, a quotient is truncated toward zero, and the fault is the
+/// first place with a divisor of 0 or a shift out of range, but vectors of different lengths come before it.
 pub fn ints2()
     ensures sums { ints2_of (Monoid Add) (ints "3 1 2147483647") (ints "1 -2 1") ≡ Ok (ints "4 -1 -2147483648") }
     ensures differences { ints2_of Sub (ints "3 -2147483648") (ints "5 1") ≡ Ok (ints "-2 2147483647") }
@@ -67,7 +66,7 @@ pub fn ints1()
     ensures bits_of_the_ends_inverted { ints1_of Not (ints "-1 0 -2147483648") ≡ ints "0 -1 2147483647" }
 {}
 
-/// Each comparison of -1, 2 and 3 with 2, one of 5 and 0 with 1, and those of vectors that aren't equally long.
+/// Each comparison of -1, 2 and 3 with 2, one of 5 and 0 with 1, and those of vectors of different lengths.
 pub fn compare()
     ensures greater { compare_of Greater (ints "-1 2 3") (ints "2 2 2") ≡ Ok (bools "F F T") }
     ensures less { compare_of Less (ints "-1 2 3") (ints "2 2 2") ≡ Ok (bools "T F F") }
@@ -88,7 +87,7 @@ pub fn compare()
         ≡ Ok (bools "T F") }
 {}
 
-/// An operator on two boolean vectors, which are equally long: whether both are true, either, or only one.
+/// An operator on two boolean vectors of equal length: whether both are true, either, or only one.
 pub fn bools2()
     ensures both { bools2_of truth.And (bools "T F T") (bools "F T F") ≡ Ok (bools "F F F") }
     ensures either { bools2_of truth.Ior (bools "T T F") (bools "T F F") ≡ Ok (bools "T T F") }
@@ -104,7 +103,7 @@ pub fn bools1()
     ensures copied { bools1_of Copy (bools "T F T") ≡ bools "T F T" }
 {}
 
-/// The first vector's element where the flag is true and else the second's, of three vectors that are equally long.
+/// The first vector's element if the flag is true, else the second's, of three vectors of equal length.
 pub fn choose()
     ensures integers { choose_of (bools "T F T") (ints "1 2 3") (ints "4 5 6") ≡ Ok (ints "1 5 3") }
     ensures booleans { choose_of (bools "T F T F") (bools "T T F F") (bools "F F T T") ≡ Ok (bools "T F F T") }

@@ -1,11 +1,10 @@
-//! Worked values of the library's calls: small vectors, and what the definition of each call gives of them.
+//! Worked values of the library's calls: small vectors, and what the definition of each call gives for them.
 //!
-//! There is one function for each family of calls, for the scans and the reduces of integers a second one by segments,
-//! and for the permutes one for each form and one for the places that are wrong; nests have one of their own, and so has
-//! the form in which vectors are written. How many threads share a call, what each of them has, and which race there is stand
-//! beside them. It takes and gives nothing, and its contract is the list of values and faults.
-//! They are computed from the definitions alone, so a definition that is read wrongly is refused here, before any code
-//! stands on it.
+//! There is one function for each family of calls, for the scans and the reduces of integers a second one by segments, and for
+//! the permutes one for each form and one for the bad places; nests have their own, and so has the form in which vectors are
+//! written. Besides there is how many threads share a call, what each of them has, and which race there is. Each takes and gives
+//! nothing, and its contract is the list of values and faults. They are computed from the definitions alone, so a misread
+//! definition is refused here, before any code depends on it.
 #![tactic(auto, unfolding(core::specs::Int::int_wrap))]
 
 pub mod byte_values;

@@ -5,7 +5,7 @@ ghost use Rattle.digit_partitions.specs.Ends.{digit_ends};
 ghost use Rattle.digit_partitions.specs.Partitions.{digit_counts, partitioned};
 ghost use Rattle.worked_values.specs.Written.{lengths};
 
-/// Numbers with the same digit stay in their order. Those with a digit that is none of so many are left out, and so no digit of a
+/// Numbers with the same digit stay in their order. Those with a digit that is none of so many are left out, so no digit of a
 /// partition may be.
 pub fn partition()
     ensures stable { partitioned (λ n. n % 10) 10 (lengths "12 31 11 22 32 21") ≡ lengths "31 11 21 12 22 32" }

@@ -8,8 +8,8 @@ ghost use Rattle.cvl_base.specs.SegmentedCalls.{seg_back_of, seg_default_of, seg
 ghost use Rattle.worked_values.specs.OnSegments.{seg_back, seg_default, seg_select};
 ghost use Rattle.worked_values.specs.Written.{bools, ints, length_mismatch, lengths, out_of_range, repeated, segments};
 
-/// Each element is sent to its index, which counts from the start of its segment; an index that is used again is at
-/// fault where it comes again, and the least bad place of the vector counts.
+/// Each element is sent to its index, which counts from the start of its segment; an index that is used again is a fault where it
+/// comes again; the first bad place of the vector is reported.
 pub fn simple_permute()
     ensures integers_sent { simple_of (ints "10 20 30") (ints "2 0 1") ≡ Ok (ints "20 30 10") }
     ensures booleans_sent { simple_of (bools "T F F") (ints "2 0 1") ≡ Ok (bools "F F T") }
@@ -63,8 +63,8 @@ pub fn back_permute()
     ensures one_empty_segment_of_the_source_alone { seg_back_of {X = ℤ} [] [] (lengths "0") [] ≡ Err length_mismatch }
 {}
 
-/// An index whose flag is false isn't looked at, and the result, or each of its segments, has as many elements as there
-/// are true flags.
+/// An index whose flag is false isn't checked, and the result, or each of its segments, has as many elements as there are true
+/// flags.
 pub fn select_permute()
     ensures unselected_not_looked_at { select_of (ints "1 2 3 4") (ints "1 9 0 9") (bools "T F T F") ≡ Ok (ints "3 1") }
     ensures booleans_selected { select_of (bools "T F F F") (ints "1 9 0 9") (bools "T F T F") ≡ Ok (bools "F T") }
@@ -136,8 +136,8 @@ pub fn default_permute()
     ensures one_empty_segment_of_the_defaults_alone { seg_default_of {X = ℤ} [] [] [] [] (lengths "0") ≡ Err length_mismatch }
 {}
 
-/// What is wrong with each destination: one outside is outside also where it comes again, and a place that takes no part is
-/// never wrong and takes no destination.
+/// What is wrong with each destination: one outside is outside even if it comes again, and a place that takes no part is never
+/// wrong and takes no destination.
 pub fn bad_places()
     ensures outside_and_again { wrongs 2 (Some (pos 5) ∷ Some (pos 5) ∷ [])
         ≡ Some no.IndexOutOfRange ∷ Some no.IndexOutOfRange ∷ [] }

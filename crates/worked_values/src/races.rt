@@ -1,11 +1,11 @@
-//! Worked values of races: the tile and the workers of the race for so many elements, by the tile and the workers that are asked
+//! Worked values of races: the tile and the workers of the race for so many elements, from the tile and the workers that you ask
 //! for.
 
 ghost use Rattle.std.specs.Prelude.{◌≡◌, None, Some, false, true};
 ghost use Rattle.sharing.specs.Races.{permute_race, race_of, reduce_race, scan_race, search_race};
 
-/// In tiles of 1,024 elements or more there is a race where it pays, for two workers or more who have 131,072 elements each, in
-/// tiles that leave 16 to each of them, but no tile is shorter than is asked for, nor longer than 65,536.
+/// In tiles of 1,024 elements or more there is a race if it pays, for two workers or more who have 131,072 elements each, in
+/// tiles that leave 16 to each of them, but no tile is shorter than you ask for, nor longer than 65,536.
 pub fn long_tiles()
     ensures one_element { scan_race (1024, 4) 1 ≡ None }
     ensures below_two { scan_race (4096, 4) 262143 ≡ None }
@@ -26,7 +26,7 @@ pub fn long_tiles()
     ensures for_nothing { race_of false (4096, 4) 4194304 ≡ None }
 {}
 
-/// In shorter tiles there is the race that is asked for, however many elements there are.
+/// In shorter tiles there is the race that you ask for, however many elements there are.
 pub fn short_tiles()
     ensures nothing { scan_race (1023, 4) 0 ≡ None }
     ensures one_element { scan_race (1023, 4) 1 ≡ Some (1023, 4) }
@@ -36,7 +36,7 @@ pub fn short_tiles()
     ensures for_nothing { race_of false (1023, 4) 5 ≡ Some (1023, 4) }
 {}
 
-/// A reduce is raced for by its bytes, a search for a fault by its elements, and a permute in short tiles alone.
+/// A reduce is raced for by its bytes, a search for a fault by its elements, and a permute only in short tiles.
 pub fn other_calls()
     ensures few_bytes { reduce_race (4096, 4) 1048575 1048575 ≡ None }
     ensures bytes { reduce_race (4096, 4) 1048576 1048576 ≡ Some (16384, 4) }

@@ -7,8 +7,7 @@ ghost use Rattle.cvl_base.specs.Scans.{bool_reduce_of, int_reduce_of};
 ghost use Rattle.worked_values.specs.Segmented.{bool_seg_reduce_of, int_seg_reduce_of};
 ghost use Rattle.worked_values.specs.Written.{bools, ints, length_mismatch, lengths, segments};
 
-/// All integers in one: sums and products wrap, and the reduce of nothing is the operator's
-/// identity.
+/// All integers joined: sums and products wrap, and the reduce of nothing is the operator's identity.
 pub fn reduce()
     ensures sum { int_reduce_of Add (ints "3 1 7 0 4") ≡ pos 15 }
     ensures sum_wrapped { int_reduce_of Add (ints "2147483647 1 1") ≡ negsuc 2147483646 }

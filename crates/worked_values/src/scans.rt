@@ -8,8 +8,8 @@ ghost use Rattle.cvl_base.specs.Scans.{bool_scan_of, int_scan_of};
 ghost use Rattle.worked_values.specs.Segmented.{bool_seg_scan_of, int_seg_scan_of};
 ghost use Rattle.worked_values.specs.Written.{bools, ints, length_mismatch, lengths, segments};
 
-/// Of each integer those before it in one, without the integer itself: the first place has the operator's identity, and
-/// sums and products wrap.
+/// At each place the join of the integers before it, without its own: the first place has the operator's identity, and sums and
+/// products wrap.
 pub fn scan()
     ensures sums { int_scan_of Add (ints "3 1 7 0 4") ≡ ints "0 3 4 11 11" }
     ensures sums_wrapped { int_scan_of Add (ints "2147483647 1 1") ≡ ints "0 2147483647 -2147483648" }

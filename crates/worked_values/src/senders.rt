@@ -6,8 +6,8 @@ ghost use Rattle.first_senders.specs.FirstSenders.{first_senders_of, seg_first_s
 ghost use Rattle.first_senders.specs.FirstSenders.{select_first_senders_of};
 ghost use Rattle.worked_values.specs.Written.{bools, ints, length_mismatch, lengths, out_of_range, segments};
 
-/// Of several places that name one place of the result the first wins, among all or those whose flag is true; in a segment both
-/// the index and the sender count from the start of their segments, and the least bad place of the vector counts.
+/// If several places name one place of the result, the first wins, among all or those whose flag is true; in a segment both the
+/// index and the sender count from the start of their segments, and the first bad place of the vector is reported.
 pub fn first_of_several()
     ensures one_of_two { first_senders_of (ints "2 0 2 3") 4 ≡ Ok (ints "1 -1 0 3") }
     ensures none { first_senders_of [] 2 ≡ Ok (ints "-1 -1") }

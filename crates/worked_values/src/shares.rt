@@ -1,4 +1,4 @@
-//! Worked values of how many threads share a call, about each length from which on one more does, and of what each thread has.
+//! Worked values of how many threads share a call, near each length from which on one more does, and of what each thread has.
 
 ghost use Rattle.std.specs.Prelude.{◌≡◌, [], ◌∷◌, ◌++◌, replicate};
 ghost use Rattle.sharing.specs.Shares.{clearing_threads, first_of_two, reading_threads, text_threads, writing_threads};
@@ -59,7 +59,7 @@ pub fn fork()
     ensures most { first_of_two 64 ≡ 32 }
 {}
 
-/// What each thread has, where forks cut the threads in two and where one after another takes its share.
+/// What each thread has, if forks cut the threads in two and if each in turn takes its share.
 pub fn each_thread()
     ensures alone { forked 10 1 262143 ≡ lengths "262143" }
     ensures two { forked 10 2 262144 ≡ lengths "131072 131072" }

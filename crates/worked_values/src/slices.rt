@@ -1,5 +1,5 @@
-//! Worked values of slices one behind another, of segments appended, of merges by flags and of values of segments. Unless
-//! others are named the segments have 2, 0 and 3 elements.
+//! Worked values of slices in a row, of segments appended, of merges by flags and of values of segments. Unless others are named
+//! the segments have 2, 0 and 3 elements.
 
 ghost use Rattle.std.specs.Prelude.{◌≡◌, ℤ, [], Ok, Err};
 ghost use Rattle.cvl_base.specs.Exact.{total_of};
@@ -9,7 +9,7 @@ ghost use Rattle.segment_slices.specs.Slices.{gather_segments_of};
 ghost use Rattle.segment_values.specs.Values.{each_of, first_true_of};
 ghost use Rattle.worked_values.specs.Written.{bools, ints, length_mismatch, lengths, other_length, out_of_range, segments};
 
-/// Slices may overlap, come in any order and be empty, also where the source ends; the first that is not within it counts.
+/// Slices may overlap, come in any order and be empty, also at the end of the source; the fault is the first not within it.
 pub fn gathered()
     ensures in_any_order { gather_segments_of (ints "10 20 30 40 50") (ints "3 0 1") (ints "2 2 0") ≡ Ok (ints "40 50 10 20") }
     ensures overlapping { gather_segments_of (ints "10 20 30 40 50") (ints "0 1") (ints "3 3") ≡ Ok (ints "10 20 30 20 30 40") }
@@ -26,7 +26,7 @@ pub fn gathered()
     ensures starts_short { gather_segments_of (ints "10 20") (ints "9") (ints "9 9") ≡ Err length_mismatch }
 {}
 
-/// Each segment of the first vector is followed by that of the second, and as many segments are wanted of both.
+/// Each segment of the first vector is followed by that of the second; both must have as many segments.
 pub fn appended()
     ensures by_segments { append_segments_of (ints "1 2 3 4 5") segments (ints "6 7 8 9") (lengths "0 1 3")
         ≡ Ok (ints "1 2 6 3 4 5 7 8 9") }
@@ -37,7 +37,7 @@ pub fn appended()
     ensures second_long { append_segments_of (ints "1 2 3 4 5") segments (ints "6 7") (lengths "0 0 1") ≡ Err length_mismatch }
 {}
 
-/// The next element of one vector or of the other, by a flag; by segments the first one counts whose flags have other counts.
+/// The next element of one vector or of the other, by a flag; by segments the fault is the first whose flags have other counts.
 pub fn merged_by_flags()
     ensures by_turns { merge_of (bools "T F F T") (ints "1 2") (ints "7 8") ≡ Ok (ints "1 7 8 2") }
     ensures of_booleans { merge_of (bools "F T F") (bools "T") (bools "F F") ≡ Ok (bools "F T F") }

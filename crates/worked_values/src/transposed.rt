@@ -16,7 +16,7 @@ pub fn rows_and_columns()
     ensures one_element_more { transpose_of 2 2 (ints "1 2 3 4 5") ≡ Err length_mismatch }
 {}
 
-/// Some of its places, one after another.
+/// Some of its places in order.
 pub fn ranges_of_places()
     ensures across_columns { transpose_range_of 2 3 1 3 (ints "1 2 3 4 5 6") ≡ Ok (ints "4 2 5") }
     ensures within_a_column { transpose_range_of 4 2 5 2 (ints "1 2 3 4 5 6 7 8") ≡ Ok (ints "4 6") }
