@@ -6,29 +6,27 @@
 //! | Heading | What it says |
 //! |---|---|
 //! | `== case NAME` | a case of this name begins |
-//! | `== tile 1 2 workers 3 64` | it is run in tiles of each of these lengths, by each of these numbers of workers; tiles of 2
-//! elements and 3 workers where there is no such heading |
+//! | `== tile 1 2 workers 3 64` | it runs in tiles of each of these lengths, by each of these numbers of workers; tiles of 2
+//! elements and 3 workers if there is no such heading |
 //! | `== script` | the script |
 //! | `== input` | an input; the first is input 1 |
 //! | `== text` | what the script writes |
-//! | `== stop` | the line that tells why the script stops, where it does not run to its end |
-//! | `== explained` | what explains that stop; it is not compared where there is no such heading |
+//! | `== stop` | the line that says why the script stops, if it does not run to its end |
+//! | `== explained` | the explanation of that stop; it is not compared without such a heading |
 //! | `== each` | lines that are each a run of its own |
-//! | `== more` | what the heading before this one is of goes on with these lines |
-//! | `== refused 12` | each run makes at least so many requests for memory, each of which is refused in turn |
+//! | `== more` | these lines continue the heading before this one |
+//! | `== refused 12` | each run makes at least so many requests for memory; each is refused in turn |
 //!
-//! Scripts, inputs, texts, stops, explanations and what they go on with are the lines below their heading with their line
-//! feeds. Behind the
-//! word, `times 1000` takes the lines without the last line feed, a thousand times; any other word names a file beside the
-//! file of cases, whose bytes stand for the lines.
+//! Scripts, inputs, texts, stops, explanations and what continues them are the lines below their heading with their line feeds.
+//! After the word, `times 1000` takes the lines without the last line feed, a thousand times; any other word names a file beside
+//! the file of cases, whose bytes stand for the lines.
 //!
-//! A line below `== each` has the last inputs of its run, with `|` between two of them. Behind ` -> ` it may have what comes of
-//! the run, one line of text or the line of a stop; where it has none, the text and the stop are those of the case.
+//! A line below `== each` has the last inputs of its run, with `|` between two of them. After ` -> ` it may have the run's
+//! outcome, one line of text or the line of a stop; without one, the text and the stop are those of the case.
 //!
-//! Where requests are refused, each is refused alone, and then with all behind it. A run that is refused memory may come out
-//! as with ample memory, if only one request is refused; or else it stops with `line N: no resources`, at a line N, behind all
-//! text of the lines before N and a beginning of the text of N. A line that writes begins with `write ` there. All memory is
-//! given back.
+//! If requests are refused, each is refused alone, and then with all after it. A run that is refused memory may end as with ample
+//! memory, if only one request is refused; or else it stops with `line N: no resources`, at a line N, after all text of the lines
+//! before N and a beginning of the text of N. A line that writes begins with `write ` there. All memory is freed.
 
 use crate::sections::{Section, sections_of};
 use crate::trouble::Trouble;
@@ -37,14 +35,14 @@ use std::alloc::Global;
 use std::fs;
 use std::rt::Files;
 
-/// A script with its inputs, and what is expected of it.
+/// A script with its inputs, and its expected outcome.
 #[derive(Drop)]
 pub struct Case<'a> {
     /// What the case shows.
     pub name: &'a str,
-    /// The tiles and workers on which it is run; tiles of 2 elements and 3 workers where there are none.
+    /// The tiles and workers that run it; tiles of 2 elements and 3 workers if there are none.
     pub configs: Vec<Config>,
-    /// How many requests for memory each run makes at least, where each of them is refused in turn.
+    /// How many requests for memory each run makes at least, if each of them is refused in turn.
     pub requests: Option<u64>,
     /// The script.
     pub script: Vec<u8>,
@@ -52,13 +50,13 @@ pub struct Case<'a> {
     pub inputs: Vec<Vec<u8>>,
     /// The text that the script writes.
     pub text: Vec<u8>,
-    /// The line that tells why the script stops; nothing where it runs to its end.
+    /// The line that says why the script stops; nothing if it runs to its end.
     pub stop: Vec<u8>,
-    /// What explains the stop; nothing where that is not compared.
+    /// The explanation of the stop; nothing if it is not compared.
     pub explained: Vec<u8>,
-    /// Lines that are each a run of its own; nothing where the case is one run.
+    /// Lines that are each a run of its own; nothing if the case is one run.
     pub each: Vec<u8>,
-    /// What the last section was of.
+    /// What the last section was about.
     last: &'a str,
 }
 
@@ -118,7 +116,7 @@ impl<'a> Case<'a> {
     }
 }
 
-/// The tiles and workers that two words name, or nothing where they name none.
+/// The tiles and workers that two words name, or nothing if they name none.
 fn config_of(tile: &str, workers: &str) -> Option<Config> {
     Config::new(tile.parse().ok()?, workers.parse().ok()?).ok()
 }
@@ -136,15 +134,15 @@ fn add_configs<'a>(configs: &mut Vec<Config>, section: &Section<'a>) -> Result<(
     Ok(())
 }
 
-/// The number that a word of a section's heading writes.
+/// The number in a word of a section's heading.
 fn number_of<'a>(section: &Section<'a>, word: &str) -> Result<u64, Trouble<'a>> {
     word.parse().ok().ok_or(Trouble::Heading(section.heading))
 }
 
-/// How many of a piece's copies are put behind one another at once.
+/// How many copies of a piece are appended at once.
 const COPIES_AT_ONCE: u64 = 1_000;
 
-/// Puts a piece behind other bytes, so many times.
+/// Appends a piece to other bytes, so many times.
 fn put_copies(place: &mut Vec<u8>, piece: &[u8], times: u64) -> Result<(), NoResources> {
     for _ in 0..times {
         place.extend_from_slice(piece)?;
@@ -152,7 +150,7 @@ fn put_copies(place: &mut Vec<u8>, piece: &[u8], times: u64) -> Result<(), NoRes
     Ok(())
 }
 
-/// Puts lines without their last line feed behind other bytes, so many times. They are often a single byte that is wanted twenty
+/// Appends lines without their last line feed to other bytes, so many times. They are often a single byte that is wanted twenty
 /// million times, so a thousand copies are put at once.
 fn put_times(
     alloc: Global,
@@ -169,7 +167,7 @@ fn put_times(
     put_copies(place, piece, times % COPIES_AT_ONCE)
 }
 
-/// Puts the bytes of the file of this name behind other bytes.
+/// Appends the bytes of the file of this name to other bytes.
 fn put_file<'a, R: Files + AllocGlobal>(
     rt: &R,
     folder: &str,
@@ -183,7 +181,7 @@ fn put_file<'a, R: Files + AllocGlobal>(
     }
 }
 
-/// Puts the content of a section in its place, behind what stands there.
+/// Appends the content of a section to its place.
 fn put_content<'a, R: Files + AllocGlobal>(
     rt: &R,
     folder: &str,

@@ -1,4 +1,4 @@
-//! Files of cases: scripts with their inputs, what they write and why they stop, and the runs that each case stands for.
+//! Files of cases: scripts with their inputs, what they write and why they stop, and the runs of each case.
 #![tactic(auto)]
 
 pub mod cases;

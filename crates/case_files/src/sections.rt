@@ -11,7 +11,7 @@ const MARK: &[u8] = b"== ";
 pub struct Section<'a> {
     /// The heading, without its mark.
     pub heading: &'a str,
-    /// What the heading is of: its first word.
+    /// The kind of the heading: its first word.
     pub what: &'a str,
     /// The rest of the heading.
     pub rest: &'a str,
@@ -19,7 +19,7 @@ pub struct Section<'a> {
     pub lines: Vec<u8>,
 }
 
-/// The section that a heading begins. A heading that is not UTF-8 is of nothing.
+/// The section that a heading begins. A heading that is not UTF-8 has no kind.
 fn section_of<'a>(alloc: Global, heading: &'a [u8]) -> Section<'a> {
     let heading = str::from_utf8(heading.trim_ascii_end()).unwrap_or("");
     let (what, rest) = heading.split_once(' ').unwrap_or((heading, ""));

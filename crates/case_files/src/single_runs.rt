@@ -13,12 +13,12 @@ pub struct SingleRun<'a> {
     pub config: Config,
     /// The inputs, in their order.
     pub inputs: Vec<&'a [u8]>,
-    /// What is expected: the text that the script writes, and behind it the line that tells why it stops, where it does.
+    /// What is expected: the text that the script writes, and after it the line that says why it stops, if it does.
     pub shown: Vec<u8>,
 }
 
 impl<'a> SingleRun<'a> {
-    /// The run of a case on its own inputs, of which nothing is expected so far.
+    /// The run of a case on its own inputs, with nothing expected so far.
     fn new(
         alloc: Global,
         case: &'a Case<'a>,
@@ -43,7 +43,7 @@ impl<'a> SingleRun<'a> {
         Ok(self.shown.extend_from_slice(&self.case.stop)?)
     }
 
-    /// Adds the inputs of a row: a line with the last inputs, and maybe what comes of it.
+    /// Adds the inputs of a row: a line with the last inputs, and maybe their outcome.
     fn add_row(&mut self, row: &'a str) -> Result<(), NoResources> {
         let (inputs, line) = match row.split_once(" -> ") {
             Some((inputs, line)) => (inputs, Some(line)),
@@ -60,7 +60,7 @@ impl<'a> SingleRun<'a> {
     }
 }
 
-/// Adds the runs of a case on one configuration: one for each of its rows, or one of its own where it has none. Rows that are not
+/// Adds the runs of a case on one configuration: one for each of its rows, or a single one if it has none. Rows that are not
 /// UTF-8 are one row without a byte.
 fn add_runs<'a>(
     alloc: Global,
@@ -81,7 +81,7 @@ fn add_runs<'a>(
     Ok(())
 }
 
-/// The runs of a case on each of its configurations. One that names none is run on short tiles, so that short vectors are cut.
+/// The runs of a case on each of its configurations. One without any runs on short tiles, so that short vectors are cut.
 pub fn runs_of<'a>(alloc: Global, case: &'a Case<'a>) -> Result<Vec<SingleRun<'a>>, NoResources> {
     let mut runs = Vec::new(alloc);
     if case.configs.is_empty() {
