@@ -1,4 +1,4 @@
--- The rule that an allocator refuses by.
+-- The rule by which an allocator refuses.
 -- Source: this library's own test allocator.
 use Rattle.refusing_memory.specs.declared.rule.Refusal.{Refusal}
 use Rattle.refusing_memory.specs.declared.Refusing.{Refusing}

@@ -39,7 +39,7 @@ impl Calls {
         refused
     }
 
-    /// Counts a block that is given back.
+    /// Counts a freed block.
     pub fn free(&self) {
         self.frees.fetch_add(1, Ordering::SeqCst);
     }

@@ -14,7 +14,7 @@ pub const MOST_RUNS: u64 = 10_000;
 pub enum Flaw {
     /// The answer of this run was not allowed.
     WrongAnswer(u64),
-    /// Some block that this run was granted was not given back.
+    /// Some block that this run was granted was not freed.
     Leak(u64),
     /// The last of [`MOST_RUNS`] runs still met a refusal.
     NoEnd,
@@ -23,11 +23,11 @@ pub enum Flaw {
 /// Runs `work` under `rule(0)`, `rule(1)` and so on, until a run meets no refusal, and returns the number of runs.
 ///
 /// `rule` is `Refusal::Only`, so that each request in turn is refused alone, or `Refusal::From`, so that all from there on are.
-/// `allowed` is shown the answer of each run, and whether any request was refused in it. Under `Refusal::Only` a run with a
-/// refusal may still have the right answer, since a collection that is refused much memory may ask for less.
+/// `allowed` gets the answer of each run, and whether any request was refused in it. Under `Refusal::Only` a run with a refusal
+/// may still have the right answer, since a collection that is refused much memory may ask for less.
 ///
-/// The work is a call of a function that is generic over its memory and returns plain data, as
-/// `|heap| sum_of_squares(heap, 9)`, so that whatever it allocates is given back before it returns.
+/// The work is a call of a function that is generic over its memory and returns plain data, as `|heap| sum_of_squares(heap, 9)`,
+/// so that it frees whatever it allocates before it returns.
 pub fn refuse_each<B, T, N, W, C>(inner: B, rule: N, work: W, allowed: C) -> Result<u64, Flaw>
 where
     B: Memory,

@@ -1,4 +1,4 @@
-//! Memory for tests: an allocator that counts what is asked of it and refuses the requests that a test names.
+//! Memory for tests: an allocator that counts the requests for memory and refuses those that a test names.
 //!
 //! A test hands `&Refusing` to a function that is generic over its memory, or has [`withstands_refusals`] refuse each of
 //! its requests in turn:
@@ -7,9 +7,9 @@
 //! withstands_refusals(rt.alloc(), |heap| sum_of_squares(heap, 9), Ok(285), Err(AllocError))?;
 //! ```
 //!
-//! Proved: the allocator is safe, a block goes back to no other allocator than the one that gave it, in any thread, and a
-//! rule refuses the numbers that it says. That the counts are those of the requests and the frees, also across threads,
-//! and that no block is kept, is tested in `test_runs`: no clause speaks of a number that other threads change.
+//! Proved: the allocator is safe, a block goes back only to the allocator that gave it, in any thread, and a rule refuses the
+//! numbers that it says. That the counts are those of the requests and the frees, also across threads, and that no block is kept,
+//! is tested in `test_runs`: no clause speaks of a number that other threads change.
 #![tactic(auto)]
 
 ghost use Rattle.std.specs.Prelude.{◌≡◌};
@@ -68,12 +68,12 @@ impl<B: Allocator> Refusing<B> {
         self.calls.refused.load(Ordering::SeqCst)
     }
 
-    /// How many blocks were given back so far.
+    /// How many blocks were freed so far.
     pub fn frees(&self) -> u64 {
         self.calls.frees.load(Ordering::SeqCst)
     }
 
-    /// How many requests were granted whose block was not given back so far.
+    /// How many requests were granted whose block is not yet freed.
     pub fn held(&self) -> u64 {
         let granted = self.requests().wrapping_sub(self.refused());
         granted.wrapping_sub(self.frees())

@@ -7,7 +7,7 @@ ghost use Rattle.std.specs.Prelude.{◌≡◌};
 pub enum Refusal {
     /// No request.
     Never,
-    /// The request of this number alone.
+    /// Only the request of this number.
     Only(u64),
     /// The request of this number, and all that follow it.
     From(u64),
