@@ -1,4 +1,4 @@
-//! What is told of a run that differs.
+//! Reports of a run that differs.
 
 use crate::outcomes::Outcome;
 use case_files::SingleRun;
@@ -6,16 +6,16 @@ use refusing_memory::Flaw;
 use std::io;
 use std::io::Write;
 
-/// Inputs of so many bytes, and longer ones, are not told.
+/// Inputs of so many bytes, and longer ones, are not shown.
 const MOST_TOLD: usize = 1_000;
 
-/// Writes bytes below a line that tells what they are.
+/// Writes bytes below a line that says what they are.
 fn tell_bytes<W: Write>(output: &mut W, what: &str, bytes: &[u8]) -> io::Result<()> {
     writeln!(output, "-- {what}")?;
     output.write_all(bytes)
 }
 
-/// Writes which run differs, and its inputs where they are short.
+/// Writes which run differs, and its inputs if they are short.
 fn tell_run<W: Write>(output: &mut W, single: &SingleRun<'_>) -> io::Result<()> {
     let (tile, workers) = (single.config.tile(), single.config.workers());
     let name = single.case.name;

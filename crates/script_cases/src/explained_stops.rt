@@ -1,4 +1,4 @@
-//! What explains why a run stops.
+//! Explanations of why a run stops.
 
 use case_files::SingleRun;
 use cvl_base::limits::MOST_SCRIPT_BYTES;
@@ -18,7 +18,7 @@ pub fn inputs_of<A: Memory>(heap: A, files: &[&[u8]]) -> Result<Vec<Input<A>, A>
     Ok(inputs)
 }
 
-/// The names of so many files: `1.txt`, `2.txt` and so on.
+/// So many names of files: `1.txt`, `2.txt` and so on.
 fn file_names(ample: Global, count: usize) -> Result<Vec<String>, NoResources> {
     let mut names = Vec::with_capacity(ample, count)?;
     for place in 0..count {
@@ -28,7 +28,7 @@ fn file_names(ample: Global, count: usize) -> Result<Vec<String>, NoResources> {
     Ok(names)
 }
 
-/// What explains this stop of a run, the files of whose inputs are named `1.txt`, `2.txt` and so on.
+/// The explanation of this stop of a run. The files of its inputs are named `1.txt`, `2.txt` and so on.
 pub fn explanation_of<R: Threads + Sync, A: Memory>(
     rt: &R,
     ample: Global,

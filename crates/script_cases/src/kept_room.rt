@@ -1,8 +1,8 @@
 //! Room that the C library keeps for the runs, so that each has its vectors in memory that an earlier one had.
 //!
 //! glibc gives a long block back to the system as soon as it is freed, and the system clears each page of the next one when it is
-//! first written to. That took a third of all the processor time of the cases. So blocks are taken once and freed, below a
-//! block that stays: memory below a block in use is never given back.
+//! first written. That took a third of all the processor time of the cases. So blocks are taken once and freed, below a block
+//! that stays: memory below a block in use is never given back.
 //!
 //! No result depends on it, and with another C library nothing is kept.
 
@@ -23,7 +23,7 @@ fn block_of(alloc: Global, bytes: usize) -> Result<Vec<u8>, NoResources> {
     Ok(Vec::with_capacity(alloc, bytes)?)
 }
 
-/// Has the C library keep the room, as long as the block that it answers is there.
+/// Makes the C library keep the room, as long as the block that it returns is there.
 pub fn keep_room(alloc: Global) -> Result<Vec<u8>, NoResources> {
     // glibc keeps blocks that are as long as one that was freed
     drop(block_of(alloc, BLOCK)?);

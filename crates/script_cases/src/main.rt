@@ -1,8 +1,8 @@
 //! Runs scripts on their inputs and compares what they write, and why they stop, with what is expected.
 //!
-//! The words of the command line name files of cases. It prints a line for each file, which tells how many cases came out, and
-//! for a run that differs its case and what came out beside what was expected. The status is 0 where all is as expected, 1
-//! where a case differs, and 3 where a file cannot be read, has a heading of no meaning, or memory or standard output fails.
+//! The words of the command line name files of cases. It prints a line for each file with the number of cases that are right, and
+//! for a run that differs its case and its outcome beside the expected one. The status is 0 if all is as expected, 1 if a case
+//! differs, and 3 if a file cannot be read, has a heading of no meaning, or memory or standard output fails.
 //!
 //! Every run is on the memory that tests refuse, so that the calls are compiled for one type of memory.
 #![tactic(auto)]
@@ -24,19 +24,19 @@ use std::rt::{Env, Files};
 use std::thread::Threads;
 use std::{env, fs, io};
 
-/// The status where all is as expected.
+/// The status if all is as expected.
 const FINE: u8 = 0;
 
-/// The status where a case differs.
+/// The status if a case differs.
 const DIFFERS: u8 = 1;
 
-/// The status where no file of cases is named.
+/// The status if no file of cases is named.
 const COMMAND_LINE: u8 = 2;
 
-/// The status where a file cannot be read or understood, or memory or standard output fails.
+/// The status if a file cannot be read or understood, or memory or standard output fails.
 const FAILED: u8 = 3;
 
-/// Refuses each request of a run in turn, tells what is wrong, and answers whether all came out, of at least so many requests.
+/// Refuses each request of a run in turn, reports what is wrong, and returns whether all came out, of at least so many requests.
 fn refuse_in_turn<'a, R: AllocGlobal + Threads + Sync, W: Write>(
     rt: &R,
     output: &mut W,
@@ -59,7 +59,7 @@ fn refuse_in_turn<'a, R: AllocGlobal + Threads + Sync, W: Write>(
     Ok(false)
 }
 
-/// Makes a run, tells what differs, and answers whether all came out as expected.
+/// Makes a run, reports what differs, and returns whether all came out as expected.
 fn run_once<'a, R: AllocGlobal + Threads + Sync, W: Write>(
     rt: &R,
     output: &mut W,
@@ -77,7 +77,7 @@ fn run_once<'a, R: AllocGlobal + Threads + Sync, W: Write>(
     }
 }
 
-/// Makes the runs of a case up to one that differs, and answers whether all came out as expected.
+/// Makes the runs of a case up to one that differs, and returns whether all came out as expected.
 fn run_case<'a, R: AllocGlobal + Threads + Sync, W: Write>(
     rt: &R,
     output: &mut W,
@@ -91,7 +91,7 @@ fn run_case<'a, R: AllocGlobal + Threads + Sync, W: Write>(
     Ok(true)
 }
 
-/// Runs the cases of a file of this name, and tells whether all came out as expected.
+/// Runs the cases of a file of this name, and returns whether all came out as expected.
 fn run_file<'a, R: Files + AllocGlobal + Threads + Sync, W: Write>(
     rt: &R,
     output: &mut W,
@@ -107,18 +107,18 @@ fn run_file<'a, R: Files + AllocGlobal + Threads + Sync, W: Write>(
     Ok(came_out == cases.len())
 }
 
-/// Tells why the cases of a file cannot be run.
+/// Reports why the cases of a file cannot be run.
 fn tell_trouble<E: Write>(errors: &mut E, name: &str, trouble: Trouble<'_>) -> u8 {
     let _ = writeln!(errors, "{name}: {trouble}");
     FAILED
 }
 
-/// The folder of the file with this name, with a slash at its end where it has a name.
+/// The folder of the file with this name, with a slash at its end if it has a name.
 fn folder_of(name: &str) -> &str {
     name.trim_end_matches(|letter: char| letter != '/')
 }
 
-/// Runs the cases of a file with this name, and answers the status.
+/// Runs the cases of a file with this name, and returns the status.
 fn run_named<R: Files + AllocGlobal + Threads + Sync, W: Write, E: Write>(
     rt: &R,
     output: &mut W,
@@ -135,7 +135,7 @@ fn run_named<R: Files + AllocGlobal + Threads + Sync, W: Write, E: Write>(
     }
 }
 
-/// Runs the files that the command line names, and answers the greatest status.
+/// Runs the files that the command line names, and returns the greatest status.
 fn run_words<R: Env + Files + AllocGlobal + Threads + Sync, W: Write, E: Write>(
     rt: &R,
     output: &mut W,

@@ -1,4 +1,4 @@
-//! What comes of a run.
+//! The outcome of a run.
 
 use crate::explained_stops::{explanation_of, inputs_of};
 use case_files::SingleRun;
@@ -13,9 +13,9 @@ const WRITES: &[u8] = b"write ";
 /// What a script wrote, and why it stopped.
 #[derive(Drop)]
 pub struct Outcome {
-    /// The text, and behind it the line that tells why the script stopped, where it did.
+    /// The text, and after it the line that says why the script stopped, if it did.
     pub shown: Vec<u8>,
-    /// What explains that, where the case compares it.
+    /// The explanation of that, if the case compares it.
     pub explained: Vec<u8>,
     /// How many bytes the text has.
     written: usize,
@@ -92,8 +92,8 @@ impl Outcome {
     }
 }
 
-/// Whether a run on this memory comes out as expected. Where it is refused memory, whether its text ends in the line that it
-/// names: then the answer is the refusal.
+/// Whether a run on this memory comes out as expected. If it is refused memory, whether its text ends in the line that it names:
+/// then the answer is the refusal.
 pub fn comes_out<R: Threads + Sync, A: Memory>(
     rt: &R,
     ample: Global,
