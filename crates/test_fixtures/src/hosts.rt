@@ -1,4 +1,4 @@
-//! The host in memory that the program is run on, and its texts.
+//! The host in memory on which the program runs, and its texts.
 
 ghost use Rattle.std.specs.Prelude.{◌≡◌};
 
@@ -12,7 +12,7 @@ use vector_handles::Input;
 /// Names of files, each with its bytes.
 pub type Files<'a> = &'a [(&'a str, &'a str)];
 
-/// Files in memory, which claim nothing of what was read.
+/// Files in memory, with no claim about what was read.
 #[derive(Drop)]
 pub struct TableFiles<'a> {
     files: Files<'a>,
@@ -37,13 +37,13 @@ impl ReadFiles for TableFiles<'_> {
     }
 }
 
-/// What fails on a host, whose standard output takes a byte a write where nothing else is said.
+/// What fails on a host. Its standard output takes a byte a write unless this says otherwise.
 #[derive(Clone, Copy)]
 pub enum Failing {
     Nothing,
     /// The flush.
     Flush,
-    /// Each write of standard output after so many, of so many bytes each beside the first.
+    /// Each write of standard output after so many, of so many bytes each besides the first.
     Writes(usize, u64),
     /// Standard output, which is full after so many bytes.
     Room(u64),
@@ -51,14 +51,14 @@ pub enum Failing {
     Errors(u64),
 }
 
-/// A writer in memory that takes few bytes a write, and once it has taken so many writes it fails, or is full.
+/// A writer in memory that takes few bytes a write, and after so many writes fails, or is full.
 #[derive(Drop)]
 pub struct NarrowWriter {
     /// The bytes taken so far.
     pub taken: Vec<u8>,
     /// How many bytes a flush has sent on.
     pub sent: usize,
-    /// How many bytes it takes a write, beside the first.
+    /// How many bytes it takes a write, besides the first.
     more_a_write: usize,
     /// How many writes it takes.
     writes_left: u64,
@@ -67,7 +67,7 @@ pub struct NarrowWriter {
 }
 
 impl NarrowWriter {
-    /// A writer that takes so many bytes a write beside the first, so many times.
+    /// A writer that takes so many bytes a write besides the first, so many times.
     fn new(alloc: Global, more_a_write: usize, writes_left: u64, failing: Failing) -> NarrowWriter {
         NarrowWriter {
             taken: Vec::new(alloc),
@@ -142,7 +142,7 @@ pub fn inputs_of<A: Memory>(alloc: A, texts: &[&str]) -> Result<Vec<Input<A>, A>
     Ok(inputs)
 }
 
-/// A text of one piece so many times, between two others.
+/// A text of one piece, repeated, between two others.
 pub fn text_of(
     alloc: Global,
     first: &str,

@@ -1,4 +1,4 @@
-//! A long text that is appended to another, which is kept, also where memory is refused.
+//! A long text that is appended to another, which is kept, even if memory is refused.
 
 use crate::hosts::text_of;
 use call_reader::put_value;
@@ -11,7 +11,7 @@ use std::thread::Threads;
 /// The least number of elements whose texts two threads write, and the first one, which is written before.
 const COUNT: usize = 32_769;
 
-/// A text stays on one thread that is longer than what is appended may be: eleven bytes for each element but the first. A
+/// A text stays on one thread if it is longer than what is appended may be: eleven bytes for each element but the first. A
 /// bracket and the one byte of the first element stand before these.
 pub const LONG_TEXT: usize = 11 * COUNT - 2;
 

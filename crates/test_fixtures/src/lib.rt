@@ -1,5 +1,5 @@
 //! What tests run and compare: the program on a host in memory, scripts at a gate that sees who passes, sessions by their calls,
-//! calls that no script makes, and long texts. Each is generic over its memory, so that a test refuses requests of it.
+//! calls that no script makes, and long texts. Each is generic over its memory, so that a test can refuse its requests.
 #![tactic(auto)]
 
 pub mod hosts;

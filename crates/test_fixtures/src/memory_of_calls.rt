@@ -10,7 +10,7 @@ use std::thread::Threads;
 use vector_handles::Session;
 
 /// What is bound before a call: 1,000 integers, numbers to divide by, booleans, and ten segments of 100 with the places in them;
-/// and 40,000 integers, and as many places in segments of ten, which are more than a text has that one thread writes.
+/// and 40,000 integers, and as many places in segments of ten, more than one thread writes of a text.
 const BEFORE: &str = "i = ind_luz 0 1 1000
 t = dis_vuz 2 1000
 m = mod_wuz i t
@@ -45,7 +45,7 @@ pub fn session_before<R: Threads + Sync, A: Memory>(
     Ok(session)
 }
 
-/// What the call of a line asks for, also one with a fault. Its names are bound already, so that no node of the names is made.
+/// What the call of a line asks for, even with a fault. Its names are bound already, so that it makes no node of the names.
 pub fn asked_by<'a, R: Threads + Sync>(
     rt: &R,
     heap: &'a Refusing<Global>,

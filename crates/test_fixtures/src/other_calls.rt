@@ -1,4 +1,4 @@
-//! The calls that no script makes as they stand: scans and reduces by the monoid itself, a permute over a room, a pack that gives
+//! The calls that no script makes as they stand: scans and reduces by the monoid itself, a permute into a room, a pack that gives
 //! its lengths too, and the recipes.
 
 ghost use Rattle.std.specs.Prelude.{◌≤◌, length, sum};
@@ -30,14 +30,14 @@ pub enum Call {
 /// The five numbers.
 const XS: &[i32] = &[3, 1, 7, 0, 4];
 
-/// What a permute writes over a room.
+/// What a permute writes into a room.
 fn over<A: Memory>(heap: A) -> Result<Vec<i32, A>, Refused> {
     let mut room = vec![in heap; -7; 3]?;
     simple_over(heap, &[10, 20, 30], &[2, 0, 1], &mut room)?;
     Ok(room)
 }
 
-/// What a pack of segments gives: the lengths stand behind the values.
+/// What a pack of segments gives: the values and then the lengths.
 fn packed<R: Threads + Sync, A: Memory>(
     rt: &R,
     heap: A,
@@ -77,8 +77,8 @@ fn sight<R: Threads + Sync, A: Memory>(
     Ok(int_from_bool(rt, heap, config, &visible)?)
 }
 
-/// What a call gives on five numbers in three segments, by three workers in tiles of one element. A number is told as a vector
-/// of it.
+/// What a call gives on five numbers in three segments, by three workers in tiles of one element. A number becomes a vector of
+/// it.
 pub fn answer_of<R: Threads + Sync, A: Memory>(
     rt: &R,
     heap: A,

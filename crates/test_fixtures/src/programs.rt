@@ -5,13 +5,13 @@ use cvl_base::{Memory, NoResources};
 use shell::{Gate, program_gated};
 use std::thread::Threads;
 
-/// A command line, and what comes of it: standard output, standard error and the status.
+/// A command line and its outcome: standard output, standard error and the status.
 pub type Row<'a> = (&'a str, &'a str, &'a str, u8);
 
-/// What standard error begins with where a command line is refused.
+/// What standard error begins with if a command line is refused.
 pub const REFUSED: &str = "error: ";
 
-/// Whether this came of a run: standard output, all of which was sent on where the status is 0, standard error and the status.
+/// Whether a run has this outcome: standard output, all of it flushed if the status is 0, standard error and the status.
 fn came(host: &Host<'_>, status: u8, row: &Row<'_>) -> bool {
     let (_, output, errors, wanted) = row;
     let (taken, told) = (host.output.taken.as_slice(), host.errors.taken.as_slice());

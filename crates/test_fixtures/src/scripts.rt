@@ -1,4 +1,4 @@
-//! A script that is run at a gate.
+//! A script that runs at a gate.
 
 use crate::hosts::inputs_of;
 use cvl_base::{Config, NoResources};
@@ -11,12 +11,12 @@ use watching_gate::{Holds, Race, Watch};
 /// A race on the scan board.
 pub const SCAN: Race = Race::Scan;
 
-/// A race on one board, or on two boards one after the other.
+/// A race on one board, or on two boards in turn.
 pub const ONE: Race = Race::Leasts(1);
 
 pub const TWO: Race = Race::Leasts(2);
 
-/// A script, its inputs, and what comes of it: the text that it writes, and the line that tells why it stops.
+/// A script, its inputs, and its outcome: the text that it writes, and the line that says why it stops.
 #[derive(Clone, Copy)]
 pub struct Script<'a> {
     pub lines: &'a str,
@@ -26,10 +26,10 @@ pub struct Script<'a> {
     pub race: Race,
 }
 
-/// The tile and the workers that are asked for, how many tiles the gate is to see, and who is held.
+/// The tile and the workers, how many tiles the gate should see, and who is held.
 pub type Run = (u32, u32, u32, Holds);
 
-/// Whether what comes of a script is right in a run, and its gate sees every point of each tile and nobody who waits in vain.
+/// Whether a script has the right outcome in a run, and its gate sees every point of each tile and nobody who waits in vain.
 pub fn comes_out<R: Threads + Sync>(
     rt: &R,
     alloc: Global,

@@ -1,4 +1,4 @@
-//! A session by its calls, of which one that was refused memory is made again.
+//! A session by its calls; one that was refused memory is made again.
 
 use crate::hosts::inputs_of;
 use call_reader::read_line;
@@ -31,7 +31,7 @@ pub fn call_line<R: Threads + Sync, A: Memory>(
     }
 }
 
-/// Appends what the call of a line shows, or its fault as that of line 0. It is made once more where memory is refused.
+/// Appends what the call of a line shows, or its fault as that of line 0. The call is made once more if memory is refused.
 fn put_line<R: Threads + Sync, A: Memory>(
     rt: &R,
     heap: A,
@@ -52,8 +52,8 @@ fn put_line<R: Threads + Sync, A: Memory>(
     Ok(())
 }
 
-/// Whether the calls of these lines show this text on memory of which one request may be refused, and leave the name `b` bound to
-/// the fourth input.
+/// Whether the calls of these lines show this text on memory that may refuse one request, and leave the name `b` bound to the
+/// fourth input.
 pub fn show<R: Threads + Sync, A: Memory>(
     rt: &R,
     heap: A,
