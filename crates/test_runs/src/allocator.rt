@@ -5,7 +5,7 @@ use refusing_memory::{Flaw, Refusal, Refusing, withstands_refusals};
 use std::alloc::{AllocError, Global};
 use std::{mem, thread};
 
-/// Makes so many requests, of which each is given back at once.
+/// Makes so many requests, each freed at once.
 fn boxes<A: Memory>(alloc: A, requests: u64) -> Result<(), AllocError> {
     for n in 0..requests {
         drop(Box::new(alloc, n)?);
@@ -63,7 +63,7 @@ fn counts_across_threads(rt: HostRuntime) {
 enum Work {
     /// So many requests.
     Boxes(u64),
-    /// Three requests whose refusal is not told.
+    /// Three requests whose refusal is ignored.
     Silent,
     /// A request whose block is kept for good.
     Leaking,

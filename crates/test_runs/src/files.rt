@@ -1,4 +1,4 @@
-//! Files that are read whole: longer or shorter than they were expected to be, a few bytes at a time, and by reads that fail.
+//! Files that are read whole: longer or shorter than expected, a few bytes at a time, and by reads that fail.
 
 use cvl_base::{Config, Memory};
 use refusing_memory::Refusing;
@@ -9,7 +9,7 @@ use std::io::{Error, ErrorKind, Read, Result as IoResult};
 use std::test::Fail;
 use std::thread::Threads;
 
-/// A reader of a few bytes a read, of which one read fails.
+/// A reader of a few bytes a read, one of which fails.
 #[derive(Drop)]
 struct Narrow<'a> {
     left: &'a [u8],
@@ -60,12 +60,12 @@ const ROWS: &[Row] = &[
     (LONG, 100_000, usize::MAX, None, ANY),
     (1_200_000, ALL, 1_199_999, None, ANY),
     (1_200_000, ALL, 3_000_000, None, ANY),
-    // a file that is said to be long and isn't takes a mebibyte at most
+    // a file that should be long and isn't takes a mebibyte at most
     (0, ALL, 2_000_000_000, None, 1_048_576),
     (5, ALL, 2_000_000_000, None, 1_048_576),
     (1_000_000, ALL, 2_000_000_000, None, 1_048_576),
     (1_048_575, ALL, 2_000_000_000, None, 1_048_576),
-    // a read that was interrupted is made again, in a step, in a later one, and after all of them
+    // an interrupted read is made again, in a step, in a later one, and after all of them
     (LONG, 700_000, LONG, Some((1, Interrupted)), ANY),
     (LONG, 700_000, LONG, Some((4, Interrupted)), ANY),
     (LONG, 700_000, 1_048_576, Some((4, Interrupted)), ANY),
@@ -76,7 +76,7 @@ const ROWS: &[Row] = &[
     (LONG, 700_000, 1_048_576, Some((4, PermissionDenied)), ANY),
 ];
 
-/// The bytes of the longest file, of which no two thousands that follow one another are the same.
+/// The bytes of the longest file. No two consecutive thousands are the same.
 fn long_file(alloc: Global) -> Result<Vec<u8>, AllocError> {
     let mut bytes = Vec::with_capacity(alloc, LONG)?;
     for place in 0..LONG {

@@ -3,7 +3,7 @@
 //! calls; of how much memory calls ask for, and of what takes none; and of the test allocator's counts.
 //!
 //! Whatever reaches a session or a kernel runs on one type of memory, the test allocator, and the program on one type of host,
-//! since each type has all that it reaches compiled anew. Scripts with their texts and faults are the cases of `script_cases`.
+//! since all that a type reaches is compiled anew for it. Scripts with their texts and faults are the cases of `script_cases`.
 #![tactic(auto)]
 
 #[cfg(test)]

@@ -66,7 +66,7 @@ const ROWS: &[Row] = &[
     // by one worker a text that is doubled until it fits; by four 8 bytes for its beginning, 32 for two parts, 16 for their
     // counts, and 228,958 for all of it
     ("write j", (8, 579_784), (4, 229_014)),
-    // a count at fault comes before memory
+    // a count's fault comes before memory
     (
         "r = cnt_lub f; r = len_luz i; r = ext_vuz i 3; \
          r = dis_vuz 7 -1; r = dis_vuz 7 4194305; r = ind_luz 0 1 -1; r = ind_luz 0 1 4194305",
@@ -75,7 +75,7 @@ const ROWS: &[Row] = &[
     ),
 ];
 
-/// The first row of which a call asks for another amount of memory, by one worker in one tile or by four, with what it asks for.
+/// The first row whose call asks for another amount of memory, by one worker in one tile or by four, with what it asks for.
 fn first_other<R: Threads + Sync>(
     rt: &R,
     alloc: Global,
@@ -130,7 +130,7 @@ fn asked_by_run<R: Threads + Sync>(
     }
 }
 
-/// How many bytes a sink asks for that has room for so many.
+/// How many bytes a sink with room for so many asks for.
 fn asked_by_sink(alloc: Global, room: usize) -> Result<u64, NoResources> {
     let heap = Refusing::none(alloc);
     let _sink = MemSink::with_room(&heap, room)?;
@@ -170,8 +170,8 @@ fn held_by_input<R: Threads + Sync>(rt: &R, alloc: Global) -> Result<(u64, u64),
     Ok((before, heap.held()))
 }
 
-/// An input's bytes are given back once they are read: the list of inputs and the bytes are held before; then the list, the
-/// numbers, what shares them, and the node of the name.
+/// An input's bytes are freed once they are read: the list of inputs and the bytes are held before; then the list, the numbers,
+/// what shares them, and the node of the name.
 #[test]
 fn memory_of_an_input_that_is_read(rt: HostRuntime) -> Result<(), Fail> {
     let held = held_by_input(&rt, rt.alloc());

@@ -37,7 +37,7 @@ pub const FILES: Files = &[
     ("segment_values", "5 1 7 7 1"),
 ];
 
-/// What a tile without elements is answered.
+/// The message about a tile without elements.
 const NO_TILE: &str = "error: invalid value '0' for '--tile <N>': 0 is not in 1..=65536
 
 For more information, try '--help'.
@@ -87,7 +87,7 @@ const SUMMED: &str =
 
 pub const NO_FILE: &str = "cannot read nofile\n";
 
-/// The recipes, and what is told of a line of sight without a place.
+/// The recipes, and the message about a line of sight without a place.
 const PRODUCT: &str = "cvl --tile 2 --workers 3 sparse_matvec lengths columns values x";
 
 const SIGHT: &str = "cvl --tile 2 --workers 3 line_of_sight hill";
@@ -132,8 +132,7 @@ const ROWS: &[Row] = &[
     ("cvl --Version", "", REFUSED, 2),
 ];
 
-/// Hosts that fail where the status tells something else already, or whose standard output takes little a write and does not
-/// fail.
+/// Hosts that fail when the status already says something else, or whose standard output takes little a write and does not fail.
 const FAILING: &[(Failing, Row)] = &[
     (Flush, ("cvl nofile", "", NO_FILE, 3)),
     (Flush, ("cvl late numbers", GIVEN, LATE, 1)),
@@ -145,8 +144,8 @@ const FAILING: &[(Failing, Row)] = &[
     (Writes(100, 3), (SUMS, SUMMED, "", 0)),
 ];
 
-/// Hosts whose standard output fails, a command line and its text, how many bytes of it are taken at most, and the line that is
-/// told.
+/// Hosts whose standard output fails, a command line and its text, how many bytes of it are taken at most, and the line in the
+/// message.
 const STOPPED: &[(Failing, &str, &str, usize, u32)] = &[
     (Flush, "cvl scan numbers", SCANNED, usize::MAX, 0),
     (Flush, "cvl -h", HELP, usize::MAX, 0),
@@ -165,8 +164,8 @@ const STOPPED: &[(Failing, &str, &str, usize, u32)] = &[
     (Writes(100, 1), SUMS, SUMMED, 29, 6),
 ];
 
-/// A write whose text is put in four whole pieces of 131,072 bytes, behind a beginning of 6. An element of 2 bytes and an end of
-/// 2 follow.
+/// A write whose text is put in four whole pieces of 131,072 bytes, after a beginning of 6. An element of 2 bytes and an end of 2
+/// follow.
 const LONG: &str = "v = dis_vuz 7 262146\nwrite v\n";
 
 /// How many writes standard output takes, of 1,000 bytes at most, and how many bytes of the text it has then: a piece takes 132.

@@ -19,7 +19,7 @@ enum Made<'a> {
     Run(Files<'a>, Row<'a>),
     /// What a call gives.
     Call(Call, &'a [i32]),
-    /// A text behind one of so many bytes.
+    /// A text after one of so many bytes.
     Text(usize),
     /// A sink whose room is made before.
     Sink,
@@ -88,8 +88,8 @@ fn each_request_refused(rt: HostRuntime) -> Result<(), Fail> {
     Ok(())
 }
 
-/// The last input that a script may read; and a file that is so long that threads write the memory for it before it is read: the
-/// room for the file, beside those for the inputs, for a line and for the script.
+/// The last input that a script may read; and a file so long that threads write the memory for it before it is read: the room for
+/// the file, besides those for the inputs, for a line and for the script.
 #[test]
 fn each_request_of_long_runs_refused(rt: HostRuntime) -> Result<(), Fail> {
     let words = text_of(rt.alloc(), "cvl last", " empty", 197, " numbers")?;

@@ -22,7 +22,7 @@ i = ind_luz 0 1 c
 j = ind_lez z w d
 ";
 
-/// How many elements of a value are right, which is shown then.
+/// Counts the right elements of a value, and shows that.
 const COUNT: &str = "m = cnt_lub e\nwrite m\n";
 
 /// Lines that bind a call's value to `v`, the vector that is the same, or the call's fault, which is at the last place, what its
@@ -56,8 +56,8 @@ const CALLS: &[Call] = &[
     ),
 ];
 
-/// How many elements there are and the last place, the former as a number, the tile and the workers that are asked for, the tile
-/// of the race, and who is held, at its first tile, until the others have finished all other tiles.
+/// How many elements there are and the last place, the former as a number, the tile and the workers of the configuration, the
+/// tile of the race, and who is held, at its first tile, until the others have finished all other tiles.
 type Length = (&'static str, u32, u32, u32, u32, Holds);
 
 const LENGTHS: &[Length] = &[

@@ -29,8 +29,8 @@ impl<'a> Reading<Counted<'a>, i32> for Counting {
     }
 }
 
-/// A gate over four tiles of one element each. It notes, when a worker goes on from a point, how often the tile's element was
-/// read so far, as a digit of a number of the tile after a 9; and at the points of tile 1 that of tile 0 in a number after them.
+/// A gate over four tiles of one element each. When a worker leaves a point, it notes how often the tile's element was read so
+/// far, as a digit of a number of the tile after a 9; and at the points of tile 1 that of tile 0 in a number after them.
 #[derive(Drop)]
 struct Noting<'a> {
     watch: Watch,
@@ -98,7 +98,7 @@ fn hold(words: &[AtomicU64], numbers: &[u64]) -> bool {
 /// in all.
 type Row = (u32, bool, Holds, [u64; 5], [u64; 4]);
 
-/// Each element was read for its tile's sum alone, after the tile was claimed; and once more in all.
+/// Each element was read only for its tile's sum, after the tile was claimed; and once more in all.
 const ONCE: [u64; 5] = [90111, 90111, 90111, 90111, 91111];
 
 const TWICE: [u64; 4] = [2, 2, 2, 2];
@@ -117,7 +117,7 @@ const ROWS: [Row; 4] = [
         LOOKED_AT,
         [3, 2, 2, 2],
     ),
-    // and does not where its sum is told
+    // and does not if its sum is told
     (2, false, Holds::TileZero(Point::Summed(0)), ONCE, TWICE),
     // a reduce of segments reads each element for its tile's sum, and once more when the reduces are written, after the race
     (1, true, Holds::Nobody, ONCE, TWICE),

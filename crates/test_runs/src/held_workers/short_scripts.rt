@@ -45,11 +45,11 @@ s = dis_vuz 0 3
 s = mke_fov s
 ";
 
-/// A call, behind the call that makes what it takes where no name has it, what its workers race for, and what is written of its
-/// value, or its fault.
+/// A call, after the call that makes its argument if no name has it, what its workers race for, and what is written of its value,
+/// or its fault.
 type Call = (&'static str, Race, &'static str);
 
-/// Calls on four places. Of the last ones there is no place to take from, or to send to; their tiles are still those of the
+/// Calls on four places. For the last ones there is no place to take from, or to send to; their tiles are still those of the
 /// index.
 const CALLS: &[Call] = &[
     ("add_suz a", SCAN, "b = [0 3 4 11]\n"),
@@ -163,7 +163,7 @@ const FAULTY: &[Call] = &[
     ),
 ];
 
-/// The same comes of a call every time, since each run may race another way.
+/// The same outcome each time, since each run may race another way.
 const AGAIN: &[Run] = &[(16, 8, 63, Holds::Nobody); 100];
 
 /// A call on the longest vector, for whose tiles workers race too.
