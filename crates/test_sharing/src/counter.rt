@@ -1,13 +1,13 @@
-//! A count, at which whoever counts first is held.
+//! A count that holds the first to count.
 
 use std::sync::atomic::{AtomicBool, AtomicU64, Ordering};
 use std::thread::yield_now;
 
-/// How often a worker that is held looks whether it may go on, at most. After each look it lets another thread run: on a busy
-/// machine the workers that it waits for may themselves wait for a processor.
+/// The most looks of a held worker at whether it may continue. After each look it lets another thread run: on a busy machine the
+/// workers that it waits for may themselves wait for a processor.
 const TURNS: u64 = 10_000_000;
 
-/// A count, which holds whoever adds to it first until others have added so much that it has come so far.
+/// A count that holds the first to add to it until others have added enough that it has come so far.
 #[derive(Drop)]
 pub struct Counter {
     count: AtomicU64,

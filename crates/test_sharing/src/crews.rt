@@ -65,7 +65,7 @@ where
     }
 }
 
-/// How many numbers were given to workers, of whom there are so many, and the sum of those before each.
+/// How many numbers were given to so many workers, and the sum of those before each.
 fn sums_before<R: Threads + Sync, A: Memory>(
     rt: &R,
     alloc: A,
@@ -83,7 +83,7 @@ fn sums_before<R: Threads + Sync, A: Memory>(
     Ok((ended.given, sums))
 }
 
-/// Whether the sums before each of the first so many numbers are those that are worked out by hand, and each number was given.
+/// Whether the sums before each of the first so many numbers are those worked out by hand, and each number was given.
 pub fn are_summed<R: Threads + Sync, A: Memory>(
     rt: &R,
     alloc: A,

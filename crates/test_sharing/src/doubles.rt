@@ -1,4 +1,4 @@
-//! The doubles of numbers, written by several threads, also by two at one moment, and what may be done with such a vector
+//! The doubles of numbers, written by several threads, also by two at one moment, and what you may do with such a vector
 //! afterwards; and a vector that a thread leaves early.
 
 ghost use Rattle.std.specs.Prelude.{◌≡◌, ◌+◌, ◌≤◌, [], length, map};
@@ -65,8 +65,8 @@ pub fn are_written<R: Threads + Sync, A: Memory>(
     Ok(as_long && copy == doubles && copy.last() == Some(&1) && are_doubles(&copy, numbers))
 }
 
-/// Whether a room for five items, of which a thread that stops early has written two, is a vector of these two: of two runs one
-/// is written in part and one not at all.
+/// Whether a room for five items, two of which are written by a thread that stops early, is a vector of these two: one of two
+/// runs is written in part and one not at all.
 pub fn keeps_what_is_written<A: Memory>(heap: A) -> Result<bool, NoResources> {
     let (room, run) = Room::new(heap, 5)?;
     let (mut front, back) = run.split_at(3);

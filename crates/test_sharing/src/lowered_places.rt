@@ -28,9 +28,8 @@ impl Targets for AllInFirst {
     }
 }
 
-/// Whether each answer of two workers is the one that is worked out by hand, of eight places that are all in the first of two
-/// slots: each worker sees what the other one lowers, and a greater place changes nothing. In the second slot no place is
-/// lowered.
+/// Whether each answer of two workers is the one worked out by hand, for eight places that are all in the first of two slots:
+/// each worker sees what the other one lowers, and a greater place changes nothing. In the second slot no place is lowered.
 pub fn answers_by_hand<A: Memory>(alloc: A) -> Result<bool, NoResources> {
     let (board, mut seats) = LeastBoard::new(alloc, AllInFirst, Plan::new(8, 2), 2)?;
     let (Some(mut second), Some(mut first)) = (seats.pop(), seats.pop()) else {

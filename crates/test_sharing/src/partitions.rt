@@ -1,4 +1,4 @@
-//! Partitions by several threads.
+//! Partitions on several threads.
 
 ghost use Rattle.std.specs.Prelude.{◌≡◌, ◌%◌};
 

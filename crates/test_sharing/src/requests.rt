@@ -17,7 +17,7 @@ enum Made {
     Sums,
     /// The doubles of so many numbers.
     Doubles(usize),
-    /// What a thread leaves that stops early.
+    /// What a thread that stops early leaves.
     Early,
     /// So many numbers by their last digit.
     Partition(u16),
@@ -44,7 +44,7 @@ const ALL: &[(Made, &[u32], u64)] = &[
     (Made::Partition(0), &[1, 2, 3, 4, 5], 1),
     (Made::Partition(3), &[1, 2, 3, 4, 5], 3),
     (Made::Partition(997), &[1, 2, 3, 4, 5, 9], 3),
-    // few keys, and so many that two threads share them; the keys, what is told of them, and what each call works in
+    // few keys, and so many that two threads share them; the keys, their results, and what each call works in
     (Made::Sorts(50), &[2], 9),
     (Made::Sorts(262_147), &[3], 14),
 ];

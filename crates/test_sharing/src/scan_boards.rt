@@ -19,8 +19,8 @@ fn is_back(back: Back<i32>, sum: i32, looks: u32) -> bool {
     back.before == (false, sum) && back.looks == looks
 }
 
-/// Whether each answer of two workers over tiles of 3, 1, 7 and 0 is the one that is worked out by hand. What one tells of a
-/// tile, the other one sees, and no prefix is taken back. A tile of which something is told is not added up.
+/// Whether each answer of two workers over tiles of 3, 1, 7 and 0 is the one worked out by hand. What one tells of a tile, the
+/// other one sees, and no prefix is taken back. If something is told of a tile, it is not added up.
 pub fn answers_by_hand<A: Memory>(alloc: A) -> Result<bool, NoResources> {
     let counter = Counter::new(0);
     let tiles = CountedTiles::new(&[3, 1, 7, 0], &counter);
@@ -50,8 +50,8 @@ const TILES: usize = 1_000;
 /// How often a worker claims: for each tile, and 1,000 times and more after it was told that none is left.
 const CLAIMS: u32 = 2_001;
 
-/// One worker's part: it claims tiles, and tells the sum and the prefix of each. The answer is whether each look-back was right,
-/// and each claim behind one that was told that no tile is left was told so again.
+/// One worker's part: it claims tiles, and tells the sum and the prefix of each. Returns whether each look-back was right, and
+/// each claim after the answer that no tile is left got it again.
 fn work<A: Memory>(board: &ScanBoard<CountedTiles<'_>, A>, seat: &mut ScanSeat<Add>) -> bool
     requires { IsSeatOf board.now seat.old }
     ensures { IsSeatOf board.now seat.new }
@@ -95,8 +95,8 @@ fn in_two_threads<R: Threads + Sync, A: Memory>(
     first_right && second_right
 }
 
-/// How many tiles two workers, each in a thread of its own, were given beside a third one, who claims once and stops for ever or
-/// never claims; and whether both are right.
+/// How many tiles two workers, each in a thread of its own, were given beside a third one, which claims once and stops for ever
+/// or never claims; and whether both are right.
 fn by_two_threads<R: Threads + Sync, A: Memory>(
     rt: &R,
     alloc: A,
@@ -124,9 +124,9 @@ fn by_two_threads<R: Threads + Sync, A: Memory>(
     Ok((board.close(seats).given, right))
 }
 
-/// Beside a worker that has stopped, twenty times; and beside one that never claims, where a worker stands still inside a call of
+/// Beside a worker that has stopped, twenty times; and beside one that never claims, while a worker stands still inside a call of
 /// the board. That one holds up no other: the other one is given all other tiles, each of which is added up once for its sum and
-/// once for its prefix. And of a board of no tiles each of 64 seats is told so at once.
+/// once for its prefix. And on a board without tiles each of 64 seats is told so at once.
 #[test]
 fn workers_in_threads(rt: HostRuntime) -> Result<(), Fail> {
     let heap = Refusing::none(rt.alloc());

@@ -1,4 +1,4 @@
-//! Orders, ranks and sorts by several threads, of keys whose ranks are known from how they are made.
+//! Orders, ranks and sorts on several threads, of keys whose ranks are known from how they are made.
 
 use cvl_base::limits::MOST_PLACES;
 use cvl_base::{Memory, NoResources};
@@ -74,8 +74,8 @@ fn refused(room: &[i32]) -> Result<bool, NoResources> {
     Err(NoResources)
 }
 
-/// Whether the ranks, the order and the sort of n keys are right, which at most so many threads share; false if n is more than a
-/// vector may have.
+/// Whether the ranks, the order and the sort of n keys are right, on at most so many threads; false if n is more than a vector
+/// may have.
 pub fn are_right<R: Threads + Sync, A: Memory>(
     rt: &R,
     heap: A,

@@ -10,8 +10,8 @@ use boards::Tiles;
 use cvl_base::monoids::Add;
 use scan_walks::know_numbers;
 
-/// Tiles of one number each, among which no segment starts. A counter counts how often one of them is added up, and may hold the
-/// worker that adds up a tile first of all, inside the board's call that asks for the sum.
+/// Tiles of one number each, in which no segment starts. A counter counts how often one of them is added up, and may hold the
+/// first worker that adds up a tile, inside the board's call that asks for the sum.
 #[derive(Drop)]
 pub struct CountedTiles<'a> {
     numbers: &'a [i32],
