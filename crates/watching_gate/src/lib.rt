@@ -1,6 +1,6 @@
-//! A gate for tests: it sees which worker passes which point of which tile, and holds workers until others have gone on.
+//! A gate for tests: it sees which worker passes which point of which tile, and holds workers until others have continued.
 //!
-//! A test hands it to the gated form of a call, and asks it afterwards whether it saw all:
+//! A test passes it to the gated form of a call, and then asks it whether it saw all:
 //!
 //! ```text
 //! let gate = Watch::new(rt.alloc(), Race::Scan, 4, 2, Holds::UntilOthers(Point::Claimed(0)))?;
@@ -8,8 +8,8 @@
 //! assert!(rt; gate.saw_all());
 //! ```
 //!
-//! A worker is held for so many turns at most, so that a test ends also where nobody goes on. Nothing is proved of what the
-//! gate sees but that it is safe and returns: no clause speaks of a number that other threads change.
+//! A worker is held for a bounded number of turns, so that a test ends even if nobody goes on. What the gate sees is not proved,
+//! only that it is safe and returns: no clause speaks of a number that other threads change.
 #![tactic(auto)]
 
 mod points;

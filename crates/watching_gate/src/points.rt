@@ -1,4 +1,4 @@
-//! Which points workers pass, and at which of them they are held.
+//! Which points workers pass, and where they are held.
 
 ghost use Rattle.std.specs.Prelude.{◌≤◌};
 
@@ -9,14 +9,14 @@ use crew::Point;
 pub enum Race {
     /// The tiles of a scan or a reduce, at which they pass four points.
     Scan,
-    /// Least places, on so many boards one after another. At each tile they pass `Claimed` and `Finished`.
+    /// Least places, on so many boards in turn. At each tile they pass `Claimed` and `Finished`.
     Leasts(u32),
     /// The tiles of a scan, and then the first of these tiles that has something, on a board of their numbers: a scan that
     /// never wraps.
     ScanThenLeast,
 }
 
-/// One of the boards on which the tiles are given out, one after another.
+/// One of the boards that give out the tiles, in turn.
 #[derive(Clone, Copy)]
 pub struct Board {
     /// How many boards come before it, and how many points there are at a tile on these.
@@ -27,7 +27,7 @@ pub struct Board {
 }
 
 impl Board {
-    /// Which of the points at a tile this is, counted from 0, or none where it isn't one of them.
+    /// Which of the points at a tile this is, counted from 0; none if it isn't one of them.
     pub fn number(self, point: Point) -> Option<u64> {
         match (self.points, point) {
             (4, _) => Some(place_of(point).1),
@@ -48,7 +48,7 @@ impl Race {
         }
     }
 
-    /// The board that has a tile's next point, where so many of its points were passed.
+    /// The board that has a tile's next point, after so many of its points were passed.
     pub fn board(self, passed: u64) -> Board
         ensures { 1 ≤ result.points }
     {
@@ -82,12 +82,12 @@ pub fn place_of(point: Point) -> (u32, u64) {
     }
 }
 
-/// Which workers are held, and until when. A worker is held on the first board alone.
+/// Which workers are held, and until when. A worker is held only on the first board.
 #[derive(Clone, Copy)]
 pub enum Holds {
     /// None.
     Nobody,
-    /// Each worker at its first tile, until so many tiles were given.
+    /// Each worker at its first tile, until this many tiles were given.
     FirstTiles(u64),
     /// The worker of tile 0 at this point of it, until all other tiles are finished, and the worker of tile 1 at its claim
     /// until the former is held.

@@ -6,8 +6,8 @@ use std::alloc::{AllocError, Global};
 use std::sync::atomic::{AtomicBool, AtomicU64, Ordering};
 use std::thread::yield_now;
 
-/// How often a worker that is held looks whether it may go on, at most. After each look it lets another thread run: on a busy
-/// machine the worker that it waits for may itself wait for a processor.
+/// The most looks of a held worker at whether it may continue. After each look it lets another thread run: on a busy machine the
+/// worker that it waits for may itself wait for a processor.
 const TURNS: u64 = 10_000_000;
 
 /// A gate that sees whether each tile's points are passed in order, each once on each board, by a worker that works at no
@@ -20,8 +20,8 @@ pub struct Watch {
     holds: Holds,
     /// How many points of each tile were passed.
     passed: Vec<AtomicU64>,
-    /// The last point that each worker passed, of all points, counted from 1 on tile by tile and board by board; 0 where it
-    /// passed none.
+    /// The last point that each worker passed, of all points, counted from 1 on tile by tile and board by board; 0 if it passed
+    /// none.
     last: Vec<AtomicU64>,
     claimed: AtomicU64,
     finished: AtomicU64,
@@ -29,7 +29,7 @@ pub struct Watch {
     overdue: AtomicBool,
 }
 
-/// So many words, each 0.
+/// `count` words, each 0.
 fn zeros(alloc: Global, count: u32) -> Result<Vec<AtomicU64>, AllocError> {
     let mut words = Vec::new(alloc);
     for _ in 0..count {
@@ -39,7 +39,7 @@ fn zeros(alloc: Global, count: u32) -> Result<Vec<AtomicU64>, AllocError> {
 }
 
 impl Watch {
-    /// A gate for a race of so many workers, which are numbered from 0, for so many tiles.
+    /// A gate for a race of so many workers, numbered from 0, for so many tiles.
     pub fn new(
         alloc: Global,
         race: Race,
@@ -59,7 +59,7 @@ impl Watch {
         })
     }
 
-    /// Whether this worker may pass this point now, which it is then seen to have passed.
+    /// Whether this worker may pass this point now; it is then recorded as passed.
     fn is_in_order(&self, worker: u32, point: Point) -> bool {
         let (tile, _) = place_of(point);
         let (Some(passed), Some(last)) = (
