@@ -1,4 +1,4 @@
--- As many bound names as there may be, and what a line does over them.
+-- As many bound names as there may be, and what a line does with them.
 -- Source: this library's script format.
 use Prim.Native.String.{String}
 use Rattle.std.specs.Prelude.{ℕ, zero, suc, ◌+◌, ◌/◌, ◌%◌, pos, true, List, [], ◌∷◌, codes, map, Result}

@@ -1,5 +1,5 @@
--- The call that a line reads as, the value of a call on given arguments, and what a script writes on given vectors, all as
--- they are written. The definitions don't look at the allocator of a value, so the values here have none.
+-- The call that a line reads as, the value of a call on given arguments, and what a script writes on given vectors, all as they are
+-- written. The definitions don't look at the allocator of a value, so the values here have none.
 -- Source: this library's script format.
 use Prim.Native.String.{String}
 use Rattle.std.specs.Prelude.{ℕ, List, [], codes, map, slice_get, Option, Some, None, Result}

@@ -1,4 +1,4 @@
-//! Which fault counts where one line has several.
+//! Which fault is reported if one line has several.
 
 ghost use Rattle.std.specs.Prelude.{◌≡◌, take, [], ◌∷◌};
 ghost use Rattle.cvl_base.specs.declared.fault.FaultNo.TheVariants as no;
@@ -6,8 +6,8 @@ ghost use Rattle.cvl_base.specs.Faults.{fault, fault_at};
 ghost use Rattle.worked_scripts.specs.BoundNames.{full, step_over};
 ghost use Rattle.worked_scripts.specs.Outcomes.{outcome_on, stops};
 
-/// The form of the line, the call's name, the number of its arguments and the line's numbers come before what the names
-/// stand for.
+/// The form of the line, the call's name, the number of its arguments and the line's numbers come before the meaning of the
+/// names.
 pub fn reading()
     ensures form_before_call { outcome_on "c = xyz_wuz ?" [] ≡ stops 1 no.BadLine }
     ensures call_before_number_of_arguments { outcome_on "c = xyz_wuz" [] ≡ stops 1 no.UnknownCall }
@@ -25,8 +25,8 @@ pub fn arguments()
         ≡ stops 3 no.WrongKind }
 {}
 
-/// Where 4,096 names are bound a new one is refused after the arguments are checked and before the call is made. Where
-/// there is room, or the name is bound already, the call's own fault counts.
+/// If 4,096 names are bound, a new one is refused after the arguments are checked and before the call is made. If there is room,
+/// or the name is bound already, the call's own fault is reported.
 pub fn too_many_names()
     ensures unknown_name_first { step_over full "c = not_wuz q" ≡ Err (fault no.UnknownName) }
     ensures wrong_kind_first { step_over full "c = not_wuz 1" ≡ Err (fault no.WrongKind) }
@@ -49,8 +49,8 @@ pub fn names_to_bind()
     ensures vector { outcome_on "v d = nested 1" ("" ∷ []) ≡ ([], Some (1, fault_at no.BadInput 0)) }
 {}
 
-/// Two names are refused where with the new ones of them more than 4,096 are bound, after the arguments are checked and
-/// before the call is made.
+/// Two names are refused if with the new ones of them more than 4,096 are bound, after the arguments are checked and before the
+/// call is made.
 pub fn too_many_names_for_two()
     ensures unknown_name_first { step_over full "v d = nested q" ≡ Err (fault no.UnknownName) }
     ensures wrong_kind_first { step_over full "v d = nested T" ≡ Err (fault no.WrongKind) }

@@ -1,9 +1,8 @@
 //! Worked values of scripts: which argument of a line goes where in its call, what a script writes, and which of two
 //! faults counts.
 //!
-//! Each function takes and gives nothing, and its contract is a list of calls, lines or scripts with what comes of them.
-//! They are computed from the definitions alone, so a definition that is read wrongly is refused here, before any code
-//! stands on it.
+//! Each function takes and gives nothing, and its contract is a list of calls, lines or scripts with their results. They are
+//! computed from the definitions alone, so a misread definition is refused here, before any code depends on it.
 #![tactic(auto)]
 
 pub mod elements;

@@ -10,8 +10,8 @@ ghost use Rattle.worked_scripts.specs.NestedScripts.{made, read, shows_v, text_o
 use call_reader::nested_laws::nest_reads_back;
 use cvl_base::Memory;
 
-/// A vector and a descriptor that two lines of a script made are written as their nest. Where a nested input gives them,
-/// one line of a script reads them, and writes the same; where it has a fault, the line has that fault.
+/// A vector and a descriptor that two lines of a script made are written as their nest. If a nested input gives them, one line of
+/// a script reads them, and writes the same; if it has a fault, the line has that fault.
 pub fn written_and_read<A: Memory>()
     ensures made { (numbers : List ℤ) (lengths : List ℕ) → sum lengths ≡ length numbers → sum lengths ≤ most_elements →
         made A numbers lengths ≡ shows_v (text_of_nest numbers lengths) }
@@ -20,8 +20,8 @@ pub fn written_and_read<A: Memory>()
     ensures refused { (bytes : Vec ℕ A) (f : Fault) → nested_of bytes.items ≡ Err f → read (Bytes bytes) ≡ ([], Some (1, f)) }
 {}
 
-/// What stands after ` =` in the line of a vector that one script wrote beside its descriptor, the line feed too, is a
-/// nested input of which another script writes the same.
+/// What stands after ` =` in the line of a vector that one script wrote beside its descriptor, with the line feed, is a nested
+/// input of which another script writes the same.
 pub fn written_is_read_again<A: Memory>()
     ensures { (bytes : Vec ℕ A) (numbers : List ℤ) (lengths : List ℕ) → IsWithin32 numbers → sum lengths ≡ length numbers →
         length numbers ≤ most_elements → length lengths ≤ most_elements →

@@ -8,7 +8,7 @@ ghost use Rattle.worked_scripts.specs.Faults.{fault_of};
 
 use cvl_base::Memory;
 
-/// What a recipe says of its script's fault is what the meaning of the script says, for all scripts and all inputs.
+/// A recipe reports the same fault of its script as the meaning of the script, for all scripts and all inputs.
 pub fn recipe_fault_law<A: Memory>()
     ensures { (script : List ℕ) (inputs : List (Input A)) (name : List ℕ) →
         fault_of (bound_by script inputs name) ≡ stop_fault (meaning script inputs) }

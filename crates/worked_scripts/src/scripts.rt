@@ -34,8 +34,7 @@ pub fn fault_in_the_middle()
     ensures first_of_two_faults { outcome_on "# two lines\nwrite q\n= =\n" [] ≡ stops 2 no.UnknownName }
 {}
 
-/// A name may be bound again, to a value of another kind, and keeps its value where the line that would bind it is
-/// faulty.
+/// A name may be bound again, to a value of another kind, and keeps its value if the line that would bind it is faulty.
 pub fn bound_again()
     ensures another_kind { outcome_on "a = input 1\nwrite a\na = boo_wuz a\nwrite a\n" ("5 0" ∷ [])
         ≡ writes "a = [5 0]\na = [T F]\n" }
