@@ -1,9 +1,8 @@
-//! Measures the library. It does so where its first argument is the word `measure`, and else it does nothing. The second
-//! argument names what is measured: `text`, `elementwise`, `scans`, `permutes`, `packs`, `recipes` or `long`; without it all
-//! of them but the last are. The third is the number of workers, which is 4 if there is none, and the fourth the length of
-//! tiles, which is 4,096. `docs/dev/performance/measure` puts plain loops in C++ beside the calls,
-//! `docs/dev/performance/loops.cpp`, which print the same lines; `docs/dev/performance/measure_workers` measures `long` with
-//! many numbers of workers and lengths of tiles.
+//! Measures the library if its first argument is the word `measure`; otherwise it does nothing. The second argument names what to
+//! measure: `text`, `elementwise`, `scans`, `permutes`, `packs`, `recipes` or `long`; without it, all of them but the last. The
+//! third is the number of workers, by default 4, and the fourth the length of tiles, by default 4,096.
+//! `docs/dev/performance/measure` puts plain loops in C++ beside the calls, `docs/dev/performance/loops.cpp`, which print the
+//! same lines; `docs/dev/performance/measure_workers` measures `long` with many numbers of workers and lengths of tiles.
 #![tactic(auto)]
 
 use cvl_base::Config;
