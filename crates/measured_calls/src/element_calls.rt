@@ -9,7 +9,7 @@ use std::io;
 use std::rt::Clock;
 use std::thread::Threads;
 
-/// The vectors' lengths, among them that from which on a call is shared among threads.
+/// The vectors' lengths, among them that from which on threads share a call.
 const LENGTHS: [usize; 6] = [4_194_304, 1_048_576, 262_144, 131_072, 65_536, 1_000];
 
 /// Makes the call of a case.

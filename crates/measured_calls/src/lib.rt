@@ -22,9 +22,9 @@ use std::thread::Threads;
 /// The vectors' lengths.
 const LENGTHS: [usize; 3] = [4_194_304, 65_536, 1_000];
 
-/// Measures one subject, and prints a line for each case: texts that are written and read; the calls that work place by place;
-/// scans and reduces, the checked ones too; permutes; packs, counts, distributes and indexes; the recipe of the sparse
-/// product; or a few calls of several families on the longest vectors. Answers whether there is such a subject.
+/// Measures one subject, and prints a line for each case: writing and reading texts; the elementwise calls; scans and reduces,
+/// with the checked ones; permutes; packs, counts, distributes and indexes; the recipe of the sparse product; or a few calls of
+/// several families on the longest vectors. Returns whether there is such a subject.
 pub fn measure<R: Print + Clock + Threads + Sync>(
     rt: &R,
     alloc: Global,

@@ -1,4 +1,4 @@
-//! A few calls of several families on the longest vectors, by which a number of workers and a length of tiles are chosen.
+//! A few calls of several families on the longest vectors, to choose a number of workers and a length of tiles.
 
 use crate::timing::{Bench, Family, measure_cases};
 use crate::vectors::Shape;

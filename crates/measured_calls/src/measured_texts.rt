@@ -1,4 +1,4 @@
-//! Texts that are written and read, in bytes a second.
+//! Writing and reading texts, in bytes a second.
 
 use crate::numbers::{next, random};
 use crate::timing::Bench;
@@ -14,7 +14,7 @@ use std::time::{Duration, Instant};
 /// How many numbers a case has: as many as a vector may have.
 const NUMBERS: usize = 4_194_304;
 
-/// How often a case is measured. The best time counts.
+/// How often to measure a case. The best time counts.
 const ROUNDS: usize = 20;
 
 /// Random numbers, all of 32 bits, or each of a random number of bits.
@@ -37,7 +37,7 @@ fn random_value(alloc: Global, are_all_long: bool) -> Result<Value<Global>, Refu
     Ok(Value::Integers(Ints::from_vec(numbers)))
 }
 
-/// The text of a list of lists of eight numbers, out of the text of a list.
+/// The text of a list of lists of eight numbers, from the text of a list.
 fn nest_of(alloc: Global, list: &[u8]) -> Result<Vec<u8>, AllocError> {
     let mut nest = Vec::new(alloc);
     let mut spaces: u32 = 0;
@@ -64,7 +64,7 @@ enum Work<'a> {
     ReadingLists(&'a [u8]),
 }
 
-/// The time of the work, or the longest of all where it was refused.
+/// The time of the work, or the longest of all if it was refused.
 fn time_of<R: Clock + Threads + Sync>(
     bench: &Bench<'_, R>,
     work: &Work<'_>,

@@ -18,7 +18,7 @@ pub fn random(alloc: Global, seed: i32, length: usize, bits: i32) -> Result<Vec<
     Ok(numbers)
 }
 
-/// So many random numbers from 0 up to a limit, which is at most 65,536 and is not counted in.
+/// So many random numbers from 0 up to a limit, at most 65,536, without the limit.
 pub fn random_below(
     alloc: Global,
     seed: i32,

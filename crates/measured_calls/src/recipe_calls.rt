@@ -50,8 +50,8 @@ impl Product {
     }
 }
 
-/// The time of the recipe, whose vectors are made before, and the last number of the product. Vectors that are too long for it
-/// are refused.
+/// The time of the recipe, with its vectors made before, and the last number of the product. It refuses vectors that are too
+/// long.
 fn timed_recipe<R: Clock + Threads + Sync>(
     bench: &Bench<'_, R>,
 ) -> io::Result<(Duration, Option<i32>)> {
@@ -74,7 +74,7 @@ fn timed_recipe<R: Clock + Threads + Sync>(
     Ok((start.elapsed(rt)?, last(y)))
 }
 
-/// The same of the walk over the rows.
+/// The same for the walk over the rows.
 fn timed_walk<R: Clock + Threads + Sync>(
     bench: &Bench<'_, R>,
 ) -> io::Result<(Duration, Option<i32>)> {

@@ -9,7 +9,7 @@ use std::rt::Clock;
 use std::thread::Threads;
 use std::time::{Duration, Instant};
 
-/// How often a case is measured. The best time counts.
+/// How often to measure a case. The best time counts.
 pub const ROUNDS: usize = 40;
 
 /// What calls are made with.
@@ -28,8 +28,8 @@ pub enum Family {
     Packs,
 }
 
-/// What the line of a case begins with, and a number that hangs on the result of its call, so that no call is left out as
-/// unneeded; none where the call was refused.
+/// What the line of a case begins with, and a number that depends on the result of its call, so that the compiler leaves out no
+/// call; none if the call was refused.
 pub type Answer = (&'static str, Option<i32>);
 
 /// The last number of a result.
@@ -67,7 +67,7 @@ fn call<R: Threads + Sync>(
     }
 }
 
-/// Prints a case's line: its best time, and a number that hangs on its result; or that it was refused.
+/// Prints a case's line: its best time, and a number that depends on its result; or that it was refused.
 pub fn print_time<R: Print>(
     rt: &R,
     what: &str,
@@ -105,8 +105,7 @@ fn measure_case<R: Print + Clock + Threads + Sync>(
     print_time(bench.rt, what, best, last)
 }
 
-/// Measures the cases of a family from one number up to another, which is not counted in, on vectors of a shape, and prints a
-/// line for each.
+/// Measures the cases of a family from one number up to another, without that, on vectors of a shape, and prints a line for each.
 pub fn measure_cases<R: Print + Clock + Threads + Sync>(
     bench: &Bench<'_, R>,
     family: &Family,

@@ -51,11 +51,11 @@ pub struct Numbers {
 /// Flags.
 #[derive(Drop)]
 pub struct Flags {
-    /// Random ones, of which as many are true as the shape says.
+    /// Random ones, with as many true as the shape says.
     pub some: Vec<bool>,
     /// Other random ones.
     pub others: Vec<bool>,
-    /// True where the index is below half of a full segment, so that the places that it names there are packed.
+    /// True if the index is below half of a full segment, so that the places that it names there are packed.
     pub chosen: Vec<bool>,
 }
 
@@ -132,7 +132,7 @@ fn below(alloc: Global, numbers: &[i32], limit: i32) -> Result<Vec<bool>, AllocE
     Ok(flags)
 }
 
-/// So many random flags, of which about so many of a hundred are true.
+/// So many random flags, about so many of a hundred true.
 fn random_flags(
     alloc: Global,
     seed: i32,
