@@ -1,5 +1,5 @@
-//! Tests of the words for calls and for lines that are at fault: texts worked out by hand, and each request for memory
-//! refused in turn.
+//! Tests of the words for calls and for lines with a fault: texts worked out by hand, and each request for memory refused in
+//! turn.
 #![tactic(auto)]
 
 #[cfg(test)]
