@@ -1,4 +1,4 @@
-//! Each request for memory is refused in turn: the room is then as it was.
+//! Each request for memory is refused in turn: the room is then as before.
 
 use cvl_base::{Memory, NoResources};
 use refusing_memory::withstands_refusals;
@@ -12,7 +12,7 @@ const BEFORE: i32 = -7;
 /// How many keys there are, which all differ and descend: more than are sorted without memory.
 const KEYS: usize = 110;
 
-/// The lengths of the segments, of which the first has more keys than are sorted without memory.
+/// The lengths of the segments. The first has more keys than are sorted without memory.
 const LENGTHS: [i32; 2] = [100, 10];
 
 /// Whether the first number is as said, and each other one so much more than the one before.
@@ -92,7 +92,7 @@ fn are_sorted<A: Memory>(alloc: A, keys: &[i32; KEYS]) -> Result<bool, NoResourc
     Ok(go_from(&sorted, -109, 1))
 }
 
-/// Whether all are right of the keys 0, -1, -2 and so on.
+/// Whether all are right for the keys 0, -1, -2 and so on.
 fn are_right<A: Memory>(alloc: A) -> Result<bool, NoResources> {
     let mut keys = [0i32; KEYS];
     for k in 0..KEYS {

@@ -4,7 +4,7 @@ use cvl_base::Memory;
 use stable_sorts::{order_over, rank_over, sort_in};
 use std::test::Fail;
 
-/// The lengths at which a sort goes over from insertion to digits of 8 bits, and to digits of 11, and those before.
+/// The lengths at which a sort changes from insertion to digits of 8 bits, and to digits of 11, and those before.
 const LENGTHS: [u16; 6] = [1, 48, 49, 1_535, 1_536, 5_000];
 
 /// A prime that divides none of the lengths, so that its multiples leave each remainder once.

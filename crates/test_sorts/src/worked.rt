@@ -7,7 +7,7 @@ use stable_sorts::{
 };
 use std::test::Fail;
 
-/// Keys, and what is told of them.
+/// Keys, and their results.
 struct Case {
     keys: [i32; 5],
     order: [i32; 5],
