@@ -37,6 +37,13 @@ module _ {Item : Type 0} (join : Item → Item → Item) (unit : Item) where
       → scans_of join unit lengths xs ≡ scans_of join unit (take k lengths) (take cut xs) ++ scans_of join unit (drop k lengths) (drop cut xs)
   scans_parted k n cut lengths xs is is_cut = search (rules, scans_after, take_min, drop_min)
 
+  -- k segments from s on, the last of them cut short by the end of the elements, and those after them
+  pub scans_left : (s k n later cut : ℕ) (lengths : List ℕ) (rest : List Item) → later ≡ s + k → n ≡ sum (take k (drop s lengths)) → cut ≡ min n (length rest)
+      → scans_of join unit (drop s lengths) rest ≡ scans_of join unit (take k (drop s lengths)) (take cut rest) ++ scans_of join unit (drop later lengths) (drop cut rest)
+  scans_left s k n later cut lengths rest is_later is_n is_cut =
+      let behind : drop k (drop s lengths) ≡ drop later lengths = drop-drop k s lengths ∙ ap (λ j. drop j lengths) (sym is_later) in
+      scans_parted k n cut (drop s lengths) rest is_n is_cut ∙ ap (λ ls. scans_of join unit (take k (drop s lengths)) (take cut rest) ++ scans_of join unit ls (drop cut rest)) behind
+
   -- scans of segments are as long as the elements
   pub length-scans_of : (lengths : List ℕ) (xs : List Item) → length xs ≤ sum lengths → length (scans_of join unit lengths xs) ≡ length xs
   length-scans_of [] xs covered = omega (arith, covered)

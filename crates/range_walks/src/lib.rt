@@ -12,6 +12,7 @@ pub mod range_parts;
 pub mod ranges;
 pub mod readings;
 mod segment_sums;
+mod short_segments;
 
 pub use plain::{scan_into, scan_vec, sum_from};
 pub use range_parts::parts_of_range;

@@ -16,6 +16,7 @@ use crate::plain::{scan_into, sum_from};
 use crate::range_parts::parts_of_range;
 use crate::readings::Reading;
 use crate::segment_sums::sum_of_segment;
+use crate::short_segments::{marks_pay, scans_of_groups};
 use cvl_base::Monoid;
 use cvl_base::monoid::know_laws;
 use fresh::Run;
@@ -31,6 +32,25 @@ use std::alloc::Allocator;
 // inlined for the loop that it calls
 #[inline(always)]
 pub fn scans_into<M: Monoid, X: Copy, E: Reading<X, M::Item>>(
+    run: Run<M::Item>,
+    lengths: &[i32],
+    xs: &[X],
+) -> Run<M::Item>
+    requires lengths { AreLengthsWithin most_places lengths.now }
+    requires covered { length xs.now ≤ sum (map unsigned_abs lengths.now) }
+    requires room { length xs.now ≤ run.room }
+    requires items { AllPass (λ x. M.is_item (E.item x)) xs.now }
+    ensures { result ≡ with_items run (scans_of M.join M.unit (map unsigned_abs lengths.now) (map E.item xs.now)) }
+{
+    if marks_pay(lengths, xs.len()) {
+        return scans_of_groups::<M, X, E>(run, lengths, xs);
+    }
+    scans_in_turn::<M, X, E>(run, lengths, xs)
+}
+
+/// The same as [`scans_into`], by a loop for each segment.
+#[inline(always)]
+pub(crate) fn scans_in_turn<M: Monoid, X: Copy, E: Reading<X, M::Item>>(
     run: Run<M::Item>,
     lengths: &[i32],
     xs: &[X],

@@ -1,5 +1,5 @@
 use Rattle.range_walks.proofs.Cited.{◌≡◌, ◌≤◌, length, drop, map, unsigned_abs, sum, AllPass, with_items, scans_of}
-use Rattle.range_walks.proofs.ranges.scans_into.Given as goal
+use Rattle.range_walks.proofs.ranges.scans_in_turn.Given as goal
 
 -- what is written with what is left to write is the whole
 abbrev pub invariant-loop-length : goal.invariant-loop-length
