@@ -8,6 +8,17 @@ FILE = pathlib.Path(__file__).resolve().parent / "program_calls.txt"
 COLUMNS = ("1 thread", "4 threads", "loop", "Thrust", "numpy", "pandas")
 CASE = re.compile(r"(.+), (\d+) elements")
 
+# each length, its unit, and the calls that the page shows of it; the pages of the calls have all
+LENGTHS = (
+    (1_000, 1e3, "microseconds", {"order, any keys", "sort, any keys", "sums by key, even keys", "merge by flags"}),
+    (4_194_304, 1e6, "milliseconds", {
+        "order, any keys", "rank, any keys", "sort, any keys", "sort, segments of 1,000", "exact sums, segments of 1,000", "sums by key, even keys",
+        "sums by key, 256 keys", "counts, even keys", "gather of segments, of 8", "append of segments, of 8", "merge by flags",
+        "transpose, as many rows as columns"}),
+    (67_108_864, 1e6, "milliseconds", {
+        "order, any keys", "sort, any keys", "sort, segments of 1,000", "sums by key, even keys", "gather of segments, of 8", "merge by flags"}),
+)
+
 
 def read():
     """The columns of each case by subject, and the comments on top."""
@@ -41,12 +52,12 @@ def machine():
     return "".join(f"- {line}\n" for line in COMMENTS)
 
 
-def of_length(length):
-    """The rows of the calls on so many elements, without the columns that none of them has."""
+def of_length(length, shown):
+    """The rows of these calls on so many elements, without the columns that none of them has."""
     rows = {}
     for (subject, case), columns in ROWS.items():
         found = CASE.fullmatch(case)
-        if subject == "calls for programs" and found and int(found[2]) == length:
+        if subject == "calls for programs" and found and int(found[2]) == length and found[1] in shown:
             rows[found[1]] = columns
     return rows, [column for column in COLUMNS if any(column in row for row in rows.values())]
 
@@ -54,8 +65,8 @@ def of_length(length):
 def calls():
     """A table for each length: times, and after those by threads their ratio to the loop."""
     parts = []
-    for length, unit, name in ((1_000, 1e3, "microseconds"), (4_194_304, 1e6, "milliseconds"), (67_108_864, 1e6, "milliseconds")):
-        rows, columns = of_length(length)
+    for length, unit, name, shown in LENGTHS:
+        rows, columns = of_length(length, shown)
         if not rows:
             continue
         heads, lines = ["Work"], []
