@@ -13,10 +13,8 @@ LENGTHS = (
     (1_000, 1e3, "microseconds", {"order, any keys", "sort, any keys", "sums by key, even keys", "merge by flags"}),
     (4_194_304, 1e6, "milliseconds", {
         "order, any keys", "rank, any keys", "sort, any keys", "sort, segments of 1,000", "exact sums, segments of 1,000", "sums by key, even keys",
-        "sums by key, 256 keys", "counts, even keys", "gather of segments, of 8", "append of segments, of 8", "merge by flags",
-        "transpose, as many rows as columns"}),
-    (67_108_864, 1e6, "milliseconds", {
-        "order, any keys", "sort, any keys", "sort, segments of 1,000", "sums by key, even keys", "gather of segments, of 8", "merge by flags"}),
+        "sums by key, 256 keys", "gather of segments, of 8", "merge by flags", "transpose, as many rows as columns"}),
+    (67_108_864, 1e6, "milliseconds", {"order, any keys", "sort, any keys", "sums by key, even keys", "merge by flags"}),
 )
 
 
