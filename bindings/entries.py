@@ -30,14 +30,13 @@ NO_INPUT = "14 NoSuchInput, without a place; else 13 TooLong, without a place, i
 SECTIONS = (
     Section(
         "Elementwise calls",
-        "The result has one element for each place of the arguments. What does not fit 32 bits wraps, without a fault; [checked sums](#checked-sums) report one.",
+        "The result has one element for each place of the arguments. What does not fit 32 bits wraps, without a fault.",
         (
             Entry(
                 ("add_wuz", "sub_wuz", "mul_wuz", "min_wuz", "max_wuz", "and_wuz", "ior_wuz", "xor_wuz"),
                 "sum, difference, product, lesser, greater; and, or, exclusive or of bits",
                 "The wrapped sum, difference or product of each pair of elements; the lesser or the greater; their and, or or exclusive or, bit by bit.",
                 costs=("add",),
-                shows="2147483647 + 1 wraps to -2147483648.",
             ),
             Entry(
                 ("div_wuz", "mod_wuz"), "quotient, remainder",
@@ -48,7 +47,6 @@ SECTIONS = (
                 ("lsh_wuz", "rsh_wuz"), "shift left, shift right",
                 "The elements of a shifted by those of b: left, without the bits that no longer fit; right, keeping the sign, which is the floor of `a / 2^b`.",
                 costs=("shift left",),
-                shows="3 shifted left by 31 keeps one bit, that of the sign; -7 shifted right by 1 is -4, the floor of -3.5.",
             ),
             Entry(("not_wuz", "not_wub"), "the opposite", "All bits of each integer inverted; the opposite of each boolean.", costs=("not, on booleans",)),
             Entry(("cpy_wuz", "cpy_wub"), "a copy", "A copy, which stays the same if the first name is bound again.", costs=("copy",)),
@@ -61,7 +59,6 @@ SECTIONS = (
                 ("sel_wuz", "sel_wub"), "for each place, the element of one of two vectors, chosen by a flag",
                 "The element of a if the flag is T, and that of b if it is F.",
                 ("choice", "Each element leads to the place at which its flag chooses it"), ("select",),
-                shows="`c` has the greater of each pair.",
             ),
             Entry(("and_wub", "ior_wub", "xor_wub"), "and, or, exclusive or of flags", "And, or or exclusive or of each pair of booleans.", costs=("and, on booleans",)),
             Entry(("int_wub",), "0 and 1 of flags", "1 for T and 0 for F.", costs=("integers of booleans",)),
@@ -114,7 +111,6 @@ SECTIONS = (
             Entry(
                 ("tot_rez",), "sum of each segment that never wraps", "The sum of each segment; 0 for an empty one.",
                 costs=("checked add reduce, segments of 1,000",),
-                shows="The second segment is empty, and its sum 0.",
             ),
         ),
     ),
@@ -122,8 +118,8 @@ SECTIONS = (
         "Permutes",
         "In a simple, select or default permute, the index of a place says where its element goes: inside the result, and no two to one place. In a back permute "
         "it says where the element comes from: inside the source, and it may repeat.\n\n"
-        "In a segmented call an index counts from the start of its own segment, and has to lie inside that segment of the result or source; so indices of "
-        "different segments never collide. The place of a fault is that in the whole index vector; an index that is both outside and repeated is fault 10.",
+        "In a segmented call an index counts from the start of its own segment, and has to lie inside that segment of the result or source. The place of a "
+        "fault is that in the whole index vector; an index that is both outside and repeated is fault 10.",
         (
             Entry(
                 ("smp_puz", "smp_pub"), "simple permute: each element goes to its index", "Element k of the source goes to place `index[k]` of the result.",
@@ -142,7 +138,6 @@ SECTIONS = (
                 ("bck_pez", "bck_peb"), "back permute of each segment",
                 "The back permute of each segment of the source by the same segment of the index.",
                 ("back_permute_segments", "The element of a segment that an index names leads to the place of the index"), ("back permute, segments of 1,000",),
-                shows="The first segment's element 1 is fetched three times, and the empty segment has no index.",
             ),
             Entry(
                 ("sel_puz", "sel_pub"), "select permute: the elements whose flag is true go to their indices",
@@ -174,7 +169,6 @@ SECTIONS = (
                 ("input",), "the vector of an input",
                 "The vector of the input with this number, from 1. Only the first line that names an input reads its numbers, which all names share.",
                 takes="number (integer)", gives="integers", faults=f"{NO_INPUT}; else 15 BadInput at the first token that is no integer.",
-                shows="Leading zeros are fine.",
             ),
             Entry(
                 ("nested",), "the vector and the descriptor of a list of lists",
@@ -206,7 +200,6 @@ SECTIONS = (
             Entry(
                 ("pck_fov",), "the descriptor of a pack of each segment",
                 "How many flags are true in each segment: it cuts a pack or a select permute by these flags.",
-                shows="The first segment keeps nothing, and the empty one has nothing to keep.",
             ),
         ),
     ),
@@ -219,11 +212,10 @@ SECTIONS = (
                 ("distribute_segments", "Each value leads to the places of its segment"), ("distribute, segments of 1,000",),
                 shows="8 belongs to the empty segment, and is copied nowhere.",
             ),
-            Entry(("ind_luz",), "numbers with a stride", "Place k has `init + k*stride`, wrapped.", costs=("index",), shows="A stride may be negative; `b` wraps."),
+            Entry(("ind_luz",), "numbers with a stride", "Place k has `init + k*stride`, wrapped.", costs=("index",)),
             Entry(
                 ("ind_lez",), "numbers with a stride in each segment",
                 "The numbers from each init with its stride; k counts from the start of the segment.", costs=("index, segments of 1,000",),
-                shows="The init 5 belongs to the empty segment, and is used nowhere.",
             ),
         ),
     ),
@@ -249,9 +241,8 @@ SECTIONS = (
             Entry(
                 ("mke_fov",), "a descriptor, made of lengths", "The descriptor with these lengths.",
                 faults="12 NegativeLength at the first negative length; else 13 TooLong, without a place, if the total is above 4,194,304.",
-                shows="The descriptor cuts `v` into three segments, the second of them empty.",
             ),
-            Entry(("len_fos",), "the lengths of a descriptor", "The lengths of the segments.", takes="d (descriptor)", gives="integers", faults="none.", shows="The greatest length is that of the longest segment."),
+            Entry(("len_fos",), "the lengths of a descriptor", "The lengths of the segments.", takes="d (descriptor)", gives="integers", faults="none."),
         ),
     ),
 )

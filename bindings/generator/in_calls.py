@@ -7,19 +7,17 @@ import reference
 
 HEAD = """# The calls
 
-Look up a call: what it takes and gives, its faults, and an example. Use the index to find it by what it does, and the [glossary](glossary.md) to find it by its name in numpy, Thrust or CVL. [Scripts](script.md) has the form of a line, inputs, output and limits.
+Look up a call: what it takes and gives, its faults, and an example. The index has each call by what it does, and the [glossary](glossary.md) by its name in numpy, Thrust or CVL. C, Fortran, Python and Rust have [more functions](#functions-that-no-script-calls).
 
-The comment after an `input` shows what it holds. In the pictures a box is an element and a frame a segment; arrows lead from an element to where it goes.
-
-C, Fortran, Python and Rust have [more functions](#functions-that-no-script-calls)."""
+The comment after an `input` shows what it holds. In the pictures a box is an element and a frame a segment; arrows lead from an element to where it goes."""
 
 READING = """## Reading an entry
 
-- A name is an operator, `_`, the class of the call, `u` or `e` for flat or segmented, and `z` or `b` for integers or booleans. The classes are `w` elementwise, `s` scan, `r` reduce, `p` permute, `v` vectors with single values, and `l` library. So `bck_puz` is a back permute of a flat vector of integers.
+- A name such as `bck_puz` is an operator and three letters: `w` for elementwise, `s` scan, `r` reduce, `p` permute, `v` vectors with single values, or `l` library; `u` for flat or `e` for segmented; and `z` for integers or `b` for booleans. So `bck_puz` is a back permute of a flat vector of integers.
 - *Integers* and *booleans* are vectors, an *integer* and a *boolean* single values. *Elements* are either, by the last letter of the name. Arguments come in the order of `Takes`.
 - A descriptor is the lengths of the segments of a vector; its *total* is their sum. A segmented call does in each segment what the flat call does on a whole vector, and its results lie one after another.
 - Places count from 0, and the place of a fault is that in the whole vector. A fault of an element is reported at the least place that has one.
-- Lengths that are not equal are fault 7 LengthMismatch, without a place, before all others of the entry. An entry without a line `Faults` has no others. `script.md` has those of the line, of its arguments and of new names, which come first."""
+- Lengths that are not equal are fault 7 LengthMismatch, without a place, before all others of the entry. An entry without a line `Faults` has no others. `script.md` has those that any line may have, which come first."""
 
 BESIDE = """## Functions that no script calls
 
