@@ -25,8 +25,8 @@ def block(page, words):
 
 
 def command(words):
-    """The command between backquotes of docs/user/install.md, before the part on building from source, that has these words."""
-    commands = re.findall(r"`([^`\n]+)`", _text(INSTALLING).partition("\n## From source")[0])
+    """The command between backquotes of docs/user/install.md, in the part on releases, that has these words."""
+    commands = re.findall(r"`([^`\n]+)`", _text(INSTALLING).partition("\n## From a release\n")[2].partition("\n## ")[0])
     return _only([found for found in commands if words in found], INSTALLING, words)
 
 
