@@ -16,19 +16,17 @@ EMBEDDING = "crates/embedding"
 
 def cases_of(file):
     """The cases of a file without their inputs and tiles, in a form that pages are brought to as well: a line for each part, then
-    what it holds. What explains a stop stands right below it."""
-    shown, inside = [], False
-    for line in lines_of(file):
-        words = line.split()
-        if line.startswith(("== tile", "== input")):
-            inside = False
-        elif line.startswith("== case "):
-            shown.append(line)
-            inside = False
-        elif line.startswith(("== script", "== text", "== stop")):
-            shown.append(f"== {words[1]}")
-            inside = True
-        elif inside and line != "== explained":
+    what it holds. What explains a stop stands right below it: all of the first explanation of a file, and the last line of the others."""
+    lines, shown, part, is_first = lines_of(file), [], "", True
+    for line, below in zip(lines, [*lines[1:], "== "]):
+        if line.startswith("== "):
+            is_first = is_first and part != "explained"
+            part = line.split()[1]
+            if part == "case":
+                shown.append(line)
+            elif part in ("script", "text", "stop"):
+                shown.append(f"== {part}")
+        elif part in ("script", "text", "stop") or part == "explained" and (is_first or below.startswith("== ")):
             shown.append(line)
     return shown
 
