@@ -191,7 +191,7 @@ OF_FAMILIES = {
         "The faults by the lengths come first, then 7 LengthMismatch, without a place, if the lengths of arrays do not fit.",
     ),
     "transposes, and integers of a byte": (
-        "No script calls these. A transpose moves a matrix block by block, so it reads neighbours while they are in cache; it runs on the calling thread. Widen "
+        "No script calls these. A transpose moves a matrix block by block, so it reads neighbours while they are in cache. Widen "
         "bytes before calls on integers, and narrow what fits. For a signed type of bytes subtract 256 from the integers above 127 once they are widened, and add "
         "256 to the negative ones before they are narrowed.",
     ),

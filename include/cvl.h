@@ -597,9 +597,9 @@ CVL_CHECKED CvlStatus cvl_seg_exact_sums(const int32_t *a, size_t a_len, CvlLeng
 /* ---- transposes, and integers of a byte: families ---- */
 
 /*
- * No script calls these. A transpose moves a matrix block by block, so it reads neighbours while they are in cache; it runs on
- * the calling thread. Widen bytes before calls on integers, and narrow what fits. For a signed type of bytes subtract 256 from
- * the integers above 127 once they are widened, and add 256 to the negative ones before they are narrowed.
+ * No script calls these. A transpose moves a matrix block by block, so it reads neighbours while they are in cache. Widen bytes
+ * before calls on integers, and narrow what fits. For a signed type of bytes subtract 256 from the integers above 127 once they
+ * are widened, and add 256 to the negative ones before they are narrowed.
  */
 
 /*
