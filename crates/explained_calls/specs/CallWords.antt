@@ -6,6 +6,7 @@ use Rattle.cvl_base.specs.declared.kind.Kind.TheVariants.{Integers, Booleans, De
 use Rattle.cvl_base.specs.declared.operation.Op.{Op}
 use Rattle.cvl_base.specs.Calls.{is_write, operands_of, results_of, spelling_of}
 
+-- the words for a kind of value
 abbrev pub kind_words : Kind → List ℕ
 kind_words Integers = codes "integers"
 kind_words Booleans = codes "booleans"

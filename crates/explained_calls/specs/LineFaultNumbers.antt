@@ -5,6 +5,7 @@ use Rattle.cvl_base.specs.declared.fault.Fault.{Fault}
 use Rattle.cvl_base.specs.declared.fault.FaultNo.{FaultNo}
 use Rattle.cvl_base.specs.declared.fault.FaultNo.TheVariants.{BadLine}
 
+-- whether a fault is BadLine
 abbrev pub is_bad_line : FaultNo → Bool
 is_bad_line BadLine = true
 is_bad_line _ = false

@@ -23,6 +23,7 @@ use Rattle.explained_calls.specs.Sentences.{counted, indented, shortened}
 
 -- ---- a line without the form of a line
 
+-- the words for what a line should have at a place
 abbrev pub wanted_words : Wanted → List ℕ
 wanted_words wanted.Name = codes "a name"
 wanted_words wanted.EqualsOrName = codes "= or a name"
@@ -31,6 +32,7 @@ wanted_words wanted.Equals = codes "="
 wanted_words wanted.Call = codes "a call"
 wanted_words wanted.Argument = codes "a name, a number, T or F"
 
+-- the words to add if the line ends too early
 abbrev pub end_words : Bool → List ℕ
 end_words ends = if ends then codes ", but the line ends" else []
 
@@ -39,38 +41,46 @@ abbrev pub hint_words : Hint → List ℕ
 hint_words hint =
     codes "column " ++ decimal (hint.place + 1) ++ codes ": expected " ++ wanted_words hint.wanted ++ end_words hint.ends
 
+-- a line of the explanation for a hint; nothing without one
 abbrev pub hint_line : Option Hint → List ℕ
 hint_line None = []
 hint_line (Some hint) = indented (hint_words hint)
 
 -- ---- a line with the form of a line: the names before `=`, the call after it, and its arguments
 
+-- a line cut into the number of names before `=`, the word of its call, and its arguments
 pub record Parts : Type 0 where
   pub names : ℕ
   pub call : List ℕ
   pub arguments : List Placed
 
+-- the tokens from the call on as the parts of a line, with so many names before `=`
 abbrev pub call_parts : ℕ → List Placed → Parts
 call_parts names [] = record { names = names; call = []; arguments = [] }
 call_parts names (call ∷ arguments) = record { names = names; call = call.bytes; arguments = arguments }
 
+-- the parts of a line that binds names: those before `=`, the call behind it, and its arguments
 abbrev pub binding_parts : List Placed → Parts
 binding_parts tokens =
     call_parts (position_or_len (λ token. is_equals token.bytes) tokens) (after_first (λ token. is_equals token.bytes) tokens)
 
+-- the parts of a line; a write has no names
 abbrev pub parts_of : List Placed → Parts
 parts_of [] = call_parts 0 []
 parts_of (first ∷ others) = if is_write_line first.bytes others then call_parts 0 (first ∷ others) else binding_parts (first ∷ others)
 
 -- ---- a call that is unknown
 
+-- the words that propose the nearest call, if one is near
 abbrev pub nearest_words : Option (List ℕ) → List ℕ
 nearest_words None = []
 nearest_words (Some name) = codes "; the nearest call is " ++ name
 
+-- the words for a word that is no call, with the nearest call
 abbrev pub no_call_words : List ℕ → List ℕ
 no_call_words word = word ++ codes " is no call" ++ nearest_words (nearest word call_names)
 
+-- the same, where `write` in the place of a call has words of its own
 abbrev pub unknown_call_words : List ℕ → List ℕ
 unknown_call_words word =
     if pointwise nat_eq word (codes "write") then codes "write is no call: it begins a line of its own, and binds no name"
@@ -100,15 +110,18 @@ op_or_write word = unwrap_or (op_of word) Write
 
 -- ---- a number that is none
 
+-- whether a token is no argument: neither a name nor a number nor a boolean
 abbrev pub is_bad_number : List ℕ → Bool
 is_bad_number token = not (is_some (arg_of token))
 
+-- a line of the explanation for a token that is no number
 abbrev pub number_line : Option Placed → List ℕ
 number_line None = []
 number_line (Some token) = indented (shortened token.bytes ++ codes " is no integer from -2147483648 to 2147483647")
 
 -- ---- all of them
 
+-- the lines of the explanation for a fault of a line that has its parts
 abbrev pub parts_fault_words : Parts → FaultNo → List ℕ
 parts_fault_words parts UnknownCall = indented (unknown_call_words parts.call)
 parts_fault_words parts WrongArgumentCount = count_lines (op_or_write parts.call) parts.names (length parts.arguments)

@@ -10,6 +10,7 @@ use Rattle.explained_calls.specs.declared.wanted.Hint.{Hint}
 use Rattle.explained_calls.specs.declared.wanted.Wanted.{Wanted}
 use Rattle.explained_calls.specs.declared.wanted.Wanted.TheVariants.{Name, EqualsOrName, OtherName, Equals, Call, Argument}
 
+-- whether a token is `=`
 abbrev pub is_equals : List ℕ → Bool
 is_equals token = pointwise nat_eq token (codes "=")
 
@@ -26,6 +27,7 @@ is_wanted Argument token = is_arg token
 abbrev pub hint_at : ℕ → Wanted → Hint
 hint_at place wanted = record { place = place; ends = false; wanted = wanted }
 
+-- a hint behind the last token, where the line should go on with this
 abbrev pub hint_at_end : ℕ → Wanted → Hint
 hint_at_end place wanted = record { place = place; ends = true; wanted = wanted }
 
@@ -60,6 +62,7 @@ hint_after_second first second tokens =
 abbrev pub hint_after_first : List ℕ → ℕ → List Placed → Option Hint
 hint_after_first first place tokens = wanting EqualsOrName place tokens (hint_after_second first)
 
+-- whether the first token is `=`
 abbrev pub begins_with_equals : List Placed → Bool
 begins_with_equals [] = false
 begins_with_equals (token ∷ tokens) = is_equals token.bytes
@@ -68,6 +71,7 @@ begins_with_equals (token ∷ tokens) = is_equals token.bytes
 abbrev pub is_write_line : List ℕ → List Placed → Bool
 is_write_line first others = pointwise nat_eq first (codes "write") && not (begins_with_equals others)
 
+-- the first token that may not stand where it stands, or the end of a line that ends too early; nothing for a line in form
 abbrev pub hint_of : List Placed → Option Hint
 hint_of [] = None
 hint_of (first ∷ others) =

@@ -11,6 +11,7 @@ pub record Placed : Type 0 where
   pub start : ℕ
   pub bytes : List ℕ
 
+-- a token with the place of its first byte in the line
 abbrev pub placed : ℕ → List ℕ → Placed
 placed start bytes = record { start = start; bytes = bytes }
 

@@ -15,5 +15,6 @@ shortened token = if nat_le (length token) 40 then token else (take 40 token ++ 
 abbrev pub ending : ℕ → List ℕ
 ending count = if count == 1 then [] else codes "s"
 
+-- a number with the name of what it counts, in the plural unless it is 1
 abbrev pub counted : ℕ → List ℕ → List ℕ
 counted count thing = decimal count ++ codes " " ++ thing ++ ending count

@@ -23,6 +23,7 @@ flat_words file bytes start =
     position_words file bytes start
     ++ quoted (first_of input_class (drop start bytes)) ++ codes " is no integer from -2147483648 to 2147483647"
 
+-- the words for the token of a flat input that begins at this place, if it is known
 abbrev pub flat_words_at : List ℕ → List ℕ → Option ℕ → List ℕ
 flat_words_at file bytes None = []
 flat_words_at file bytes (Some start) = indented (flat_words file bytes start)
@@ -39,6 +40,7 @@ expected_at is_first lists =
     else (if lists == 1 then codes "\"[\" or \"]\""
     else codes "an integer from -2147483648 to 2147483647 or \"]\""))
 
+-- the words for what a nested input should have at a place, by the lists that are open there
 abbrev pub expected_words : List ℕ → ℕ → ℕ → List ℕ
 expected_words bytes token place = expected_at (token == 0) (open_lists bytes place)
 
@@ -54,6 +56,7 @@ stray_words file bytes token start =
     position_words file bytes start ++ quoted (first_of nested_class (drop start bytes)) ++ codes " stands where "
     ++ expected_words bytes token start ++ codes " is expected"
 
+-- the words for the token of a nested input that is at fault, or for an input that ends too early
 abbrev pub nested_words_at : List ℕ → List ℕ → ℕ → Option ℕ → List ℕ
 nested_words_at file bytes token None = indented (end_words file bytes token)
 nested_words_at file bytes token (Some start) = indented (stray_words file bytes token start)

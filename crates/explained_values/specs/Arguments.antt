@@ -17,6 +17,7 @@ pub record Spelled (A : Type 0) : Type 0 where
   pub value : Option (Value A)
 
 module _ {A : Type 0} where
+  -- the value of an argument that holds one
   abbrev pub value_held : Holding A → Option (Value A)
   value_held holding.Nothing = None
   value_held (holding.Value v) = Some v.now
@@ -27,6 +28,7 @@ module _ {A : Type 0} where
   abbrev pub spelled_at : List (Spelled A) → ℕ → Spelled A
   spelled_at args place = unwrap_or (slice_get args place) (record { word = []; value = None })
 
+  -- the kind of an argument's value, if it has a value
   abbrev pub kind_in : Option (Value A) → Option Kind
   kind_in v = option_map kind_of v
 
@@ -46,9 +48,11 @@ module _ {A : Type 0} where
 abbrev pub element_name : List ℕ → ℕ → List ℕ
 element_name vector place = vector ++ codes "[" ++ decimal place ++ codes "]"
 
+-- the words for an integer
 abbrev pub integer_words : ℤ → List ℕ
 integer_words n = codes "the integer " ++ signed_decimal n
 
+-- the words for a boolean
 abbrev pub boolean_words : Bool → List ℕ
 boolean_words b = if b then codes "the boolean T" else codes "the boolean F"
 

@@ -49,6 +49,7 @@ extents_of (op.Replace Segmented e) = (Total 3, Elements 0) ∷ (Segments 3, Ele
 extents_of op.Write = (Total 1, Elements 0) ∷ []
 extents_of _ = []
 
+-- the place of the argument that a length belongs to
 abbrev pub argument_of : Extent → ℕ
 argument_of (Elements place) = place
 argument_of (Segments place) = place
@@ -61,6 +62,7 @@ amount_words (Segments place) amount = counted amount (codes "segment")
 amount_words (Total place) amount = counted amount (codes "element") ++ codes " in all"
 
 module _ {A : Type 0} where
+  -- the length itself: the elements, the segments, or the sum of the segments' lengths
   abbrev pub amount_of : List (Spelled A) → Extent → ℕ
   amount_of args (Elements place) = elements_in (spelled_at args place).value
   amount_of args (Segments place) = length (lengths_in (spelled_at args place).value)
@@ -71,6 +73,7 @@ module _ {A : Type 0} where
   extent_words args extent =
       (spelled_at args (argument_of extent)).word ++ codes " has " ++ amount_words extent (amount_of args extent)
 
+  -- whether two lengths that must agree differ
   abbrev pub differ : List (Spelled A) → Extent × Extent → Bool
   differ args pair = not (amount_of args pair.0 == amount_of args pair.1)
 

@@ -60,6 +60,7 @@ makes_descriptor op.MakeDescriptor = true
 makes_descriptor _ = false
 
 module _ {A : Type 0} where
+  -- the words for the number at fault, if the fault is one of a number among the arguments
   abbrev pub number_fault_words : ℕ → Op → List (Spelled A) → FaultNo → ℕ → Option (List ℕ)
   number_fault_words inputs op args number place =
       option_and_then (number_words inputs op args number place) (number_argument number op)

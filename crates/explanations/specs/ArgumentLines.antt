@@ -40,6 +40,7 @@ word_of (arg.Integer n) = signed_decimal n
 word_of (arg.Boolean b) = if b then codes "T" else codes "F"
 
 module _ {A : Type 0} where
+  -- an argument with its word and its value
   abbrev pub spelled : Entries A → Arg → Spelled A
   spelled names arg = record { word = word_of arg; value = arg_value names arg }
 

@@ -19,6 +19,7 @@ use Rattle.explanations.specs.declared.bindings.Binding.{Binding}
 abbrev pub line_at : List ℕ → ℕ → List ℕ
 line_at script line = unwrap_or (slice_get (lines_of script) (line - 1)) []
 
+-- the names that a call binds
 abbrev pub names_of : ResultNames → List (List ℕ)
 names_of results.None = []
 names_of (results.One name) = name ∷ []

@@ -44,9 +44,11 @@ abbrev pub too_long_words : List ℕ → List ℕ
 too_long_words script =
     codes "the script has " ++ decimal (length script) ++ codes " bytes, and may have at most 1048576"
 
+-- the words for a script that was refused memory
 abbrev pub memory_words : List ℕ
 memory_words = codes "memory ran out: try shorter vectors, bind fewer names, or allow the process more memory"
 
+-- the words for standard output that took no more
 abbrev pub write_words : List ℕ
 write_words = codes "standard output took no more: is the disk full, or did the reader of a pipe close it?"
 
@@ -56,6 +58,7 @@ reads_input Input = true
 reads_input Nested = true
 reads_input _ = false
 
+-- whether a call reads a nested input
 abbrev pub is_nested : Op → Bool
 is_nested Nested = true
 is_nested _ = false
@@ -66,6 +69,7 @@ is_of_text BadInput = true
 is_of_text TooLong = true
 is_of_text _ = false
 
+-- the lines for the token of an input that is at fault; nothing if the input is not known
 abbrev pub text_fault_words : Op → Option Read → Fault → List ℕ
 text_fault_words op None fault = []
 text_fault_words op (Some read) fault = input_fault_words (is_nested op) read.name read.bytes fault.place
