@@ -12,6 +12,7 @@ abbrev pub IsTrueOfTile : {Item : Type 0} → (Item → Item → Item) → Item 
 IsTrueOfTile join unit sums at (Sum starts value) = (starts, value) ≡ own_sum unit sums at
 IsTrueOfTile join unit sums at (Prefix starts value) = (starts, value) ≡ upto_tile join unit sums at
 
+-- the state of a status by its number: 1 a sum, 2 a prefix
 abbrev pub rank_of : {Item : Type 0} → Found Item → ℕ
 rank_of (Sum starts value) = 1
 rank_of (Prefix starts value) = 2

@@ -65,20 +65,25 @@ module _ {A : Type 0} where
   integers_in (Some (value.Integers xs)) = xs
   integers_in _ = []
 
+  -- the booleans of an argument; none if it holds no such vector
   abbrev pub booleans_in : Option (Value A) → List Bool
   booleans_in (Some (value.Booleans bs)) = bs
   booleans_in _ = []
 
+  -- the lengths of a descriptor, if the argument holds one
   abbrev pub descriptor_in : Option (Value A) → Option (List ℕ)
   descriptor_in v = option_and_then lengths_of v
 
+  -- the lengths of a descriptor; none if the argument holds no descriptor
   abbrev pub lengths_in : Option (Value A) → List ℕ
   lengths_in v = unwrap_or (descriptor_in v) []
 
+  -- the integer of an argument; 0 if it holds none
   abbrev pub integer_in : Option (Value A) → ℤ
   integer_in (Some (value.Integer n)) = n
   integer_in _ = pos 0
 
+  -- the boolean of an argument; F if it holds none
   abbrev pub boolean_in : Option (Value A) → Bool
   boolean_in (Some (value.Boolean b)) = b
   boolean_in _ = false

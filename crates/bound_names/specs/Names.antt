@@ -17,6 +17,7 @@ BoundValue A = Value A
 abbrev pub AreInLimit : List ℕ → Type 0
 AreInLimit lengths = (length lengths ≤ most_elements) × (sum lengths ≤ most_elements)
 
+-- the names with their values, in the order of the names
 abbrev pub Entries : Type 0 → Type 0
 Entries A = List (List ℕ × Value A)
 
@@ -55,6 +56,7 @@ module _ {A : Type 0} where
   abbrev pub BindsName : Entries A → List ℕ → Value A → Type 0
   BindsName names name bound = value_at (bind names name bound) name ≡ Some bound
 
+  -- a binding of one name leaves every other name as it was
   abbrev pub KeepsOthers : Entries A → List ℕ → Value A → Type 0
   KeepsOthers names name bound =
       (other : List ℕ) → other ≢ name → value_at (bind names name bound) other ≡ value_at names other

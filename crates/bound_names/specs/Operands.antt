@@ -24,6 +24,7 @@ module _ {A : Type 0} where
   held (operand.Integer n) = Some (value.Integer n)
   held (operand.Boolean b) = Some (value.Boolean b)
 
+  -- the kind of what an operand holds, if it holds something
   abbrev pub kind_held : Operand A → Option Kind
   kind_held operand = option_map kind_of (held operand)
 

@@ -6,6 +6,7 @@ use Rattle.cvl_base.specs.declared.fault.Fault.{Fault}
 use Rattle.cvl_base.specs.declared.fault.FaultNo.TheVariants.{Overflow}
 use Rattle.cvl_base.specs.Elementwise.{values_from}
 
+-- each byte as an integer from 0 to 255
 abbrev pub ints_from_bytes : List ℕ → List ℤ
 ints_from_bytes bytes = map pos bytes
 

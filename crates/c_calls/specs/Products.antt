@@ -21,6 +21,7 @@ abbrev pub product_by_offsets_of : List ℤ → List ℤ → List ℤ → List �
 product_by_offsets_of offsets columns values x =
     by_row_offsets offsets (λ lengths. product_of lengths columns values x)
 
+-- the checked product by the offsets of the rows
 abbrev pub checked_product_by_offsets_of : List ℤ → List ℤ → List ℤ → List ℤ → Result (List ℤ) Fault
 checked_product_by_offsets_of offsets columns values x =
     by_row_offsets offsets (λ lengths. checked_product_of lengths columns values x)

@@ -22,9 +22,11 @@ abbrev pub place_or_none : Option ℕ → ℤ
 place_or_none (Some place) = pos place
 place_or_none None = negsuc 0
 
+-- a fault as a status: its number and its place
 abbrev pub status_of_fault : Fault → CvlStatus
 status_of_fault f = record { number = number_of f.number; place = place_or_none f.place }
 
+-- what an export answers for a call that failed
 abbrev pub status_of : Refused → CvlStatus
 status_of (refused.Fault f) = status_of_fault f
 status_of refused.NoResources = no_resources

@@ -7,8 +7,10 @@ use Rattle.cvl_base.specs.Gives.{◌>>=◌}
 use Rattle.call_laws.specs.Carried.{seg_scan_after, seg_reduce_after}
 use Rattle.part_calls.specs.Sums.{all_fitting}
 
+-- the checked scan of each segment, the first after the carry
 abbrev pub checked_seg_scan_after : ℤ → List ℤ → List ℕ → Result (List ℤ) Fault
 checked_seg_scan_after carry xs lengths = seg_scan_after ◌+ℤ◌ (pos 0) carry xs lengths >>= all_fitting
 
+-- the checked sum of each segment, the first with the carry
 abbrev pub checked_seg_reduce_after : ℤ → List ℤ → List ℕ → Result (List ℤ) Fault
 checked_seg_reduce_after carry xs lengths = seg_reduce_after ◌+ℤ◌ (pos 0) carry xs lengths >>= all_fitting

@@ -49,6 +49,7 @@ abbrev pub up_to_start : {Item : Type 0} → (Item → Item → Item) → Item �
 up_to_start join front [] behind = join front behind
 up_to_start join front (segment ∷ others) behind = front
 
+-- the join of what goes on behind a rank, up to the next start of a segment
 abbrev pub goes_on_behind : {Item : Type 0} → (Item → Item → Item) → Item → List (List Item × List (List Item)) → Item
 goes_on_behind join unit [] = unit
 goes_on_behind join unit (part ∷ others) = up_to_start join (fold_of join unit part.0) part.1 (goes_on_behind join unit others)

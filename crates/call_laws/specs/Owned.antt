@@ -46,6 +46,7 @@ found_by_owner owns earlier (Some i) =
 abbrev pub first_of_senders : ℕ → List (Option ℤ) → Option Fault
 first_of_senders m destinations = first_fault 0 (map (found_by_sender m) destinations)
 
+-- the first fault that an owner finds, at its sender's place
 abbrev pub first_of_owner : List (Option ℤ) → (Option ℤ → Bool) → Option Fault
 first_of_owner destinations owns = first_fault 0 (map (λ p. found_by_owner owns p.0 p.1) (zip (fronts destinations) destinations))
 

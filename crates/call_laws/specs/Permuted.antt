@@ -58,6 +58,7 @@ abbrev pub AreWithinFlagged : ℕ → List ℤ → List Bool → ℕ → Type 0
 AreWithinFlagged m index flags k =
     (j : ℕ) (i : ℤ) → j < k → slice_get flags j ≡ Some true → slice_get index j ≡ Some i → IsTrue (is_place m i)
 
+-- no two places before k with a true flag have the same index
 abbrev pub AreOnceFlagged : List ℤ → List Bool → ℕ → Type 0
 AreOnceFlagged index flags k =
     (h j : ℕ) (i : ℤ) → h < j → j < k → slice_get flags h ≡ Some true → slice_get flags j ≡ Some true →

@@ -24,6 +24,7 @@ goes_before splitter p = has_lesser_key p splitter || (not (has_lesser_key split
 abbrev pub up_to : ℕ × ℤ → List (ℕ × ℤ) → List (ℕ × ℤ)
 up_to splitter sorted = take (count_by (goes_before splitter) sorted) sorted
 
+-- the sorted keys that a splitter does not leave behind
 abbrev pub from_on : ℕ × ℤ → List (ℕ × ℤ) → List (ℕ × ℤ)
 from_on splitter sorted = drop (count_by (goes_before splitter) sorted) sorted
 
@@ -38,6 +39,7 @@ exchanged_at [] pieces = stably_sorted has_lesser_key (joined pieces) ∷ []
 exchanged_at (splitter ∷ others) pieces =
     stably_sorted has_lesser_key (joined (map (up_to splitter) pieces)) ∷ exchanged_at others (map (from_on splitter) pieces)
 
+-- what each rank has once all have sorted, exchanged and sorted again
 abbrev pub sorted_over_ranks : List (ℕ × ℤ) → List (List ℤ) → List (List (ℕ × ℤ))
 sorted_over_ranks splitters parts = exchanged_at splitters (map (stably_sorted has_lesser_key) (with_places 0 parts))
 
@@ -47,6 +49,7 @@ sorted_over_ranks splitters parts = exchanged_at splitters (map (stably_sorted h
 abbrev pub lesser_keys : ℤ → List ℤ → ℕ
 lesser_keys k keys = count_by (λ key. int_lt key k) keys
 
+-- how many keys are equal to k
 abbrev pub equal_keys : ℤ → List ℤ → ℕ
 equal_keys k keys = count_by (λ key. int_eq key k) keys
 

@@ -16,6 +16,7 @@ use Rattle.line_reader.specs.Numbers.{written_number}
 abbrev pub is_white_space : ℕ → Bool
 is_white_space b = (b == 32) || (b == 9) || (b == 10) || (b == 13)
 
+-- white space stands between the tokens of an input, and every other byte in one
 abbrev pub input_class : ℕ → ByteClass
 input_class b = if is_white_space b then Blank else InToken
 

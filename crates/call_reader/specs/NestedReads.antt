@@ -7,12 +7,14 @@ use Rattle.cvl_base.specs.Lists.{joined}
 use Rattle.call_reader.specs.NestedTexts.{Mark, opening, closing, number, stray, Where, marks_of}
 use Rattle.call_reader.specs.NestedTexts.{is_opening, is_no_bracket, are_too_many, lists_from, list_marks, nest_marks}
 
+-- whether a token is `]`
 abbrev pub is_closing : Mark → Bool
 is_closing opening = false
 is_closing closing = true
 is_closing (number n) = false
 is_closing stray = false
 
+-- whether a token is a number
 abbrev pub is_number : Mark → Bool
 is_number opening = false
 is_number closing = false
@@ -24,6 +26,7 @@ abbrev pub begin_with : (Mark → Bool) → List Mark → Bool
 begin_with is_such [] = false
 begin_with is_such (mark ∷ marks) = is_such mark
 
+-- whether no token is left
 abbrev pub is_no_mark : List Mark → Bool
 is_no_mark [] = true
 is_no_mark (mark ∷ marks) = false

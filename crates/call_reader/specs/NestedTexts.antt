@@ -32,24 +32,29 @@ pub data Mark : Type 0 where
   number : ℤ → Mark
   stray : Mark
 
+-- the number if there is one, else another mark
 abbrev pub number_or : Option ℤ → Mark → Mark
 number_or (Some n) other = number n
 number_or None other = other
 
+-- what a token is: a number of 32 bits, a bracket, or neither
 abbrev pub mark_of : List ℕ → Mark
 mark_of token =
     number_or (written_number token)
     (if pointwise nat_eq token (codes "[") then opening else (if pointwise nat_eq token (codes "]") then closing else stray))
 
+-- the tokens of a nested text
 abbrev pub marks_of : List ℕ → List Mark
 marks_of bytes = map mark_of (tokens_by nested_class bytes)
 
+-- whether a token is `[`
 abbrev pub is_opening : Mark → Bool
 is_opening opening = true
 is_opening closing = false
 is_opening (number n) = false
 is_opening stray = false
 
+-- whether a token is no bracket
 abbrev pub is_no_bracket : Mark → Bool
 is_no_bracket opening = false
 is_no_bracket closing = false

@@ -23,6 +23,7 @@ abbrev pub single_of : Element → Kind
 single_of of.Integer = Integer
 single_of of.Boolean = Boolean
 
+-- the kind of a vector of such elements
 abbrev pub vector_of : Element → Kind
 vector_of of.Integer = Integers
 vector_of of.Boolean = Booleans
@@ -42,6 +43,7 @@ abbrev pub cut_by : Cut → List Kind
 cut_by Flat = []
 cut_by Segmented = Descriptor ∷ []
 
+-- the descriptors of a call on two vectors that are cut differently, if it goes by segments
 abbrev pub cut_by_both : Cut → List Kind
 cut_by_both cut = cut_by cut ++ cut_by cut
 
@@ -116,12 +118,15 @@ row_of MakeDescriptor = row (codes "mke_fov") (Integers ∷ []) (Descriptor ∷ 
 row_of DescriptorLengths = row (codes "len_fos") (Descriptor ∷ []) (Integers ∷ [])
 row_of Write = row (codes "write") [] []
 
+-- the name of a call
 abbrev pub spelling_of : Op → List ℕ
 spelling_of op = (row_of op).name
 
+-- the kinds of a call's arguments, in order
 abbrev pub operands_of : Op → List Kind
 operands_of op = (row_of op).operands
 
+-- the kinds of the values that a call gives
 abbrev pub results_of : Op → List Kind
 results_of op = (row_of op).results
 
@@ -138,6 +143,7 @@ binds_of op = length (results_of op)
 abbrev pub takes_of : Op → ℕ → Bool
 takes_of op count = if is_write op then (count == 1) || (count == 2) else (count == length (operands_of op))
 
+-- whether two kinds are the same
 abbrev pub same_kind : Kind → Kind → Bool
 same_kind Integers Integers = true
 same_kind Booleans Booleans = true
@@ -146,6 +152,7 @@ same_kind Integer Integer = true
 same_kind Boolean Boolean = true
 same_kind _ _ = false
 
+-- whether a kind is that of vectors
 abbrev pub is_vector : Kind → Bool
 is_vector kind = same_kind kind Integers || same_kind kind Booleans
 

@@ -27,6 +27,7 @@ pub record OperatorLabel : Type 0 where
 abbrev label : List ℕ → ℕ → OperatorLabel
 label letters number = record { letters = letters; number = number }
 
+-- the letters and the number of an operator on integers that scans
 abbrev pub int_monoid_label : IntMonoid → OperatorLabel
 int_monoid_label Add = label (codes "add") 0
 int_monoid_label Mul = label (codes "mul") 1
@@ -36,6 +37,7 @@ int_monoid_label And = label (codes "and") 4
 int_monoid_label Ior = label (codes "ior") 5
 int_monoid_label Xor = label (codes "xor") 6
 
+-- the letters and the number of an operator on two integers
 abbrev pub int_binary_label : IntBinary → OperatorLabel
 int_binary_label (Monoid operator) = int_monoid_label operator
 int_binary_label Sub = label (codes "sub") 7
@@ -44,6 +46,7 @@ int_binary_label Mod = label (codes "mod") 9
 int_binary_label Lsh = label (codes "lsh") 10
 int_binary_label Rsh = label (codes "rsh") 11
 
+-- the letters and the number of a comparison
 abbrev pub comparison_label : Comparison → OperatorLabel
 comparison_label Greater = label (codes "grt") 12
 comparison_label Less = label (codes "les") 13
@@ -58,10 +61,12 @@ bool_binary_label truth.And = int_monoid_label And
 bool_binary_label truth.Ior = int_monoid_label Ior
 bool_binary_label truth.Xor = int_monoid_label Xor
 
+-- the letters and the number of an operator on one element
 abbrev pub unary_label : Unary → OperatorLabel
 unary_label Not = label (codes "not") 18
 unary_label Copy = label (codes "cpy") 19
 
+-- the letters of a permute's form
 abbrev pub form_letters : Form → List ℕ
 form_letters Simple = codes "smp"
 form_letters Back = codes "bck"

@@ -13,18 +13,23 @@ use Rattle.call_table.specs.declared.families.Unary.{Unary}
 use Rattle.call_table.specs.declared.families.Unary.TheVariants.{Not, Copy}
 use Rattle.call_table.specs.Letters.{OperatorLabel, int_monoid_label, int_binary_label, comparison_label, bool_binary_label, unary_label}
 
+-- the operators on integers that scan
 unfoldable pub int_monoids : List IntMonoid
 int_monoids = Add ∷ Mul ∷ Min ∷ Max ∷ And ∷ Ior ∷ Xor ∷ []
 
+-- the operators on two integers, those that scan first
 unfoldable pub int_binaries : List IntBinary
 int_binaries = map Monoid int_monoids ++ Sub ∷ Div ∷ Mod ∷ Lsh ∷ Rsh ∷ []
 
+-- the comparisons
 unfoldable pub comparisons : List Comparison
 comparisons = Greater ∷ Less ∷ AtLeast ∷ AtMost ∷ Equal ∷ Unequal ∷ []
 
+-- the operators on two booleans
 unfoldable pub bool_binaries : List BoolBinary
 bool_binaries = truth.And ∷ truth.Ior ∷ truth.Xor ∷ []
 
+-- the operators on one element
 unfoldable pub unaries : List Unary
 unaries = Not ∷ Copy ∷ []
 
@@ -36,15 +41,19 @@ has_number label number operator = (label operator).number == number
 abbrev pub int_monoid_of : ℕ → Option IntMonoid
 int_monoid_of number = find (has_number int_monoid_label number) int_monoids
 
+-- the operator on two integers with this number
 abbrev pub int_binary_of : ℕ → Option IntBinary
 int_binary_of number = find (has_number int_binary_label number) int_binaries
 
+-- the comparison with this number
 abbrev pub comparison_of : ℕ → Option Comparison
 comparison_of number = find (has_number comparison_label number) comparisons
 
+-- the operator on two booleans with this number
 abbrev pub bool_binary_of : ℕ → Option BoolBinary
 bool_binary_of number = find (has_number bool_binary_label number) bool_binaries
 
+-- the operator on one element with this number
 abbrev pub unary_of : ℕ → Option Unary
 unary_of number = find (has_number unary_label number) unaries
 

@@ -24,6 +24,7 @@ bytes_of spelling = spelling.operator.now ++ (spelling.class.now ++ spelling.cut
 unfoldable pub forms : List Form
 forms = Simple ∷ Back ∷ Select ∷ Default ∷ []
 
+-- the two types of elements
 unfoldable pub elements : List Element
 elements = Integer ∷ Boolean ∷ []
 
@@ -51,6 +52,7 @@ cut_calls cut =
 abbrev pub other_calls : List Op
 other_calls = map Length elements ++ Input ∷ Nested ∷ PackedLengths ∷ MakeDescriptor ∷ DescriptorLengths ∷ []
 
+-- every call, once
 abbrev pub calls : List Op
 calls = elementwise_calls ++ cut_calls Flat ++ cut_calls Segmented ++ other_calls
 

@@ -48,6 +48,7 @@ place_counts index lowest n = map (λ d. pos (count_by (names d) index)) (range_
 abbrev pub place_counts_of : List ℤ → ℕ → Result (List ℤ) Fault
 place_counts_of index m = unless (first_outside 0 m index) (Ok (place_counts index 0 m))
 
+-- the counts of indices in each segment, by the places of that segment of the room
 abbrev pub seg_place_counts_of : List ℤ → List ℕ → List ℕ → Result (List ℤ) Fault
 seg_place_counts_of index lengths room_lengths =
     end_to_end (in_vector lengths) (of_two place_counts_of) (beside (nest lengths index) (Ok room_lengths))

@@ -36,9 +36,11 @@ script_rule =
 abbrev pub inputs_rule : Rule
 inputs_rule = record (new_rule (codes "inputs")) { action = Some Append; value_names = 1 }
 
+-- `--tile`, from 1 to the longest tile, 4096 by default
 abbrev pub tile_rule : Rule
 tile_rule = number_rule (codes "tile") (up_to longest_tile) (codes "4096")
 
+-- `--workers`, from 1 to the most workers, 4 by default
 abbrev pub workers_rule : Rule
 workers_rule = number_rule (codes "workers") (up_to most_workers) (codes "4")
 
@@ -46,6 +48,7 @@ workers_rule = number_rule (codes "workers") (up_to most_workers) (codes "4")
 abbrev pub with_version : App → App
 with_version a = record a { top = record a.top { has_version = true } }
 
+-- the whole command
 unfoldable pub cvl : App
 cvl = with_version (with_rule (with_rule (with_rule (with_rule (with_rule (new_app (codes "cvl")) tile_rule)
     workers_rule) explain_rule) script_rule) inputs_rule)

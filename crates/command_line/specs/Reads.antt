@@ -24,6 +24,7 @@ number_in name rows =
 abbrev pub number_given : Text → List Text → Option ℕ
 number_given name words = number_in name (matches_of cvl words)
 
+-- the name of the script, if the words have one
 abbrev pub script_given : List Text → Option Text
 script_given words = first_of (codes "script") (matches_of cvl words)
 
@@ -35,6 +36,7 @@ is_set_in name rows = bytes_eq (unwrap_or (first_of name rows) []) (codes "true"
 abbrev pub explain_given : List Text → Bool
 explain_given words = is_set_in (codes "explain") (matches_of cvl words)
 
+-- the names of the inputs, in order
 abbrev pub inputs_given : List Text → List Text
 inputs_given words = unwrap_or (all_of (codes "inputs") (matches_of cvl words)) []
 

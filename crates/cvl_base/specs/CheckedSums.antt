@@ -21,9 +21,11 @@ totals_of xs = scan_of ◌+ℤ◌ (pos 0) xs
 abbrev pub fitting : ℤ → Option ℤ
 fitting z = if is_number z then Some z else None
 
+-- the sums of the elements before each, or the fault of the first that does not fit 32 bits
 abbrev pub checked_scan_of : List ℤ → Result (List ℤ) Fault
 checked_scan_of xs = values_from Overflow 0 (map fitting (totals_of xs))
 
+-- the sum of all elements, or the fault that it does not fit 32 bits
 abbrev pub checked_reduce_of : List ℤ → Result ℤ Fault
 checked_reduce_of xs = ok_or (fitting (total_of xs)) (fault_at Overflow 0)
 

@@ -27,8 +27,10 @@ index_within most init stride count =
 abbrev pub as_length : ℤ → Result ℕ Fault
 as_length = length_within most_elements
 
+-- n copies of a value, for n up to the limit of scripts
 abbrev pub distribute_of : {X : Type 0} → X → ℤ → Result (List X) Fault
 distribute_of = distribute_within most_elements
 
+-- init, init + stride, init + 2 stride, ..., each wrapped, for a length up to the limit of scripts
 abbrev pub index_of : ℤ → ℤ → ℤ → Result (List ℤ) Fault
 index_of = index_within most_elements

@@ -16,8 +16,10 @@ abbrev pub with_element_at : {X : Type 0} → List X → ℤ → X → Option (L
 with_element_at xs (pos k) x = if nat_lt k (length xs) then Some (slice_set xs k x) else None
 with_element_at xs (negsuc k) x = None
 
+-- the element at an index, or the fault that the index is outside
 abbrev pub extract_of : {X : Type 0} → List X → ℤ → Result X Fault
 extract_of xs index = ok_or (element_at xs index) (fault_at no.IndexOutOfRange 0)
 
+-- the vector with another element at an index, or the fault that the index is outside
 abbrev pub replace_of : {X : Type 0} → List X → ℤ → X → Result (List X) Fault
 replace_of xs index x = ok_or (with_element_at xs index x) (fault_at no.IndexOutOfRange 0)

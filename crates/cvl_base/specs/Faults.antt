@@ -6,6 +6,7 @@ use Rattle.cvl_base.specs.declared.fault.FaultNo.{FaultNo}
 use Rattle.cvl_base.specs.declared.fault.FaultNo.TheVariants as no
 use Rattle.cvl_base.specs.declared.fault.Fault.{Fault}
 
+-- the number of a fault, by which scripts and other languages report it
 abbrev pub number_of : FaultNo → ℕ
 number_of no.BadLine = 1
 number_of no.UnknownCall = 2
@@ -26,6 +27,7 @@ number_of no.TooManyNames = 16
 number_of no.ScriptTooLong = 17
 number_of no.Overflow = 18
 
+-- the name of a fault
 abbrev pub name_of : FaultNo → List ℕ
 name_of no.BadLine = codes "BadLine"
 name_of no.UnknownCall = codes "UnknownCall"

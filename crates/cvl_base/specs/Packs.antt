@@ -9,5 +9,6 @@ use Rattle.cvl_base.specs.Elementwise.{if_as_long}
 abbrev pub count_of : List Bool → ℕ
 count_of flags = count_by (λ flag. flag) flags
 
+-- the elements whose flag is true, in order; flags and elements must be equally many
 abbrev pub pack_of : {X : Type 0} → List X → List Bool → Result (List X) Fault
 pack_of xs flags = if_as_long xs flags (Ok (map (λ p. p.0) (filter (λ p. p.1) (zip xs flags))))

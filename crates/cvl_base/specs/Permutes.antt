@@ -16,16 +16,20 @@ use Rattle.cvl_base.specs.Packs.{count_of}
 
 -- ---- the pairs: the destination of a place k is its index if k takes part, and then (index, k) is a pair
 
+-- the destinations if every place takes part
 abbrev pub all_destinations : List ℤ → List (Option ℤ)
 all_destinations index = map (λ i. Some i) index
 
+-- the destination of a place that takes part if its flag is true
 abbrev pub destination_if : ℤ → Bool → Option ℤ
 destination_if i true = Some i
 destination_if i false = None
 
+-- the destinations if the places with a true flag take part
 abbrev pub flagged_destinations : List ℤ → List Bool → List (Option ℤ)
 flagged_destinations index flags = map (λ p. destination_if p.0 p.1) (zip index flags)
 
+-- whether a place of the result is the destination
 abbrev pub is_destination : ℤ → Option ℤ → Bool
 is_destination d None = false
 is_destination d (Some i) = int_eq i d
@@ -74,13 +78,16 @@ sent_over source destinations defaults =
     unless (first_fault 0 (wrongs (length defaults) destinations))
     (Ok (map (λ p. unwrap_or (sent_to source destinations p.0) p.1) (enumerate_from 0 defaults)))
 
+-- a simple permute: element k goes to place index k of a result as long as the source
 abbrev pub simple_of : {X : Type 0} → List X → List ℤ → Result (List X) Fault
 simple_of source index = if_as_long source index (sent_to_all source (all_destinations index) (length index))
 
+-- a select permute: the elements with a true flag go to their indices, and the result has as many places as flags are true
 abbrev pub select_of : {X : Type 0} → List X → List ℤ → List Bool → Result (List X) Fault
 select_of source index flags =
     if_as_long source index (if_as_long index flags (sent_to_all source (flagged_destinations index flags) (count_of flags)))
 
+-- a default permute: a simple one whose places without a sender keep their default
 abbrev pub default_of : {X : Type 0} → List X → List ℤ → List X → Result (List X) Fault
 default_of source index defaults = if_as_long source index (sent_over source (all_destinations index) defaults)
 

@@ -15,6 +15,7 @@ beside firsts seconds = firsts >>= λ xs. seconds >>= λ ys. if_as_long xs ys (O
 abbrev pub of_two : {A B R : Type 0} → (A → B → R) → A × B → R
 of_two call args = call args.0 args.1
 
+-- a call of three arguments on the arguments of a segment
 abbrev pub of_three : {A B C R : Type 0} → (A → B → C → R) → (A × B) × C → R
 of_three call args = of_two call args.0 args.1
 

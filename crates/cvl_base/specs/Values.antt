@@ -5,6 +5,7 @@ use Rattle.call_table.specs.declared.kind.Kind.TheVariants as kind
 use Rattle.cvl_base.specs.declared.value.Value.{Value}
 use Rattle.cvl_base.specs.declared.value.Value.TheVariants as value
 
+-- the kind of a value
 abbrev pub kind_of : {A : Type 0} → Value A → Kind
 kind_of (value.Integers xs) = kind.Integers
 kind_of (value.Booleans xs) = kind.Booleans

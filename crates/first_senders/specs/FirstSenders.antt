@@ -38,6 +38,7 @@ first_senders_to destinations m = unless (first_fault 0 (map (wrong_in m) destin
 abbrev pub first_senders_of : List ℤ → ℕ → Result (List ℤ) Fault
 first_senders_of index m = first_senders_to (all_destinations index) m
 
+-- the first senders among the places with a true flag
 abbrev pub select_first_senders_of : List ℤ → List Bool → ℕ → Result (List ℤ) Fault
 select_first_senders_of index flags m = if_as_long index flags (first_senders_to (flagged_destinations index flags) m)
 
@@ -47,9 +48,11 @@ abbrev pub seg_first_senders_to : List (Option ℤ) → List ℕ → List ℕ �
 seg_first_senders_to destinations lengths result_lengths =
     end_to_end (in_vector lengths) (of_two first_senders_to) (beside (nest lengths destinations) (Ok result_lengths))
 
+-- the first senders of each segment, by the places of that segment of the result
 abbrev pub seg_first_senders_of : List ℤ → List ℕ → List ℕ → Result (List ℤ) Fault
 seg_first_senders_of index lengths result_lengths = seg_first_senders_to (all_destinations index) lengths result_lengths
 
+-- the same among the places with a true flag
 abbrev pub seg_select_first_senders_of : List ℤ → List Bool → List ℕ → List ℕ → Result (List ℤ) Fault
 seg_select_first_senders_of index flags lengths result_lengths =
     if_as_long index flags (seg_first_senders_to (flagged_destinations index flags) lengths result_lengths)

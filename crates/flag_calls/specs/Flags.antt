@@ -16,9 +16,11 @@ is_flag byte = nat_lt byte 2
 abbrev pub flag_of : ℕ → Bool
 flag_of byte = not (byte == 0)
 
+-- the booleans of bytes
 abbrev pub flags_of : List ℕ → List Bool
 flags_of bytes = map flag_of bytes
 
+-- the byte of a boolean
 abbrev pub byte_of : Bool → ℕ
 byte_of true = 1
 byte_of false = 0

@@ -26,6 +26,7 @@ are_counts flags trues falses = (count_of flags == trues) && (count_of (map not 
 abbrev pub merge_or : {X : Type 0} → Fault → List Bool → List X → List X → Result (List X) Fault
 merge_or f flags xs ys = fault_if (not (are_counts flags (length xs) (length ys))) f (Ok (merged flags xs ys))
 
+-- the merge of two vectors, or LengthMismatch if they have not as many elements as flags are true and false
 abbrev pub merge_of : {X : Type 0} → List Bool → List X → List X → Result (List X) Fault
 merge_of flags xs ys = merge_or (fault LengthMismatch) flags xs ys
 

@@ -19,11 +19,13 @@ pub record Site : Type 0 where
   pub places : ℕ
 
 module _ {X : Type 0} where
+  -- a stretch as data of proofs
   abbrev pub stretch_code : Coded X → Coded (Stretch X)
   stretch_code c = code_by (Ptr × (ℕ × (List X × ℕ))) (coded× coded_ptr (coded× coded_ℕ (coded× (coded_list c) coded_ℕ)))
       (λ s. (s.block, (s.first, (s.items, s.room)))) (λ p. record { block = p.0; first = p.1.0; items = p.1.1.0; room = p.1.1.1 })
       (λ _. refl)
 
+  -- the stretch from the place `first` of a block on: its items, and the places left behind them
   abbrev pub stretch : Ptr → ℕ → List X → ℕ → Stretch X
   stretch block first items room = record { block = block; first = first; items = items; room = room }
 
@@ -63,6 +65,7 @@ module _ {X : Type 0} where
     pub count : (length (somes c.slots) ≡ written) × (written ≤ len) × (first + len < 2 ^ 63)
     pub laid : c.slots ≡ filled (somes c.slots) (len - written)
 
+-- a site as data of proofs
 abbrev pub site_code : Coded Site
 site_code = code_by (Ptr × ℕ) (coded× coded_ptr coded_ℕ) (λ s. (s.block, s.places)) (λ p. record { block = p.0; places = p.1 }) (λ _. refl)
 

@@ -25,6 +25,7 @@ abbrev pub first_least_pass : List (Option ℕ) → ℕ → ℕ → LeastPass
 first_least_pass targets tiles workers =
     record { targets = targets; tiles = tiles; hand = new_hand workers; lowered = []; seen = [] }
 
+-- the pass of one worker that has done nothing
 abbrev pub new_least_pass : List (Option ℕ) → ℕ → LeastPass
 new_least_pass targets tiles = first_least_pass targets tiles 1
 
@@ -40,6 +41,7 @@ on_least_hand change p = record p { hand = change p.hand }
 abbrev pub split_least_left : LeastPass → LeastPass
 split_least_left p = on_least_hand hand_dealt p
 
+-- the right one of two passes after a split: that of a worker that has done nothing
 abbrev pub split_least_right : LeastPass → LeastPass
 split_least_right p = new_least_pass p.targets p.tiles
 
@@ -70,9 +72,11 @@ lowest slot (low ∷ lows) = min (if low.slot == slot then low.place else no_pla
 abbrev pub lowered_in : ℕ → LeastPass → ℕ
 lowered_in slot p = lowest slot p.lowered
 
+-- the least place that a pass saw in a slot
 abbrev pub seen_in : ℕ → LeastPass → ℕ
 seen_in slot p = lowest slot p.seen
 
+-- the least place that a pass lowered or saw in a slot
 abbrev pub known_in : ℕ → LeastPass → ℕ
 known_in slot p = min (lowered_in slot p) (seen_in slot p)
 

@@ -30,6 +30,7 @@ use Rattle.line_reader.specs.Numbers.{written_number}
 abbrev pub line_class : ℕ → ByteClass
 line_class b = if (b == 32) || (b == 9) then Blank else (if b == 61 then Alone else InToken)
 
+-- the tokens of a line
 abbrev pub line_tokens : List ℕ → List (List ℕ)
 line_tokens bytes = tokens_by line_class bytes
 
@@ -38,6 +39,7 @@ abbrev pub is_number_token : List ℕ → Bool
 is_number_token [] = false
 is_number_token (b ∷ bs) = is_ascii_digit b || b == 45
 
+-- whether a token is T or F
 abbrev pub is_boolean_token : List ℕ → Bool
 is_boolean_token token = pointwise nat_eq token (codes "T") || pointwise nat_eq token (codes "F")
 
@@ -52,6 +54,7 @@ arg_of token =
     else (if is_boolean_token token then Some (arg.Boolean (pointwise nat_eq token (codes "T")))
     else option_map arg.Integer (written_number token))
 
+-- the arguments of a call, or BadNumber if one is none
 abbrev pub args_of : List (List ℕ) → Result (List Arg) Fault
 args_of [] = Ok []
 args_of (token ∷ tokens) =
@@ -61,6 +64,7 @@ args_of (token ∷ tokens) =
 abbrev pub one_result : List ℕ → Option ResultNames
 one_result name = if is_name name then Some (results.One name) else None
 
+-- two different names to bind, or none
 abbrev pub two_results : List ℕ → List ℕ → Option ResultNames
 two_results first second =
     if is_name first && is_name second && not (pointwise nat_eq first second) then Some (results.Two first second) else None
@@ -69,6 +73,7 @@ two_results first second =
 abbrev pub before_comment : List ℕ → List ℕ
 before_comment line = before_first (λ b. b == 35) line
 
+-- whether the first token is `=`
 abbrev pub begins_with_equals : List (List ℕ) → Bool
 begins_with_equals [] = false
 begins_with_equals (token ∷ tokens) = pointwise nat_eq token (codes "=")
@@ -104,6 +109,7 @@ module _ {A : Type 0} where
   abbrev pub write_line : List (List ℕ) → Result (Option (Call A)) Fault
   write_line names = fault_if (not (list_all is_name names)) (fault BadLine) (with_op results.None (Some Write) names)
 
+  -- what a line says, by its first tokens: nothing, a write or a binding
   abbrev pub form_of : List (List ℕ) → Result (Option (Call A)) Fault
   form_of [] = Ok None
   form_of (first ∷ others) =

@@ -7,6 +7,7 @@ use Rattle.std.specs.List.{list_all, take_while, prefix_len}
 use Rattle.std.specs.Char.{is_ascii_digit}
 use Rattle.std.specs.Str.Parse.{digits_value}
 
+-- whether there are no bytes
 abbrev pub is_empty : List ℕ → Bool
 is_empty [] = true
 is_empty (b ∷ bs) = false
@@ -20,9 +21,11 @@ magnitude_of digits =
 abbrev pub positive_of : ℕ → Option ℤ
 positive_of n = if nat_lt n (2 ^ 31) then Some (pos n) else None
 
+-- minus a magnitude, if 32 bits hold it
 abbrev pub negative_of : ℕ → Option ℤ
 negative_of n = if nat_le n (2 ^ 31) then Some (neg_ℤ (pos n)) else None
 
+-- the number of a token with or without a minus sign
 abbrev pub with_sign : Bool → List ℕ → List ℕ → Option ℤ
 with_sign true token digits = option_and_then negative_of (magnitude_of digits)
 with_sign false token digits = option_and_then positive_of (magnitude_of token)

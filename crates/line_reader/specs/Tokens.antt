@@ -18,11 +18,13 @@ with_byte Alone runs_on b tokens = (b ∷ []) ∷ tokens
 with_byte InToken true b tokens = onto_first b tokens
 with_byte InToken false b tokens = (b ∷ []) ∷ tokens
 
+-- whether a byte of this class belongs to a longer token
 abbrev pub is_in_token : ByteClass → Bool
 is_in_token Blank = false
 is_in_token Alone = false
 is_in_token InToken = true
 
+-- whether a byte of this class stands between tokens
 abbrev pub is_blank : ByteClass → Bool
 is_blank Blank = true
 is_blank Alone = false
@@ -38,6 +40,7 @@ abbrev pub begins_with_blank : (ℕ → ByteClass) → List ℕ → Bool
 begins_with_blank class_of [] = false
 begins_with_blank class_of (b ∷ bs) = is_blank (class_of b)
 
+-- the tokens of bytes, by the class of each byte
 abbrev pub tokens_by : (ℕ → ByteClass) → List ℕ → List (List ℕ)
 tokens_by class_of [] = []
 tokens_by class_of (b ∷ bs) = with_byte (class_of b) (begins_in_token class_of bs) b (tokens_by class_of bs)

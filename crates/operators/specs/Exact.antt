@@ -14,6 +14,7 @@ pub record IsWordWrapped (x wrapped : ℤ) : Type 0 where
   pub fits : IsTrue (is_word wrapped)
   pub congruent : (turns : ℤ) × (x ≡ wrapped +ℤ turns *ℤ pos (2 ^ 54))
 
+-- the sum in 54 bits
 abbrev pub exact_sum_of : ℤ → ℤ → ℤ
 exact_sum_of a b = wrap_word (a +ℤ b)
 

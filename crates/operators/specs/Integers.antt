@@ -14,12 +14,15 @@ pub record IsWrapped (x wrapped : ℤ) : Type 0 where
   pub fits : FitsSigned w32 wrapped
   pub congruent : (turns : ℤ) × (x ≡ wrapped +ℤ turns *ℤ pos (2 ^ 32))
 
+-- the sum, wrapped
 abbrev pub sum_of : ℤ → ℤ → ℤ
 sum_of a b = wrap (a +ℤ b)
 
+-- the difference, wrapped
 abbrev pub difference_of : ℤ → ℤ → ℤ
 difference_of a b = wrap (a -ℤ b)
 
+-- the product, wrapped
 abbrev pub product_of : ℤ → ℤ → ℤ
 product_of a b = wrap (a *ℤ b)
 
@@ -37,9 +40,11 @@ pub record IsDivided (a b q r : ℤ) : Type 0 where
   pub smaller : unsigned_abs r < unsigned_abs b
   pub sign : (r ≡ pos 0) ⊎ (is_negative r ≡ is_negative a)
 
+-- the lesser of two, as signed numbers
 abbrev pub lesser_of : ℤ → ℤ → ℤ
 lesser_of a b = int_min a b
 
+-- the greater of two, as signed numbers
 abbrev pub greater_of : ℤ → ℤ → ℤ
 greater_of a b = int_max a b
 
@@ -68,12 +73,15 @@ right_shift_of a (negsuc s) = None
 abbrev pub and_of : ℤ → ℤ → ℤ
 and_of a b = int_bit_and w32 a b
 
+-- or, bit by bit
 abbrev pub ior_of : ℤ → ℤ → ℤ
 ior_of a b = int_bit_or w32 a b
 
+-- exclusive or, bit by bit
 abbrev pub xor_of : ℤ → ℤ → ℤ
 xor_of a b = int_bit_xor w32 a b
 
+-- each bit inverted
 abbrev pub not_of : ℤ → ℤ
 not_of a = int_bit_not w32 a
 
@@ -81,17 +89,22 @@ not_of a = int_bit_not w32 a
 abbrev pub is_greater : ℤ → ℤ → Bool
 is_greater a b = int_lt b a
 
+-- whether a is less than b, as signed numbers
 abbrev pub is_less : ℤ → ℤ → Bool
 is_less a b = int_lt a b
 
+-- whether a is at least b
 abbrev pub is_at_least : ℤ → ℤ → Bool
 is_at_least a b = not (int_lt a b)
 
+-- whether a is at most b
 abbrev pub is_at_most : ℤ → ℤ → Bool
 is_at_most a b = not (int_lt b a)
 
+-- whether a and b are equal
 abbrev pub is_equal : ℤ → ℤ → Bool
 is_equal a b = int_eq a b
 
+-- whether a and b differ
 abbrev pub is_unequal : ℤ → ℤ → Bool
 is_unequal a b = not (int_eq a b)

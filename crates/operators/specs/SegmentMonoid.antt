@@ -11,5 +11,6 @@ is_seg_item is_item (starts, value) = is_item value
 abbrev pub seg_unit : {Item : Type 0} → Item → Bool × Item
 seg_unit unit = (false, unit)
 
+-- a later run with a start hides what stands before it; otherwise the two values are joined
 abbrev pub seg_join : {Item : Type 0} → (Item → Item → Item) → Bool × Item → Bool × Item → Bool × Item
 seg_join join (f, v) (g, w) = (either f g, if g then w else join v w)

@@ -13,10 +13,12 @@ use Rattle.part_calls.specs.Limits.{few_enough}
 abbrev pub counted_senders : List (Option ℤ) → ℕ → ℕ → List ℤ × ℕ
 counted_senders destinations low n = (first_senders destinations low n, count_by (is_between low (low + n)) destinations)
 
+-- the first senders of the n places from `low` on, and how many indices name one of these
 abbrev pub senders_range_of : List ℤ → ℕ → ℕ → Result (List ℤ × ℕ) Fault
 senders_range_of index low n =
     few_enough (length index) (few_enough (low + n) (Ok (counted_senders (all_destinations index) low n)))
 
+-- the same among the places with a true flag
 abbrev pub select_senders_range_of : List ℤ → List Bool → ℕ → ℕ → Result (List ℤ × ℕ) Fault
 select_senders_range_of index flags low n =
     few_enough (length index) (few_enough (low + n)

@@ -11,5 +11,6 @@ abbrev pub words_of : ℕ → List Bool → List ℕ
 words_of zero marks = []
 words_of (suc n) marks = mask_l (take 32 marks) ∷ words_of n (drop 32 marks)
 
+-- the words that hold these marks
 abbrev pub mark_words : List Bool → List ℕ
 mark_words marks = words_of (words_for (length marks)) marks

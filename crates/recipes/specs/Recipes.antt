@@ -27,6 +27,7 @@ module _ {A : Type 0} where
   abbrev pub HasIntegers : Entries A → List ℕ → Type 0
   HasIntegers names name = (xs : List ℤ) × (value_at names name ≡ Some (value.Integers xs))
 
+  -- a name is bound to a vector of booleans
   abbrev pub HasBooleans : Entries A → List ℕ → Type 0
   HasBooleans names name = (bs : List Bool) × (value_at names name ≡ Some (value.Booleans bs))
 

@@ -26,6 +26,7 @@ visible_of altitudes = map (is_visible altitudes) (range_with_len 0 (length alti
 abbrev pub is_altitude : ℤ → Bool
 is_altitude altitude = not (is_negative altitude) && int_lt altitude (pos 32768)
 
+-- the altitudes over which the script of the recipe is exact
 pub record AreExact (altitudes : List ℤ) : Type 0 where
   pub some : 1 ≤ length altitudes
   pub few : length altitudes ≤ 256

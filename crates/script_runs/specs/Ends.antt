@@ -20,6 +20,7 @@ Reaches m line = line ≤ unwrap_or (option_map (λ s. s.0) m.stop) (length m.te
 abbrev pub text_up_to : Meaning → ℕ → ℕ → List ℕ
 text_up_to m line n = concat (take (line - 1) m.texts) ++ take n (line_text m line)
 
+-- a line was reached, and what is written is the text of the lines before it and a beginning of its own
 pub record IsCutAt (m : Meaning) (line : ℕ) (written : List ℕ) : Type 0 where
   pub reached : Reaches m line
   pub beginning : (n : ℕ) × (written ≡ text_up_to m line n)
@@ -29,6 +30,7 @@ pub record IsCutShortAt (m : Meaning) (line : ℕ) (written : List ℕ) : Type 0
   pub reached : Reaches m line
   pub beginning : (n : ℕ) × (n < length (line_text m line)) × (written ≡ text_up_to m line n)
 
+-- the answer of a run and what it wrote agree with the meaning of its script
 abbrev pub EndsAs : Meaning → List ℕ → Result (Unit {0}) Stop → Type 0
 EndsAs m written (Ok done) = (m.stop ≡ None) × (written ≡ text_of_script m)
 EndsAs m written (Err (stop.Script line f)) = (m.stop ≡ Some (line, f)) × (written ≡ text_of_script m)

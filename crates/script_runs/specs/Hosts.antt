@@ -8,6 +8,7 @@ pub record Read : Type 0 where
   pub name : List ℕ
   pub bytes : Option (List ℕ)
 
+-- a file with this name and these bytes; none if it cannot be read
 abbrev pub read_of : List ℕ → Option (List ℕ) → Read
 read_of name bytes = record { name = name; bytes = bytes }
 
@@ -57,9 +58,11 @@ pub record Shows (wanted shown : Seen) : Type 0 where
 
 -- ---- what is done with a host
 
+-- more at the end of what a host shows, if that is known
 abbrev pub with_more : {X : Type 0} → List X → Option (List X) → Option (List X)
 with_more more told = option_map (λ xs. xs ++ more) told
 
+-- whether there are no bytes
 abbrev pub is_empty : List ℕ → Bool
 is_empty [] = true
 is_empty (byte ∷ bytes) = false
@@ -78,6 +81,7 @@ abbrev pub with_flush : Bool → Seen → Seen
 with_flush true s = record s { sent = true }
 with_flush false s = record s { failed_flushes = s.failed_flushes + 1 }
 
+-- what a host shows after it has read more files
 abbrev pub with_reads : List Read → Seen → Seen
 with_reads reads s = record s { reads = with_more reads s.reads }
 

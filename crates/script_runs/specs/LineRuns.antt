@@ -22,9 +22,11 @@ module _ {A : Type 0} where
   abbrev pub with_text : Entries A → List ℕ → Stepped A
   with_text names text = record { names = names; shown = Some text }
 
+  -- the text that a line shows; empty if it shows none
   abbrev pub text_of_step : Stepped A → List ℕ
   text_of_step stepped = unwrap_or stepped.shown []
 
+  -- the answer of a line's run, the names that it leaves and what it wrote agree with the line's meaning
   abbrev pub LineEndsAs : ℕ → Result (Stepped A) Fault → Entries A → List ℕ → Result (Unit {0}) Stop → Type 0
   LineEndsAs number meaning names written (Ok done) =
       (stepped : Stepped A) × (meaning ≡ Ok stepped) × (names ≡ stepped.names)

@@ -16,6 +16,7 @@ use Rattle.vector_handles.specs.declared.input.Input.{Input}
 use Rattle.vector_handles.specs.Names.{Entries}
 use Rattle.vector_handles.specs.Steps.{Stepped, step}
 
+-- the texts of the lines that ran, and the line and the fault at which the script stops, if it does
 pub record Meaning : Type 0 where
   pub texts : List (List ℕ)
   pub stop : Option (ℕ × Fault)
@@ -30,6 +31,7 @@ module _ {A : Type 0} where
   call_step names inputs None = Ok (record { names = names; shown = None })
   call_step names inputs (Some call) = step names inputs call
 
+  -- the meaning of a line: it is read, and its call is made
   abbrev pub line_step : Entries A → List (Input A) → List ℕ → Result (Stepped A) Fault
   line_step names inputs line = call_of line >>= call_step names inputs
 

@@ -5,6 +5,7 @@ use Rattle.std.specs.Prelude.{ℕ, ◌≤◌, ◌<◌, List, length, take, Resul
 use Rattle.script_runs.specs.Hosts.{Seen, Shows, with_failures, with_output}
 use Rattle.script_runs.specs.declared.sink.SinkFault.{SinkFault}
 
+-- what a sink has taken after it was given bytes, by its answer
 abbrev pub Puts : Seen → List ℕ → Result ℕ SinkFault → Seen → Type 0
 Puts before bytes (Ok n) after =
     (n ≤ length bytes) × (0 < length bytes → 0 < n) × Shows (with_output (take n bytes) before) after

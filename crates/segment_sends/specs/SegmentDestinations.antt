@@ -22,6 +22,7 @@ flagged_in_segments lengths index flags =
 abbrev pub places_in : List (ℕ × List (Option ℤ)) → ℕ
 places_in segments = sum (map (λ p. p.0) segments)
 
+-- how many destinations these segments have together
 abbrev pub destinations_in : List (ℕ × List (Option ℤ)) → ℕ
 destinations_in segments = sum (map (λ p. length p.1) segments)
 

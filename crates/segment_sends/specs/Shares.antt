@@ -31,6 +31,7 @@ pub record Sending (X : Type 0) : Type 0 where
   pub before : List X
   pub widest : ℕ
 
+-- the sends of some segments of a source over what stands before; `widest` bounds the places of a segment
 abbrev pub sending : {X : Type 0} → List X → List (ℕ × List (Option ℤ)) → List X → ℕ → Sending X
 sending source segments before widest = record { source = source; segments = segments; before = before; widest = widest }
 

@@ -21,9 +21,11 @@ race_of pays asked elements =
 abbrev pub scan_race : ℕ × ℕ → ℕ → Option (ℕ × ℕ)
 scan_race asked elements = race_of (nat_le least_scanned elements) asked elements
 
+-- the race of a reduce over so many elements of so many bytes together
 abbrev pub reduce_race : ℕ × ℕ → ℕ → ℕ → Option (ℕ × ℕ)
 reduce_race asked elements bytes = race_of (nat_le least_reduced bytes) asked elements
 
+-- the race for a first fault among so many elements
 abbrev pub search_race : ℕ × ℕ → ℕ → Option (ℕ × ℕ)
 search_race asked elements = race_of (nat_le least_searched elements) asked elements
 

@@ -25,17 +25,20 @@ pub data End : Type 0 where
   refused : End
   unreadable : Text → End
 
+-- the status of the program for a stop
 abbrev pub stop_status : Stop → ℕ
 stop_status (stop.Script line f) = 1
 stop_status (stop.NoResources line) = 3
 stop_status (stop.WriteFailed line) = 3
 
+-- the status of the program for the end that it came to
 abbrev pub status_of : End → ℕ
 status_of (ended None) = 0
 status_of (ended (Some why)) = stop_status why
 status_of refused = 2
 status_of (unreadable name) = 3
 
+-- the line for a file that cannot be read
 abbrev pub unreadable_line : Text → List ℕ
 unreadable_line name = codes "cannot read " ++ name ++ codes "\n"
 
@@ -147,6 +150,7 @@ ExplainsWork A words reads written answer (inr (inl shown)) end told = told ≡ 
 ExplainsWork A words reads written answer (inr (inr (taken, name, named, run))) end told =
     ExplainsStop run.script run.inputs run.input_reads end told
 
+-- what the program adds on standard error to an end that it came to, if it was asked to explain
 abbrev pub ExplainsEnd : (A : Type 0) (words : List Text) (before : Seen) (first : Option (List ℕ)) (after : Seen) (end : End)
     → Comes A words before first after end → Option (List ℕ) → Type 0
 ExplainsEnd A words before first after (ended end) (reads, written, answer, flushed, works, is, tells) told =

@@ -37,6 +37,7 @@ checked_rows_product lengths columns values x =
 abbrev pub sparse_product_of : List ℤ → List ℤ → List ℤ → List ℤ → Result (List ℤ) Fault
 sparse_product_of lengths columns values x = descriptor_of lengths >>= λ sizes. rows_product sizes columns values x
 
+-- the checked product by the lengths of the rows, whose faults come first
 abbrev pub checked_sparse_product_of : List ℤ → List ℤ → List ℤ → List ℤ → Result (List ℤ) Fault
 checked_sparse_product_of lengths columns values x =
     descriptor_of lengths >>= λ sizes. checked_rows_product sizes columns values x
@@ -64,6 +65,7 @@ abbrev pub sparse_product_by_offsets_of : List ℤ → List ℤ → List ℤ →
 sparse_product_by_offsets_of offsets columns values x =
     row_lengths_of offsets >>= λ lengths. sparse_product_of lengths columns values x
 
+-- the checked product by offsets, whose faults come first
 abbrev pub checked_sparse_product_by_offsets_of : List ℤ → List ℤ → List ℤ → List ℤ → Result (List ℤ) Fault
 checked_sparse_product_by_offsets_of offsets columns values x =
     row_lengths_of offsets >>= λ lengths. checked_sparse_product_of lengths columns values x

@@ -37,5 +37,6 @@ row_product x row = wrap (row_total x row)
 abbrev pub rows_of : List ℤ → List ℤ → List ℤ → List (List (ℤ × ℤ))
 rows_of lengths columns values = cut_of (map unsigned_abs lengths) (zip columns values)
 
+-- the product: one element a row, the sum of its values times the elements at their columns
 abbrev pub product_of : List ℤ → List ℤ → List ℤ → List ℤ → List ℤ
 product_of lengths columns values x = map (row_product x) (rows_of lengths columns values)

@@ -19,6 +19,7 @@ wrapping total = Some (wrap total)
 abbrev pub are_within : ℕ → List (ℤ × ℤ) → Bool
 are_within places row = list_all (λ entry. is_place places entry.0) row
 
+-- the value of a row by a rule of its sum; none if a column is outside
 abbrev pub row_value : (ℤ → Option ℤ) → List ℤ → List (ℤ × ℤ) → Option ℤ
 row_value rule x row = if are_within (length x) row then rule (row_total x row) else None
 

@@ -23,11 +23,13 @@ pub record CodingLaws {Item : Type 0} (is_item : Item → Bool) (m : Coding Item
   pub ascending : (lower upper : Status Item) → IsTrue (is_item_status is_item lower) → IsTrue (is_item_status is_item upper)
       → state_of lower < state_of upper → m.pack lower < m.pack upper
 
+-- a status with a function on its value
 abbrev pub status_by : {X Y : Type 0} → (X → Y) → Status X → Status Y
 status_by f Silent = Silent
 status_by f (Sum starts value) = Sum starts (f value)
 status_by f (Prefix starts value) = Prefix starts (f value)
 
+-- a status, or Silent if there is none
 abbrev pub status_or_silent : {X : Type 0} → Option (Status X) → Status X
 status_or_silent None = Silent
 status_or_silent (Some status) = status

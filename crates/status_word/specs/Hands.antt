@@ -12,9 +12,11 @@ use Rattle.status_word.specs.declared.pass.Hand.{Hand}
 abbrev pub new_hand : ℕ → Hand
 new_hand share = record { given = []; done = 0; share = share }
 
+-- one more tile was given
 abbrev pub hand_given : Hand → ℕ → Hand
 hand_given h t = record h { given = t ∷ h.given }
 
+-- a worker learned that no tile is left
 abbrev pub hand_done : Hand → Hand
 hand_done h = record h { done = h.done + 1 }
 
@@ -22,6 +24,7 @@ hand_done h = record h { done = h.done + 1 }
 abbrev pub hand_dealt : Hand → Hand
 hand_dealt h = record h { share = h.share - 1 }
 
+-- what two hands know together
 abbrev pub hands_joined : Hand → Hand → Hand
 hands_joined h other = record { given = h.given ++ other.given; done = h.done + other.done; share = h.share + other.share }
 

@@ -49,6 +49,7 @@ holds_item is_item (Helping t at after) = is_item after.1
 holds_item is_item (Publishing t before) = is_item before.1
 holds_item is_item local = true
 
+-- whether a status holds an item, or nothing
 abbrev pub is_item_status : {Item : Type 0} → (Item → Bool) → Status Item → Bool
 is_item_status is_item Silent = true
 is_item_status is_item (Sum starts value) = is_item value

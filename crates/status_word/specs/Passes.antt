@@ -13,6 +13,7 @@ pub use Rattle.status_word.specs.Hands.{times}
 abbrev pub first_pass : {Item : Type 0} → List (Bool × Item) → ℕ → Pass Item
 first_pass sums workers = record { sums = sums; hand = new_hand workers; told = []; seen = []; looks = 0 }
 
+-- the pass of one worker that has done nothing
 abbrev pub new_pass : {Item : Type 0} → List (Bool × Item) → Pass Item
 new_pass sums = first_pass sums 1
 
@@ -48,6 +49,7 @@ module _ {Item : Type 0} where
   abbrev pub split_left : Pass Item → Pass Item
   split_left p = record p { hand = hand_dealt p.hand }
 
+  -- the right one of two passes after a split: that of a worker that has done nothing
   abbrev pub split_right : Pass Item → Pass Item
   split_right p = new_pass p.sums
 
@@ -63,12 +65,15 @@ module _ {Item : Type 0} where
 
   -- ---- what a pass says of tile t
 
+  -- the highest status that a pass published of a tile
   abbrev pub told_at : ℕ → Pass Item → ℕ
   told_at t p = highest_mark t p.told
 
+  -- the highest status that a pass saw of a tile
   abbrev pub seen_at : ℕ → Pass Item → ℕ
   seen_at t p = highest_mark t p.seen
 
+  -- the highest status that a pass published or saw of a tile
   abbrev pub known_at : ℕ → Pass Item → ℕ
   known_at t p = max (told_at t p) (seen_at t p)
 
@@ -76,6 +81,7 @@ module _ {Item : Type 0} where
   abbrev pub WasTold : ℕ → ℕ → ℕ → Pass Item → Type 0
   WasTold t rank looks p = Contains p.told (record { tile = t; rank = rank; looks = looks })
 
+  -- how often a tile was given
   abbrev pub given_at : ℕ → Pass Item → ℕ
   given_at t p = times t p.hand.given
 

@@ -20,6 +20,7 @@ abbrev pub stepped_by : {Item : Type 0} → Option (Action Item) → Stepped Ite
 stepped_by None = Idle
 stepped_by (Some action) = Took action
 
+-- what a worker's step is in its state
 abbrev pub stepped_of : {Item : Type 0} → Local Item → Stepped Item
 stepped_of local = stepped_by (action_of local)
 

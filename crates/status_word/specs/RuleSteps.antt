@@ -13,6 +13,7 @@ use Rattle.status_word.specs.Passes.{passes_joined, told_at, seen_at, known_at, 
 -- ---- the hands, of passes P of any board: pass p at the place id becomes q
 
 module _ {P : Type 0} (hand : P → Hand) where
+  -- the first pass keeps the rule of the hands
   abbrev pub FirstDeals : Type 0
   FirstDeals = (tiles workers : ℕ) (p : P) →
       hand p ≡ new_hand workers →
@@ -39,12 +40,14 @@ module _ {P : Type 0} (hand : P → Hand) where
       hand q ≡ hand p →
       AreDealt hand tiles workers claims (slice_set passes id q)
 
+  -- a split of a pass keeps the rule of the hands
   abbrev pub SplitDeals : Type 0
   SplitDeals = (tiles workers claims : ℕ) (passes : List P) (id : ℕ) (p left right : P) →
       AreDealt hand tiles workers claims passes → get_elem? passes id ≡ some p →
       hand left ≡ hand_dealt (hand p) → hand right ≡ new_hand 1 → 2 ≤ (hand p).share → (hand p).done < (hand p).share →
       AreDealt hand tiles workers claims (slice_set passes id left ++ right ∷ [])
 
+  -- a join of two passes keeps the rule of the hands
   abbrev pub JoinDeals : Type 0
   JoinDeals = (tiles workers claims : ℕ) (passes : List P) (id other : ℕ) (p q both spent : P) →
       AreDealt hand tiles workers claims passes → get_elem? passes id ≡ some p →
@@ -88,6 +91,7 @@ pub record JoinAdds {Item : Type 0} (p other : Pass Item) : Type 0 where
   pub seen : (t : ℕ) → seen_at t (passes_joined p other) ≡ max (seen_at t p) (seen_at t other)
 
 module _ (Item : Type 0) where
+  -- the first pass keeps the rule of a scan board
   abbrev pub FirstKeeps : Type 0
   FirstKeeps = (code : ℕ → ℕ → ℕ) (sums : List (Bool × Item)) (workers : ℕ) (word : ℕ → ℕ) →
       ((t : ℕ) → t < length sums → word t ≡ code t 0) →
@@ -128,6 +132,7 @@ module _ (Item : Type 0) where
       1 ≤ p.hand.share → t < length sums → rank ≤ 2 → AreRaised (length sums) t (code t rank) word now →
       IsRuleKept code sums workers claims now (slice_set passes id (told_state p t rank))
 
+  -- a split of a pass keeps the rule of a scan board
   abbrev pub SplitKeeps : Type 0
   SplitKeeps = (code : ℕ → ℕ → ℕ) (sums : List (Bool × Item)) (workers claims : ℕ) (word : ℕ → ℕ)
       (passes : List (Pass Item)) (id : ℕ) (p : Pass Item) →
@@ -135,6 +140,7 @@ module _ (Item : Type 0) where
       2 ≤ p.hand.share → p.hand.done < p.hand.share →
       IsRuleKept code sums workers claims word (slice_set passes id (split_left p) ++ split_right p ∷ [])
 
+  -- a join of two passes keeps the rule of a scan board
   abbrev pub JoinKeeps : Type 0
   JoinKeeps = (code : ℕ → ℕ → ℕ) (sums : List (Bool × Item)) (workers claims : ℕ) (word : ℕ → ℕ)
       (passes : List (Pass Item)) (id other : ℕ) (p q : Pass Item) →

@@ -12,6 +12,7 @@ use Rattle.status_word.specs.declared.status.Status.TheVariants.{Silent, Sum, Pr
 abbrev pub state_place : ℕ
 state_place = 2 ^ 62
 
+-- the value of bit 61, the flag
 abbrev pub flag_place : ℕ
 flag_place = 2 ^ 61
 
@@ -20,6 +21,7 @@ abbrev pub bits_of : ℤ → ℕ
 bits_of (pos n) = n
 bits_of (negsuc n) = 2 ^ 54 - suc n
 
+-- the value that 54 bits hold
 abbrev pub value_of : ℕ → ℤ
 value_of bits = if nat_lt bits (2 ^ 53) then pos bits else negsuc (2 ^ 54 - 1 - bits)
 
@@ -33,6 +35,7 @@ state_of (Prefix flag value) = 2
 abbrev pub rest_of : Bool → ℤ → ℕ
 rest_of flag value = (if flag then flag_place else 0) + bits_of value
 
+-- the word of a status
 abbrev pub word_of : Status ℤ → ℕ
 word_of Silent = 0
 word_of (Sum flag value) = state_place + rest_of flag value
@@ -48,6 +51,7 @@ FitsWord (Prefix flag value) = IsTrue (is_word value)
 abbrev pub read_rest : ℕ → Option (Bool × ℤ)
 read_rest rest = if nat_lt (rest % flag_place) (2 ^ 54) then Some (rest / flag_place == 1, value_of (rest % flag_place)) else None
 
+-- the status of a state, a flag and a value; none if the state is none of the three
 abbrev pub with_state : ℕ → Option (Bool × ℤ) → Option (Status ℤ)
 with_state state None = None
 with_state state (Some (flag, value)) =

@@ -6,15 +6,19 @@ use Rattle.status_word.specs.declared.local.Local.TheVariants.{Stopped}
 use Rattle.status_word.specs.Codings.{Coding, coding_of}
 use Rattle.status_word.specs.Worlds.{Scene, new_scene, scene_after, steps_of}
 
+-- addition, with its statuses as words
 abbrev pub additions : Coding ℤ
 additions = coding_of sum_of (pos 0) same_word same_word
 
+-- the sums of the two tiles
 abbrev pub worked_sums : List (Bool × ℤ)
 worked_sums = (false, pos 5) ∷ (false, pos 7) ∷ []
 
+-- the world after these steps of so many workers
 abbrev pub worked_world : ℕ → List ℕ → Scene ℤ
 worked_world workers actors = scene_after additions (new_scene worked_sums workers) actors
 
+-- how many of these steps did something
 abbrev pub worked_steps : ℕ → List ℕ → ℕ
 worked_steps workers actors = steps_of additions (new_scene worked_sums workers) actors
 
@@ -30,6 +34,7 @@ worked_words = 9223372036854775813 ∷ 9223372036854775820 ∷ []
 abbrev pub empty_world : List ℕ → Scene ℤ
 empty_world actors = scene_after additions (new_scene [] 3) actors
 
+-- the same in a world without tiles
 abbrev pub empty_steps : List ℕ → ℕ
 empty_steps actors = steps_of additions (new_scene [] 3) actors
 

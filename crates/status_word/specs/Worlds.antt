@@ -29,12 +29,15 @@ pub record Scene (Item : Type 0) : Type 0 where
   pub words : List ℕ
   pub locals : List (Local Item)
 
+-- the world before any step: all words are 0, and each worker is Ready
 abbrev pub new_scene : {Item : Type 0} → List (Bool × Item) → ℕ → Scene Item
 new_scene sums actors = record { sums = sums; claims = 0; words = replicate (length sums) 0; locals = replicate actors Ready }
 
+-- the state of a worker; one that is not there is Stopped
 abbrev pub local_at : {Item : Type 0} → Scene Item → ℕ → Local Item
 local_at w actor = slice_index_or w.locals actor Stopped
 
+-- the claim word after an action
 abbrev pub claims_after : {Item : Type 0} → ℕ → Action Item → ℕ
 claims_after claims Claim = claims + 1
 claims_after claims action = claims
@@ -47,9 +50,11 @@ module _ {Item : Type 0} (m : Coding Item) where
   answer_of sums claims words (TellSum t) = Told (own_sum m.unit sums t)
   answer_of sums claims words (TellPrefix t prior) = Told (own_sum m.unit sums t)
 
+  -- the sum of a tile as a status
   abbrev pub as_sum : Bool × Item → Status Item
   as_sum sum = Sum sum.0 sum.1
 
+  -- the prefix of a tile as a status
   abbrev pub as_prefix : Bool × Item → Status Item
   as_prefix sum = Prefix sum.0 sum.1
 
@@ -70,9 +75,11 @@ module _ {Item : Type 0} (m : Coding Item) where
     locals = slice_set w.locals actor (next_of m.join m.unit local (answer_of w.sums w.claims w.words action));
   }
 
+  -- the world after one step of a worker
   abbrev pub step_of : Scene Item → ℕ → Scene Item
   step_of w actor = acted w actor (local_at w actor) (action_of (local_at w actor))
 
+  -- the world after a step of each of these workers in turn
   abbrev pub scene_after : Scene Item → List ℕ → Scene Item
   scene_after w [] = w
   scene_after w (actor ∷ actors) = scene_after (step_of w actor) actors
@@ -86,6 +93,7 @@ module _ {Item : Type 0} (m : Coding Item) where
   pass_after p (TellPrefix t prior) (Told sum) = told_state p t 2
   pass_after p action answer = p
 
+  -- the passes after a worker's action
   abbrev pub passed : Scene Item → ℕ → List (Pass Item) → Option (Action Item) → List (Pass Item)
   passed w actor passes None = passes
   passed w actor passes (Some action) = slice_set passes actor
@@ -119,6 +127,7 @@ abbrev pub takes : {Item : Type 0} → Local Item → ℕ
 takes Stopped = 0
 takes local = 1
 
+-- how many of these workers' steps do something
 abbrev pub steps_of : {Item : Type 0} → Coding Item → Scene Item → List ℕ → ℕ
 steps_of m w [] = 0
 steps_of m w (actor ∷ actors) = takes (local_at w actor) + steps_of m (step_of m w actor) actors
@@ -127,6 +136,7 @@ steps_of m w (actor ∷ actors) = takes (local_at w actor) + steps_of m (step_of
 abbrev pub LowersBy : {Item : Type 0} → Coding Item → Scene Item → ℕ → Type 0
 LowersBy m w actor = takes (local_at w actor) + left_of (step_of m w actor) ≤ left_of w
 
+-- each step that does something leaves at least one fewer
 abbrev pub RunLowers : {Item : Type 0} → Coding Item → Scene Item → List ℕ → Type 0
 RunLowers m w actors = steps_of m w actors + left_of (scene_after m w actors) ≤ left_of w
 
@@ -152,6 +162,7 @@ IsRight m sums Stopped = Unit {0}
 abbrev pub holders : {Item : Type 0} → Scene Item → ℕ → ℕ
 holders w t = sum_by (λ l. times t (tiles_held l)) w.locals
 
+-- the word of a tile
 abbrev pub word_at : {Item : Type 0} → Scene Item → ℕ → ℕ
 word_at w t = slice_index w.words t
 

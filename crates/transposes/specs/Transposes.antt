@@ -13,6 +13,7 @@ use Rattle.cvl_base.specs.Permutes.{back_of}
 abbrev pub sources_of : ℕ → ℕ → List ℤ
 sources_of rows columns = map (λ i. pos (i % rows * columns + i / rows)) (range_with_len 0 (rows * columns))
 
+-- the transpose of a matrix of so many rows and columns, or LengthMismatch if it has not so many elements
 abbrev pub transpose_of : {X : Type 0} → ℕ → ℕ → List X → Result (List X) Fault
 transpose_of rows columns xs = fault_if (not (rows * columns == length xs)) (fault LengthMismatch) (back_of xs (sources_of rows columns))
 

@@ -14,6 +14,7 @@ use Rattle.cvl_base.specs.Nests.{nest}
 use Rattle.value_texts.specs.declared.flat_vectors.FlatVector.{FlatVector}
 use Rattle.value_texts.specs.declared.flat_vectors.FlatVector.TheVariants as flat
 
+-- the text of a boolean
 abbrev pub boolean_text : Bool → List ℕ
 boolean_text true = codes "T"
 boolean_text false = codes "F"
@@ -26,6 +27,7 @@ bracketed texts = codes "[" ++ join_with_byte 32 texts ++ codes "]"
 abbrev pub spaced : {X : Type 0} → (X → List ℕ) → List X → List ℕ
 spaced text_of xs = flat_map (λ x. 32 ∷ text_of x) xs
 
+-- the text of a vector: those of its elements in brackets
 abbrev pub vector_text : {X : Type 0} → (X → List ℕ) → List X → List ℕ
 vector_text text_of xs = bracketed (map text_of xs)
 
@@ -33,6 +35,7 @@ vector_text text_of xs = bracketed (map text_of xs)
 abbrev pub nest_text : {X : Type 0} → (X → List ℕ) → List (List X) → List ℕ
 nest_text text_of xss = bracketed (map (vector_text text_of) xss)
 
+-- the text of a value
 abbrev pub text_of : {A : Type 0} → Value A → List ℕ
 text_of (value.Integers xs) = vector_text signed_decimal xs
 text_of (value.Booleans bs) = vector_text boolean_text bs

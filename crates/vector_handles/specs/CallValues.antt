@@ -44,6 +44,7 @@ module _ {A : Type 0} where
   integers_of (input.Bytes bytes) = input_of bytes.items
   integers_of (input.Vector xs) = Ok xs
 
+  -- the integers of an input, or NoSuchInput
   abbrev pub input_value : List (Input A) → ArgumentAt A → Result (Value A) Fault
   input_value inputs arg =
       ok_or (numbered inputs (integer_in (arg 0))) (fault NoSuchInput) >>= λ found. vector integer (integers_of found)
@@ -57,28 +58,34 @@ module _ {A : Type 0} where
   abbrev pub vector_and_descriptor : Result (List ℤ × List ℕ) Fault → Result (Value A × Value A) Fault
   vector_and_descriptor answer = answer >>= λ nest. Ok (value.Integers nest.0, value.Descriptor nest.1)
 
+  -- the vector and the descriptor of a nested input, or NoSuchInput
   abbrev pub nested_values : List (Input A) → ArgumentAt A → Result (Value A × Value A) Fault
   nested_values inputs arg =
       ok_or (numbered inputs (integer_in (arg 0))) (fault NoSuchInput) >>= λ found. vector_and_descriptor (nest_of found)
 
+  -- how many flags are true, in the whole or in each segment
   abbrev pub count_value : Cut → ArgumentAt A → Result (Value A) Fault
   count_value Flat arg = Ok (value.Integer (pos (count_of (booleans_in (arg 0)))))
   count_value Segmented arg =
       seg_count_of (booleans_in (arg 0)) (lengths_in (arg 1)) >>= λ ns. Ok (value.Integers (map pos ns))
 
+  -- an arithmetic progression, one or a segment each
   abbrev pub index_value : Cut → ArgumentAt A → Result (Value A) Fault
   index_value Flat arg = vector integer (index_of (integer_in (arg 0)) (integer_in (arg 1)) (integer_in (arg 2)))
   index_value Segmented arg =
       vector integer (seg_index_of (integers_in (arg 0)) (integers_in (arg 1)) (lengths_in (arg 2)))
 
+  -- the sums before each element, whole or by segments, which never wrap
   abbrev pub checked_scan_value : Cut → ArgumentAt A → Result (Value A) Fault
   checked_scan_value Flat arg = vector integer (checked_scan_of (integers_in (arg 0)))
   checked_scan_value Segmented arg = vector integer (checked_seg_scan_of (integers_in (arg 0)) (lengths_in (arg 1)))
 
+  -- the sum of all, or of each segment, which never wraps
   abbrev pub checked_reduce_value : Cut → ArgumentAt A → Result (Value A) Fault
   checked_reduce_value Flat arg = single integer (checked_reduce_of (integers_in (arg 0)))
   checked_reduce_value Segmented arg = vector integer (checked_seg_reduce_of (integers_in (arg 0)) (lengths_in (arg 1)))
 
+  -- a descriptor as a value
   abbrev pub descriptor : Result (List ℕ) Fault → Result (Value A) Fault
   descriptor answer = answer >>= λ lengths. Ok (value.Descriptor lengths)
 
@@ -129,6 +136,7 @@ module _ {A : Type 0} where
   abbrev pub HasNamedKind : List (Input A) → Op → ArgumentAt A → Type 0
   HasNamedKind inputs call arg = IfOk (table_value inputs call arg) (λ v. results_of call ≡ kind_of v ∷ [])
 
+  -- the two values of a call are of the kinds that the table names
   abbrev pub HaveNamedKinds : List (Input A) → Op → ArgumentAt A → Type 0
   HaveNamedKinds inputs call arg =
       IfOk (table_pair inputs call arg) (λ both. results_of call ≡ kind_of both.0 ∷ kind_of both.1 ∷ [])

@@ -14,8 +14,10 @@ pub record ElementType (A X : Type 0) : Type 0 where
   pub vector_in : Option (Value A) → List X
 
 module _ {A : Type 0} where
+  -- integers as elements
   abbrev pub integer : ElementType A ℤ
   integer = record { single = value.Integer; vector = value.Integers; single_in = integer_in; vector_in = integers_in }
 
+  -- booleans as elements
   abbrev pub boolean : ElementType A Bool
   boolean = record { single = value.Boolean; vector = value.Booleans; single_in = boolean_in; vector_in = booleans_in }

@@ -9,6 +9,7 @@ use Rattle.vector_handles.specs.declared.kept.Content.TheVariants as content
 abbrev pub InputKept : Type 0 → Type 0
 InputKept A = Input A
 
+-- an input as scripts see it
 abbrev pub input_kept : {A : Type 0} → Content A → Input A
 input_kept (content.Bytes bytes) = input.Bytes bytes
 input_kept (content.Read read) = input.Bytes read.bytes.value

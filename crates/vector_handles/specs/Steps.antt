@@ -66,6 +66,7 @@ module _ {A : Type 0} where
       (fault_if (not (has_room_for_both names first second)) (fault TooManyNames)
       (table_pair inputs op (argument_at names args) >>= λ both. Ok (both_bound_to names first second both)))
 
+  -- the meaning of a call: the new names and the text, or the first fault
   abbrev pub step : Entries A → List (Input A) → Call A → Result (Stepped A) Fault
   step names inputs call =
       unless (args_fault names call.op call.args) (performed names inputs call.results call.op call.args)

@@ -10,9 +10,11 @@ use Rattle.vector_handles.specs.declared.input.Input.TheVariants.{Vector}
 use Rattle.script_runs.specs.Meaning.{meaning}
 use Rattle.worked_scripts.specs.Outcomes.{outcome_of}
 
+-- a script that makes a nest of two inputs and writes it
 abbrev pub making : List ℕ
 making = codes "v = input 1\nl = input 2\nd = mke_fov l\nwrite v d\n"
 
+-- a script that reads a nest and writes it
 abbrev pub reading : List ℕ
 reading = codes "v d = nested 1\nwrite v d\n"
 
@@ -28,5 +30,6 @@ shows_v text = (codes "v = " ++ text ++ (10 ∷ []), None)
 abbrev pub made : (A : Type 0) → List ℤ → List ℕ → List ℕ × Option (ℕ × Fault)
 made A numbers lengths = outcome_of (meaning {A = A} making (Vector numbers ∷ Vector (map pos lengths) ∷ []))
 
+-- what the second script writes of an input, and where it stops
 abbrev pub read : {A : Type 0} → Input A → List ℕ × Option (ℕ × Fault)
 read input = outcome_of (meaning reading (input ∷ []))

@@ -24,9 +24,11 @@ Plain = Value (Unit {0})
 abbrev pub ints : String → Plain
 ints text = Integers (written.ints text)
 
+-- an operand of booleans, from its text
 abbrev pub bools : String → Plain
 bools text = Booleans (written.bools text)
 
+-- a descriptor, from its text
 abbrev pub lengths : String → Plain
 lengths text = Descriptor (written.lengths text)
 

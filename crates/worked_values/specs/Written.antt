@@ -16,9 +16,11 @@ words text = filter (λ word. nat_lt 0 (length word)) (slice_split (λ c. c == 3
 abbrev pub ints : String → List ℤ
 ints text = map (λ word. signed_digits_value 10 word) (words text)
 
+-- lengths, from their text
 abbrev pub lengths : String → List ℕ
 lengths text = map (λ word. digits_value 10 word) (words text)
 
+-- booleans, from their text
 abbrev pub bools : String → List Bool
 bools text = map (λ word. slice_index word 0 == 84) (words text)
 
@@ -34,6 +36,7 @@ length_mismatch = fault no.LengthMismatch
 abbrev pub out_of_range : ℕ → Fault
 out_of_range place = fault_at no.IndexOutOfRange place
 
+-- the fault of a repeated index at a place
 abbrev pub repeated : ℕ → Fault
 repeated place = fault_at no.IndexRepeated place
 
