@@ -28,7 +28,7 @@ EDITS = {
     "program.check_zsh": [("bindings/shell/_cvl", "--workers=[", "--worker=[")],
     "program.check_numbers": [("bindings/shell/cvl.fish", "-l tile -x -a", "-l tile -r -a")],
     "program.check_bash": [("bindings/shell/cvl.bash", "--workers", "--worker")],
-    "source.check_definitions": [("docs/dev/definitions.md", "`wrap`, `IsWrapped`", "`wraps`, `IsWrapped`")],
+    "source.check_definitions": [("crates/operators/specs/Integers.antt", "-- the sum, wrapped\n", "")],
     "source.check_drawing": [("docs/dev/architecture.md", "\ncrew  ", "\nteam  ")],
     "source.check_bases": [("docs/dev/architecture.md", ", `sharing`, `tile_plan` |", ", `tile_plan` |")],
     "source.check_programs": [(".ci/pages/paths.py", '"""The paths', '#!/usr/bin/env python3\n"""The paths')],

@@ -2,8 +2,13 @@
 
 import os
 import re
+import sys
 
-from pages.texts import TOP, lines_of, text_of
+from pages.texts import TOP, text_of
+
+sys.path.append(str(TOP / "docs/dev"))
+
+import specs
 
 CRATES = TOP / "crates"
 
@@ -27,42 +32,19 @@ def names_in(cell):
     return re.findall(r"`([^`\s]+)`", cell)
 
 
-def defined(public):
-    """Each definition, or each public one, as its file below crates/ and its name."""
-    pub, found = "pub " if public else "(?:pub )?", set()
-    for path in sorted(CRATES.glob("*/specs/*.antt")):
-        for line in path.read_text().splitlines():
-            name = re.match(rf" *(?:abbrev|unfoldable) {pub}(?!use )(\S+)| *{pub}(?:record|data) (\S+)", line)
-            if name:
-                found.add((str(path.relative_to(CRATES)), name[1] or name[2]))
-    return found
-
-
-def named(page):
-    """Each definition that the page names, as file and name. Rows have names and then their file, or a file and then its names."""
-    found, head, file = set(), "", ""
-    for line in page.splitlines():
-        cells = cells_of(line)
-        if cells and cells[0] in ("Definition", "Law", "File"):
-            head = cells[0]
-        elif cells and head == "Definition":
-            file = next(iter(names_in(cells[2])), file)
-            found |= {(file, name) for name in names_in(cells[0])}
-        elif cells and head == "File":
-            file = names_in(cells[0])[0]
-            found |= {(file, name) for name in names_in(cells[1])}
-    return found
-
-
 def check_definitions():
-    """A file's row may leave its folder out. What the page has of Rust's code is not looked for."""
-    page = named(text_of(DEFINITIONS))
-    for file, name in sorted(defined(public=True)):
-        if file.split("/")[0] not in UNNAMED_CRATES and not {(file, name), (file.split("/")[-1], name)} & page:
-            yield f"{DEFINITIONS} does not name {name} of crates/{file}"
-    for file, name in sorted(page - defined(public=False)):
-        if "/specs/" in file:
-            yield f"{DEFINITIONS} names {name}, which crates/{file} does not define"
+    """Each file of definitions says what it is about, and each public definition and each law has a sentence."""
+    for file in specs.files():
+        if file.crate in UNNAMED_CRATES:
+            continue
+        if not file.said:
+            yield f"crates/{file.path} does not say what it is about"
+        for entry in file.entries:
+            if entry.is_public and not entry.said:
+                yield f"crates/{file.path} has no sentence on {entry.name}"
+    for crate, name in re.findall(r"`(\w+)/(\w+)`", text_of(DEFINITIONS)):
+        if not (CRATES / crate / "specs" / f"{name}.antt").is_file():
+            yield f"{DEFINITIONS} names {crate}/{name}, which is not there"
 
 
 def crates_of(text):

@@ -1,4 +1,5 @@
-"""Makes the site: what Sphinx reads is written from the pages for users and the table of calls, and Sphinx makes the pages."""
+"""Makes the site: what Sphinx reads is written from the pages for users, the table of calls and the definitions, and Sphinx makes the
+pages."""
 
 import functools
 import os
@@ -12,19 +13,20 @@ import tempfile
 HERE = pathlib.Path(__file__).resolve().parent
 TOP = HERE.parent.parent
 USER, EXAMPLES = TOP / "docs/user", TOP / "examples"
-sys.path[:0] = [str(TOP / "bindings"), str(TOP / "bindings/generator")]
+sys.path[:0] = [str(TOP / "bindings"), str(TOP / "bindings/generator"), str(TOP / "docs/dev")]
 
 import about
 import in_notebook
 import in_site
 import reference
+import specs
 
 # the pages for users by what a reader wants; all others stand at the end
 SHELVES = {
     "Start": ("install", "tutorial", "script", "segments", "examples", "mistakes"),
     "Languages": ("programs", "python", "rust", "fortran", "parallel"),
     "Reference": ("calls", "glossary"),
-    "Know": ("performance", "proved", "versions", "support"),
+    "Know": ("performance", "proved", "definitions", "versions", "support"),
 }
 
 
@@ -95,8 +97,19 @@ def home(names):
     """The first page: what the shelf says of itself, and the list of all pages."""
     others = sorted(set(names) - {name for shelf in SHELVES.values() for name in shelf} - {"README"})
     shelves = {**SHELVES, "Know": (*SHELVES["Know"], *others)}
-    trees = [in_site._toctree([name for name in shelf if name in names], caption) for caption, shelf in shelves.items()]
+    trees = [in_site._toctree([name for name in shelf if name in (*names, "definitions")], caption) for caption, shelf in shelves.items()]
     return "\n\n".join([linked((USER / "README.md").read_text()).rstrip(), *trees]) + "\n"
+
+
+def definitions():
+    """The page on the definitions, whose files lead to a page for each crate, and these pages."""
+    pages = specs.pages()
+    text = (TOP / "docs/dev/definitions.md").read_text().replace("](../user/", "](")
+    text = re.sub(r"`(\w+)/(\w+)`", lambda found: f"[`{found[0][1:-1]}`](definitions/{found[1]}.md#{found[2].lower()})", text)
+    does = specs.does()
+    crates = "\n".join(f"- [`{crate}`](definitions/{crate}.md): {does.get(crate, '')}" for crate in pages)
+    tree = in_site._toctree([f"definitions/{crate}" for crate in pages])
+    return {"definitions.md": f"{text}\n## All crates\n\n{crates}\n\n{tree}\n", **{f"definitions/{crate}.md": page for crate, page in pages.items()}}
 
 
 def sources(folder):
@@ -112,7 +125,7 @@ def sources(folder):
     (folder / "tutorial.ipynb").write_text(in_notebook.text())
     names = {path.stem: path for path in USER.glob("*.md")}
     texts = {f"{name}.md": linked(path.read_text()) for name, path in names.items() if name not in ("README", "calls")}
-    for name, text in {**texts, "index.md": home(names), **in_site.pages()}.items():
+    for name, text in {**texts, "index.md": home(names), **in_site.pages(), **definitions()}.items():
         (folder / name).parent.mkdir(exist_ok=True)
         (folder / name).write_text(text)
 
