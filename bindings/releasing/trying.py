@@ -177,7 +177,7 @@ def packages_in_c(release, made):
         in_fortran(root)
 
 
-# what lintian may report, and docs/dev/DECISIONS.md says why
+# what lintian may report: the packages are not from Debian's archive, so their first version closes no bug there
 REPORTED = "initial-upload-closes-no-bugs"
 
 
