@@ -30,7 +30,7 @@ EDITS = {
     "program.check_bash": [("bindings/shell/cvl.bash", "--workers", "--worker")],
     "source.check_definitions": [("crates/operators/specs/Integers.antt", "-- the sum, wrapped\n", "")],
     "source.check_drawing": [("docs/dev/architecture.md", "\ncrew  ", "\nteam  ")],
-    "source.check_bases": [("docs/dev/architecture.md", ", `sharing`, `tile_plan` |", ", `tile_plan` |")],
+    "source.check_bases": [("docs/dev/architecture.md", "| `crew` |", "| `team` |")],
     "source.check_programs": [(".ci/pages/paths.py", '"""The paths', '#!/usr/bin/env python3\n"""The paths')],
     "source.check_columns": [("crates/sharing/src/lib.rt", "", "//" + " long" * 26 + "\n")],
     "promises.check_promises": [(PROVED, "", f"{TABLE}| a body | `crates/boards/must-fail/no_such.edit` |\n")],

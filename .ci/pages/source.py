@@ -81,7 +81,7 @@ def check_drawing():
             for missing in sorted(needs.get(crate, set()) & set(needs) - below):
                 yield f"{ARCHITECTURE} draws {crate} not above {missing}, on which it stands"
         below |= set(line)
-    for crate in sorted(below ^ set(told_in(page.split("| Crate |")[1]))):
+    for crate in sorted(below ^ rows_of_crates(page)[0]):
         yield f"{ARCHITECTURE} has {crate} in one alone of its drawing and the table below it"
     for have, want in zip(drawn, groups):
         crates = {crate for line in have for crate in line}
@@ -90,18 +90,26 @@ def check_drawing():
             break
 
 
-def told_in(page):
-    """On what each crate stands, by the last column of the page's tables. What stands in brackets there is a remark."""
-    rows = [cells for cells in map(cells_of, page.splitlines()) if len(cells) == 3 and re.fullmatch(r"`\w+`", cells[0])]
-    return {names_in(cells[0])[0]: set(names_in(re.sub(r"\(.*?\)", "", cells[2]))) for cells in rows}
+def rows_of_crates(page):
+    """The crates of each of the page's tables of crates."""
+    tables, inside = [], False
+    for line in page.splitlines():
+        cells = cells_of(line)
+        if cells and cells[0] == "Crate":
+            tables.append(set())
+            inside = True
+        elif inside and cells:
+            tables[-1] |= set(names_in(cells[0]))
+        inside = inside and line.startswith("|")
+    return tables
 
 
 def check_bases():
-    told = told_in(text_of(ARCHITECTURE))
-    needs = {crate: named for group in crates_of(text_of(LIST)) for crate, named in group.items()}
-    for crate in sorted(set(needs) | set(told)):
-        if told.get(crate) != needs.get(crate):
-            yield f"{ARCHITECTURE} says otherwise than {LIST} on what {crate} stands"
+    """Each crate has a row in one of the tables, and each row a crate."""
+    told = set().union(*rows_of_crates(text_of(ARCHITECTURE)))
+    listed = {crate for group in crates_of(text_of(LIST)) for crate in group}
+    for crate in sorted(told ^ listed):
+        yield f"{ARCHITECTURE} and {LIST}: only one of them has {crate}"
 
 
 def check_programs():

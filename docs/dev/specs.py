@@ -141,7 +141,7 @@ def _shown(entry):
 
 def does():
     """What each crate does, as the table of docs/dev/architecture.md says, without its links."""
-    rows = re.findall(r"^\| `(\w+)` \| (.*?) \| ", (TOP / "docs/dev/architecture.md").read_text(), re.M)
+    rows = re.findall(r"^\| `(\w+)` \| (.*) \|$", (TOP / "docs/dev/architecture.md").read_text(), re.M)
     return {crate: re.sub(r"\[([^]]*)\]\([^)]*\)", r"\1", said) for crate, said in rows}
 
 
