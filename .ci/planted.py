@@ -42,6 +42,7 @@ EDITS = {
     "docs/dev/performance/draw": [("docs/user/performance.svg", "</svg>", "<!-- another --></svg>")],
     "docs/dev/performance/over_ranks": [("docs/user/parallel.md", "<!-- drawn: ranks -->\n", "<!-- drawn: ranks -->\nAnother line.\n")],
     "docs/dev/pictures/draw": [("docs/user/pictures/pack.svg", "</svg>", "<!-- another --></svg>")],
+    "docs/dev/pictures/draw_race": [("docs/dev/least-words.svg", "</svg>", "<!-- another --></svg>")],
     "bindings/generate": [("include/cvl.h", "", "/* another */\n")],
     # one of its files is made instead of all, which takes half a minute
     "crates/script_cases/generate": [
