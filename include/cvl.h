@@ -3,39 +3,39 @@
  *
  * Written by the generator of the repository from its table of calls; edit the table and not this file.
  *
- * Link with -lcvl, an archive and a shared object; docs/user/programs.md shows how. C99 to C23, and C++.
+ * For C99 to C23, and C++. Link with -lcvl, an archive and a shared object; docs/user/programs.md shows how.
  *
- * Every call returns a CvlStatus: number 0 if it is done, else the number of the first fault, with its place or -1. The result
- * is in your buffer, the last array, value or values that you pass. After a fault your buffers are as they were.
+ * A call writes its result into your buffer, the last array, value or values that you pass. It returns a CvlStatus: number 0 if
+ * it is done, else the number of the first fault, with its place or -1. After a fault your buffers are as they were.
  *
  * Arrays come in the order of the call's operands. The number of elements, such as n, follows the last array that has so many;
  * the functions of families take one behind each array. Lengths of segments are one argument, a CvlLengths. Places and counts
  * are int64_t, so that one outside 32 bits is a fault like any other.
  *
- * If the last argument is a count, the result stands at the front of your buffer, the count is its length, and the rest of the
- * buffer stays as it was. If the buffer is too short, the status is 7 LengthMismatch and the count is the length that you need;
- * pass a buffer of no elements to ask. After any other fault the count stays as it was.
+ * If the last argument is a count, the call writes its result at the front of your buffer and the length into the count; the
+ * rest of the buffer stays as it was. If the buffer is too short, the status is 7 LengthMismatch and the count is the length
+ * that you need; to ask for it, pass a buffer of no elements. After any other fault the count stays as it was.
  *
- * No buffer may share memory with another argument, counts and single values included: the status is then 102 Overlap, and
- * nothing is written. If a function says "In place" of an array, that array may be the buffer, from its first to its last
- * element. Arrays that are only read may overlap. An array of 0 elements overlaps nothing, and its pointer may be null.
+ * If a buffer shares memory with another argument, counts and single values included, the status is 102 Overlap and nothing is
+ * written. If a function says "In place" of an array, that array may be the buffer, from its first to its last element. Arrays
+ * that are only read may overlap. An array of 0 elements overlaps nothing, and its pointer may be null.
  *
  * A boolean is a byte, true unless it is 0; results are 0 and 1. You may pass an array of any type of bytes by a cast. If it
  * has other bytes than 0 and 1, these calls copy it: packs, permutes, combining permutes (also the buffer that they join with),
  * first senders, gathers of segments, appends, merges, transposes, searches for a true flag, scans, texts, and replaces and
  * distributes in segments.
  *
- * What you owe, and what happens if you break it:
+ * No call can check the following, so make sure that
  *
- *   - A pointer leads to as many elements as you say, aligned, readable and, in a buffer, writable. Else the call may crash, or
+ *   - a pointer leads to as many elements as you say, aligned, readable and, in a buffer, writable. Else the call may crash, or
  *     read or write other memory.
- *   - While a call runs, no other thread writes its arrays or reads its buffers. Else the results are arbitrary, and the call
+ *   - while a call runs, no other thread writes its arrays or reads its buffers. Else the results are arbitrary, and the call
  *     may crash or write other memory.
- *   - The calling thread has CVL_MOST_STACK bytes of its stack left, 32 KiB. Else the call may crash, or write other memory.
- *   - A signal handler that interrupts a call returns to it: no longjmp, siglongjmp, exception or pthread_exit. Else threads of
+ *   - the calling thread has CVL_MOST_STACK bytes of its stack left, 32 KiB. Else the call may crash, or write other memory.
+ *   - a signal handler that interrupts a call returns to it: no longjmp, siglongjmp, exception or pthread_exit. Else threads of
  *     the library go on using the call's memory, and cvl_set_threads may wait for ever.
- *   - The program has one malloc, realloc and free. Else memory is freed by an allocator that it is not from.
- *   - The lengths of a descriptor live as long as calls use it. Else the call may crash or read other memory.
+ *   - the program has one malloc, realloc and free. Else one allocator frees the memory of another.
+ *   - the lengths of a descriptor live as long as calls use it. Else the call may crash or read other memory.
  *
  * Everything else is checked, in every language: whatever lengths, indices, operators and buffers you pass, a call returns a
  * status. Several threads may call at once.
@@ -62,8 +62,8 @@
  * Each call of a script has its name with the prefix cvl_, such as cvl_add_wuz. If you define CVL_SHORT_NAMES before you
  * include the header, it also has the name without it.
  *
- * The comments leave out 13 TooLong and 7 LengthMismatch by this list. The manual, from cvl(3) on, has them and an example of
- * each function.
+ * The comments leave out 13 TooLong and 7 LengthMismatch, which follow from this list. The manual, from cvl(3) on, has them and
+ * an example of each function.
  */
 #ifndef CVL_H
 #define CVL_H
@@ -200,7 +200,7 @@ int cvl_set_threads(size_t threads);
 /*
  * How many threads there are: what cvl_set_threads set last, else CVL_NUM_THREADS, a number from 1 to 64 in digits alone, else
  * 1. The variable is read once, by the first call of either function or the first long call. Long calls start the threads; if
- * one cannot be started, the number stays. It waits for nobody. In the child of a fork the number is 1 until you set another;
+ * one cannot be started, the number stays. It waits for no call. In the child of a fork the number is 1 until you set another;
  * if nobody had asked before the fork, the child starts like any program.
  */
 size_t cvl_threads(void);

@@ -5,8 +5,8 @@
  *
  * Each call has a second form, with `_on` after its name and a pool before its arguments: cvl_add_wuz_on(&pool, a, b, out, n) for
  * cvl_add_wuz(a, b, out, n), and cvl_int2_on(&pool, ..) for cvl_int2(..). It cuts long vectors into parts, which the pool runs. Status,
- * place and buffers are those of the plain call, which it is for short vectors, if the plain call refuses it, or if there is no memory for
- * parts. docs/user/parallel.md says more of how each call is cut.
+ * place and buffers are those of the plain call. Short vectors, faults, and calls without memory for parts go to the plain call.
+ * docs/user/parallel.md says how each call is cut.
  *
  * Pools of one thread and of POSIX threads are here, and one of OpenMP is in cvl_openmp.h.
  */
@@ -28,7 +28,7 @@ enum { CVL_MOST_PARTS = 64 };
 typedef void (*CvlPart)(void *work, size_t part);
 
 /*
- * What runs the parts of calls. `parts` is into how many a long vector is cut: 0 means 1, more than 64 means 64; a call may use fewer.
+ * A pool runs the parts of calls. It cuts a long vector into `parts` parts: 0 means 1, more than 64 means 64; a call may use fewer.
  * A call uses `run` once for each of its steps. `run` must do this:
  *   - it runs part(work, k) once for each k below `parts`, in any order, on any threads;
  *   - a thread that runs a part has CVL_MOST_STACK bytes of its stack left;
@@ -52,7 +52,7 @@ CvlPool cvl_pool_alone(size_t parts);
 typedef struct CvlThreads CvlThreads;
 
 /*
- * Starts threads, this many with the calling one, 1 to 64, and stores where they are. Returns 0; EINVAL for any other number; or an error of
+ * Starts threads, 1 to 64 with the calling one, and stores a pointer to them. Returns 0; EINVAL for any other number; or an error of
  * POSIX, such as EAGAIN, if a thread cannot be started: then there are none. The threads block the signals that are sent to the process, but
  * none that a thread gets for what it does, such as SIGSEGV. A thread that has no work for a second ends, and the next call that needs it
  * starts it again; if that fails, the call runs on the threads that there are. Stop them in any case.
