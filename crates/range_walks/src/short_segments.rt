@@ -22,10 +22,10 @@ const GROUP: usize = 128;
 /// How many elements they have at most; more are walked segment by segment.
 const MARKED: usize = 1024;
 
-/// Whether marks pay: the segments have few elements on average, and the first of them are not all as long, which the processor
-/// would foresee.
+/// Whether marks pay: the segments have fewer than two elements on average, or few and not all equally many, so that the processor
+/// does not foresee where each ends. The first segments show that.
 pub(crate) fn marks_pay(lengths: &[i32], elements: usize) -> bool {
-    if elements / 2 <= lengths.len() {
+    if elements / 2 < lengths.len() {
         return true;
     }
     if elements / 8 > lengths.len() {
