@@ -140,7 +140,7 @@ MONOIDS, BINARY, OF_FLAGS, COMPARISONS, UNARY = (
 )
 NUMBERS = {name: number for family in OF_TABLE.values() for name, number in family.items()}
 if NUMBERS.keys() != SAID.keys():
-    sys.exit(f"of {', '.join(sorted(NUMBERS.keys() ^ SAID.keys()))} either what it does is not said here, or it is none of the table of calls")
+    sys.exit(f"{', '.join(sorted(NUMBERS.keys() ^ SAID.keys()))}: bindings/table.py does not say what it does, or the table of calls does not have it")
 OPERATORS = tuple(Operator(name, NUMBERS[name], *SAID[name]) for name in sorted(NUMBERS, key=NUMBERS.get))
 
 # The numbers of a status, with their names.

@@ -72,7 +72,7 @@ def check_promises():
             yield f"{PAGE}:{number} names nothing that refuses this: {body}"
         for reference in references:
             if not is_there(reference):
-                yield f"{PAGE}:{number} {reference} is not there, which should refuse this: {body}"
+                yield f"{PAGE}:{number} {reference}, which should refuse this, is not there: {body}"
 
 
 def check_edits():
@@ -91,4 +91,4 @@ def check_from_c():
     """What is proved of the library from C, and what is not, stands on each of these pages in the same words."""
     for page in PAGES_FROM_C:
         if about.FROM_C not in text_of(page):
-            yield f"{page} has not what bindings/about.py says is proved from C"
+            yield f"{page} does not have the sentences of bindings/about.py on what is proved from C"

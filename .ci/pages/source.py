@@ -79,10 +79,10 @@ def check_drawing():
     for line in (line for group in drawn for line in group):
         for crate in line:
             for missing in sorted(needs.get(crate, set()) & set(needs) - below):
-                yield f"{ARCHITECTURE} draws {crate} not above {missing}, on which it stands"
+                yield f"{ARCHITECTURE} does not draw {crate} above {missing}, which it uses"
         below |= set(line)
     for crate in sorted(below ^ rows_of_crates(page)[0]):
-        yield f"{ARCHITECTURE} has {crate} in one alone of its drawing and the table below it"
+        yield f"{ARCHITECTURE} has {crate} only in its drawing, or only in the table below it"
     for have, want in zip(drawn, groups):
         crates = {crate for line in have for crate in line}
         if crates != set(want):

@@ -60,7 +60,7 @@ def uninstall(root):
     """Removes what the lists name, and the lists."""
     found = lists.read(root)
     if not found:
-        proved.stop(f"{root / lists.of_part('')} is not there, so that nothing is known of what was installed")
+        proved.stop(f"{root / lists.of_part('')} is not there, so it is unknown what was installed")
     pairs = {pair for of_list in found.values() for pair in of_list} | {(name, lists.sum_of(root / name)) for name in found}
     obstacles.stop_at(obstacles.of_removing(root, files(root, pairs)))
     replacing.sweep(root, [name for name, _ in pairs])

@@ -39,7 +39,7 @@ def _libdir(said, prefix):
         proved.stop(f"--libdir {said} is not below {prefix}")
     # cvl.pc and the package of CMake name it as it is
     if not re.fullmatch(r"[A-Za-z0-9._+/-]+", below):
-        proved.stop(f"--libdir {said} has more than letters, digits, dots and . _ + - / in its name")
+        proved.stop(f"--libdir {said} may have only letters, digits and . _ + - / in its name")
     return below
 
 
@@ -65,7 +65,7 @@ def read(words, page):
         sys.exit(0 if words else 2)
     found = _parser().parse_args(words)
     if found.jobs < 1:
-        proved.stop("--jobs wants at least 1")
+        proved.stop("--jobs has to be at least 1")
     prefix = _from_the_root(found.prefix)
     found.places = Places(prefix, _libdir(found.libdir, prefix), os.environ.get("DESTDIR", ""))
     prefixes.check_place(found.prefix, prefix, found.places.root)

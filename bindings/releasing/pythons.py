@@ -32,6 +32,6 @@ def write(folder, builds):
     """Writes the wheels and the source archive, and answers their names."""
     pythons = that_build()
     if not pythons:
-        proved.stop("no Python on the path has numpy and headers, so that no wheel can be built (Debian: python3-numpy python3-dev)")
+        proved.stop("no Python on the path has numpy and headers, so no wheel can be built (Debian: python3-numpy python3-dev)")
     names = [archive.run(python, "-B", BUILDS, f"--library={builds.library()}", "--wheel", folder).strip() for python in pythons]
     return [*names, archive.run(pythons[0], "-B", BUILDS, "--source", folder).strip()]

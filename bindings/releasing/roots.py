@@ -103,7 +103,7 @@ class Roots:
 def check():
     """Stops if a release cannot be tried here."""
     if os.geteuid() != 0:
-        proved.stop("roots of Debian are made by root")
+        proved.stop("only root can make roots of Debian")
     for name in ("mmdebstrap", "lintian"):
         if not shutil.which(name):
-            proved.stop(f"there is no {name}, by which a release is tried (Debian: {name})")
+            proved.stop(f"{name} is missing, which tries a release (Debian: {name})")

@@ -237,7 +237,7 @@ class Prefixes(Stopped):
         for letter in "\n\t\x1b\x7f\u2028\udce9":
             self.assertIn("cannot be printed", self.told(f"{self.root}{letter}b"))
         for libdir in ("a b", "a$b", "a'b", "a\nb", "a;b", "\xe9"):
-            self.assertIn("has more than letters", self.told(self.root, "--libdir", libdir))
+            self.assertIn("may have only letters", self.told(self.root, "--libdir", libdir))
 
 
 class Checked(Stopped):

@@ -205,7 +205,7 @@ class Places(Folder):
             path = self.top / "repository" / name
             generate.write(path, self.TEXTS[name])
             for words in ((), ("--check",), (self.top / "build",)):
-                self.assertIn(f"{name} stands in the repository", self.run_it(*words))
+                self.assertIn(f"{name} is in the repository, but", self.run_it(*words))
             self.assertEqual(self.found(self.top), {f"repository/{name}"})
             path.unlink()
 
