@@ -110,7 +110,8 @@ def crates():
 def files_of(crate):
     """The files of a crate with definitions or laws."""
     specs = [read(path) for path in sorted((CRATES / crate / "specs").glob("*.antt")) if path.stem != "Lib"]
-    return [file for file in (*specs, *map(laws, sorted((CRATES / crate / "src").glob("*.rt")))) if file.entries]
+    found = (*specs, *map(laws, sorted((CRATES / crate / "src").glob("*.rt"))))
+    return [file for file in found if any(entry.name for entry in file.entries)]
 
 
 def files():
