@@ -16,7 +16,7 @@ ABOUT = (
     "A call writes its result into your buffer, the last array, value or values that you pass. It returns a CvlStatus: number 0 if it is done, else the "
     "number of the first fault, with its place or -1. After a fault your buffers are as they were.",
     "Arrays come in the order of the call's operands. The number of elements, such as n, follows the last array that has so many; the functions of families "
-    "take one behind each array. Lengths of segments are one argument, a CvlLengths. Places and counts are int64_t, so that one outside 32 bits is a fault like any "
+    "take one after each array. Lengths of segments are one argument, a CvlLengths. Places and counts are int64_t, so that one outside 32 bits is a fault like any "
     "other.",
     "If the last argument is a count, the call writes its result at the front of your buffer and the length into the count; the rest of the buffer stays as it "
     "was. If the buffer is too short, the status is 7 LengthMismatch and the count is the length that you need; to ask for it, pass a buffer of no elements. "
@@ -91,7 +91,7 @@ OF_VERSIONS = (
 THREADS = (
     "Calls run on the thread that calls. If cvl_set_threads or the variable CVL_NUM_THREADS asks for more threads, for the whole process, long calls run on "
     "them: from 262144 elements on, from 131072 bytes of a text that is read, and from 32768 elements whose text is written. Results and faults are the same. "
-    "These calls stay on the calling thread: those that read one element, read a nested text or a text behind another, scan after a carry, add up exactly, "
+    "These calls stay on the calling thread: those that read one element, read a nested text or a text after another, scan after a carry, add up exactly, "
     "make a range of another call, or look for one true flag. On several threads a call may copy its buffer; if there is no "
     "memory for that, it runs on the calling thread.",
     "One call at a time has the threads. No other call waits for it, or for cvl_set_threads: it runs on its own thread. A call in parts on a pool of yours "
@@ -119,7 +119,7 @@ OF_THREADS = (
     (
         "cvl_threads",
         (
-            "How many threads there are: what cvl_set_threads set last, else CVL_NUM_THREADS, a number from 1 to 64 in digits alone, else 1. The variable is "
+            "How many threads there are: what cvl_set_threads set last, else CVL_NUM_THREADS, a number from 1 to 64 in digits only, else 1. The variable is "
             "read once, by the first call of either function or the first long call. Long calls start the threads; if one cannot be started, the number stays. "
             "It waits for no call. In the child of a fork the number is 1 until you set another; if nobody had asked before the fork, the child starts like any "
             "program.",

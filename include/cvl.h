@@ -9,7 +9,7 @@
  * it is done, else the number of the first fault, with its place or -1. After a fault your buffers are as they were.
  *
  * Arrays come in the order of the call's operands. The number of elements, such as n, follows the last array that has so many;
- * the functions of families take one behind each array. Lengths of segments are one argument, a CvlLengths. Places and counts
+ * the functions of families take one after each array. Lengths of segments are one argument, a CvlLengths. Places and counts
  * are int64_t, so that one outside 32 bits is a fault like any other.
  *
  * If the last argument is a count, the call writes its result at the front of your buffer and the length into the count; the
@@ -170,8 +170,8 @@ const char *cvl_fault_name(uint32_t number);
  * Calls run on the thread that calls. If cvl_set_threads or the variable CVL_NUM_THREADS asks for more threads, for the whole
  * process, long calls run on them: from 262144 elements on, from 131072 bytes of a text that is read, and from 32768 elements
  * whose text is written. Results and faults are the same. These calls stay on the calling thread: those that read one element,
- * read a nested text or a text behind another, scan after a carry, add up exactly, make a range of another call, or look for
- * one true flag. On several threads a call may copy its buffer; if there is no memory for that, it runs on the calling thread.
+ * read a nested text or a text after another, scan after a carry, add up exactly, make a range of another call, or look for one
+ * true flag. On several threads a call may copy its buffer; if there is no memory for that, it runs on the calling thread.
  *
  * One call at a time has the threads. No other call waits for it, or for cvl_set_threads: it runs on its own thread. A call in
  * parts on a pool of yours (cvl_parallel.h) uses only the threads of that pool.
@@ -198,7 +198,7 @@ const char *cvl_fault_name(uint32_t number);
 int cvl_set_threads(size_t threads);
 
 /*
- * How many threads there are: what cvl_set_threads set last, else CVL_NUM_THREADS, a number from 1 to 64 in digits alone, else
+ * How many threads there are: what cvl_set_threads set last, else CVL_NUM_THREADS, a number from 1 to 64 in digits only, else
  * 1. The variable is read once, by the first call of either function or the first long call. Long calls start the threads; if
  * one cannot be started, the number stays. It waits for no call. In the child of a fork the number is 1 until you set another;
  * if nobody had asked before the fork, the child starts like any program.

@@ -1,8 +1,8 @@
 /*
  * driver.h: how a call goes. A public function puts its arguments into slots and hands them to the driver with the row of its family.
  *
- * A call answers the first of these: arrays overlap; the count is out of range; the operator is none of the family; lengths or offsets have
- * a fault; a vector is too long; arrays are not as long as they have to be; there is no memory; what the export answers.
+ * A call returns the first of these: arrays overlap; the count is out of range; the operator is none of the family; lengths or offsets have
+ * a fault; a vector is too long; arrays are not as long as they have to be; there is no memory; what the export returns.
  */
 #ifndef CVL_DRIVER_H
 #define CVL_DRIVER_H
@@ -13,8 +13,8 @@
 #include "threads.h"
 
 /*
- * The compiler walks a row that it knows, and what is left is what a function written for the call would check. The rest, for calls that
- * are long or not in order, is in driver.c.
+ * The compiler unrolls a walk over a row that it knows, so only the checks of a function written for the call are left. Long calls, and
+ * calls with a fault, go to driver.c.
  */
 #if defined(__GNUC__) && !defined(__FRAMAC__)
 #define CVL_WALKS static inline __attribute__((always_inline))
@@ -25,8 +25,8 @@
 #endif
 
 /*
- * A row is one of a family if its operands name one another; a call is one if arrays end before the memory does. Operands are apart if what
- * is written shares memory with nothing else, except in place.
+ * A row is well formed if its operands name one another, and a call if its arrays end before the memory does. Operands are apart if what is
+ * written shares memory with nothing else, except in place.
  */
 /*@ predicate is_row{L}(CvlRow *row) =
       row->operands <= CVL_MOST_OPERANDS && row->out < row->operands && row->cut < row->operands &&

@@ -23,16 +23,16 @@ struct CvlWork {
     size_t from[CVL_MOST_PARTS + 1];  /* the first element of each part, and how many elements there are */
     size_t first[CVL_MOST_PARTS + 1]; /* the first segment that starts in each part, and how many segments there are */
     size_t start[CVL_MOST_PARTS + 1]; /* where that segment starts */
-    size_t other[CVL_MOST_PARTS + 1]; /* where it starts in a second vector, or where a part's result stands */
+    size_t other[CVL_MOST_PARTS + 1]; /* where it starts in a second vector, or where a part's result goes */
     size_t third[CVL_MOST_PARTS + 1]; /* where it starts in a third one */
     CvlItem sums[CVL_MOST_PARTS];     /* what each part, or its last, cut segment, joins to */
     CvlItem heads[CVL_MOST_PARTS];    /* what those elements of each part join to that belong to a segment of an earlier part */
-    CvlItem before[CVL_MOST_PARTS];   /* what stands before each part */
+    CvlItem before[CVL_MOST_PARTS];   /* the carry into each part */
     int64_t totals[CVL_MOST_PARTS];   /* the same as sums that never wrap */
     int64_t head_totals[CVL_MOST_PARTS];
     int64_t reached[CVL_MOST_PARTS];
     size_t counts[CVL_MOST_PARTS]; /* how many elements each part gives */
-    CvlStatus told;                /* what the call answers if its parts are done */
+    CvlStatus told;                /* what the call returns if its parts are done */
     bool left_out;                 /* whether the pool left a part out */
     char *kept;                    /* what stood in the room before, if it may have to be put back, or the parts' texts */
     bool *copies;                  /* copies of flags that are neither 0 nor 1 */
@@ -151,7 +151,7 @@ typedef struct CvlPiece {
 CVL_HIDDEN CvlPiece cvl_piece(const CvlWork *w, size_t k);
 
 /*
- * ---- each way to cut a call: if its parts are done, w->told is the answer; else the rooms are as they were, which is proved of the ways
+ * ---- each way to cut a call: if its parts are done, w->told is the status; else the rooms are as they were, which is proved of the ways
  * that keep them ----
  */
 

@@ -13,8 +13,8 @@ CVL_HIDDEN void cvl_look_at_targets(CvlCall *c);
 CVL_HIDDEN void cvl_take_targets(CvlCall *c, CvlTargets *targets);
 
 /*
- * Finds where they lead, and all ranks agree whether it is found: of an index without segments, to all of the `places`; of a select, to
- * where what it keeps stands.
+ * Finds where they lead, and all ranks agree whether it is found. An index without segments leads to any of the `places`; that of a select,
+ * to a place of what it keeps.
  */
 CVL_HIDDEN bool cvl_find_targets(CvlCall *c, CvlTargets *targets, uint64_t places, bool is_select);
 

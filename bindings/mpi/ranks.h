@@ -24,10 +24,10 @@ typedef enum CvlJoin {
     CVL_JOIN_COUNTS, /* high and low are two counts, each added */
     CVL_JOIN_PLACES, /* high is how many elements, and low the place of the first of some among them, or -1 */
     CVL_JOIN_STATES, /* where an automaton ends that begins in each of its states */
-    CVL_JOIN_FIRST   /* the first, as where a value stands until the next segment starts */
+    CVL_JOIN_FIRST   /* the first, if a value holds until the next segment starts */
 } CvlJoin;
 
-/* A value that ranks join, and whether a segment starts in the ranks that it comes from: then what stands before is not joined. */
+/* A value that ranks join, and whether a segment starts in the ranks that it comes from: then nothing before it is joined. */
 typedef struct CvlFold {
     int64_t high, low;
     uint32_t join, op;
@@ -91,9 +91,9 @@ struct CvlCall {
     void *aside;                     /* the room if it may be refused, or nothing */
     CvlStatus status;                /* this rank's status */
     uint64_t total;                  /* how many elements all ranks have, once they agree */
-    bool by_segment;                 /* whether an index stands for each segment that starts in the rank */
+    bool by_segment;                 /* whether there is an index for each segment that starts in the rank */
     bool replaces;                   /* whether values replace elements of a vector: the second array goes into the first */
-    bool combines;                   /* whether what is sent is joined with what stands in the room, or counted */
+    bool combines;                   /* whether what is sent is joined with what the room holds, or counted */
     bool short_room;                 /* whether this rank's, or, once they agree, a rank's room is too short */
 };
 
@@ -190,7 +190,7 @@ typedef struct CvlTargets {
     size_t pieces;
     const int32_t *lengths; /* how many indices each piece has, or nothing where it is one */
     int64_t *starts, *places;
-    int64_t first_place;    /* where the rank's first index stands in the whole, or in its segment */
+    int64_t first_place;    /* the place of the rank's first index in the whole, or in its segment */
     int32_t own_length;
 } CvlTargets;
 
