@@ -61,7 +61,8 @@ static CvlStatus read_words(Nested *n) {
     n->lengths = malloc((n->opened + 1) * sizeof *n->lengths);
     if (n->without == NULL || n->numbers == NULL || n->lengths == NULL) return cvl_status(CVL_NO_RESOURCES, -1);
     for (size_t k = 0; k < n->text_len; k++) n->without[k] = is_bracket(n->text[k]) ? ' ' : n->text[k];
-    return cvl_read_pieces(n->without, n->text_len, 0, n->numbers);
+    size_t count = 0;
+    return cvl_read_ints(n->without, n->text_len, n->numbers, n->words, &count);
 }
 
 /*

@@ -11,28 +11,13 @@ enum { READ = 1, READ_ROOM, WRITE_INTS, WRITE_BOOLS, READ_FILE, WRITE_FILE };
 
 static size_t words_in(const char *text, size_t text_len) {
     size_t words = 0;
-    for (size_t k = 0; k < text_len; k++) words += !cvl_is_white(text[k]) && (k == 0 || cvl_is_white(text[k - 1]));
-    return words;
-}
-
-/* Where a piece ends that has no more words than one call reads. */
-static size_t piece_end(const char *text, size_t from, size_t text_len) {
-    size_t end = text_len - from < CVL_MOST_OF_TEXT ? text_len : from + CVL_MOST_OF_TEXT;
-    while (end < text_len && !cvl_is_white(text[end])) end++;
-    return end;
-}
-
-CvlStatus cvl_read_pieces(const char *text, size_t text_len, uint64_t before, int32_t *out) {
-    size_t at = 0;
-    for (size_t from = 0, end = 0; from < text_len; from = end) {
-        end = piece_end(text, from, text_len);
-        const size_t words = words_in(text + from, end - from);
-        size_t count = 0;
-        const CvlStatus status = cvl_read_ints_after((size_t)before + at, text + from, end - from, out + at, words, &count);
-        if (status.number != CVL_DONE) return status;
-        at += words;
+    bool between = 1;
+    for (size_t k = 0; k < text_len; k++) {
+        const bool white = cvl_is_white(text[k]);
+        words += between && !white;
+        between = white;
     }
-    return cvl_done();
+    return words;
 }
 
 /* Agrees on a status whose place, if there is one, is that in the whole. */
@@ -41,21 +26,17 @@ static CvlStatus agree(CvlRanks *ranks, CvlStatus status, uint32_t call, bool *s
     return cvl_agreed(ranks, status, CVL_CALL_TEXT + call, 0, UINT64_MAX, short_room, &none);
 }
 
-static CvlStatus read_aside(CvlRanks *ranks, const char *text, size_t text_len, size_t words, int32_t *aside) {
-    const uint64_t before = (uint64_t)cvl_before(ranks, cvl_fold(CVL_JOIN_COUNTS, 0, 0, (int64_t)words, 0)).low;
-    if (aside == NULL) return cvl_status(CVL_NO_RESOURCES, -1);
-    return cvl_read_pieces(text, text_len, before, aside);
-}
-
 CvlStatus cvl_read_ints_mpi(CvlRanks *ranks, const char *text, size_t text_len, int32_t *out, size_t out_len, size_t *count) {
     bool short_room = 0;
+    size_t read;
+    uint64_t all;
     if (!cvl_are_ranks(ranks)) return cvl_status(CVL_NO_DESCRIPTOR, -1);
     if (!cvl_is_one_call(ranks, CVL_CALL_TEXT + READ)) return cvl_status(CVL_UNKNOWN_CALL, -1);
     const size_t words = words_in(text, text_len);
     int32_t *const aside = malloc((words + 1) * sizeof *aside);
-    CvlStatus status = read_aside(ranks, text, text_len, words, aside);
+    CvlStatus status = aside == NULL ? cvl_status(CVL_NO_RESOURCES, -1) : cvl_read_ints(text, text_len, aside, words, &read);
     if (cvl_meet(text, text_len, 1, out, out_len, sizeof *out)) status = cvl_overlap();
-    status = agree(ranks, status, READ, &short_room);
+    status = cvl_agreed(ranks, status, CVL_CALL_TEXT + READ, words, CVL_MOST_ELEMENTS, &short_room, &all);
     if (status.number == CVL_DONE) {
         /* the room is compared last, since only the text says how long the result is */
         short_room = words > out_len;

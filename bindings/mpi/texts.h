@@ -9,9 +9,6 @@ enum { CVL_CALL_TEXT = 0xfa00, CVL_CALL_NEST_READ = CVL_CALL_TEXT + 7, CVL_CALL_
 
 static inline bool cvl_is_white(char byte) { return byte == ' ' || byte == '\t' || byte == '\n' || byte == '\r'; }
 
-/* Reads a rank's part, after so many words of ranks before, into a room that has one place for each word. */
-CVL_HIDDEN CvlStatus cvl_read_pieces(const char *text, size_t text_len, uint64_t before, int32_t *out);
-
 /* A rank's part of a text: a bracket before the first and behind the last, and a blank between two elements of two ranks. */
 typedef struct CvlWritten {
     char *whole;        /* of the rank's own elements, in brackets */
