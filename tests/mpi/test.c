@@ -1,8 +1,8 @@
 /*
  * Calls over ranks that the differential test leaves out: arrays that overlap, ranks that ask for different things, null descriptors and
- * routes, routes beside the calls without them, vectors that are spread otherwise or have fewer elements than there are ranks, texts,
- * communicators that are none, and calls before MPI begins and after it has ended. Every rank checks its status. Values are worked by hand,
- * or those of the plain call on the whole.
+ * routes, routes beside the calls without them, vectors that are spread otherwise or have fewer elements than there are ranks, texts, also
+ * long ones, ranks with threads, communicators that are none, and calls before MPI begins and after it has ended. Every rank checks its status.
+ * Values are worked by hand, or those of the plain call on the whole.
  */
 #include <mpi.h>
 
@@ -424,6 +424,25 @@ static void try_texts(void) {
     check("no file", is(cvl_rank_text_read(ranks, "no/such/file", &read, &read_len), CVL_BAD_INPUT, -1));
 }
 
+/* Texts of more than 4 MiB in each rank; the last word of the whole is at fault. */
+static void try_long_texts(void) {
+    const size_t n = 4500000;
+    int32_t *const a = malloc(n * sizeof *a), *const back = malloc(n * sizeof *back);
+    char *const text = malloc(2 * n + 1);
+    size_t length = 0, count = 0;
+    check("memory for long texts", a != NULL && back != NULL && text != NULL);
+    if (any_rank(a == NULL || back == NULL || text == NULL)) return;
+    for (size_t k = 0; k < n; k++) a[k] = (int32_t)((k + (size_t)rank) % 10);
+    check("a long text", is(cvl_write_ints_mpi(ranks, a, n, text, 2 * n + 1, &length), CVL_DONE, -1) && length == 2 * n + (rank == size - 1));
+    if (rank == 0) text[0] = ' ';
+    if (rank == size - 1) text[length - 1] = ' ';
+    check("read back", is(cvl_read_ints_mpi(ranks, text, length, back, n, &count), CVL_DONE, -1) && count == n && memcmp(a, back, n * sizeof *a) == 0);
+    if (rank == size - 1) text[length - 2] = 'x';
+    const CvlStatus status = cvl_read_ints_mpi(ranks, text, length, back, n, &count);
+    check("a bad last word", is(status, CVL_BAD_INPUT, (int64_t)n * size - 1) && memcmp(a, back, n * sizeof *a) == 0);
+    free(a), free(back), free(text);
+}
+
 /* ---- ranks ---- */
 
 static void try_refused_ranks(void) {
@@ -462,6 +481,26 @@ static void try_two_groups(void) {
     check("two groups", is(cvl_ranks_new(both, &made), CVL_NO_DESCRIPTOR, -1) && made == NULL);
     MPI_Comm_free(&both);
     MPI_Comm_free(&own);
+}
+
+/* Each rank has threads of the library, of which none but this one makes calls of MPI. */
+static void try_threads(int level) {
+    enum { EACH = 400000 };
+    int32_t *const a = malloc(EACH * sizeof *a), *const out = malloc(EACH * sizeof *out);
+    int32_t total = 0, wrong = 0;
+    check("MPI with threads", level >= MPI_THREAD_FUNNELED && a != NULL && out != NULL && cvl_set_threads(3) == 0);
+    if (any_rank(a == NULL || out == NULL)) return;
+    for (size_t k = 0; k < EACH; k++) a[k] = (int32_t)(k % 7) - 3;
+    check("a scan by threads", is(cvl_add_suz_mpi(ranks, a, out, EACH), CVL_DONE, -1));
+    check("a sum by threads", is(cvl_tot_ruz_mpi(ranks, a, EACH, &total), CVL_DONE, -1));
+    int32_t before = total / size * rank;
+    for (size_t k = 0; k < EACH; k++) {
+        wrong += out[k] != before;
+        before += a[k];
+    }
+    check("each place", wrong == 0 && before == total / size * (rank + 1));
+    check("one thread again", cvl_set_threads(1) == 0);
+    free(a), free(out);
 }
 
 /* ---- before MPI begins, and after it has ended ---- */
@@ -505,8 +544,9 @@ int main(int words, char **word) {
     CvlRoute *route = NULL;
     static const int32_t length[] = {1};
     const int32_t *const index = &(int32_t){0};
+    int level = 0;
     try_without_mpi("no ranks before MPI begins");
-    MPI_Init(&words, &word);
+    MPI_Init_thread(&words, &word, MPI_THREAD_FUNNELED, &level);
     MPI_Comm_rank(MPI_COMM_WORLD, &rank);
     MPI_Comm_size(MPI_COMM_WORLD, &size);
     check("ranks", is(cvl_ranks_new(MPI_COMM_WORLD, &ranks), CVL_DONE, -1));
@@ -520,6 +560,8 @@ int main(int words, char **word) {
     try_spreads();
     try_few();
     try_texts();
+    try_long_texts();
+    try_threads(level);
     try_refused_ranks();
     try_some_ranks();
     try_two_groups();
