@@ -1,0 +1,6 @@
+//! Work over slices that several threads share, each a part of it.
+#![tactic(auto)]
+
+mod shared;
+
+pub use shared::{Work, run_shared};
