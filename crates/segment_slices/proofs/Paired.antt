@@ -2,7 +2,7 @@
 use Rattle.std.proofs.Common.{◌≡◌, ◌≢◌, ◌∙◌, ℕ, ◌+◌, ◌<◌, ◌≤◌, List, [], ◌∷◌, ◌++◌, length, take, drop, get_or, map, sum, zip, refl, sym, ap, append_assoc, arith, length-append, length-drop}
 use Rattle.std.proofs.Common.{length-take-le, Ok, Err}
 use Rattle.std.proofs.lemmas.List.{get_or-map, length-map}
-use Rattle.std.proofs.lemmas.List.Sums.{sum_by-take-le, sum_by_more}
+use Rattle.std.proofs.lemmas.List.Sums.{sum_by_more}
 use Rattle.std.proofs.lemmas.Slice.Zip.{get_or-zip, length-zip}
 use Rattle.cvl_base.specs.declared.fault.FaultNo.TheVariants.{LengthMismatch}
 use Rattle.cvl_base.specs.Faults.{fault}
@@ -13,15 +13,9 @@ use Rattle.cvl_base.specs.Segmented.{beside, of_two}
 use Rattle.cvl_base.proofs.Lists.{sum-cons}
 use Rattle.cvl_base.proofs.Nests.{cut_at, length-cut, nest-fits}
 use Rattle.cvl_base.proofs.Segmented.{beside-fits, beside-misfits}
+use Rattle.segdes.proofs.Sums.{segment_within}
 use Rattle.segment_slices.specs.Pairs.{append_segments_of, pairs_of}
 use Rattle.segment_slices.proofs.Written.{IsWritten, next_fits, written_more}
-
--- where segment s ends
-pub end_of : (lengths : List ℕ) (s : ℕ) → s < length lengths → sum (take (s + 1) lengths) ≡ sum (take s lengths) + get_or lengths s 0
-end_of lengths s lt = sum_by_more (λ x. x) lengths s 0 lt
-
-pub end_within : (lengths : List ℕ) (s : ℕ) → s < length lengths → sum (take s lengths) + get_or lengths s 0 ≤ sum lengths
-end_within lengths s lt = omega (arith, end_of lengths s lt, sum_by-take-le (λ x. x) lengths (s + 1))
 
 -- all pairs together
 pairs_long : {X : Type 0} (ns ms : List ℕ) (xs ys : List X) → length ns ≡ length ms → sum ns ≤ length xs → sum ms ≤ length ys → length (pairs_of xs ns ys ms) ≡ sum ns + sum ms
@@ -103,8 +97,8 @@ module _ {X : Type 0} {xs : List X} {ns : List ℕ} {ys : List X} {ms : List ℕ
   pub pair_at : length ns ≡ length ms → sum ns ≡ length xs → sum ms ≡ length ys → s < length ns → (n m : ℕ) → n ≡ get_or ns s 0 → m ≡ get_or ms s 0 → IsPair xs ns ys ms s first second n m
   pair_at count total other_total lt n m n_is m_is =
       let below : s < length ms = omega (arith, count, lt) in
-      let first_within : first + n ≤ length xs = omega (arith, to.first_is, n_is, end_within ns s lt, total) in
-      let second_within : second + m ≤ length ys = omega (arith, to.second_is, m_is, end_within ms s below, other_total) in
+      let first_within : first + n ≤ length xs = omega (arith, to.first_is, n_is, segment_within ns s lt, total) in
+      let second_within : second + m ≤ length ys = omega (arith, to.second_is, m_is, segment_within ms s below, other_total) in
       record {
         one = omega (arith, lt, pairs_many xs ns ys ms count);
         is = (λ i. take (n_is i) (drop (to.first_is i) xs) ++ take (m_is i) (drop (to.second_is i) ys)) ∙ pair_is xs ns ys ms count s lt;
@@ -116,8 +110,8 @@ module _ {X : Type 0} {xs : List X} {ns : List ℕ} {ys : List X} {ms : List ℕ
             );
         first_within = first_within;
         second_within = second_within;
-        next_first = omega (arith, to.first_is, n_is, end_of ns s lt);
-        next_second = omega (arith, to.second_is, m_is, end_of ms s below);
+        next_first = omega (arith, to.first_is, n_is, sum_by_more (λ x. x) ns s 0 lt);
+        next_second = omega (arith, to.second_is, m_is, sum_by_more (λ x. x) ms s 0 below);
       }
 
   module _ {n m : ℕ} (pair : IsPair xs ns ys ms s first second n m) where
