@@ -33,8 +33,8 @@ loop-s-preserved g c =
     taken_next c.requires.empty within c.loop-s.invariant place (min (start_of d (c.loop-s.s + 1) - place) run.room) c.take_segment-next.result.0 c.take_segment-next.result.1 c.or-found.result
     (omega (arith, c.loop-s-test.true, c.starts_before-last.ensures.in_count)) refl refl c.take_segment-next.ensures.run c.take_segment-next.ensures.found c.or-found.ensures
 
-pub returns-clause-run : goal.returns-clause-run
-returns-clause-run g c =
+pub returns : goal.returns
+returns g c =
     let w = c.args.self.now in
     let d = w.index_d.now in
     let values = values_at w.source_d.now w.source.now d w.index.now in
@@ -44,17 +44,4 @@ returns-clause-run g c =
     let past : run.first + run.room ≡ c.next_place-first.result + c.room.result = omega (arith, c.next_place-first.ensures.place, ap length c.requires.empty, c.room.ensures) in
     let ended : run.first + run.room ≤ start_of d last =
     reaches d last (run.first + run.room) (λ lt. omega (arith, past, c.starts_before-last.ensures.others last (omega arith) lt)) (omega (arith, within, length-values w.fits, w.fits.total)) in
-    (taken_all c.requires.empty within c.loop-s.invariant last ended c.loop-s-test.false).0
-
-pub returns-clause-found : goal.returns-clause-found
-returns-clause-found g c =
-    let w = c.args.self.now in
-    let d = w.index_d.now in
-    let values = values_at w.source_d.now w.source.now d w.index.now in
-    let run = c.args.run in
-    let last = c.starts_before-last.result in
-    let within : run.first + run.room ≤ length values = omega (arith, c.requires.within, length-map values (λ v. unwrap_or v w.other)) in
-    let past : run.first + run.room ≡ c.next_place-first.result + c.room.result = omega (arith, c.next_place-first.ensures.place, ap length c.requires.empty, c.room.ensures) in
-    let ended : run.first + run.room ≤ start_of d last =
-    reaches d last (run.first + run.room) (λ lt. omega (arith, past, c.starts_before-last.ensures.others last (omega arith) lt)) (omega (arith, within, length-values w.fits, w.fits.total)) in
-    (taken_all c.requires.empty within c.loop-s.invariant last ended c.loop-s-test.false).1
+    let all = taken_all c.requires.empty within c.loop-s.invariant last ended c.loop-s-test.false in record { run = all.0; found = all.1 }
