@@ -27,23 +27,11 @@ returns-in_err-check_counts-clause-meaning g c =
     c.in_ok-check_total.ensures.agrees c.in_ok-check_total-2.ensures.agrees count c.in_ok-check_total-3.ensures.agrees other
     miscount.segment miscount.within miscount.first miscount.other ∙ ap Err (sym miscount.told))
 
-pub returns-clause-meaning : goal.returns-clause-meaning
-returns-clause-meaning g c =
+pub returns : goal.returns
+returns g c =
     let count : length c.args.d.now ≡ length c.args.true_d.now = sym c.count.ensures.value ∙ c.in_ok-check_agree.ensures ∙ c.count-2.ensures.value in
     let other : length c.args.d.now ≡ length c.args.false_d.now = sym c.count-3.ensures.value ∙ c.in_ok-check_agree-2.ensures ∙ c.count-4.ensures.value in
-    (counts_fit c.args.flags.now c.args.d.now c.args.when_true.now c.args.true_d.now c.args.when_false.now c.args.false_d.now
-    c.in_ok-check_total.ensures.agrees c.in_ok-check_total-2.ensures.agrees count c.in_ok-check_total-3.ensures.agrees other c.in_ok-check_counts.ensures).0
-
-pub returns-clause-true_ones : goal.returns-clause-true_ones
-returns-clause-true_ones g c =
-    let count : length c.args.d.now ≡ length c.args.true_d.now = sym c.count.ensures.value ∙ c.in_ok-check_agree.ensures ∙ c.count-2.ensures.value in
-    let other : length c.args.d.now ≡ length c.args.false_d.now = sym c.count-3.ensures.value ∙ c.in_ok-check_agree-2.ensures ∙ c.count-4.ensures.value in
-    (counts_fit c.args.flags.now c.args.d.now c.args.when_true.now c.args.true_d.now c.args.when_false.now c.args.false_d.now
-    c.in_ok-check_total.ensures.agrees c.in_ok-check_total-2.ensures.agrees count c.in_ok-check_total-3.ensures.agrees other c.in_ok-check_counts.ensures).1
-
-pub returns-clause-false_ones : goal.returns-clause-false_ones
-returns-clause-false_ones g c =
-    let count : length c.args.d.now ≡ length c.args.true_d.now = sym c.count.ensures.value ∙ c.in_ok-check_agree.ensures ∙ c.count-2.ensures.value in
-    let other : length c.args.d.now ≡ length c.args.false_d.now = sym c.count-3.ensures.value ∙ c.in_ok-check_agree-2.ensures ∙ c.count-4.ensures.value in
-    (counts_fit c.args.flags.now c.args.d.now c.args.when_true.now c.args.true_d.now c.args.when_false.now c.args.false_d.now
-    c.in_ok-check_total.ensures.agrees c.in_ok-check_total-2.ensures.agrees count c.in_ok-check_total-3.ensures.agrees other c.in_ok-check_counts.ensures).2
+    let fit =
+    counts_fit c.args.flags.now c.args.d.now c.args.when_true.now c.args.true_d.now c.args.when_false.now c.args.false_d.now
+    c.in_ok-check_total.ensures.agrees c.in_ok-check_total-2.ensures.agrees count c.in_ok-check_total-3.ensures.agrees other c.in_ok-check_counts.ensures in
+    record { meaning = fit.0; true_ones = fit.1; false_ones = fit.2 }
