@@ -1,18 +1,11 @@
 -- The walks from segment to segment: what the first has found, and what the second has written.
-use Rattle.first_senders.proofs.Cited.{◌≡◌, ◌∙◌, ℕ, ◌+◌, ◌-◌, ◌<◌, ◌≤◌, List, [], ◌∷◌, ◌++◌, length, length-drop, map, sum, take, drop, get_or, sym, ap, append-nil, append_assoc, arith, ℤ, Option}
-use Rattle.first_senders.proofs.Cited.{Some, None, drop_all, drop-drop, drop_more, length-take-le, take_all, length-map-range_with_len, sum_by_more, sum_by-take-le, put_mid, same_len_mid, Fault}
+use Rattle.first_senders.proofs.Cited.{◌≡◌, ◌∙◌, ℕ, ◌+◌, ◌-◌, ◌<◌, ◌≤◌, List, [], ◌∷◌, ◌++◌, length, length-drop, map, take, drop, get_or, sym, ap, append-nil, append_assoc, arith, ℤ, Option}
+use Rattle.first_senders.proofs.Cited.{Some, None, drop_all, drop-drop, drop_more, length-take-le, take_all, length-map-range_with_len, put_mid, same_len_mid, Fault}
 use Rattle.first_senders.proofs.Cited.{first_fault}
 use Rattle.std.specs.Option.{option_or}
 use Rattle.std.proofs.lemmas.Slice.{take-put_mid}
 use Rattle.first_senders.specs.FirstSenders.{first_sender, first_senders, wrong_in}
 use Rattle.first_senders.specs.Walks.{fault_by, senders_by}
-
--- where segment s ends
-pub end_of : (lengths : List ℕ) (s : ℕ) → s < length lengths → sum (take (s + 1) lengths) ≡ sum (take s lengths) + get_or lengths s 0
-end_of lengths s lt = sum_by_more (λ x. x) lengths s 0 lt
-
-pub end_within : (lengths : List ℕ) (s : ℕ) → s < length lengths → sum (take s lengths) + get_or lengths s 0 ≤ sum lengths
-end_within lengths s lt = omega (arith, end_of lengths s lt, sum_by-take-le (λ x. x) lengths (s + 1))
 
 module _ (ns ms : List ℕ) (ts : List (Option ℤ)) (count : length ns ≡ length ms) (s : ℕ) (lt : s < length ns) (first n m : ℕ) (is : n ≡ get_or ns s 0) (wide : m ≡ get_or ms s 0) where
   lengths_left : drop s ns ≡ n ∷ drop (s + 1) ns

@@ -1,11 +1,12 @@
-use Rattle.first_senders.proofs.Cited.{◌∙◌, ◌<◌, arith, length, told_again}
-use Rattle.first_senders.proofs.BySegments.{end_of, end_within, segment_failed, segment_passed}
+use Rattle.first_senders.proofs.Cited.{◌∙◌, ◌<◌, arith, length, told_again, sum_by_more}
+use Rattle.segdes.proofs.Sums.{segment_within}
+use Rattle.first_senders.proofs.BySegments.{segment_failed, segment_passed}
 use Rattle.first_senders.proofs.segments.check_segments.Goals as goal
 
 pub check_indices-requires-clause-within : goal.check_indices-requires-clause-within
 check_indices-requires-clause-within g c =
     let lt : c.loop-s.s < length c.args.d.now = omega (arith, c.count-s-end.ensures.value, c.loop-s-test.true) in
-    omega (arith, end_within c.args.d.now c.loop-s.s lt, c.length-count.ensures, c.loop-s.invariant.first_is, c.requires.total)
+    omega (arith, segment_within c.args.d.now c.loop-s.s lt, c.length-count.ensures, c.loop-s.invariant.first_is, c.requires.total)
 
 pub returns-in_err-check_indices : goal.returns-in_err-check_indices
 returns-in_err-check_indices g c =
@@ -20,7 +21,7 @@ loop-s-preserved g c =
     let ts = g.D.Destinations.destinations c.args.destinations.now in
     let lt : c.loop-s.s < length c.args.d.now = omega (arith, c.count-s-end.ensures.value, c.loop-s-test.true) in
     record {
-      first_is = omega (arith, end_of c.args.d.now c.loop-s.s lt, c.length-count.ensures, c.loop-s.invariant.first_is);
+      first_is = omega (arith, sum_by_more (λ x. x) c.args.d.now c.loop-s.s 0 lt, c.length-count.ensures, c.loop-s.invariant.first_is);
       so_far = segment_passed c.args.d.now c.args.result_d.now ts c.requires.count c.loop-s.s lt c.loop-s.first c.length-count.result c.length.result c.length-count.ensures c.length.ensures
           c.loop-s.invariant.so_far c.in_ok-check_indices.ensures;
     }
