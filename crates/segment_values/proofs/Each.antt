@@ -5,12 +5,6 @@ use Rattle.std.proofs.lemmas.List.Sums.{sum_by-take-le, sum_by_more}
 use Rattle.cvl_base.specs.Nests.{cut_of}
 use Rattle.cvl_base.proofs.Nests.{cut_at, length-cut}
 
-pub end_of : (lengths : List ℕ) (s : ℕ) → s < length lengths → sum (take (s + 1) lengths) ≡ sum (take s lengths) + get_or lengths s 0
-end_of lengths s lt = sum_by_more (λ x. x) lengths s 0 lt
-
-pub end_within : (lengths : List ℕ) (s : ℕ) → s < length lengths → sum (take s lengths) + get_or lengths s 0 ≤ sum lengths
-end_within lengths s lt = omega (arith, end_of lengths s lt, sum_by-take-le (λ x. x) lengths (s + 1))
-
 -- what is written before segment s, which begins at `first`
 pub record IsWritten {X V : Type 0} (value : List X → V) (lengths : List ℕ) (xs : List X) (s first : ℕ) (out : List V) : Type 0 where
   pub first_is : first ≡ sum (take s lengths)
@@ -20,7 +14,7 @@ pub record IsWritten {X V : Type 0} (value : List X → V) (lengths : List ℕ) 
 module _ {X V : Type 0} {value : List X → V} {lengths : List ℕ} {xs : List X} {s first : ℕ} {out : List V} (to : IsWritten value lengths xs s first out) (total : sum lengths ≡ length xs) where
   module _ (lt : s < length lengths) (n : ℕ) (n_is : n ≡ get_or lengths s 0) where
     pub segment_within : first + n ≤ length xs
-    segment_within = omega (arith, to.first_is, n_is, end_within lengths s lt, total)
+    segment_within = omega (arith, to.first_is, n_is, sum_by_more (λ x. x) lengths s 0 lt, sum_by-take-le (λ x. x) lengths (s + 1), total)
 
     segment_is : take (first + n - first) (drop first xs) ≡ get_or (cut_of lengths xs) s []
     segment_is =
@@ -31,7 +25,7 @@ module _ {X V : Type 0} {value : List X → V} {lengths : List ℕ} {xs : List X
     one_more v is =
         let cuts = cut_of lengths xs in
         record {
-          first_is = omega (arith, to.first_is, n_is, end_of lengths s lt);
+          first_is = omega (arith, to.first_is, n_is, sum_by_more (λ x. x) lengths s 0 lt);
           one_each = length-set out s v ∙ to.one_each;
           written = take_more_set out s v (omega (arith, lt, to.one_each)) ∙ (λ i. to.written i ++ (is ∙ ap value segment_is) i ∷ [])
               ∙ sym (map-append value (take s cuts) (get_or cuts s [] ∷ []))
