@@ -1,0 +1,1 @@
+"""What `.ci/compare-clauses` reads and compares."""

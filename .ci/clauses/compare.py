@@ -1,0 +1,143 @@
+"""Compares the public clauses of two trees."""
+
+import collections
+import dataclasses
+import hashlib
+import re
+
+from clauses import specs
+from clauses.sources import Item, Source
+
+WORD = re.compile(r"[^\s(){}\[\],;.]+")
+
+
+@dataclasses.dataclass
+class Difference:
+    """What differs. If it may weaken a promise it is `judged` by a person, whose reason stands under its digest."""
+
+    what: str
+    before: str = ""
+    after: str = ""
+    is_judged: bool = False
+
+    @property
+    def digest(self):
+        return hashlib.sha256(f"{self.what}\n{self.before}\n{self.after}".encode()).hexdigest()[:10]
+
+
+class Tree:
+    """The public functions and the definitions of a tree, whose files come with their texts."""
+
+    def __init__(self, files, renamed=()):
+        self.functions, self.definitions = {}, {}
+        for file, text in sorted(files.items()):
+            for old, new in renamed:
+                text = re.sub(rf"(?<![\w◌-]){re.escape(old)}(?![\w◌-])", new, text)
+            if file.endswith(".rt"):
+                for item in Source(file, text).items:
+                    self.add(self.functions if item.is_function else self.definitions, item)
+            else:
+                for item in specs.definitions(file, text):
+                    self.add(self.definitions, item)
+
+    @staticmethod
+    def add(items, item):
+        """Adds an item; a further one of the same name in the same file gets a number."""
+        number, key = 1, (item.file, item.name)
+        while key in items:
+            number += 1
+            key = (item.file, f"{item.name} #{number}")
+        items[key] = item
+
+    def meant(self, item, word):
+        """What a word of an item's text names: a definition, or else the path of its import, or nothing."""
+        path = item.imports.get(word)
+        if path is None:
+            return self.definitions.get((item.file, word))
+        crate, _, rest = path.removeprefix("Rattle.").partition(".specs.")
+        folder, _, name = rest.rpartition(".")
+        return self.definitions.get((f"crates/{crate}/specs/{folder.replace('.', '/')}.antt", name), path)
+
+
+def paired(olds, news):
+    """Each key of the first with its key in the second: the same, else one that has come and has the same name."""
+    come = collections.defaultdict(list)
+    for key in news:
+        if key not in olds:
+            come[key[1]].append(key)
+    pairs = {}
+    for key, old in olds.items():
+        if key in news:
+            pairs[key] = key
+        elif come[key[1]]:
+            # of several the one that says the same
+            best = max(come[key[1]], key=lambda other: (news[other].text == old.text, news[other].clauses == old.clauses))
+            come[key[1]].remove(best)
+            pairs[key] = best
+    return pairs
+
+
+def other_words(text, old, new, trees, seen=()):
+    """The words of a text that name another definition than before, which does not say the same."""
+    for word in dict.fromkeys(WORD.findall(text)):
+        one, other = (tree.meant(item, word) for tree, item in zip(trees, (old, new)))
+        if isinstance(one, Item) and isinstance(other, Item):
+            # what stands under its old name is compared for itself
+            if (one.file, word) == (other.file, word) or word in seen:
+                continue
+            if one.text != other.text or any(other_words(one.text, one, other, trees, (*seen, word))):
+                yield f"{word} is that of {other.file}, and was that of {one.file}"
+        elif one != other:
+            yield f"{word} is another"
+
+
+def clauses_differ(where, old, new, trees):
+    """The differences of the clauses of a function."""
+    texts = {kind: [text for its, _, text in new.clauses if its == kind] for kind in ("requires", "ensures")}
+    names = {(kind, name): text for kind, name, text in new.clauses if name}
+    for kind, name, text in old.clauses:
+        label = f"{where}: {kind} {name}".rstrip()
+        if text in texts[kind]:
+            for words in other_words(text, old, new, trees):
+                yield Difference(f"{label}: {words}", text, text, True)
+        elif kind == "ensures":
+            there = names.get((kind, name), "")
+            yield Difference(f"{label} {'changed' if there else 'went'}", text, there, True)
+        elif (kind, name) not in names:
+            yield Difference(f"{label} went", text)
+    wanted = [text for kind, _, text in old.clauses if kind == "requires"]
+    named = {name: text for kind, name, text in old.clauses if kind == "requires" and name}
+    for kind, name, text in new.clauses:
+        if kind == "requires" and text not in wanted:
+            label = f"{where}: requires {name}".rstrip()
+            yield Difference(f"{label} {'changed' if name in named else 'came'}", named.get(name, ""), text, True)
+        elif kind == "ensures" and text not in [its for _, _, its in old.clauses]:
+            yield Difference(f"{where}: ensures {name} came".replace("  ", " "), "", text)
+
+
+def compare(before, after):
+    """All differences of two trees."""
+    for kind, olds, news in (
+        ("function", before.functions, after.functions),
+        ("definition", before.definitions, after.definitions),
+    ):
+        pairs = paired(olds, news)
+        for key, old in olds.items():
+            if key not in pairs:
+                # a function that is gone promises nothing, and a clause that cited a definition that is gone differs itself
+                yield Difference(f"{kind} {old.name} of {old.file} went", old.text)
+                continue
+            new = news[pairs[key]]
+            where = f"{kind} {key[1]} of {new.file}"
+            if key != pairs[key]:
+                yield Difference(f"{kind} {key[1]} moved from {old.file} to {new.file}")
+            if old.text != new.text:
+                yield Difference(f"{where} has changed", old.text, new.text, kind == "definition")
+            elif kind == "definition":
+                for words in other_words(old.text, old, new, (before, after)):
+                    yield Difference(f"{where}: {words}", old.text, new.text, True)
+            yield from clauses_differ(where, old, new, (before, after))
+        kept = set(pairs.values())
+        for key, new in news.items():
+            if key not in kept:
+                yield Difference(f"{kind} {new.name} of {new.file} came")
