@@ -91,28 +91,35 @@ def other_words(text, old, new, trees, seen=()):
             yield f"{word} is another"
 
 
+def added(kind, olds, news):
+    """The texts of a kind that only the second list of clauses has, by their names; those without a name are one text."""
+    texts, found = {text for its, _, text in olds if its == kind}, {}
+    for its, name, text in news:
+        if its == kind and text not in texts:
+            found[name] = f"{found[name]} ; {text}" if name in found else text
+    return found
+
+
 def clauses_differ(where, old, new, trees):
     """The differences of the clauses of a function."""
-    texts = {kind: [text for its, _, text in new.clauses if its == kind] for kind in ("requires", "ensures")}
-    names = {(kind, name): text for kind, name, text in new.clauses if name}
-    for kind, name, text in old.clauses:
-        label = f"{where}: {kind} {name}".rstrip()
-        if text in texts[kind]:
-            for words in other_words(text, old, new, trees):
-                yield Difference(f"{label}: {words}", text, text, True)
-        elif kind == "ensures":
-            there = names.get((kind, name), "")
-            yield Difference(f"{label} {'changed' if there else 'went'}", text, there, True)
-        elif (kind, name) not in names:
-            yield Difference(f"{label} went", text)
-    wanted = [text for kind, _, text in old.clauses if kind == "requires"]
-    named = {name: text for kind, name, text in old.clauses if kind == "requires" and name}
-    for kind, name, text in new.clauses:
-        if kind == "requires" and text not in wanted:
-            label = f"{where}: requires {name}".rstrip()
-            yield Difference(f"{label} {'changed' if name in named else 'came'}", named.get(name, ""), text, True)
-        elif kind == "ensures" and text not in [its for _, _, its in old.clauses]:
-            yield Difference(f"{where}: ensures {name} came".replace("  ", " "), "", text)
+    for kind in ("requires", "ensures"):
+        gone, come = added(kind, new.clauses, old.clauses), added(kind, old.clauses, new.clauses)
+        texts = {text for its, _, text in new.clauses if its == kind}
+        for _, name, text in (clause for clause in old.clauses if clause[0] == kind):
+            label = f"{where}: {kind} {name}".rstrip()
+            if text in texts:
+                for words in other_words(text, old, new, trees):
+                    yield Difference(f"{label}: {words}", text, text, True)
+        for name, text in gone.items():
+            label = f"{where}: {kind} {name}".rstrip()
+            if name in come:
+                yield Difference(f"{label} changed", text, come[name], True)
+            else:
+                yield Difference(f"{label} went", text, is_judged=kind == "ensures")
+        for name, text in come.items():
+            if name not in gone:
+                label = f"{where}: {kind} {name}".rstrip()
+                yield Difference(f"{label} came", "", text, is_judged=kind == "requires")
 
 
 def compare(before, after):
