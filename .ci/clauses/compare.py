@@ -91,6 +91,16 @@ def other_words(text, old, new, trees, seen=()):
             yield f"{word} is another"
 
 
+def with_definitions(text, item, trees, seen=()):
+    """A text, and behind it the definitions that it cites and that only the second tree has."""
+    found = text
+    for word in dict.fromkeys(WORD.findall(text)):
+        cited = trees[1].meant(item, word)
+        if isinstance(cited, Item) and cited is not item and word not in seen and trees[0].meant(cited, word) is None:
+            found += f"\n      where {with_definitions(cited.text, cited, trees, (*seen, word))}"
+    return found
+
+
 def added(kind, olds, news):
     """The texts of a kind that only the second list of clauses has, by their names; those without a name are one text."""
     texts, found = {text for its, _, text in olds if its == kind}, {}
@@ -113,13 +123,13 @@ def clauses_differ(where, old, new, trees):
         for name, text in gone.items():
             label = f"{where}: {kind} {name}".rstrip()
             if name in come:
-                yield Difference(f"{label} changed", text, come[name], True)
+                yield Difference(f"{label} changed", text, with_definitions(come[name], new, trees), True)
             else:
                 yield Difference(f"{label} went", text, is_judged=kind == "ensures")
         for name, text in come.items():
             if name not in gone:
                 label = f"{where}: {kind} {name}".rstrip()
-                yield Difference(f"{label} came", "", text, is_judged=kind == "requires")
+                yield Difference(f"{label} came", "", with_definitions(text, new, trees), is_judged=kind == "requires")
 
 
 def compare(before, after):
@@ -139,7 +149,8 @@ def compare(before, after):
             if key != pairs[key]:
                 yield Difference(f"{kind} {key[1]} moved from {old.file} to {new.file}")
             if old.text != new.text:
-                yield Difference(f"{where} has changed", old.text, new.text, kind == "definition")
+                after_text = with_definitions(new.text, new, (before, after)) if kind == "definition" else new.text
+                yield Difference(f"{where} has changed", old.text, after_text, kind == "definition")
             elif kind == "definition":
                 for words in other_words(old.text, old, new, (before, after)):
                     yield Difference(f"{where}: {words}", old.text, new.text, True)
