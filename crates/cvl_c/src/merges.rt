@@ -1,9 +1,10 @@
 //! Merges by flags, of whole vectors and of each segment.
 
 ghost use Rattle.std.specs.Prelude.{length};
-ghost use Rattle.c_calls.specs.Calls.{by_segments, in_limit};
+ghost use Rattle.c_calls.specs.Calls.{in_limit};
 ghost use Rattle.c_calls.specs.Told.{Told, in_room};
-ghost use Rattle.flag_merges.specs.Merges.{merge_of, seg_merge_of};
+ghost use Rattle.cvl_c.specs.ByLengths.{merge_by_lengths};
+ghost use Rattle.flag_merges.specs.Merges.{merge_of};
 
 use c_calls::checks::{check_limit, segments};
 use c_calls::or_tell;
@@ -51,8 +52,8 @@ pub extern "C" fn cvl_proved_seg_merge_by_flags_int(
     false_lengths: &[i32],
     out: &mut [i32],
 ) -> CvlStatus
-    ensures { Told (in_room (length out.old) (by_segments lengths.now (λ d. by_segments true_lengths.now
-        (λ e. by_segments false_lengths.now (λ g. seg_merge_of flags.now d when_true.now e when_false.now g)))))
+    ensures { Told (in_room (length out.old)
+        (merge_by_lengths flags.now lengths.now when_true.now true_lengths.now when_false.now false_lengths.now))
         result out.old out.new }
 {
     let d = or_tell!(segments(lengths));
@@ -74,8 +75,8 @@ pub extern "C" fn cvl_proved_seg_merge_by_flags_bool(
     false_lengths: &[i32],
     out: &mut [bool],
 ) -> CvlStatus
-    ensures { Told (in_room (length out.old) (by_segments lengths.now (λ d. by_segments true_lengths.now
-        (λ e. by_segments false_lengths.now (λ g. seg_merge_of flags.now d when_true.now e when_false.now g)))))
+    ensures { Told (in_room (length out.old)
+        (merge_by_lengths flags.now lengths.now when_true.now true_lengths.now when_false.now false_lengths.now))
         result out.old out.new }
 {
     let d = or_tell!(segments(lengths));

@@ -1,9 +1,8 @@
 //! Permutes of each segment, by an index of at most 2,147,483,647 elements. Segments are given as lengths.
 
 ghost use Rattle.std.specs.Prelude.{length};
-ghost use Rattle.cvl_base.specs.SegmentedCalls.{seg_back_of, seg_default_of, seg_select_of, seg_simple_of};
-ghost use Rattle.c_calls.specs.Calls.{by_segments, in_limit};
 ghost use Rattle.c_calls.specs.Told.{ToldOr, in_room};
+ghost use Rattle.cvl_c.specs.ByLengths.{back_by_lengths, default_by_lengths, select_by_lengths, simple_by_lengths};
 
 use c_calls::checks::{check_limit, descriptor, segments};
 use c_calls::or_tell;
@@ -20,8 +19,7 @@ pub extern "C" fn cvl_proved_seg_permute_int(
     lengths: &[i32],
     out: &mut [i32],
 ) -> CvlStatus
-    ensures { ToldOr (in_room (length out.old) (by_segments lengths.now
-        (λ d. in_limit index.now (seg_simple_of source.now index.now d)))) result out.old out.new }
+    ensures { ToldOr (in_room (length out.old) (simple_by_lengths source.now index.now lengths.now)) result out.old out.new }
 {
     let d = or_tell!(segments(lengths));
     or_tell!(check_limit(index));
@@ -37,8 +35,7 @@ pub extern "C" fn cvl_proved_seg_permute_bool(
     lengths: &[i32],
     out: &mut [bool],
 ) -> CvlStatus
-    ensures { ToldOr (in_room (length out.old) (by_segments lengths.now
-        (λ d. in_limit index.now (seg_simple_of source.now index.now d)))) result out.old out.new }
+    ensures { ToldOr (in_room (length out.old) (simple_by_lengths source.now index.now lengths.now)) result out.old out.new }
 {
     let d = or_tell!(segments(lengths));
     or_tell!(check_limit(index));
@@ -55,8 +52,8 @@ pub extern "C" fn cvl_proved_seg_select_permute_int(
     lengths: &[i32],
     out: &mut [i32],
 ) -> CvlStatus
-    ensures { ToldOr (in_room (length out.old) (by_segments lengths.now
-        (λ d. in_limit index.now (seg_select_of source.now index.now flags.now d)))) result out.old out.new }
+    ensures { ToldOr (in_room (length out.old) (select_by_lengths source.now index.now flags.now lengths.now))
+        result out.old out.new }
 {
     let d = or_tell!(descriptor(alloc, lengths));
     or_tell!(check_limit(index));
@@ -73,8 +70,8 @@ pub extern "C" fn cvl_proved_seg_select_permute_bool(
     lengths: &[i32],
     out: &mut [bool],
 ) -> CvlStatus
-    ensures { ToldOr (in_room (length out.old) (by_segments lengths.now
-        (λ d. in_limit index.now (seg_select_of source.now index.now flags.now d)))) result out.old out.new }
+    ensures { ToldOr (in_room (length out.old) (select_by_lengths source.now index.now flags.now lengths.now))
+        result out.old out.new }
 {
     let d = or_tell!(descriptor(alloc, lengths));
     or_tell!(check_limit(index));
@@ -92,8 +89,8 @@ pub extern "C" fn cvl_proved_seg_default_permute_int(
     default_lengths: &[i32],
     out: &mut [i32],
 ) -> CvlStatus
-    ensures { ToldOr (in_room (length out.old) (by_segments lengths.now (λ d. by_segments default_lengths.now
-        (λ e. in_limit index.now (seg_default_of source.now index.now defaults.now d e))))) result out.old out.new }
+    ensures { ToldOr (in_room (length out.old)
+        (default_by_lengths source.now index.now defaults.now lengths.now default_lengths.now)) result out.old out.new }
 {
     let d = or_tell!(descriptor(alloc, lengths));
     let e = or_tell!(descriptor(alloc, default_lengths));
@@ -112,8 +109,8 @@ pub extern "C" fn cvl_proved_seg_default_permute_bool(
     default_lengths: &[i32],
     out: &mut [bool],
 ) -> CvlStatus
-    ensures { ToldOr (in_room (length out.old) (by_segments lengths.now (λ d. by_segments default_lengths.now
-        (λ e. in_limit index.now (seg_default_of source.now index.now defaults.now d e))))) result out.old out.new }
+    ensures { ToldOr (in_room (length out.old)
+        (default_by_lengths source.now index.now defaults.now lengths.now default_lengths.now)) result out.old out.new }
 {
     let d = or_tell!(descriptor(alloc, lengths));
     let e = or_tell!(descriptor(alloc, default_lengths));
@@ -130,8 +127,8 @@ pub extern "C" fn cvl_proved_seg_back_permute_int(
     index_lengths: &[i32],
     out: &mut [i32],
 ) -> CvlStatus
-    ensures { ToldOr (in_room (length out.old) (by_segments lengths.now (λ d. by_segments index_lengths.now
-        (λ e. in_limit index.now (seg_back_of source.now index.now d e))))) result out.old out.new }
+    ensures { ToldOr (in_room (length out.old) (back_by_lengths source.now index.now lengths.now index_lengths.now))
+        result out.old out.new }
 {
     let d = or_tell!(segments(lengths));
     let e = or_tell!(segments(index_lengths));
@@ -148,8 +145,8 @@ pub extern "C" fn cvl_proved_seg_back_permute_bool(
     index_lengths: &[i32],
     out: &mut [bool],
 ) -> CvlStatus
-    ensures { ToldOr (in_room (length out.old) (by_segments lengths.now (λ d. by_segments index_lengths.now
-        (λ e. in_limit index.now (seg_back_of source.now index.now d e))))) result out.old out.new }
+    ensures { ToldOr (in_room (length out.old) (back_by_lengths source.now index.now lengths.now index_lengths.now))
+        result out.old out.new }
 {
     let d = or_tell!(segments(lengths));
     let e = or_tell!(segments(index_lengths));

@@ -4,7 +4,7 @@ ghost use Rattle.std.specs.Prelude.{Ok, length};
 ghost use Rattle.c_calls.specs.Calls.{by_segments, in_limit};
 ghost use Rattle.c_calls.specs.Told.{Told, in_room};
 ghost use Rattle.cvl_base.specs.Exact.{total_of};
-ghost use Rattle.segment_slices.specs.Pairs.{append_segments_of};
+ghost use Rattle.cvl_c.specs.ByLengths.{append_by_lengths};
 ghost use Rattle.segment_slices.specs.Slices.{gather_segments_of};
 ghost use Rattle.flag_calls.specs.Flags.{flag_of};
 ghost use Rattle.segment_values.specs.Values.{each_of, first_by};
@@ -58,8 +58,8 @@ pub extern "C" fn cvl_proved_append_segments_int(
     other_lengths: &[i32],
     out: &mut [i32],
 ) -> CvlStatus
-    ensures { Told (in_room (length out.old) (by_segments lengths.now (λ d. by_segments other_lengths.now
-        (λ e. append_segments_of a.now d b.now e)))) result out.old out.new }
+    ensures { Told (in_room (length out.old) (append_by_lengths a.now lengths.now b.now other_lengths.now))
+        result out.old out.new }
 {
     let d = or_tell!(segments(lengths));
     let other = or_tell!(segments(other_lengths));
@@ -75,8 +75,8 @@ pub extern "C" fn cvl_proved_append_segments_bool(
     other_lengths: &[i32],
     out: &mut [bool],
 ) -> CvlStatus
-    ensures { Told (in_room (length out.old) (by_segments lengths.now (λ d. by_segments other_lengths.now
-        (λ e. append_segments_of a.now d b.now e)))) result out.old out.new }
+    ensures { Told (in_room (length out.old) (append_by_lengths a.now lengths.now b.now other_lengths.now))
+        result out.old out.new }
 {
     let d = or_tell!(segments(lengths));
     let other = or_tell!(segments(other_lengths));
