@@ -3,6 +3,7 @@ pub mod BackPermutes
 pub mod ByRanges
 pub mod Carries
 pub mod CombinedRanges
+pub mod CombinedRooms
 pub mod CutInRankOrder
 pub mod CutResults
 pub mod ElementPlaces

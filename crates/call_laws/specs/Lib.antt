@@ -2,6 +2,7 @@ pub mod Carried
 pub mod CheckedParts
 pub mod CutAgain
 pub mod InParts
+pub mod InRooms
 pub mod OverRanks
 pub mod Owned
 pub mod Permuted

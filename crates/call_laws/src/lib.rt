@@ -6,6 +6,7 @@
 
 pub mod checked_sums;
 pub mod combining_ranges;
+pub mod combining_rooms;
 pub mod cut_segments;
 pub mod cut_vectors;
 pub mod descriptors;
