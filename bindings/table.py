@@ -65,7 +65,7 @@ CUTS = {
     "whole": "not cut",
     "ranges": "the result is cut; each part reads all indices",
     "senders": "the result is cut; each part reads all indices",
-    "combine": "the room is cut; each part reads all indices",
+    "combine": "cut at places, and each part joins in a room of its own; with many places the room is cut, and each part reads all indices",
     "turns": "the result is cut; each part reads its elements of the whole matrix",
     "order": "cut at places; each part sorts its own keys by a digit, and gathers a range of the result",
     "rank": "cut at places; each part sorts its own keys by a digit, and gathers a range of the result",

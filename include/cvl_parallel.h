@@ -237,7 +237,9 @@ CVL_CHECKED CvlStatus cvl_seg_first_senders_on(const CvlPool *pool, const int32_
 CVL_CHECKED CvlStatus cvl_seg_select_first_senders_on(const CvlPool *pool, const int32_t *index, size_t index_len,
     const bool *flags, size_t flags_len, CvlLengths lengths, CvlLengths result_lengths, int32_t *out, size_t out_len);
 
-/* The room is cut; each part reads all indices. */
+/*
+ * Cut at places, and each part joins in a room of its own; with many places the room is cut, and each part reads all indices.
+ */
 CVL_CHECKED CvlStatus cvl_combine_permute_int_on(const CvlPool *pool, uint32_t op, const int32_t *source, size_t source_len,
     const int32_t *index, size_t index_len, int32_t *out, size_t out_len);
 CVL_CHECKED CvlStatus cvl_combine_permute_bool_on(const CvlPool *pool, uint32_t op, const bool *source, size_t source_len,

@@ -91,6 +91,12 @@ static inline int32_t cvl_number_at(int32_t init, int32_t stride, size_t place) 
 /*@ assigns *w; */
 CVL_HIDDEN bool cvl_cut(const CvlPool *pool, CvlWork *w, const CvlRow *row, const CvlSlot *s);
 
+/* Where a part's share of an array begins, if all parts have about as much: a part's ends where that of the next one begins. */
+/*@ requires \valid_read(w) && 0 < w->parts && k <= w->parts;
+    assigns \nothing;
+    ensures \result == share_place(len, w->parts, k) <= len; */
+CVL_HIDDEN size_t cvl_share(const CvlWork *w, size_t len, size_t k);
+
 /* What a step does: it reads, writes memory of the call's own, or writes the rooms. */
 typedef enum CvlKind { CVL_READS, CVL_COPIES, CVL_WRITES } CvlKind;
 
@@ -175,7 +181,7 @@ CVL_HIDDEN bool cvl_ranges_in_parts(const CvlPool *pool, CvlWork *w);
     ensures !\result ==> rooms == \old(rooms); */
 CVL_HIDDEN bool cvl_senders_in_parts(const CvlPool *pool, CvlWork *w);
 /*@ requires 0 < w->parts <= CVL_MOST_PARTS;
-    assigns *w, rooms, made; */
+    assigns *w, rooms, kept, made; */
 CVL_HIDDEN bool cvl_combine_in_parts(const CvlPool *pool, CvlWork *w);
 /*@ requires 0 < w->parts <= CVL_MOST_PARTS;
     assigns *w, rooms, kept, made; */

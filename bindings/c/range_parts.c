@@ -1,4 +1,4 @@
-/* Permutes, first senders, combining permutes and transposes in parts: each part writes its own range of the result, for which it reads all indices. */
+/* Permutes, first senders and transposes in parts: each part writes its own range of the result, for which it reads all indices. */
 #include "parts.h"
 
 /* How many bytes of a room are kept, up to whole words. The marks stand behind them, and each part has words of its own. */
@@ -91,95 +91,6 @@ bool cvl_senders_in_parts(const CvlPool *pool, CvlWork *w) {
     w->rooms = w->from, w->told = cvl_done();
     return count_sent(pool, w, &wanted) && cvl_make_all(pool, w) && cvl_keep(w, w->in[CVL_AS_OUT].number * cvl_size(w)) &&
         cvl_writes_kept(pool, w, senders_part) && are_all(w, wanted);
-}
-
-/* ---- combining permutes: all indices are checked before any element is joined, so that a large room need not be kept ---- */
-
-/* Whether so many indices each name one of so many places. */
-/*@ requires \valid_read(index + (0 .. n - 1)) && places <= CVL_MOST_ELEMENTS;
-    assigns \nothing;
-    ensures \result <==> \forall integer k; 0 <= k < n ==> 0 <= index[k] < places; */
-static bool are_places(const int32_t *index, size_t n, size_t places) {
-    bool all = 1;
-    /*@ loop invariant 0 <= k <= n && (all == 0 || all == 1);
-        loop invariant all != 0 <==> \forall integer j; 0 <= j < k ==> 0 <= index[j] < places;
-        loop assigns k, all;
-        loop variant n - k; */
-    for (size_t k = 0; k < n; k++) all = all && index[k] >= 0 && (size_t)index[k] < places;
-    return all;
-}
-
-/* Each part checks another share of the indices, by its boundaries before the room is cut. */
-static CvlStatus look_part(CvlWork *w, size_t k) {
-    const int32_t *const index = w->in[CVL_AS_INDEX].at;
-    const bool all = are_places(index + w->from[k], w->from[k + 1] - w->from[k], w->in[CVL_AS_OUT].number);
-    return all ? cvl_done() : cvl_status(CVL_INDEX_OUT_OF_RANGE, -1);
-}
-
-/* So many indices say where the room is cut. */
-enum { SOME = 512 };
-
-/* Some of the indices at even distances, in ascending order. */
-/*@ requires \valid(some + (0 .. count - 1)) && 0 < count <= SOME && count <= n && \valid_read(index + (0 .. n - 1));
-    requires \separated(some + (0 .. count - 1), index + (0 .. n - 1));
-    assigns some[0 .. count - 1]; */
-static void sort_some(const int32_t *index, size_t n, int32_t *some, size_t count) {
-    /*@ loop invariant 0 <= k <= count;
-        loop assigns k, some[0 .. count - 1];
-        loop variant count - k; */
-    for (size_t k = 0; k < count; k++) {
-        /*@ assert n / count * k <= n / count * (count - 1) < n; */
-        const int32_t one = index[n / count * k];
-        size_t j = k;
-        /*@ loop invariant 0 <= j <= k;
-            loop assigns j, some[0 .. count - 1];
-            loop variant j; */
-        for (; j > 0 && some[j - 1] > one; j--) some[j] = some[j - 1];
-        some[j] = one;
-    }
-}
-
-/* Cuts the room so that about as many elements go to each part, also if few places have many. */
-/*@ requires \valid(w) && 0 < w->parts <= CVL_MOST_PARTS && places <= CVL_MOST_ELEMENTS;
-    requires n > 0 && \valid_read(index + (0 .. n - 1)) && \separated(w, index + (0 .. n - 1));
-    assigns w->from[0 .. CVL_MOST_PARTS];
-    ensures is_cut(&w->from[0], w->parts, places); */
-static void cut_room(CvlWork *w, const int32_t *index, size_t n, size_t places) {
-    int32_t some[SOME];
-    const size_t count = n < SOME ? n : SOME;
-    sort_some(index, n, some, count);
-    w->from[0] = 0;
-    /*@ loop invariant 1 <= k <= w->parts && w->from[0] == 0 && w->from[k - 1] <= places && w->parts == \at(w->parts, Pre);
-        loop invariant \forall integer i, j; 0 <= i <= j < k ==> w->from[i] <= w->from[j];
-        loop assigns k, w->from[1 .. CVL_MOST_PARTS - 1];
-        loop variant w->parts - k; */
-    for (size_t k = 1; k < w->parts; k++) {
-        /*@ assert count * k / w->parts < count; */
-        const int32_t one = some[count * k / w->parts];
-        const size_t at = one < 0 ? 0 : (size_t)one < places ? (size_t)one : places;
-        w->from[k] = at < w->from[k - 1] ? w->from[k - 1] : at;
-    }
-    w->from[w->parts] = places;
-}
-
-/* Joins what is sent to the part's range of the room, or counts it if the call has no operator. */
-static CvlStatus combine_part(CvlWork *w, size_t k) {
-    const size_t from = w->from[k], n = w->from[k + 1] - from, len = w->in[CVL_AS_INDEX].number;
-    const int32_t *const index = w->in[CVL_AS_INDEX].at;
-    size_t *const named = &w->counts[k];
-    if (w->row->operators == 0) return cvl_proved_counts_range(index, len, from, CVL_INT_ROOM(w, from), n, named);
-    if (cvl_of_bools(w)) {
-        return cvl_proved_combine_permute_bool_range(w->op, w->in[CVL_AS_A].at, len, index, len, from, CVL_BOOL_ROOM(w, from), n, named);
-    }
-    return cvl_proved_combine_permute_int_range(w->op, w->in[CVL_AS_A].at, len, index, len, from, CVL_INT_ROOM(w, from), n, named);
-}
-
-bool cvl_combine_in_parts(const CvlPool *pool, CvlWork *w) {
-    const CvlSlot index = w->in[CVL_AS_INDEX];
-    w->told = cvl_done();
-    if (!cvl_step(pool, w, CVL_READS, look_part) || !cvl_make_all(pool, w)) return 0;
-    cut_room(w, index.at, index.number, w->in[CVL_AS_OUT].number);
-    return cvl_step(pool, w, CVL_WRITES, combine_part);
 }
 
 /* ---- transposes: a part reads what its range of the result takes from the whole matrix ---- */

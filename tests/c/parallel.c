@@ -21,8 +21,8 @@ enum { MOST_THREADS = 4, MOST_PARTS = 9 };
 
 /* What the calls read: arrays of n elements, those of segments, and those of a result with m places. */
 static struct {
-    size_t n, m, k, segments, full_segments, trues, room, text_room, text_length, number_count, rows;
-    int32_t *a, *b, *small, *divisors, *shifts, *index, *select_index, *default_index, *back_index, *defaults;
+    size_t n, m, k, few, segments, full_segments, trues, room, text_room, text_length, number_count, rows;
+    int32_t *a, *b, *small, *divisors, *shifts, *index, *select_index, *default_index, *back_index, *few_index, *defaults;
     int32_t *lengths, *full, *wide, *back_lengths, *bad_lengths, *seg_index, *seg_select_index, *seg_default_index, *seg_back_index;
     int32_t *values, *strides, *seg_places, place;
     bool *p, *q, *flags, *seg_flags, *bool_defaults;
@@ -138,6 +138,8 @@ static bool is_white(char byte) { return byte == ' ' || byte == '\t' || byte == 
     X(bck_pez, bck_pez, in.a, in.n, in.seg_back_index, BY(in.lengths, in.segments), BY(in.back_lengths, in.segments), r->ints, in.k)                \
     X(bck_peb, bck_peb, in.p, in.n, in.seg_back_index, BY(in.lengths, in.segments), BY(in.back_lengths, in.segments), r->bools, in.k)
 
+#define FEW(X, op) X(combine_few_##op, cvl_combine_permute_int, CVL_##op, in.a, in.n, in.few_index, in.n, r->ints, in.few)
+
 /* The functions that have no call of the table, and calls that a caller gets wrong: overlaps, lengths that differ, no operator. */
 #define OTHERS(X)                                                                                                              \
     X(read_ints, cvl_read_ints, in.text, in.text_length, r->ints, in.room, &r->count)                                          \
@@ -156,6 +158,10 @@ static bool is_white(char byte) { return byte == ' ' || byte == '\t' || byte == 
     X(combine, cvl_combine_permute_int, CVL_ADD, in.a, in.n, in.default_index, in.n, r->ints, in.m)                            \
     X(combine_bools, cvl_combine_permute_bool, CVL_XOR, in.p, in.n, in.default_index, in.n, r->bools, in.m)                    \
     X(counts, cvl_counts, in.back_index, in.k, r->ints, in.n)                                                                  \
+    X(combine_few_bools, cvl_combine_permute_bool, CVL_AND, in.p, in.n, in.few_index, in.n, r->bools, in.few)                  \
+    X(xor_few_bools, cvl_combine_permute_bool, CVL_XOR, in.p, in.n, in.few_index, in.n, r->bools, in.few)                      \
+    X(counts_few, cvl_counts, in.few_index, in.n, r->ints, in.few)                                                             \
+    FEW(X, ADD) FEW(X, MUL) FEW(X, MIN) FEW(X, MAX) FEW(X, AND) FEW(X, IOR) FEW(X, XOR)                                        \
     X(transpose, cvl_transpose_int, in.a, in.n, in.rows, in.n / in.rows, r->ints, in.n)                                        \
     X(transpose_bools, cvl_transpose_bool, in.p, in.n, in.rows, in.n / in.rows, r->bools, in.n)                                \
     X(seg_combine, cvl_seg_combine_permute_int, CVL_MUL, in.a, in.n, in.seg_default_index, in.n, BY(in.lengths, in.segments),  \
@@ -348,11 +354,19 @@ static void make_fault(void) {
     in.seg_index[place] = below(2) == 0 ? in.seg_index[other] : -1;
     in.seg_select_index[place] = below(2) == 0 ? in.seg_select_index[other] : INT32_MAX;
     in.seg_default_index[place] = below(2) == 0 ? in.seg_default_index[other] : INT32_MIN;
+    in.few_index[place] = below(2) == 0 ? (int32_t)in.few : -1;
     if (in.k > 0) in.back_index[below((uint32_t)in.k)] = below(2) == 0 ? (int64_t)in.n : -1;
     if (in.k > 0) in.seg_back_index[below((uint32_t)in.k)] = below(2) == 0 ? (int64_t)in.n : -1;
     in.seg_places[below((uint32_t)in.full_segments)] = below(2) == 0 ? -1 : INT32_MAX;
     in.place = below(2) == 0 ? (int64_t)in.n : -1;
     in.text[below((uint32_t)in.text_length)] = "x-9"[below(3)];
+}
+
+/* Few places, of which the first have more than their share of the indices. */
+static void make_few(void) {
+    in.few = 1 + below((uint32_t)(in.n / 8 + 1));
+    in.few_index = random_ints(in.n, 9);
+    for (size_t k = 0; k < in.n; k++) in.few_index[k] = (int32_t)below((uint32_t)(below(2) == 0 ? in.few : in.few / 16 + 1));
 }
 
 static void make(size_t n, int fault_count) {
@@ -364,6 +378,7 @@ static void make(size_t n, int fault_count) {
     in.place = n == 0 ? 0 : (int32_t)below((uint32_t)n);
     make_segments();
     in.defaults = random_ints(in.m, 9), in.bool_defaults = random_bools(in.m), in.back_index = random_ints(in.k, 9);
+    make_few();
     shuffle(in.index, n);
     for (size_t k = 0; k < n; k++) {
         in.divisors[k] = in.divisors[k] == 0 ? -1 : in.divisors[k];
@@ -384,8 +399,8 @@ static void make(size_t n, int fault_count) {
 }
 
 static void let_go(void) {
-    void *all[] = {in.a, in.b, in.small, in.divisors, in.shifts, in.index, in.select_index, in.default_index, in.back_index, in.defaults,
-                   in.lengths, in.full, in.wide, in.back_lengths, in.bad_lengths, in.seg_index, in.seg_select_index,
+    void *all[] = {in.a, in.b, in.small, in.divisors, in.shifts, in.index, in.select_index, in.default_index, in.back_index, in.few_index,
+                   in.defaults, in.lengths, in.full, in.wide, in.back_lengths, in.bad_lengths, in.seg_index, in.seg_select_index,
                    in.seg_default_index, in.seg_back_index, in.values, in.strides, in.seg_places, in.p, in.q, in.flags, in.seg_flags,
                    in.bool_defaults, in.text, in.nested};
     for (size_t k = 0; k < sizeof all / sizeof *all; k++) free(all[k]);
@@ -394,6 +409,7 @@ static void let_go(void) {
 static size_t longest_room(void) {
     size_t most = in.n > in.m ? in.n : in.m;
     if (in.k > most) most = in.k;
+    if (in.few > most) most = in.few;
     return in.segments > most ? in.segments : most;
 }
 

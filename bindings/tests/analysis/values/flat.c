@@ -1,4 +1,4 @@
-/* flat.c: calls in parts on whole vectors, and permutes: flat_parts.c, range_parts.c and what they take of cut.c. */
+/* flat.c: calls in parts on whole vectors, and permutes: flat_parts.c, range_parts.c, combine_parts.c and what they take of cut.c. */
 #include "drivers.h"
 
 static int32_t number;
@@ -101,6 +101,14 @@ static void combine_bools(size_t n) {
     (void)cvl_combine_permute_bool_on(&pool, CVL_XOR, bools[n], n, others[n], n, bool_room[n], n);
 }
 
+/* One place, for which each part has a room of its own. */
+static void combine_few_ints(size_t n) { (void)cvl_combine_permute_int_on(&pool, CVL_ADD, ints[n], n, others[n], n, room[1], 1); }
+static void count_few(size_t n) { (void)cvl_counts_on(&pool, others[n], n, room[1], 1); }
+static void combine_few_bools(size_t n) {
+    fill_flags(bool_room, 5, 1);
+    (void)cvl_combine_permute_bool_on(&pool, CVL_XOR, bools[n], n, others[n], n, bool_room[1], 1);
+}
+
 /*
  * Indices that fall, but for one. The room is cut where sorted ones say, so that their numbers have to be known: of any numbers each order
  * would be followed, and none would say that a part ends behind its beginning.
@@ -118,6 +126,8 @@ static void combine_known_bools(size_t n) { put_indices(n), combine_bools(n); }
 void combines(void) {
     static const int32_t odds[] = {INT32_MIN, 0, 2, INT32_MAX};
     fill_ints(room);
+    fill(5, 1);
+    each_length(combine_few_ints, 1, 0), each_length(combine_few_bools, 1, 0), each_length(count_few, 1, 0);
     for (size_t k = 0; k < sizeof odds / sizeof *odds; k++) {
         odd = odds[k];
         fill(5, 1);
