@@ -33,6 +33,7 @@ EDITS = {
     "source.check_bases": [("docs/dev/architecture.md", "| `crew` |", "| `team` |")],
     "source.check_programs": [(".ci/pages/paths.py", '"""The paths', '#!/usr/bin/env python3\n"""The paths')],
     "source.check_columns": [("crates/sharing/src/lib.rt", "", "//" + " long" * 26 + "\n")],
+    "promises.check_contracts": [(PROVED, "`run`, `stop_line`", "`run`, `no_such_function`")],
     "promises.check_promises": [(PROVED, "", f"{TABLE}| a body | `crates/boards/must-fail/no_such.edit` |\n")],
     "promises.check_edits": [("crates/boards/must-fail/unnamed.edit", "", "file: src/lib.rt\n")],
     "promises.check_from_c": [("docs/user/rust.md", "is tested and not proved.", "is proved.")],

@@ -1,16 +1,17 @@
-"""The table of wrong bodies in docs/user/proved.md: what refuses each one is there, and each must-fail edit stands in the table."""
+"""docs/user/proved.md: the functions and laws that its table of crates names are theirs; what refuses each wrong body is there, and each
+must-fail edit stands in the table."""
 
 import re
 import sys
 
 from pages.source import cells_of
-from pages.texts import CASES, TOP, lines_of, text_of
+from pages.texts import CASES, TOP, lines_of, rows_of, text_of
 
 sys.path.append(str(TOP / "bindings"))
 
 import about
 
-PAGE, HEADING = "docs/user/proved.md", "## What shows each promise"
+PAGE, CRATES, HEADING = "docs/user/proved.md", "## Proved, crate by crate", "## What shows each promise"
 
 
 def has_test(text, name):
@@ -63,6 +64,19 @@ def rows():
         elif inside and cells_of(line) and not below.startswith("|-"):
             body, *_, references = cells_of(line)
             yield number, body, re.findall(r"`([^`]+)`", references)
+
+
+def check_contracts():
+    """Each crate of the page's first table is there, and one crate of its row has each name by whose contract the promise is proved."""
+    for crates, _, contracts in rows_of(lines_of(PAGE), CRATES):
+        folders = [TOP / "crates" / crate for crate in re.findall("`([^`]+)`", crates)]
+        yield from (f"{PAGE} names the crate {folder.name}, which is not there" for folder in folders if not folder.is_dir())
+        files = [path for folder in folders for path in folder.rglob("*") if path.suffix in (".rt", ".antt")]
+        text = "".join(path.read_text() for path in files)
+        for name in re.findall("`([^`]+)`", contracts):
+            last = name.split("::")[-1]
+            if last not in text if last.startswith("_") else not re.search(rf"\b{last}\b", text):
+                yield f"{PAGE} says that {name} has a contract in {crates}, which do not have that name"
 
 
 def check_promises():
