@@ -11,7 +11,7 @@ use crate::answers::{check_entries, product_or_fault};
 use crate::offsets::row_lengths;
 use crate::row_counts::rows_of;
 use crate::row_sums::{Checked, Wrapping};
-use crate::row_walks::{RowValues, RowWalk};
+use crate::row_walks::{RowByRow, RowValues, RowWalk};
 use cvl_base::{Config, Memory, Refused};
 use fresh::write_checked_in_runs;
 use segdes::SegLengths;
@@ -87,7 +87,7 @@ pub fn checked_sparse_product<R: Threads + Sync, A: Memory>(
     ensures { Gives (λ y. y.items) result (checked_sparse_product_of lengths.now columns.now values.now x.now) }
 {
     let rows = rows_of(lengths)?;
-    product_in_runs::<Checked, R, A>(rt, alloc, config, &rows, columns, values, x)
+    product_in_runs::<RowByRow<Checked>, R, A>(rt, alloc, config, &rows, columns, values, x)
 }
 
 /// [`sparse_product`] of rows given by offsets, one more than rows: row r has the entries from the one at offset r to the one

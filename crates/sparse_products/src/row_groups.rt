@@ -14,7 +14,7 @@ ghost use Rattle.sparse_products.specs.Rows.{row_item, row_value, wrapping};
 
 use crate::row_counts::entries_of;
 use crate::row_sums::{Wrapping, element_of, with_product};
-use crate::row_walks::{RowWalk, rows_into};
+use crate::row_walks::{RowByRow, RowWalk};
 use cvl_base::Binary;
 use cvl_base::integer::Sub;
 use fresh::Run;
@@ -73,7 +73,7 @@ fn differences_into(run: Run<i32>, lengths: &[i32], sums: &[i32]) -> Run<i32>
     run
 }
 
-/// Writes the values of a group of rows, as [`rows_into`] does.
+/// Writes the values of a group of rows, as [`RowWalk::walk`] does.
 fn group_into(
     run: Run<i32>,
     sums: &mut [i32],
@@ -94,43 +94,42 @@ fn group_into(
     if columns.len() < sums.len() && sums_into(sums, columns, values, x) {
         return (differences_into(run, lengths, sums), None);
     }
-    rows_into::<Wrapping>(run, lengths, columns, values, x)
+    RowByRow::<Wrapping>::walk(run, lengths, columns, values, x)
 }
 
-/// Writes the values of the rows with these lengths, as [`rows_into`] does.
-fn groups_into(
-    run: Run<i32>,
-    lengths: &[i32],
-    columns: &[i32],
-    values: &[i32],
-    x: &[i32],
-) -> (Run<i32>, Option<usize>)
-    requires lengths { AreLengthsWithin most_places lengths.now }
-    requires as_many { length values.now ≡ length columns.now }
-    requires covered { sum (map unsigned_abs lengths.now) ≤ length columns.now }
-    requires room { length lengths.now ≤ run.room }
-    ensures run { result.0 ≡ with_items run (map (row_item wrapping x.now)
-        (cut_of (map unsigned_abs lengths.now) (zip columns.now values.now))) }
-    ensures found { result.1 ≡ first_without (run.first + length run.items) (map (row_value wrapping x.now)
-        (cut_of (map unsigned_abs lengths.now) (zip columns.now values.now))) }
-{
-    let mut sums = [0; SUMS];
-    let (mut run, mut found, mut first) = (run, None, 0);
-    let (mut columns_left, mut values_left) = (columns, values);
-    while first < lengths.len() {
-        let next = (first + GROUP).min(lengths.len());
-        let group = &lengths[first..next];
-        let entries = entries_of(group);
-        let (group_columns, later_columns) = columns_left.split_at(entries);
-        let (group_values, later_values) = values_left.split_at(entries);
-        let (written, missing) = group_into(run, &mut sums, group, group_columns, group_values, x);
-        run = written;
-        found = found.or(missing);
-        columns_left = later_columns;
-        values_left = later_values;
-        first = next;
+/// Rows are added up group by group.
+struct GroupByGroup;
+
+impl RowWalk for GroupByGroup {
+    ghost use Rattle.sparse_products.specs.Rows.{wrapping};
+
+    ghost rule = { wrapping };
+
+    fn walk(
+        run: Run<i32>,
+        lengths: &[i32],
+        columns: &[i32],
+        values: &[i32],
+        x: &[i32],
+    ) -> (Run<i32>, Option<usize>) {
+        let mut sums = [0; SUMS];
+        let (mut run, mut found, mut first) = (run, None, 0);
+        let (mut columns_left, mut values_left) = (columns, values);
+        while first < lengths.len() {
+            let next = (first + GROUP).min(lengths.len());
+            let group = &lengths[first..next];
+            let entries = entries_of(group);
+            let (own_columns, later_columns) = columns_left.split_at(entries);
+            let (own_values, later_values) = values_left.split_at(entries);
+            let (written, missing) = group_into(run, &mut sums, group, own_columns, own_values, x);
+            run = written;
+            found = found.or(missing);
+            columns_left = later_columns;
+            values_left = later_values;
+            first = next;
+        }
+        (run, found)
     }
-    (run, found)
 }
 
 /// Rows are added up group by group, but for a few entries.
@@ -147,8 +146,8 @@ impl RowWalk for Wrapping {
         x: &[i32],
     ) -> (Run<i32>, Option<usize>) {
         if columns.len() < LEAST {
-            return rows_into::<Wrapping>(run, lengths, columns, values, x);
+            return RowByRow::<Wrapping>::walk(run, lengths, columns, values, x);
         }
-        groups_into(run, lengths, columns, values, x)
+        GroupByGroup::walk(run, lengths, columns, values, x)
     }
 }

@@ -1,54 +1,14 @@
 //! The walk over the rows of a matrix, which sums up and writes each; of all rows, or of one thread's share.
 
-ghost use Rattle.std.specs.Prelude.{◌≡◌, ◌+◌, ◌≤◌, length, map, sum, unsigned_abs};
-ghost use Rattle.std.specs.List.{zip};
-ghost use Rattle.cvl_base.specs.Descriptors.{AreLengthsWithin};
-ghost use Rattle.cvl_base.specs.Limits.{most_places};
-ghost use Rattle.cvl_base.specs.Nests.{cut_of};
-ghost use Rattle.fresh.specs.Found.{first_without};
-ghost use Rattle.fresh.specs.Places.{with_items};
-ghost use Rattle.sparse_products.specs.Rows.{row_item, row_value};
+ghost use Rattle.std.specs.Prelude.{◌≡◌, length, sum};
 
 use crate::row_counts::{entries_of, rows_of_share};
-use crate::row_sums::{Checked, RowSum};
+use crate::row_sums::RowSum;
 use fresh::{CheckedWriter, Run, first_found};
 use segdes::SegLengths;
 use std::marker::PhantomData;
 
-/// Writes the values of the rows with these lengths, 0 for a row that has none, and returns the first such place.
-///
-/// The entries begin with those of the rows; what follows is not read. The run must have room for one element for each row.
-pub(crate) fn rows_into<S: RowSum>(
-    run: Run<i32>,
-    lengths: &[i32],
-    columns: &[i32],
-    values: &[i32],
-    x: &[i32],
-) -> (Run<i32>, Option<usize>)
-    requires lengths { AreLengthsWithin most_places lengths.now }
-    requires as_many { length values.now ≡ length columns.now }
-    requires covered { sum (map unsigned_abs lengths.now) ≤ length columns.now }
-    requires room { length lengths.now ≤ run.room }
-    ensures run { result.0 ≡ with_items run (map (row_item S.rule x.now)
-        (cut_of (map unsigned_abs lengths.now) (zip columns.now values.now))) }
-    ensures found { result.1 ≡ first_without (run.first + length run.items) (map (row_value S.rule x.now)
-        (cut_of (map unsigned_abs lengths.now) (zip columns.now values.now))) }
-{
-    let (mut run, mut columns_left, mut values_left, mut found) = (run, columns, values, None);
-    for length in lengths {
-        let entries = *length as usize;
-        let (row_columns, later_columns) = columns_left.split_at(entries);
-        let (row_values, later_values) = values_left.split_at(entries);
-        let value = S::value(row_columns, row_values, x);
-        found = first_found(found, value, run.next_place());
-        run.push(value.unwrap_or(0));
-        columns_left = later_columns;
-        values_left = later_values;
-    }
-    (run, found)
-}
-
-/// A rule for the sum of a row, with the walk over rows that is fastest for it.
+/// A walk over the rows of a matrix, by a rule for the sum of a row.
 pub(crate) trait RowWalk {
     ghost use Rattle.std.specs.Prelude.{◌≡◌, ◌+◌, ◌≤◌, ℤ, Option, length, map, sum, unsigned_abs};
     ghost use Rattle.std.specs.List.{zip};
@@ -61,7 +21,10 @@ pub(crate) trait RowWalk {
 
     ghost rule: { ℤ → Option ℤ };
 
-    /// Writes the values of rows, as [`rows_into`] does.
+    /// Writes the values of the rows with these lengths, 0 for a row that has none, and tells the place of the first of these.
+    ///
+    /// The entries begin with those of the rows; what stands behind them is not read. The run must have room for one element
+    /// for each row.
     fn walk(
         run: Run<i32>,
         lengths: &[i32],
@@ -80,10 +43,10 @@ pub(crate) trait RowWalk {
 }
 
 /// Each row is added up by itself.
-impl RowWalk for Checked {
-    ghost use Rattle.cvl_base.specs.CheckedSums.{fitting};
+pub(crate) struct RowByRow<S>(PhantomData<S>);
 
-    ghost rule = { fitting };
+impl<S: RowSum> RowWalk for RowByRow<S> {
+    ghost rule = { S.rule };
 
     fn walk(
         run: Run<i32>,
@@ -92,7 +55,18 @@ impl RowWalk for Checked {
         values: &[i32],
         x: &[i32],
     ) -> (Run<i32>, Option<usize>) {
-        rows_into::<Checked>(run, lengths, columns, values, x)
+        let (mut run, mut columns_left, mut values_left, mut found) = (run, columns, values, None);
+        for length in lengths {
+            let entries = *length as usize;
+            let (row_columns, later_columns) = columns_left.split_at(entries);
+            let (row_values, later_values) = values_left.split_at(entries);
+            let value = S::value(row_columns, row_values, x);
+            found = first_found(found, value, run.next_place());
+            run.push(value.unwrap_or(0));
+            columns_left = later_columns;
+            values_left = later_values;
+        }
+        (run, found)
     }
 }
 

@@ -8,7 +8,7 @@ ghost use Rattle.sparse_products.specs.Rows.{product_by};
 
 use crate::answers::{check_entries, product_or_fault};
 use crate::row_sums::{Checked, Wrapping};
-use crate::row_walks::RowWalk;
+use crate::row_walks::{RowByRow, RowWalk};
 use cvl_base::Refused;
 use fresh::Room;
 use segdes::SegLengths;
@@ -61,5 +61,5 @@ pub fn checked_rows_product<A: Allocator>(
     requires { length columns.now ≤ most_places }
     ensures { Gives (λ y. y.items) result (checked_rows_product rows.now columns.now values.now x.now) }
 {
-    product_alone::<Checked, A>(alloc, rows, columns, values, x)
+    product_alone::<RowByRow<Checked>, A>(alloc, rows, columns, values, x)
 }

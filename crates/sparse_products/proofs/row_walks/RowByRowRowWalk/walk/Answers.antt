@@ -1,7 +1,7 @@
 use Rattle.sparse_products.proofs.Cited.{rules, ◌≡◌, ◌+◌, ◌-◌, ◌∷◌, [], length, length-append, drop, map, of_z, pos, to_z, unsigned_abs, w32, ap, ◌∙◌, arith, unwrap_or, zip, to_z-of_z}
 use Rattle.sparse_products.proofs.Cited.{sum_by-take-drop, cut_of, cut_more, read_at, length_here, written_more, row_item, zip_drop, zip_take}
 use Rattle.sparse_products.proofs.Answered.{found_more}
-use Rattle.sparse_products.proofs.row_walks.rows_into.Goals as goal
+use Rattle.sparse_products.proofs.row_walks.RowByRowRowWalk.walk.Goals as goal
 
 pub overflow_cast-entries : goal.overflow_cast-entries
 overflow_cast-entries g c = (length_here c.requires.lengths c.loop-length-test.true).fits

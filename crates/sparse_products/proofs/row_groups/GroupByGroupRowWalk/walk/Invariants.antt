@@ -1,5 +1,5 @@
 use Rattle.sparse_products.proofs.Cited.{◌≡◌, ◌+◌, ◌-◌, ◌≤◌, length, drop, map, unsigned_abs, sum, zip, option_or, cut_of, first_without, with_items, row_item, row_value, wrapping}
-use Rattle.sparse_products.proofs.row_groups.groups_into.Given as goal
+use Rattle.sparse_products.proofs.row_groups.GroupByGroupRowWalk.walk.Given as goal
 
 -- what is written and found with the rows that are left is what the whole has
 abbrev pub invariant-loop-first : goal.invariant-loop-first

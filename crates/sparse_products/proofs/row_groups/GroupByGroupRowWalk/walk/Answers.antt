@@ -2,7 +2,7 @@ use Rattle.sparse_products.proofs.Cited.{rules, ◌≡◌, ◌+◌, ◌-◌, ◌
 use Rattle.sparse_products.proofs.Cited.{range_left, range_lengths, range_read, written_more, row_item, row_value, wrapping, zip_drop, zip_take}
 use Rattle.sparse_products.proofs.Answered.{found_both}
 use Rattle.sparse_products.proofs.Cuts.{cut_group}
-use Rattle.sparse_products.proofs.row_groups.groups_into.Goals as goal
+use Rattle.sparse_products.proofs.row_groups.GroupByGroupRowWalk.walk.Goals as goal
 
 pub entries_of-entries-requires : goal.entries_of-entries-requires
 entries_of-entries-requires c = search (rules, range_lengths)

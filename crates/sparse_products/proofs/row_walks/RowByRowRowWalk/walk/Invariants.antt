@@ -1,5 +1,5 @@
 use Rattle.sparse_products.proofs.Cited.{◌≡◌, ◌+◌, ◌-◌, ◌≤◌, length, drop, map, unsigned_abs, sum, zip, option_or, cut_of, first_without, with_items, row_item, row_value}
-use Rattle.sparse_products.proofs.row_walks.rows_into.Given as goal
+use Rattle.sparse_products.proofs.row_walks.RowByRowRowWalk.walk.Given as goal
 
 -- what is written and found with the rows that are left is what the whole has
 abbrev pub invariant-loop-length : goal.invariant-loop-length
