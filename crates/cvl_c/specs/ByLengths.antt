@@ -10,9 +10,11 @@ use Rattle.flag_merges.specs.Merges.{seg_merge_of}
 use Rattle.segment_slices.specs.Pairs.{append_segments_of}
 
 module _ {X : Type 0} where
+  -- each segment of the source, at the places that its indices name
   abbrev pub simple_by_lengths : List X → List ℤ → List ℤ → Result (List X) Fault
   simple_by_lengths source index lengths = by_segments lengths (λ d. in_limit index (seg_simple_of source index d))
 
+  -- the same of the elements whose flags are true
   abbrev pub select_by_lengths : List X → List ℤ → List Bool → List ℤ → Result (List X) Fault
   select_by_lengths source index flags lengths = by_segments lengths (λ d. in_limit index (seg_select_of source index flags d))
 
@@ -37,10 +39,12 @@ module _ {X : Type 0} where
       by_segments lengths (λ d. by_segments true_lengths (λ e. by_segments false_lengths
       (λ g. seg_merge_of flags d when_true e when_false g)))
 
+-- for each place of a segment of the result, the first place of the same segment of the index that names it
 abbrev pub first_senders_by_lengths : List ℤ → List ℤ → List ℤ → Result (List ℤ) Fault
 first_senders_by_lengths index lengths result_lengths =
     by_segments lengths (λ d. by_segments result_lengths (λ e. in_limit index (seg_first_senders_of index d e)))
 
+-- the same of the places whose flags are true
 abbrev pub select_first_senders_by_lengths : List ℤ → List Bool → List ℤ → List ℤ → Result (List ℤ) Fault
 select_first_senders_by_lengths index flags lengths result_lengths =
     by_segments lengths (λ d. by_segments result_lengths (λ e. in_limit index (seg_select_first_senders_of index flags d e)))

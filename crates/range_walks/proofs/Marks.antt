@@ -1,7 +1,9 @@
 -- Marks of where segments start, and the scan of elements by them.
 -- Source: what the definitions of marks and of scans imply.
-use Rattle.range_walks.proofs.Cited.{◌≡◌, ℕ, ℤ, pos, unsigned_abs, zero, suc, ◌+◌, ◌-◌, ◌<◌, ◌≤◌, Bool, false, true, if◌then◌else◌, List, [], ◌∷◌, ◌++◌, length, take, drop, map, get_or, refl, subst, sym, ap, ◌∙◌}
-use Rattle.range_walks.proofs.Cited.{IsTrue, arith, sum, length-append, length-drop, drop_more, flat_map-append, sum-cons, with_starts, range_scan_of, MonoidLaws, start_of, sum_by-take-drop, sum_by-drop_more}
+use Rattle.range_walks.proofs.Cited.{◌≡◌, ℕ, ℤ, pos, unsigned_abs, zero, suc, ◌+◌, ◌-◌, ◌<◌, ◌≤◌, Bool, false, true}
+use Rattle.range_walks.proofs.Cited.{if◌then◌else◌, List, [], ◌∷◌, ◌++◌, length, take, drop, map, get_or, refl, subst, sym, ap, ◌∙◌}
+use Rattle.range_walks.proofs.Cited.{IsTrue, arith, sum, length-append, length-drop, drop_more, flat_map-append}
+use Rattle.range_walks.proofs.Cited.{sum-cons, with_starts, range_scan_of, MonoidLaws, start_of, sum_by-take-drop, sum_by-drop_more}
 use Rattle.range_walks.specs.Marks.{one_start, starts_of}
 use Rattle.range_walks.proofs.LastStart.{with_starts-none}
 use Rattle.std.specs.Prelude.{replicate, set}

@@ -2,7 +2,8 @@
 //! takes longer than the elements do. So the places where segments start are marked first, and one loop then goes over the
 //! elements of many segments.
 
-ghost use Rattle.std.specs.Prelude.{◌≡◌, false, if◌then◌else◌, ◌++◌, ◌+◌, ◌-◌, ◌<◌, ◌≤◌, length, map, replicate, sum, unsigned_abs};
+ghost use Rattle.std.specs.Prelude.{◌≡◌, false, if◌then◌else◌, ◌++◌, ◌+◌, ◌-◌, ◌<◌, ◌≤◌, length, map, replicate, sum};
+ghost use Rattle.std.specs.Prelude.{unsigned_abs};
 ghost use Rattle.std.specs.List.{AllPass, zip};
 ghost use Rattle.cvl_base.specs.Descriptors.{AreLengthsWithin};
 ghost use Rattle.cvl_base.specs.Limits.{most_places};
@@ -22,8 +23,8 @@ const GROUP: usize = 128;
 /// How many elements they have at most; more are walked segment by segment.
 const MARKED: usize = 1024;
 
-/// Whether marks pay: the segments have fewer than two elements on average, or few and not all equally many, so that the processor
-/// does not foresee where each ends. The first segments show that.
+/// Whether marks pay: the segments have fewer than two elements on average, or few and not all equally many, so that the
+/// processor does not foresee where each ends. The first segments show that.
 pub(crate) fn marks_pay(lengths: &[i32], elements: usize) -> bool {
     if elements / 2 < lengths.len() {
         return true;

@@ -29,7 +29,9 @@ loop-place-preserved g c =
 
 pub returns : goal.returns
 returns g c =
-    let pairs = zip c.args.marks.now (map g.E.Reading.item c.args.xs.now) in
-    let over : length pairs ≤ c.loop-place.place = omega (arith, c.loop-place-test.false, length-zip c.args.marks.now (map g.E.Reading.item c.args.xs.now), length-map c.args.xs.now g.E.Reading.item) in
+    let items = map g.E.Reading.item c.args.xs.now in
+    let pairs = zip c.args.marks.now items in
+    let long = length-map c.args.xs.now g.E.Reading.item in
+    let over : length pairs ≤ c.loop-place.place = omega (arith, c.loop-place-test.false, length-zip c.args.marks.now items, long) in
     let none = drop_all c.loop-place.place pairs over in
     search (rules, none, all_written, c.loop-place.invariant.whole)
