@@ -49,8 +49,8 @@ pub trait Work<T, U>: Sized {
         ensures { result ≡ together first second };
 }
 
-/// Does the work by so many threads: the one that calls starts the others, of which there are more than eight, half of them by
-/// the first that it starts. Where none can be made the parts are done in turn.
+/// Does the work on so many threads, of which the calling thread is one; each half of them starts the other threads that it
+/// needs. If a thread cannot be started, its part is done in turn.
 #[cycle(halves)]
 pub fn run_shared<T: Send, U: Send, R: Threads + Sync, W: Work<T, U> + Sync + Drop>(
     rt: &R,
