@@ -30,7 +30,7 @@ NO_INPUT = "14 NoSuchInput, without a place; else 13 TooLong, without a place, i
 SECTIONS = (
     Section(
         "Elementwise calls",
-        "The result has one element for each place of the arguments. What does not fit 32 bits wraps, without a fault.",
+        "All arguments have equal lengths, and the result has an element for each of their places. What does not fit 32 bits wraps, without a fault.",
         (
             Entry(
                 ("add_wuz", "sub_wuz", "mul_wuz", "min_wuz", "max_wuz", "and_wuz", "ior_wuz", "xor_wuz"),
@@ -60,7 +60,7 @@ SECTIONS = (
                 "The element of a if the flag is T, and that of b if it is F.",
                 ("choice", "Each element leads to the place at which its flag chooses it"), ("select",),
             ),
-            Entry(("and_wub", "ior_wub", "xor_wub"), "and, or, exclusive or of flags", "And, or or exclusive or of each pair of booleans.", costs=("and, on booleans",)),
+            Entry(("and_wub", "ior_wub", "xor_wub"), "and, or, exclusive or of flags", "The and, or or exclusive or of each pair of booleans.", costs=("and, on booleans",)),
             Entry(("int_wub",), "0 and 1 of flags", "1 for T and 0 for F.", costs=("integers of booleans",)),
             Entry(("boo_wuz",), "flags of numbers that are not 0", "T if the number is not 0.", costs=("booleans of integers",)),
         ),
@@ -118,8 +118,8 @@ SECTIONS = (
         "Permutes",
         "In a simple, select or default permute, the index of a place says where its element goes: inside the result, and no two to one place. In a back permute "
         "it says where the element comes from: inside the source, and it may repeat.\n\n"
-        "In a segmented call an index counts from the start of its own segment, and has to lie inside that segment of the result or source. The place of a "
-        "fault is that in the whole index vector; an index that is both outside and repeated is fault 10.",
+        "In a segmented call an index counts from the start of its own segment, and has to lie inside that segment of the result or source. An index that is "
+        "both outside and repeated is fault 10.",
         (
             Entry(
                 ("smp_puz", "smp_pub"), "simple permute: each element goes to its index", "Element k of the source goes to place `index[k]` of the result.",

@@ -7,17 +7,20 @@ import reference
 
 HEAD = """# The calls
 
-Look up a call: what it takes and gives, its faults, and an example. The index has each call by what it does, and the [glossary](glossary.md) by its name in numpy, Thrust or CVL. C, Fortran, Python and Rust have [more functions](#functions-that-no-script-calls).
+Look up a call: what it takes and gives, its faults, and an example. The index has each call by what it gives, and the [glossary](glossary.md) by its name in numpy, Thrust or CVL. C, Fortran, Python and Rust have [more functions](#functions-that-no-script-calls).
 
 The comment after an `input` shows what it holds. In the pictures a box is an element and a frame a segment; arrows lead from an element to where it goes."""
 
 READING = """## Reading an entry
 
 - A name such as `bck_puz` is an operator and three letters: `w` for elementwise, `s` scan, `r` reduce, `p` permute, `v` vectors with single values, or `l` library; `u` for flat or `e` for segmented; and `z` for integers or `b` for booleans. So `bck_puz` is a back permute of a flat vector of integers.
-- *Integers* and *booleans* are vectors, an *integer* and a *boolean* single values. *Elements* are either, by the last letter of the name. Arguments come in the order of `Takes`.
+- `Takes` has the arguments in their order. *Integers* and *booleans* are vectors, an *integer* and a *boolean* single values; *elements* are integers or booleans, by the last letter of the name.
 - A descriptor is the lengths of the segments of a vector; its *total* is their sum. A segmented call does in each segment what the flat call does on a whole vector, and its results lie one after another.
-- Places count from 0, and the place of a fault is that in the whole vector. A fault of an element is reported at the least place that has one.
-- Lengths that are not equal are fault 7 LengthMismatch, without a place, before all others of the entry. An entry without a line `Faults` has no others. `script.md` has those that any line may have, which come first."""
+- Lengths that have to be equal and are not are fault 7 LengthMismatch, without a place, before all other faults of the entry. `Faults` has these others; without that line there are none. `script.md` has those of any line, which come first.
+- Places count from 0, in the whole vector. A fault of an element is reported at the least place that has one."""
+
+# sections that say which lengths are equal, so that no entry does
+OF_EQUAL_LENGTHS = {"Elementwise calls"}
 
 BESIDE = """## Functions that no script calls
 
@@ -39,9 +42,9 @@ def index(found, leads_to):
 
 
 def said(entry):
-    """What an entry takes and gives, which lengths must agree, and its other faults."""
+    """What an entry takes and gives, which lengths must agree if its section does not say so, and its other faults."""
     lines = [f"Takes: {entry.takes}. Gives: {entry.gives}."]
-    lines += [f"Equal lengths: {entry.agree}."] if entry.agree else []
+    lines += [f"Equal lengths: {entry.agree}."] if entry.agree and entry.section not in OF_EQUAL_LENGTHS else []
     others = re.sub(r"^7 LengthMismatch(?:\.|; )", "", entry.faults)
     lines += [f"Faults: {others}"] if others not in ("", "none.") else []
     return "\n".join(f"- {line}" for line in lines)
