@@ -5,7 +5,6 @@ pub mod call_words;
 pub mod known_words;
 pub mod line_faults;
 pub mod line_laws;
-mod line_tokens;
 mod misplaced;
 mod nearest_calls;
 pub mod pieces;

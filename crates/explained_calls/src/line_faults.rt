@@ -12,8 +12,7 @@ ghost use Rattle.explained_calls.specs.PlacedTokens.{placed_by};
 ghost use Rattle.explained_calls.specs.Sentences.{indented};
 
 use crate::call_words::{put_call_words, put_spelling};
-use crate::line_tokens::{LineBytes, before_comment, is_boolean_token, is_equals};
-use crate::misplaced::{hint_of, is_write_line};
+use crate::misplaced::{hint_of, is_equals, is_write_line};
 use crate::nearest_calls::nearest_call;
 use crate::pieces::{ending, put_pieces, put_shortened};
 use crate::placed_tokens::next_token;
@@ -21,6 +20,7 @@ use crate::wanted::{Hint, Wanted};
 use cvl_base::name::is_name_text;
 use cvl_base::{FaultNo, Memory, NoResources, Op, op_of};
 use itoa::Buffer;
+use line_reader::line_tokens::{LineClasses, before_comment, is_boolean_token};
 use line_reader::number::number;
 
 /// The words for what is wanted.
@@ -81,7 +81,7 @@ fn names_before(line: &[u8]) -> (usize, usize)
 {
     let mut count = 0;
     let mut place = 0;
-    while let Some((token, behind)) = next_token::<LineBytes>(line, place) {
+    while let Some((token, behind)) = next_token::<LineClasses>(line, place) {
         if is_equals(token.bytes) {
             return (count, behind);
         }
@@ -105,7 +105,7 @@ fn parts_of(line: &[u8]) -> Parts<'_>
         call: b"",
         behind: line.len(),
     };
-    let Some((first, behind)) = next_token::<LineBytes>(line, 0) else {
+    let Some((first, behind)) = next_token::<LineClasses>(line, 0) else {
         return nothing;
     };
     if is_write_line(line, first.bytes, behind) {
@@ -116,7 +116,7 @@ fn parts_of(line: &[u8]) -> Parts<'_>
         };
     }
     let (names, from) = names_before(line);
-    match next_token::<LineBytes>(line, from) {
+    match next_token::<LineClasses>(line, from) {
         Some((call, behind)) => Parts {
             names,
             call: call.bytes,
@@ -170,7 +170,7 @@ fn count_tokens(line: &[u8], from: usize) -> usize
 {
     let mut count = 0;
     let mut place = from;
-    while let Some((_, behind)) = next_token::<LineBytes>(line, place) {
+    while let Some((_, behind)) = next_token::<LineClasses>(line, place) {
         place = behind;
         count += 1;
     }
@@ -259,7 +259,7 @@ fn put_bad_number<A: Memory>(
         ++ number_line (find (λ token. is_bad_number token.bytes) (placed_by line_class from (drop from line.now)))) }
 {
     let mut place = from;
-    while let Some((token, behind)) = next_token::<LineBytes>(line, place) {
+    while let Some((token, behind)) = next_token::<LineClasses>(line, place) {
         if is_bad_number(token.bytes) {
             put_pieces(text, &[b"  "])?;
             put_shortened(text, token.bytes)?;

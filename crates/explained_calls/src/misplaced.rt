@@ -4,13 +4,20 @@ ghost use Rattle.std.specs.Prelude.{◌≡◌, ◌≤◌, drop, ◌+◌, length,
 ghost use Rattle.line_reader.specs.Lines.{line_class};
 ghost use Rattle.explained_calls.specs.declared.wanted.Hint.{Hint};
 ghost use Rattle.explained_calls.specs.Misplaced.{begins_with_equals, hint_after_equals, hint_after_first, hint_after_names};
-ghost use Rattle.explained_calls.specs.Misplaced.{hint_at, hint_of, is_wanted, is_write_line, wanting, wanting_each};
+ghost use Rattle.explained_calls.specs.Misplaced.{hint_at, hint_of, is_equals, is_wanted, is_write_line, wanting, wanting_each};
 ghost use Rattle.explained_calls.specs.PlacedTokens.{Placed, placed, placed_by};
 
-use crate::line_tokens::{LineBytes, is_argument, is_equals};
 use crate::placed_tokens::{Token, next_token};
 use crate::wanted::{Hint, Wanted};
 use cvl_base::name::{is_name_text, is_word_text};
+use line_reader::line_tokens::{LineClasses, is_argument};
+
+/// Whether the token is `=`.
+pub(crate) fn is_equals(token: &[u8]) -> bool
+    ensures { result ≡ is_equals token.now }
+{
+    token == b"=".as_slice()
+}
 
 /// Whether the token may stand where this is wanted.
 fn is_wanted(wanted: Wanted, token: &[u8]) -> bool
@@ -45,7 +52,7 @@ fn wanting(line: &[u8], from: usize, wanted: Wanted) -> Result<(Token<'_>, usize
         ≡ rest (placed t.0.start t.0.bytes.now) (placed_by line_class t.1 (drop t.1 line.now)))
         (λ hint. wanting wanted from (placed_by line_class from (drop from line.now)) rest ≡ Some hint) }
 {
-    match next_token::<LineBytes>(line, from) {
+    match next_token::<LineClasses>(line, from) {
         None => Err(Hint {
             place: from,
             ends: true,
@@ -67,7 +74,7 @@ fn wanting_each(line: &[u8], from: usize, wanted: Wanted) -> Option<Hint>
     ensures { result ≡ wanting_each wanted (placed_by line_class from (drop from line.now)) }
 {
     let mut place = from;
-    while let Some((token, behind)) = next_token::<LineBytes>(line, place) {
+    while let Some((token, behind)) = next_token::<LineClasses>(line, place) {
         if !is_wanted(wanted, token.bytes) {
             return Some(hint_at(token.start, wanted));
         }
@@ -122,7 +129,7 @@ fn begins_with_equals(line: &[u8], from: usize) -> bool
     requires { from ≤ length line.now }
     ensures { result ≡ begins_with_equals (placed_by line_class from (drop from line.now)) }
 {
-    match next_token::<LineBytes>(line, from) {
+    match next_token::<LineClasses>(line, from) {
         Some((token, _)) => is_equals(token.bytes),
         None => false,
     }
@@ -140,7 +147,7 @@ pub(crate) fn is_write_line(line: &[u8], first: &[u8], from: usize) -> bool
 pub(crate) fn hint_of(line: &[u8]) -> Option<Hint>
     ensures { result ≡ hint_of (placed_by line_class 0 line.now) }
 {
-    let (first, behind) = next_token::<LineBytes>(line, 0)?;
+    let (first, behind) = next_token::<LineClasses>(line, 0)?;
     if is_write_line(line, first.bytes, behind) {
         return wanting_each(line, behind, Wanted::Name);
     }

@@ -3,7 +3,7 @@
 
 mod args;
 mod digits;
-mod line_tokens;
+pub mod line_tokens;
 mod lines;
 pub mod number;
 pub mod token;

@@ -10,7 +10,7 @@ use crate::token::{ByteClass, Classes, first_token};
 use cvl_base::name::is_name_text;
 
 /// The classes of the bytes of a line.
-pub(crate) struct LineClasses;
+pub struct LineClasses;
 
 impl Classes for LineClasses {
     ghost class_of = { line_class };
@@ -36,7 +36,7 @@ fn comment_start(line: &[u8]) -> Option<usize>
 
 /// What stands before the first `#`.
 #[tactic(auto, using(crate::proofs::Comments::cut_at_first, crate::proofs::Comments::whole_without))]
-pub(crate) fn before_comment(line: &[u8]) -> &[u8]
+pub fn before_comment(line: &[u8]) -> &[u8]
     ensures { result.now ≡ before_comment line.now }
 {
     match comment_start(line) {
@@ -84,12 +84,12 @@ impl TokenTest for Arguments {
     ghost passes = { is_arg };
 
     fn passes(token: &[u8]) -> bool {
-        is_name_text(token) || is_boolean_token(token) || is_number_token(token)
+        is_argument(token)
     }
 }
 
 /// Whether the token is `T` or `F`.
-pub(crate) fn is_boolean_token(token: &[u8]) -> bool
+pub fn is_boolean_token(token: &[u8]) -> bool
     ensures { result ≡ is_boolean_token token.now }
 {
     token == b"T".as_slice() || token == b"F".as_slice()
@@ -103,6 +103,13 @@ fn is_number_token(token: &[u8]) -> bool
         None => false,
         Some(first) => first.is_ascii_digit() || *first == b'-',
     }
+}
+
+/// Whether the token may be an argument: a name, `T`, `F`, or one that begins as a number does.
+pub fn is_argument(token: &[u8]) -> bool
+    ensures { result ≡ is_arg token.now }
+{
+    is_name_text(token) || is_boolean_token(token) || is_number_token(token)
 }
 
 /// The number of tokens, where each passes the test; none where one doesn't.
