@@ -1,4 +1,4 @@
-//! Orders, ranks and sorts on several threads, of keys whose ranks are known from how they are made.
+//! Orders, ranks and sorts by one thread or several, of keys whose ranks are known from how they are made.
 
 use cvl_base::limits::MOST_PLACES;
 use cvl_base::{Memory, NoResources};
@@ -8,9 +8,6 @@ use std::thread::Threads;
 
 /// A prime that divides none of the lengths, so that its multiples leave each remainder once.
 const STEP: u32 = 7_919;
-
-/// How far apart the keys are, so that they differ in each digit.
-const APART: i32 = 8_191;
 
 /// What a room holds before.
 const BEFORE: i32 = -7;
@@ -23,9 +20,16 @@ fn rank_at(k: u32, n: u32) -> i32 {
     (k.wrapping_mul(STEP) % n).cast_signed()
 }
 
-/// The key of a rank.
-fn key_of(rank: i32) -> i32 {
-    rank.wrapping_sub(131_072).wrapping_mul(APART)
+/// How far apart n keys are: as far as they fit, and an odd number, so that they differ in each digit.
+fn apart(n: u32) -> i32 {
+    let most = i32::MAX.cast_unsigned() / (n / 2 + 1);
+    most.saturating_sub(1 - most % 2).cast_signed()
+}
+
+/// The key of a rank among n.
+fn key_of(rank: i32, n: u32) -> i32 {
+    rank.wrapping_sub((n / 2).cast_signed())
+        .wrapping_mul(apart(n))
 }
 
 /// Whether the ranks of n keys are those that they were made of.
@@ -53,10 +57,10 @@ fn is_order(order: &[i32], n: u32) -> bool {
 }
 
 /// Whether each key stands at its rank.
-fn are_in_order(keys: &[i32]) -> bool {
+fn are_in_order(keys: &[i32], n: u32) -> bool {
     let mut rank = 0i32;
     for key in keys {
-        if *key != key_of(rank) {
+        if *key != key_of(rank, n) {
             return false;
         }
         rank = rank.wrapping_add(1);
@@ -88,7 +92,7 @@ pub fn are_right<R: Threads + Sync, A: Memory>(
     }
     let mut keys = vec![in heap; 0; count]?;
     for k in 0..keys.len() {
-        keys[k] = key_of(rank_at(k as u32, n));
+        keys[k] = key_of(rank_at(k as u32, n), n);
     }
     let mut ranks = vec![in heap; BEFORE; count]?;
     if rank_shared(rt, heap, threads, &keys, &mut ranks).is_err() {
@@ -103,5 +107,10 @@ pub fn are_right<R: Threads + Sync, A: Memory>(
         return refused(&sorted);
     }
     sort_in_shared(rt, heap, threads, &mut keys)?;
-    Ok(are_ranks(&ranks, n) && is_order(&order, n) && are_in_order(&sorted) && are_in_order(&keys))
+    Ok(
+        are_ranks(&ranks, n)
+            && is_order(&order, n)
+            && are_in_order(&sorted, n)
+            && are_in_order(&keys, n),
+    )
 }

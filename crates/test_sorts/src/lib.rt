@@ -1,10 +1,8 @@
-//! Tests of orders, ranks and sorts: worked values, keys beyond each length at which a sort changes its way, and each request for
-//! memory refused in turn.
+//! Tests of orders, ranks and sorts: worked values, and each request for memory refused in turn. `test_sharing` has keys of each
+//! length at which a sort changes its way.
 #![tactic(auto)]
 
 #[cfg(test)]
 mod refused;
-#[cfg(test)]
-mod ways;
 #[cfg(test)]
 mod worked;
