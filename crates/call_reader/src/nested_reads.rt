@@ -51,6 +51,7 @@ fn described<A: Memory>(
     ensures in_limit { IfOk result (λ p. vec_len p.0 ≤ most_elements) }
     ensures few { IfOk result (λ p. length p.1 ≤ most_elements) }
 {
+    // only the contract names it
     let _bytes = bytes;
     let descriptor = SegDes::new(alloc, Lengths::from_vec(lengths))?;
     Ok((numbers, descriptor))

@@ -40,5 +40,6 @@ pub fn nested_text_values<A: Allocator>()
 pub fn integer_reads_back<A: Allocator>(number: i32)
     ensures { written_number (text_of {A = A} (value.Integer number)) ≡ Some number }
 {
+    // only the contract names it
     let _number = number;
 }

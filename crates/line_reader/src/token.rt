@@ -95,5 +95,6 @@ pub fn token_laws<C: Classes>(bytes: &[u8])
     ensures whole { concat (tokens_by C.class_of bytes.now) ≡ filter (λ b. not (is_blank (C.class_of b))) bytes.now }
     ensures none_empty { IsTrue (list_all (λ token. not (is_empty token)) (tokens_by C.class_of bytes.now)) }
 {
+    // only the contract names it
     let _bytes = bytes;
 }

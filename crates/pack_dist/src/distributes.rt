@@ -83,7 +83,7 @@ pub fn seg_distribute_over<T: Copy, A: Allocator>(
 ) -> Result<(), Fault>
     ensures { Overwrites (in_room (length out.old) (seg_distribute_within most_places values.now d.now)) result out.old out.new }
 {
-    // its contract bounds it
+    // its contract bounds the total
     let _total = d.total();
     let (copies, total) = segment_copies(values, d, MOST_PLACES)?;
     write_room(&copies, total, out)

@@ -91,7 +91,7 @@ pub fn seg_index_over<A: Allocator>(
     ensures { Overwrites (in_room (length out.old) (seg_index_within most_places inits.now strides.now d.now))
         result out.old out.new }
 {
-    // its contract bounds it
+    // its contract bounds the total
     let _total = d.total();
     let (numbers, total) = segment_progressions(inits, strides, d, MOST_PLACES)?;
     write_room(&numbers, total, out)
