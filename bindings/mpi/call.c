@@ -81,12 +81,6 @@ static void name_slots(CvlCall *c) {
 
 /* ---- memory ---- */
 
-void *cvl_take(CvlCall *c, size_t number, size_t size) {
-    void *const found = number <= SIZE_MAX / size ? malloc(number == 0 ? size : number * size) : NULL;
-    if (found == NULL) cvl_say(c, cvl_status(CVL_NO_RESOURCES, -1));
-    return found;
-}
-
 void cvl_set_aside(CvlCall *c) {
     if (c->status.number == CVL_DONE) c->aside = cvl_take(c, c->in[CVL_AS_OUT].number, cvl_room_size(c));
 }

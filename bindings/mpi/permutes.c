@@ -1,7 +1,7 @@
 /*
- * Permutes, first senders and combining permutes over ranks: each element goes to the rank that has its place, in the order of the vector,
- * and that rank makes the plain call of what it gets. A place that is named twice is named twice at one rank, so the first repeated index
- * is the least of those that ranks find; its sender knows where it stands.
+ * Permutes, first senders and combining permutes over ranks: each element goes to the rank that has its place, and that rank makes the plain
+ * call of what it gets. Elements of one place come in the order of the vector, and so do all if an index is bad. A place that is named twice is
+ * named twice at one rank, so the first repeated index is the least of those that ranks find; its sender knows where it stands.
  */
 #include "permutes.h"
 
@@ -13,8 +13,9 @@ typedef struct Sending {
     int64_t out_of_range; /* the first index that is out of range, or -1 */
     int32_t *sent_places, *got_places; /* within the rank that has them */
     void *sent, *got;                  /* the elements */
-    size_t count, received;
+    size_t received;
     CvlTargets targets;
+    CvlBins bins;
 } Sending;
 
 static bool has(const CvlCall *c, CvlAs as) {
@@ -43,12 +44,13 @@ static bool are_places_enough(const CvlCall *c) { return c->combines && !has(c, 
 /* Whether an index may be named twice. */
 static bool may_repeat(const CvlCall *c) { return c->combines || !has(c, CVL_AS_A); }
 
-/* Finds the place of each index, and counts what each rank gets. */
+/* Finds the place of each index, and counts what each bin and each rank gets. */
 static void find_places(CvlCall *c, Sending *s) {
     const int32_t *index = c->in[CVL_AS_INDEX].at;
     const bool *flags = has(c, CVL_AS_FLAGS) ? c->in[CVL_AS_FLAGS].at : NULL;
     size_t k = 0;
     memset(c->ranks->sends, 0, (size_t)c->ranks->size * sizeof *c->ranks->sends);
+    if (c->status.number != CVL_DONE) return;
     for (size_t p = 0; p < s->targets.pieces; p++) {
         const int64_t start = s->targets.starts[p], places = s->targets.places[p];
         for (const size_t to = k + cvl_indices_of(&s->targets, p); k < to; k++) {
@@ -56,17 +58,18 @@ static void find_places(CvlCall *c, Sending *s) {
             if (flags != NULL && !flags[k]) continue;
             if (index[k] >= 0 && index[k] < places) {
                 s->places[k] = (int32_t)(start + index[k]);
-                c->ranks->sends[cvl_owner(c->ranks, (uint64_t)s->places[k])]++;
-                s->count++;
+                cvl_bin_of(&s->bins, s->places[k])->next++;
             } else if (s->out_of_range < 0) {
                 s->out_of_range = (int64_t)k;
             }
         }
     }
+    for (size_t b = 0; b < s->bins.count; b++) c->ranks->sends[s->bins.bin[b].rank] += (int)s->bins.bin[b].next;
+    cvl_start_bins(&s->bins);
 }
 
-/* Puts places and elements in the order of the ranks that they are for. */
-static void fill(CvlCall *c, Sending *s) {
+/* Puts places and elements in the order of the bins that they are for, or in that of the ranks alone. */
+static void fill(CvlCall *c, Sending *s, bool in_order) {
     CvlRanks *const ranks = c->ranks;
     const size_t n = c->in[CVL_AS_INDEX].number;
     const int32_t *const ints = source_of(c);
@@ -77,14 +80,14 @@ static void fill(CvlCall *c, Sending *s) {
     for (size_t k = 0; k < n; k++) {
         while (senders && k == until) first = 0, at = until, until += cvl_indices_of(&s->targets, ++p);
         if (s->places[k] < 0) continue;
-        const int owner = cvl_owner(ranks, (uint64_t)s->places[k]);
-        const int to = ranks->send_from[owner]++;
-        s->sent_places[to] = (int32_t)((uint64_t)s->places[k] - ranks->offsets[owner]);
+        CvlBin *const bin = cvl_bin_of(&s->bins, s->places[k]);
+        const size_t to = in_order ? (size_t)ranks->send_from[bin->rank]++ : bin->next++;
+        s->sent_places[to] = (int32_t)((uint32_t)s->places[k] - bin->part);
         if (are_places_enough(c)) continue;
         if (is_bool) ((bool *)s->sent)[to] = bools[k];
         else ((int32_t *)s->sent)[to] = senders ? (int32_t)(first + (int64_t)(k - at)) : ints[k];
     }
-    for (int r = 0; r < ranks->size; r++) ranks->send_from[r] -= ranks->sends[r];
+    for (int r = 0; r < ranks->size && in_order; r++) ranks->send_from[r] -= ranks->sends[r];
 }
 
 /* ---- what is received ---- */
@@ -195,23 +198,37 @@ static void take_for_received(CvlCall *c, Sending *s) {
 static void let_go(Sending *s) {
     free(s->places), free(s->sent_places), free(s->sent), free(s->got_places), free(s->got);
     free(s->targets.starts), free(s->targets.places);
+    cvl_free_bins(&s->bins);
 }
 
-/* Sends, and writes aside what is received. If an index is bad, the ranks agree on the first one. */
-static void exchange(CvlCall *c, Sending *s) {
-    cvl_offsets(c->ranks, c->in[CVL_AS_OUT].number);
-    find_places(c, s);
-    s->received = cvl_exchange_counts(c);
-    take_for_received(c, s);
-    if (may_repeat(c) && s->out_of_range >= 0) cvl_say(c, cvl_status(CVL_INDEX_OUT_OF_RANGE, s->out_of_range));
-    if (!cvl_agree(c, c->in[CVL_AS_INDEX].number)) return;
-    fill(c, s);
+/* Sends, and writes aside what is received; answers what this rank finds. */
+static CvlStatus send_and_write(CvlCall *c, Sending *s, bool in_order) {
+    fill(c, s, in_order);
     cvl_send(c->ranks, s->sent_places, s->got_places, sizeof(int32_t));
     if (!are_places_enough(c)) cvl_send(c->ranks, s->sent, s->got, element_size(c));
     const CvlStatus own = write_received(c, s);
     c->status = own.number == CVL_DONE && s->out_of_range >= 0 ? cvl_status(CVL_INDEX_OUT_OF_RANGE, s->out_of_range) : own;
-    if (cvl_agree(c, c->in[CVL_AS_INDEX].number)) return;
-    if (c->status.number == CVL_INDEX_OUT_OF_RANGE || c->status.number == CVL_INDEX_REPEATED) find_first(c, s, own);
+    return own;
+}
+
+static bool is_of_index(CvlStatus status) { return status.number == CVL_INDEX_OUT_OF_RANGE || status.number == CVL_INDEX_REPEATED; }
+
+/*
+ * Sends in the order of bins. If an index is bad, sends once more in the order of the vector, by which the ranks find the first bad one.
+ */
+static void exchange(CvlCall *c, Sending *s) {
+    const size_t n = c->in[CVL_AS_INDEX].number;
+    cvl_offsets(c->ranks, c->in[CVL_AS_OUT].number);
+    cvl_take_bins(c, &s->bins);
+    find_places(c, s);
+    s->received = cvl_exchange_counts(c);
+    take_for_received(c, s);
+    if (may_repeat(c) && s->out_of_range >= 0) cvl_say(c, cvl_status(CVL_INDEX_OUT_OF_RANGE, s->out_of_range));
+    if (!cvl_agree(c, n)) return;
+    send_and_write(c, s, 0);
+    if (cvl_agree(c, n) || !is_of_index(c->status)) return;
+    const CvlStatus own = send_and_write(c, s, 1);
+    if (!cvl_agree(c, n) && is_of_index(c->status)) find_first(c, s, own);
 }
 
 CvlStatus cvl_permute_over_ranks(CvlCall *c) {

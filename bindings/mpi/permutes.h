@@ -2,7 +2,7 @@
 #ifndef CVL_MPI_PERMUTES_H
 #define CVL_MPI_PERMUTES_H
 
-#include "ranks.h"
+#include "bins.h"
 
 /*
  * Segments of two descriptors are as many, and a whole vector of a call by an index is no longer than a vector may be; else it is a fault.
@@ -23,12 +23,17 @@ CVL_HIDDEN void cvl_fetch_segments(CvlCall *c, CvlTargets *targets);
 
 /* ---- which ranks ask which for what: routes.c ---- */
 
+/* The first index that is no place of so many, or -1. */
+CVL_HIDDEN int64_t cvl_first_outside(const int32_t *index, size_t index_len, uint64_t places);
+
 struct CvlRoute {
     CvlRanks *ranks;
     size_t source_len, index_len; /* of this rank's parts */
     size_t asks, answers;         /* how many elements it asks other ranks for, each once, and how many they ask it for */
     int *counts;                  /* as ranks->sends and the three behind it */
-    int32_t *slots;               /* of each index, which of the elements asked for is its own */
+    const int32_t *places;        /* of each index, its place in the whole, until the route has settled */
+    int32_t *slots;               /* of each index, which of the elements asked for is its own: in the order of bins until then */
+    CvlBins bins;
     int32_t *answered;            /* the places of its part that other ranks ask for */
     void *sent, *got;             /* elements */
     CvlStatus permute;            /* what a simple permute by the index answers */
@@ -42,6 +47,12 @@ CVL_HIDDEN bool cvl_make_route(CvlCall *c, CvlRoute *route, const int32_t *place
 
 /* Fetches elements into route->got, each once. */
 CVL_HIDDEN CvlStatus cvl_fetch(CvlRoute *route, const void *source, size_t size);
+
+/* Writes what was fetched for each index, by a route that serves once; what a bin asked for stays in a cache. */
+CVL_HIDDEN void cvl_write_once(CvlRoute *route, void *out, size_t size);
+
+/* Puts the slots into the order of the indices, in memory that the route takes over, for a route that serves more than once. */
+CVL_HIDDEN void cvl_settle_route(CvlRoute *route, int32_t *slots);
 
 CVL_HIDDEN void cvl_clear_route(CvlRoute *route);
 

@@ -71,41 +71,33 @@ static void multiply_checked(CvlCall *c, const Entries *e) {
 /* Whether the family's sums never wrap. */
 static bool is_checked(const CvlCall *c) { return c->family->checked; }
 
-/* Multiplies what a route has fetched. */
-static void multiply_fetched(CvlCall *c, const CvlRoute *route) {
+/* Multiplies entries with elements of x that were fetched. */
+static void multiply_fetched(CvlCall *c, const int32_t *slots, const int32_t *x, size_t x_len) {
     const CvlSlot values = c->in[CVL_AS_A];
-    Entries e = {c->segments, values.at, route->slots, route->got, values.number, route->asks, NULL};
+    Entries e = {c->segments, values.at, slots, x, values.number, x_len, NULL};
     e.sums = cvl_take(c, c->segments->pieces, sizeof *e.sums);
     if (is_checked(c)) multiply_checked(c, &e);
     else multiply(c, &e);
     free(e.sums);
 }
 
-/* The columns of a rank, and the first that is no place of x, or -1; it is column 0 here. */
-static int64_t find_columns(CvlSlot columns, uint64_t x_len, int32_t *found) {
-    const int32_t *const named = columns.at;
-    int64_t bad = -1;
-    for (size_t k = 0; k < columns.number; k++) {
-        const bool is_column = named[k] >= 0 && (uint64_t)named[k] < x_len;
-        found[k] = is_column ? named[k] : 0;
-        if (!is_column && bad < 0) bad = (int64_t)k;
-    }
-    return bad;
-}
-
 CvlStatus cvl_product_over_ranks(CvlCall *c) {
     const CvlSlot columns = c->in[CVL_AS_INDEX], x = c->in[CVL_AS_B];
     CvlRoute route = {0};
     const uint64_t x_len = cvl_offsets(c->ranks, x.number);
-    int32_t *const places = c->status.number == CVL_DONE ? cvl_take(c, columns.number, sizeof *places) : NULL;
+    if (x_len > CVL_MOST_ELEMENTS) cvl_say(c, cvl_status(CVL_TOO_LONG, -1));
+    int32_t *const own = c->status.number == CVL_DONE ? cvl_take(c, columns.number, sizeof *own) : NULL;
     if (cvl_agree(c, columns.number)) {
-        const int64_t bad = find_columns(columns, x_len, places);
-        if (cvl_make_route(c, &route, places, columns.number, x.number, bad)) {
+        const int64_t bad = cvl_first_outside(columns.at, columns.number, x_len);
+        if (cvl_make_route(c, &route, columns.at, columns.number, x.number, bad)) {
             cvl_say(c, cvl_fetch(&route, x.at, sizeof(int32_t)));
-            multiply_fetched(c, &route);
+            /* then each entry has an element of its own */
+            cvl_write_once(&route, own, sizeof(int32_t));
+            for (size_t k = 0; k < columns.number; k++) route.slots[k] = (int32_t)k;
+            multiply_fetched(c, route.slots, own, columns.number);
         }
     }
-    free(places);
+    free(own);
     cvl_clear_route(&route);
     return c->status;
 }
@@ -172,7 +164,7 @@ static CvlStatus product_by(
     look(&c, route);
     if (!cvl_agree(&c, values.number)) return c.status;
     cvl_say(&c, cvl_fetch(route, x.at, sizeof(int32_t)));
-    multiply_fetched(&c, route);
+    multiply_fetched(&c, route->slots, route->got, route->asks);
     return c.status;
 }
 

@@ -1,6 +1,7 @@
 /*
  * Which ranks ask which for what: back permutes over ranks, and routes, which keep it for an index. Each rank asks once for each element
- * that it needs, in the order of the places, so that those who answer read their parts from the front to the back.
+ * that it needs, in the order of the places, so that those who answer read their parts from the front to the back. It puts its indices into
+ * the order of bins for that, and what it gets back into the order of the indices.
  */
 #include "permutes.h"
 
@@ -17,24 +18,31 @@ static uint32_t ones(uint32_t bits) {
     return ((bits + (bits >> 4)) & 0x0f0f0f0fu) * 0x01010101u >> 24;
 }
 
-/* Marks the places, writes those that are marked in order, and gives each index its number among them. */
-static size_t unique_by_marks(Word *words, size_t count, const int32_t *places, size_t n, int32_t lowest, int32_t *asked, int32_t *slots) {
-    uint32_t all = 0;
+/* The places of a bin that are asked for: in the whole, and each one's slot once it is found. */
+typedef struct Named {
+    int32_t *places;
+    size_t count;
+} Named;
+
+/* Marks the places, writes those that are marked in order, as places of their rank, and answers how many are asked for with those before. */
+static uint32_t unique_by_marks(Word *words, const CvlBin *bin, Named named, int32_t *asked, uint32_t before) {
+    const uint32_t lowest = bin->start, count = (bin[1].start - lowest + 31) / 32;
+    uint32_t all = before;
     memset(words, 0, count * sizeof *words);
-    for (size_t k = 0; k < n; k++) {
-        const uint32_t at = (uint32_t)(places[k] - lowest);
+    for (size_t k = 0; k < named.count; k++) {
+        const uint32_t at = (uint32_t)named.places[k] - lowest;
         words[at / 32].bits |= UINT32_C(1) << at % 32;
     }
-    for (size_t w = 0; w < count; w++) {
+    for (uint32_t w = 0; w < count; w++) {
         words[w].before = all;
         for (uint32_t bits = words[w].bits; bits != 0; bits &= bits - 1) {
             const uint32_t low = bits & (~bits + 1);
-            asked[all++] = (int32_t)((uint32_t)lowest + (uint32_t)w * 32 + ones(low - 1));
+            asked[all++] = (int32_t)(lowest - bin->part + w * 32 + ones(low - 1));
         }
     }
-    for (size_t k = 0; k < n; k++) {
-        const uint32_t at = (uint32_t)(places[k] - lowest);
-        slots[k] = (int32_t)(words[at / 32].before + ones(words[at / 32].bits & ((UINT32_C(1) << at % 32) - 1)));
+    for (size_t k = 0; k < named.count; k++) {
+        const uint32_t at = (uint32_t)named.places[k] - lowest;
+        named.places[k] = (int32_t)(words[at / 32].before + ones(words[at / 32].bits & ((UINT32_C(1) << at % 32) - 1)));
     }
     return all;
 }
@@ -45,66 +53,70 @@ static int compare(const void *a, const void *b) {
 }
 
 /* The same by sorting, if the places lie far apart. */
-static size_t unique_by_sorting(const int32_t *places, size_t n, int32_t *asked, int32_t *slots) {
-    size_t all = 0;
-    if (n == 0) return 0;
-    memcpy(asked, places, n * sizeof *asked);
-    qsort(asked, n, sizeof *asked, compare);
-    for (size_t k = 0; k < n; k++) {
-        if (all == 0 || asked[all - 1] != asked[k]) asked[all++] = asked[k];
+static uint32_t unique_by_sorting(const CvlBin *bin, Named named, int32_t *asked, uint32_t before) {
+    uint32_t all = before;
+    memcpy(asked + before, named.places, named.count * sizeof *asked);
+    qsort(asked + before, named.count, sizeof *asked, compare);
+    for (size_t k = before; k < before + named.count; k++) {
+        if (all == before || asked[all - 1] != asked[k]) asked[all++] = asked[k];
     }
-    for (size_t k = 0; k < n; k++) {
-        const int32_t *const found = bsearch(&places[k], asked, all, sizeof *asked, compare);
-        slots[k] = (int32_t)(found - asked);
+    for (size_t k = 0; k < named.count; k++) {
+        const int32_t *const found = bsearch(&named.places[k], asked + before, all - before, sizeof *asked, compare);
+        named.places[k] = (int32_t)(found - asked);
     }
+    for (uint32_t k = before; k < all; k++) asked[k] = (int32_t)((uint32_t)asked[k] - bin->part);
     return all;
 }
 
-/* Finds them; answers whether there is memory for it. */
-static size_t find_asked(CvlCall *c, const int32_t *places, size_t n, int32_t *asked, int32_t *slots) {
-    int32_t lowest = INT32_MAX, highest = 0;
-    for (size_t k = 0; k < n; k++) {
-        if (places[k] < lowest) lowest = places[k];
-        if (places[k] > highest) highest = places[k];
+/* Puts places into the order of their bins. */
+static void put_in_bins(CvlBins *bins, const int32_t *places, size_t n, int32_t *to) {
+    for (size_t k = 0; k < n; k++) cvl_bin_of(bins, places[k])->next++;
+    cvl_start_bins(bins);
+    for (size_t k = 0; k < n; k++) to[cvl_bin_of(bins, places[k])->next++] = places[k];
+}
+
+/* Finds the places that are asked for, how many of each rank, and which of them is each index's. */
+static void find_asked(CvlCall *c, CvlRoute *route, int32_t *asked) {
+    const CvlBin *const bin = route->bins.bin;
+    int *const sends = c->ranks->sends;
+    uint32_t all = 0;
+    Word *const words = cvl_take(c, ((size_t)1 << route->bins.shift) / 32 + 1, sizeof *words);
+    memset(sends, 0, (size_t)c->ranks->size * sizeof *sends);
+    if (words == NULL) return;
+    put_in_bins(&route->bins, route->places, route->index_len, route->slots);
+    for (size_t b = 0, from = 0; b < route->bins.count; from = bin[b++].next) {
+        const Named named = {route->slots + from, bin[b].next - from};
+        const uint32_t before = all;
+        if (named.count == 0) continue;
+        const bool far = (bin[b + 1].start - bin[b].start) / 128 > named.count;
+        all = far ? unique_by_sorting(&bin[b], named, asked, before) : unique_by_marks(words, &bin[b], named, asked, before);
+        sends[bin[b].rank] += (int)(all - before);
     }
-    const size_t count = n == 0 ? 0 : (size_t)(highest - lowest) / 32 + 1;
-    if (count / 4 > n) return unique_by_sorting(places, n, asked, slots);
-    Word *const words = cvl_take(c, count, sizeof *words);
-    const size_t all = words == NULL ? 0 : unique_by_marks(words, count, places, n, lowest, asked, slots);
+    route->asks = all;
+    cvl_restart_bins(&route->bins);
     free(words);
-    return all;
 }
 
 /* ---- a route ---- */
 
 void cvl_clear_route(CvlRoute *route) {
     free(route->counts), free(route->slots), free(route->answered), free(route->sent), free(route->got);
-}
-
-/* Counts what this rank asks each rank for, and makes the whole places those of the rank that has them. */
-static void by_owner(CvlRanks *ranks, int32_t *asked, size_t asks) {
-    int r = 0;
-    memset(ranks->sends, 0, (size_t)ranks->size * sizeof *ranks->sends);
-    for (size_t k = 0; k < asks; k++) {
-        while ((uint64_t)asked[k] >= ranks->offsets[r + 1]) r++;
-        ranks->sends[r]++;
-        asked[k] = (int32_t)((uint64_t)asked[k] - ranks->offsets[r]);
-    }
+    cvl_free_bins(&route->bins);
 }
 
 bool cvl_make_route(CvlCall *c, CvlRoute *route, const int32_t *places, size_t places_len, size_t source_len, int64_t bad) {
     CvlRanks *const ranks = c->ranks;
     const size_t bytes = 4 * (size_t)ranks->size * sizeof(int);
     int32_t *const asked = c->status.number == CVL_DONE ? cvl_take(c, places_len, sizeof *asked) : NULL;
-    route->ranks = ranks, route->source_len = source_len, route->index_len = places_len;
+    route->ranks = ranks, route->source_len = source_len, route->index_len = places_len, route->places = places;
+    cvl_offsets(ranks, source_len);
     if (c->status.number == CVL_DONE) route->slots = cvl_take(c, places_len, sizeof *route->slots);
     if (c->status.number == CVL_DONE) route->counts = cvl_take(c, 4 * (size_t)ranks->size, sizeof(int));
-    if (c->status.number == CVL_DONE) route->asks = find_asked(c, places, places_len, asked, route->slots);
+    cvl_take_bins(c, &route->bins);
     if (bad >= 0) cvl_say(c, cvl_status(CVL_INDEX_OUT_OF_RANGE, bad));
+    if (c->status.number == CVL_DONE) find_asked(c, route, asked);
     bool done = cvl_agree(c, places_len);
     if (done) {
-        cvl_offsets(ranks, source_len);
-        by_owner(ranks, asked, route->asks);
         route->answers = cvl_exchange_counts(c);
         memcpy(route->counts, ranks->sends, bytes);
         if (c->status.number == CVL_DONE) route->answered = cvl_take(c, route->answers, sizeof(int32_t));
@@ -136,7 +148,25 @@ CvlStatus cvl_fetch(CvlRoute *route, const void *source, size_t size) {
     return status;
 }
 
-/* Writes what was fetched where it was asked for. */
+void cvl_write_once(CvlRoute *route, void *out, size_t size) {
+    const size_t n = route->index_len;
+    const bool is_bool = size == sizeof(bool);
+    int32_t *const in_bins = route->slots;
+    for (size_t k = 0; k < n; k++) in_bins[k] = is_bool ? ((const bool *)route->got)[in_bins[k]] : ((const int32_t *)route->got)[in_bins[k]];
+    for (size_t k = 0; k < n; k++) {
+        const int32_t element = in_bins[cvl_bin_of(&route->bins, route->places[k])->next++];
+        if (is_bool) ((bool *)out)[k] = element != 0;
+        else ((int32_t *)out)[k] = element;
+    }
+}
+
+void cvl_settle_route(CvlRoute *route, int32_t *slots) {
+    for (size_t k = 0; k < route->index_len; k++) slots[k] = route->slots[cvl_bin_of(&route->bins, route->places[k])->next++];
+    free(route->slots);
+    route->slots = slots, route->places = NULL;
+}
+
+/* Writes what was fetched where it was asked for, by a route that has settled. */
 static CvlStatus write_fetched(const CvlRoute *route, void *out, size_t size) {
     const size_t n = route->index_len;
     if (size != sizeof(bool)) return cvl_back_permute_int(route->got, route->asks, route->slots, n, out, n);
@@ -146,18 +176,23 @@ static CvlStatus write_fetched(const CvlRoute *route, void *out, size_t size) {
 
 /* ---- back permutes ---- */
 
-/* The place of each index; the first that is out of range, or -1, is place 0 here. */
+int64_t cvl_first_outside(const int32_t *index, size_t index_len, uint64_t places) {
+    for (size_t k = 0; k < index_len; k++) {
+        if (index[k] < 0 || (uint64_t)index[k] >= places) return (int64_t)k;
+    }
+    return -1;
+}
+
+/* The place of each index, and the first index that is out of range, or -1. */
 static int64_t find_places(const int32_t *index, const CvlTargets *targets, int32_t *places) {
-    int64_t bad = -1;
     size_t k = 0;
     for (size_t p = 0; p < targets->pieces; p++) {
         for (const size_t to = k + cvl_indices_of(targets, p); k < to; k++) {
-            const bool is_place = index[k] >= 0 && index[k] < targets->places[p];
-            places[k] = is_place ? (int32_t)(targets->starts[p] + index[k]) : 0;
-            if (!is_place && bad < 0) bad = (int64_t)k;
+            if (index[k] < 0 || index[k] >= targets->places[p]) return (int64_t)k;
+            places[k] = (int32_t)(targets->starts[p] + index[k]);
         }
     }
-    return bad;
+    return -1;
 }
 
 CvlStatus cvl_back_over_ranks(CvlCall *c) {
@@ -167,14 +202,16 @@ CvlStatus cvl_back_over_ranks(CvlCall *c) {
     CvlRoute route = {0};
     int32_t *places = NULL;
     const uint64_t total = cvl_offsets(c->ranks, source.number);
+    if (total > CVL_MOST_ELEMENTS) cvl_say(c, cvl_status(CVL_TOO_LONG, -1));
     cvl_look_at_targets(c);
-    if (c->status.number == CVL_DONE) places = cvl_take(c, index.number, sizeof *places);
+    /* without segments an index is the place */
+    if (c->status.number == CVL_DONE && c->segments != NULL) places = cvl_take(c, index.number, sizeof *places);
     cvl_take_targets(c, &targets);
     if (cvl_agree(c, index.number) && cvl_find_targets(c, &targets, total, 0)) {
-        const int64_t bad = find_places(index.at, &targets, places);
-        if (cvl_make_route(c, &route, places, index.number, source.number, bad)) {
+        const int64_t bad = places == NULL ? cvl_first_outside(index.at, index.number, total) : find_places(index.at, &targets, places);
+        if (cvl_make_route(c, &route, places == NULL ? index.at : places, index.number, source.number, bad)) {
             cvl_say(c, cvl_fetch(&route, source.at, size));
-            cvl_say(c, write_fetched(&route, cvl_room(c), size));
+            cvl_write_once(&route, cvl_room(c), size);
         }
     }
     free(places), free(targets.starts), free(targets.places);
@@ -228,19 +265,17 @@ CvlStatus cvl_route_new(CvlRanks *ranks, const int32_t *index, size_t index_len,
     if (!cvl_are_ranks(ranks)) return cvl_status(CVL_NO_DESCRIPTOR, -1);
     if (!cvl_is_one_call(ranks, CVL_CALL_ROUTE)) return cvl_status(CVL_UNKNOWN_CALL, -1);
     CvlCall c = call_of(ranks);
-    int64_t bad = -1;
     const uint64_t total = cvl_offsets(ranks, source_len);
-    if (index_len > CVL_MOST_ELEMENTS || source_len > CVL_MOST_ELEMENTS) cvl_say(&c, cvl_status(CVL_TOO_LONG, -1));
+    if (index_len > CVL_MOST_ELEMENTS || total > CVL_MOST_ELEMENTS) cvl_say(&c, cvl_status(CVL_TOO_LONG, -1));
     CvlRoute *const route = cvl_take(&c, 1, sizeof *route);
-    int32_t *const places = c.status.number == CVL_DONE ? cvl_take(&c, index_len, sizeof *places) : NULL;
+    int32_t *slots = c.status.number == CVL_DONE ? cvl_take(&c, index_len, sizeof *slots) : NULL;
     if (route != NULL) memset(route, 0, sizeof *route);
-    if (cvl_agree(&c, index_len)) {
-        int64_t start = 0, all = (int64_t)total;
-        const CvlTargets targets = {1, &(int32_t){(int32_t)index_len}, &start, &all, 0, 0};
-        bad = find_places(index, &targets, places);
-        if (cvl_make_route(&c, route, places, index_len, source_len, bad)) look_at_permute(&c, route, index);
+    if (cvl_agree(&c, index_len) && cvl_make_route(&c, route, index, index_len, source_len, cvl_first_outside(index, index_len, total))) {
+        cvl_settle_route(route, slots);
+        slots = NULL;
+        look_at_permute(&c, route, index);
     }
-    free(places);
+    free(slots);
     if (c.status.number == CVL_DONE) *made = route;
     else cvl_route_free(route);
     return c.status;

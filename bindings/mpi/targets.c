@@ -70,7 +70,7 @@ static void kept_segments(CvlCall *c, int64_t *starts, int64_t *places) {
 typedef struct Asked {
     int64_t *wide;             /* starts and places, one after another */
     int32_t *starts, *places;  /* the same */
-    int32_t *numbers;
+    int32_t *numbers, *slots;
 } Asked;
 
 static void take_asked(CvlCall *c, Asked *a) {
@@ -79,6 +79,7 @@ static void take_asked(CvlCall *c, Asked *a) {
     a->starts = cvl_take(c, starts, sizeof *a->starts);
     a->places = cvl_take(c, starts, sizeof *a->places);
     a->numbers = cvl_take(c, c->segments->pieces, sizeof *a->numbers);
+    a->slots = cvl_take(c, c->segments->pieces, sizeof *a->slots);
 }
 
 static void fill_asked(const CvlCall *c, Asked *a) {
@@ -102,12 +103,14 @@ void cvl_fetch_segments(CvlCall *c, CvlTargets *targets) {
     if (cvl_agree(c, 0)) {
         fill_asked(c, &a);
         if (cvl_make_route(c, &route, a.numbers, c->segments->pieces, c->other->starts, -1)) {
+            cvl_settle_route(&route, a.slots);
+            a.slots = NULL;
             cvl_say(c, fetch_into(&route, a.starts, targets->starts));
             cvl_say(c, fetch_into(&route, a.places, targets->places));
         }
     }
     cvl_clear_route(&route);
-    free(a.wide), free(a.starts), free(a.places), free(a.numbers);
+    free(a.wide), free(a.starts), free(a.places), free(a.numbers), free(a.slots);
 }
 
 bool cvl_find_targets(CvlCall *c, CvlTargets *targets, uint64_t places, bool is_select) {

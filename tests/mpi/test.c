@@ -281,6 +281,21 @@ static void try_refused_route(const int32_t *index, size_t n) {
     }
 }
 
+/* Sources whose places an index cannot name: of 2^30 booleans in each rank, none of which is read. */
+static void try_long_sources(const int32_t *index, size_t n) {
+    const size_t each = (size_t)1 << 30;
+    const bool *const source = malloc(each);
+    bool out[MOST] = {0};
+    CvlRoute *route = NULL;
+    if (size < 2 || any_rank(source == NULL)) {
+        free((void *)source);
+        return;
+    }
+    check("back from a whole that is too long", is(cvl_bck_pub_mpi(ranks, source, each, index, out, n), CVL_TOO_LONG, -1) && !out[0]);
+    check("no route to it", is(cvl_route_new(ranks, index, n, each, &route), CVL_TOO_LONG, -1) && route == NULL);
+    free((void *)source);
+}
+
 /* Each rank has one row of two entries and the beginning of one that goes on in the next rank. */
 static void try_products(int64_t total, size_t n) {
     const int32_t pieces[] = {1, 2, 1};
@@ -315,6 +330,7 @@ static void try_routes(void) {
     try_route_both_ways(index, n);
     try_bad_routes(index, total, n);
     try_refused_route(index, n);
+    try_long_sources(index, n);
     try_products(total, n);
 }
 
