@@ -390,6 +390,9 @@ static void fill(const Row *row, Given *g, size_t k, size_t n, size_t m) {
     int32_t *ints = (int32_t *)g->at[k];
     unsigned char *bytes = (unsigned char *)g->at[k];
     const bool small = chance(2), plain = chance(2);
+    /* a combining permute of booleans is cut only if those in the room are 0 and 1 */
+    const bool joins = (row->model == COMBINE_PERMUTE || row->model == COMBINE_PERMUTE_RANGE) && role_of(row, k) == WRITES && kind_of(row, k) == FLAG;
+    for (size_t j = 0; j < g->len[k] && joins && plain; j++) bytes[j] = (unsigned char)below(2);
     if (role_of(row, k) == CUTS) fill_lengths(ints, g->len[k], extent_of(row, k) == OF_N || extent_of(row, k) == OF_TOTAL ? n : m);
     if (role_of(row, k) != READS) return;
     for (size_t j = 0; j < g->len[k] && kind_of(row, k) == INT; j++) ints[j] = small ? (int32_t)below(19) - 9 : any_int();
