@@ -39,7 +39,7 @@ fn scans_by_marks(rt: HostRuntime) -> Result<(), Fail> {
     let mut total = 0usize;
     for s in 0..lengths.len() {
         lengths[s] = length_of(s);
-        total = total.wrapping_add(length_of(s) as usize);
+        total = total.wrapping_add(length_of(s).cast_unsigned() as usize);
     }
     let ones = vec![in rt.alloc(); 1; total]?;
     let mut scan = vec![in rt.alloc(); -1; total]?;
