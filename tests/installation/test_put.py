@@ -91,7 +91,7 @@ class Put(Putting):
         self.assertEqual(self.found(), [])
 
     def test_uninstalling_what_is_not_there_is_told(self):
-        with self.assertRaisesRegex(SystemExit, "nothing is known"):
+        with self.assertRaisesRegex(SystemExit, "it is unknown what was installed"):
             self.uninstall()
 
     def test_a_newer_version_removes_what_it_has_no_more(self):
