@@ -36,10 +36,10 @@ def plain(text):
     return " ".join(text.split())
 
 
-def imported(text):
-    """The paths of the names that ghost imports bring."""
+def imported(text, form=IMPORT):
+    """The paths of the names that imports of this form bring."""
     paths = {}
-    for path, names, alias in IMPORT.findall(text):
+    for path, names, alias in form.findall(text):
         for name in filter(None, (word.strip() for word in names.split(","))):
             of, _, to = name.partition(" as ")
             paths[(to or of).replace("◌", "")] = f"{path}.{of}"

@@ -2,24 +2,12 @@
 
 import re
 
-from clauses.sources import Item, plain
+from clauses.sources import Item, imported, plain
 
 COMMENT = re.compile(r"(?:^|(?<=\s))--(?=\s|$)[^\n]*")
 WORDS = r"(?:(?:abbrev|unfoldable|pub|record|data|opaque)\s+)*"
 DEFINED = re.compile(rf"({WORDS})(\S+)(?=\s*(?:[({{:]|$))")
 IMPORT = re.compile(r"^\s*(?:pub\s+)?use\s+([\w.]+?)(?:\.\{([^}]*)\}|\s+as\s+(\w+))?\s*$", re.M)
-
-
-def imported(text):
-    """The paths of the names that imports bring."""
-    paths = {}
-    for path, names, alias in IMPORT.findall(text):
-        for name in filter(None, (word.strip() for word in names.split(","))):
-            of, _, to = name.partition(" as ")
-            paths[(to or of).replace("◌", "")] = f"{path}.{of}"
-        if alias:
-            paths[alias] = path
-    return paths
 
 
 def logical_lines(text):
@@ -55,7 +43,7 @@ def name_of(line):
 def definitions(file, text):
     """The top-level definitions of a file."""
     text = COMMENT.sub("", text)
-    imports, found, last = imported(text), {}, None
+    imports, found, last = imported(text, IMPORT), {}, None
     for head, line in logical_lines(text):
         if re.match(r"\s*(?:pub\s+)?use\s|\s*pub\s+mod\s", line):
             continue

@@ -48,9 +48,7 @@ CvlStatus cvl_places_over_ranks(CvlCall *c) {
 
 /* ---- reduces and scans ---- */
 
-/* What this rank's elements join to. */
-static CvlFold own_reduce(CvlCall *c) {
-    const CvlSlot a = c->in[CVL_AS_A];
+CvlFold cvl_own_reduce(CvlCall *c, CvlSlot a) {
     CvlFold fold = cvl_nothing(cvl_has_bools(c) ? CVL_JOIN_BOOLS : CVL_JOIN_INTS, c->op);
     if (c->status.number != CVL_DONE) return fold;
     if (cvl_has_bools(c)) {
@@ -66,7 +64,7 @@ static CvlFold own_reduce(CvlCall *c) {
 }
 
 CvlStatus cvl_reduce_over_ranks(CvlCall *c) {
-    const CvlFold mine = own_reduce(c);
+    const CvlFold mine = cvl_own_reduce(c, c->in[CVL_AS_A]);
     if (!cvl_agree(c, own_number(c))) return c->status;
     const CvlFold all = cvl_all(c->ranks, mine);
     if (cvl_has_bools(c)) *(bool *)cvl_room(c) = all.low != 0;
@@ -83,7 +81,7 @@ static void scan_after(CvlCall *c, int64_t before) {
 
 CvlStatus cvl_scan_over_ranks(CvlCall *c) {
     cvl_clean(c);
-    const CvlFold mine = own_reduce(c);
+    const CvlFold mine = cvl_own_reduce(c, c->in[CVL_AS_A]);
     if (cvl_agree(c, own_number(c))) scan_after(c, cvl_before(c->ranks, mine).low);
     return c->status;
 }

@@ -159,6 +159,9 @@ CVL_HIDDEN CvlFold cvl_before(CvlRanks *ranks, CvlFold mine);
 CVL_HIDDEN CvlFold cvl_after(CvlRanks *ranks, CvlFold mine);
 CVL_HIDDEN CvlFold cvl_all(CvlRanks *ranks, CvlFold mine);
 
+/* What elements of this rank join to; nothing if the call has a fault. */
+CVL_HIDDEN CvlFold cvl_own_reduce(CvlCall *c, CvlSlot a);
+
 /* The functions of MPI's operators. */
 CVL_HIDDEN void cvl_fold_before(void *in, void *inout, int *count, MPI_Datatype *type);
 CVL_HIDDEN void cvl_fold_after(void *in, void *inout, int *count, MPI_Datatype *type);

@@ -26,19 +26,9 @@ static size_t last_start(const CvlRankSegments *s) { return s->starts > 0 ? s->t
 
 /* What elements of the rank join to. */
 static CvlFold reduce_of(CvlCall *c, size_t from, size_t to) {
-    CvlFold fold = cvl_nothing(cvl_has_bools(c) ? CVL_JOIN_BOOLS : CVL_JOIN_INTS, c->op);
-    if (c->status.number != CVL_DONE) return fold;
-    const CvlSlot a = range(c->in[CVL_AS_A], bytes_of(c), from, to);
-    if (cvl_has_bools(c)) {
-        bool flag = 0;
-        cvl_say(c, cvl_bool_reduce(c->op, a.at, a.number, &flag));
-        fold.low = flag;
-    } else {
-        int32_t number = 0;
-        cvl_say(c, cvl_int_reduce(c->op, a.at, a.number, &number));
-        fold.low = number;
-    }
-    fold.starts = c->segments->starts > 0;
+    const bool starts = c->status.number == CVL_DONE && c->segments->starts > 0;
+    CvlFold fold = cvl_own_reduce(c, range(c->in[CVL_AS_A], bytes_of(c), from, to));
+    fold.starts = starts;
     return fold;
 }
 

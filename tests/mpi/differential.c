@@ -12,6 +12,8 @@
 #include <string.h>
 
 #include "cvl_mpi.h"
+#include "random.h"
+#include "refused.h"
 
 enum { MOST_RANKS = 16, MOST_OPERANDS = 7 };
 
@@ -42,31 +44,7 @@ typedef struct Tried {
 
 #include "tried_rows.h"
 
-/* ---- memory that is refused ---- */
-
-static long refuse_at = -1, asked;
-static int refused;
-
-void *__real_malloc(size_t size);
-void *__wrap_malloc(size_t size);
-void *__wrap_malloc(size_t size) {
-    if (refuse_at >= 0 && asked++ == refuse_at) {
-        refused = 1;
-        return NULL;
-    }
-    return __real_malloc(size);
-}
-
 /* ---- numbers at random, the same on each rank ---- */
-
-static uint64_t state;
-
-static uint32_t any(void) {
-    state = state * UINT64_C(6364136223846793005) + UINT64_C(1442695040888963407);
-    return (uint32_t)(state >> 33);
-}
-static size_t below(size_t n) { return n == 0 ? 0 : any() % n; }
-static int one_in(size_t n) { return below(n) == 0; }
 
 static int32_t number(int style) {
     static const int32_t few[] = {0, 1, -1, 2, 31, 32, 5, INT32_MAX, INT32_MIN, -7};

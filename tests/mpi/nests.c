@@ -12,37 +12,13 @@
 #include <string.h>
 
 #include "cvl_mpi.h"
+#include "random.h"
+#include "refused.h"
 
 enum { MOST_RANKS = 16, MOST = 4096 };
 
 static CvlRanks *ranks;
 static int rank, size;
-
-/* ---- memory that is refused ---- */
-
-static long refuse_at = -1, asked;
-static int refused;
-
-void *__real_malloc(size_t bytes);
-void *__wrap_malloc(size_t bytes);
-void *__wrap_malloc(size_t bytes) {
-    if (refuse_at >= 0 && asked++ == refuse_at) {
-        refused = 1;
-        return NULL;
-    }
-    return __real_malloc(bytes);
-}
-
-/* ---- numbers at random, the same on each rank ---- */
-
-static uint64_t state;
-
-static uint32_t any(void) {
-    state = state * UINT64_C(6364136223846793005) + UINT64_C(1442695040888963407);
-    return (uint32_t)(state >> 33);
-}
-static size_t below(size_t n) { return n == 0 ? 0 : any() % n; }
-static int one_in(size_t n) { return below(n) == 0; }
 
 /* ---- the whole ---- */
 

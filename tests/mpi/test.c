@@ -11,6 +11,7 @@
 #include <string.h>
 
 #include "cvl_mpi.h"
+#include "refused.h"
 
 enum { MOST = 64 };
 
@@ -24,21 +25,6 @@ static void check(const char *what, int is_so) {
 }
 
 static int is(CvlStatus status, uint32_t number, int64_t place) { return status.number == number && status.place == place; }
-
-/* ---- memory that is refused ---- */
-
-static long refuse_at = -1, asked;
-static int refused;
-
-void *__real_malloc(size_t bytes);
-void *__wrap_malloc(size_t bytes);
-void *__wrap_malloc(size_t bytes) {
-    if (refuse_at >= 0 && asked++ == refuse_at) {
-        refused = 1;
-        return NULL;
-    }
-    return __real_malloc(bytes);
-}
 
 static int any_rank(int mine) {
     int all = 0;
