@@ -346,46 +346,35 @@ TAIL = """
         end do
     end function text_of
 
-    function at_ints(array) result(address)
-        integer(c_int32_t), intent(in), target, contiguous :: array(:)
-        type(c_ptr) :: address
-
-        address = c_null_ptr
-        if (size(array) > 0) address = c_loc(array)
-    end function at_ints
-
-    function at_flags(array) result(address)
-        logical(c_bool), intent(in), target, contiguous :: array(:)
-        type(c_ptr) :: address
-
-        address = c_null_ptr
-        if (size(array) > 0) address = c_loc(array)
-    end function at_flags
-
-    function at_bytes(array) result(address)
-        integer(c_int8_t), intent(in), target, contiguous :: array(:)
-        type(c_ptr) :: address
-
-        address = c_null_ptr
-        if (size(array) > 0) address = c_loc(array)
-    end function at_bytes
-
-    function at_sums(array) result(address)
-        integer(c_int64_t), intent(in), target, contiguous :: array(:)
-        type(c_ptr) :: address
-
-        address = c_null_ptr
-        if (size(array) > 0) address = c_loc(array)
-    end function at_sums
-
     function cut(lengths) result(found)
         integer(c_int32_t), intent(in), target, contiguous :: lengths(:)
         type(lengths_of) :: found
 
         found = lengths_of(at(lengths), size(lengths, kind=c_size_t))
     end function cut
+"""
 
-    ! Gives the status to who asks for it; else a fault ends the program.
+
+def _address(kind, element):
+    return f"""
+    function at_{kind}(array) result(address)
+        {element}, intent(in), target, contiguous :: array(:)
+        type(c_ptr) :: address
+
+        address = c_null_ptr
+        if (size(array) > 0) address = c_loc(array)
+    end function at_{kind}
+"""
+
+
+# what both modules have: the addresses of arrays, and what becomes of a status
+IN_BOTH = (
+    _address("ints", "integer(c_int32_t)")
+    + _address("flags", "logical(c_bool)")
+    + _address("bytes", "integer(c_int8_t)")
+    + _address("sums", "integer(c_int64_t)")
+    + """
+    ! Gives the status to the caller; without a variable for it a fault ends the program.
     subroutine tell(name, answer, status)
         character(*), intent(in) :: name
         type(cvl_status), intent(in) :: answer
@@ -401,8 +390,8 @@ TAIL = """
             error stop 1
         end if
     end subroutine tell
-end module cvl
 """
+)
 
 
 def _constant(name, value, kind="integer(c_int32_t)"):
@@ -441,7 +430,7 @@ def module():
     lines = lines[:-1] + WITHOUT_ROWS.split("\n")[:-1] + ["", "contains", ""]
     for procedure in procedures():
         lines += procedure.lines()
-    return "\n".join(lines[:-1]) + TAIL
+    return "\n".join(lines[:-1]) + TAIL + IN_BOTH + "end module cvl\n"
 
 
 # ---- the calls as the program has them that tries each on its example ----

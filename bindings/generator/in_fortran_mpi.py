@@ -18,7 +18,7 @@ HEAD = """! cvl_mpi: the vector calls of CVL over the ranks of MPI, beside the m
 module cvl_mpi
     use, intrinsic :: iso_c_binding, only: c_bool, c_int, c_int8_t, c_int32_t, c_int64_t, c_loc, c_null_ptr, c_ptr, c_size_t
     use, intrinsic :: iso_fortran_env, only: error_unit
-    use cvl, only: cvl_status, CVL_DONE
+    use cvl, only: cvl_fault_name, cvl_status, CVL_DONE
     implicit none
     private
 
@@ -110,52 +110,6 @@ BY_HAND = """
 """
 
 PROCEDURES = """
-    function at_ints(a) result(found)
-        integer(c_int32_t), intent(in), target, contiguous :: a(:)
-        type(c_ptr) :: found
-
-        found = c_null_ptr
-        if (size(a) > 0) found = c_loc(a(1))
-    end function at_ints
-
-    function at_flags(a) result(found)
-        logical(c_bool), intent(in), target, contiguous :: a(:)
-        type(c_ptr) :: found
-
-        found = c_null_ptr
-        if (size(a) > 0) found = c_loc(a(1))
-    end function at_flags
-
-    function at_bytes(a) result(found)
-        integer(c_int8_t), intent(in), target, contiguous :: a(:)
-        type(c_ptr) :: found
-
-        found = c_null_ptr
-        if (size(a) > 0) found = c_loc(a(1))
-    end function at_bytes
-
-    function at_sums(a) result(found)
-        integer(c_int64_t), intent(in), target, contiguous :: a(:)
-        type(c_ptr) :: found
-
-        found = c_null_ptr
-        if (size(a) > 0) found = c_loc(a(1))
-    end function at_sums
-
-    ! Gives a status to the program, or stops it at a fault.
-    subroutine tell(name, answer, status)
-        character(*), intent(in) :: name
-        type(cvl_status), intent(in) :: answer
-        type(cvl_status), intent(out), optional :: status
-
-        if (present(status)) then
-            status = answer
-        else if (answer%number /= CVL_DONE) then
-            write (error_unit, '(a, ": fault ", i0, " at ", i0)') name, answer%number, answer%place
-            error stop 1
-        end if
-    end subroutine tell
-
     ! The ranks of a communicator; all of them make the call.
     subroutine cvl_ranks_new(comm, ranks, status)
         integer, intent(in) :: comm
@@ -341,7 +295,7 @@ def module():
     lines += [BY_HAND.strip("\n")]
     for row in used.values():
         lines += _interface(row)
-    lines += ["    end interface", "", "contains", PROCEDURES.rstrip(), ""]
+    lines += ["    end interface", "", "contains", in_fortran.IN_BOTH.rstrip(), PROCEDURES.rstrip(), ""]
     for row in found:
         lines += _procedure(row)
     return "\n".join([*lines, "end module cvl_mpi", ""])
