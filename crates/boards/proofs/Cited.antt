@@ -7,7 +7,8 @@ pub use Rattle.atomic_table.specs.Table.{Allows, keeps, State, step}
 pub use Rattle.cvl_base.specs.SegmentMonoid.{is_seg_item, seg_join}
 pub use Rattle.cvl_base.specs.TileSums.{before_tile, between_tiles, own_sum, SumsLaws}
 pub use Rattle.least_boards.proofs.Claiming.{AllowsClaims, claim_allowed}
-pub use Rattle.least_boards.proofs.Dealing.{hands_first, hands_more, IsSeatPass, last_dealt}
+pub use Rattle.least_boards.proofs.Dealing.{hands_first, hands_more}
+pub use Rattle.least_boards.specs.Joined.{IsSeatPass}
 pub use Rattle.least_boards.specs.Seats.{Seated}
 pub use Rattle.status_word.proofs.Places.{highest_push, read_at}
 pub use Rattle.status_word.specs.Codings.{code, CodeLaws, Coding, coding_of, told_of}

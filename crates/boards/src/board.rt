@@ -7,13 +7,12 @@ ghost use Rattle.boards.specs.Answers.{IsEnd, IsNew};
 ghost use Rattle.boards.specs.Boards.{IsSeatOf, on_hand};
 ghost use Rattle.least_boards.specs.Claims.{IsClaim, after_answer};
 
-use crate::hands::{deal, join_seats};
-use crate::rule::{ClaimStep, Counted, PassOf, ScanRule};
+use crate::rule::{ClaimStep, Counted, OneMore, PassOf, ScanRule};
 use crate::seat::ScanSeat;
 use crate::tiles::Tiles;
 use atomic_table::Table;
 use cvl_base::{Memory, Monoid, NoResources};
-use least_boards::Claim;
+use least_boards::{Claim, deal_seats, join_seats};
 use status_word::{code_law, rule_law};
 use std::alloc::Allocator;
 use std::marker::Model;
@@ -75,8 +74,8 @@ impl<T: Tiles, A: Memory> ScanBoard<T, A> {
         code_law::<T::M>();
         let words = Vec::from_elem(alloc, 0, count as usize + 1)?;
         let (table, whole) = Table::of_words(alloc, words.as_slice(), &counted)?;
+        let seats = deal_seats::<OneMore, _, _, _, _>(alloc, &table.shared, workers, whole)?;
         let board = ScanBoard { table, counted };
-        let seats = deal(alloc, &board, whole)?;
         Ok((board, seats))
     }
 }
@@ -111,7 +110,7 @@ impl<T: Tiles, A: Allocator> ScanBoard<T, A> {
         ensures { IsEnd (length self.sums) seats.items result.given }
     {
         rule_law::<<T::M as Monoid>::Item>();
-        let whole = join_seats(&self, seats);
+        let whole = join_seats::<OneMore, _, _, _, _>(&self.table.shared, seats);
         let ScanBoard { table, counted } = self;
         let closed = table.close_with(whole);
         let claims = closed.word(counted.count as usize);

@@ -3,7 +3,6 @@
 #![tactic(auto)]
 
 pub mod board;
-mod hands;
 pub mod look_back;
 mod rule;
 pub mod seat;

@@ -6,6 +6,7 @@ ghost use Rattle.cvl_base.specs.Limits.{most_elements, most_workers};
 ghost use Rattle.cvl_base.specs.SegmentMonoid.{is_seg_item};
 ghost use Rattle.status_word.specs.Codings.{coding};
 ghost use Rattle.boards.specs.Boards.{on_hand};
+ghost use Rattle.boards.specs.Joined.{AreJoined};
 ghost use Rattle.boards.specs.Rules.{IsRuled, LookGives, TellGives};
 ghost use Rattle.least_boards.specs.ClaimSteps.{ClaimGives};
 ghost use Rattle.status_word.specs.Passes.{first_pass, passes_joined, spent_pass, split_left, split_right};
@@ -13,6 +14,7 @@ ghost use Rattle.status_word.specs.Passes.{first_pass, passes_joined, spent_pass
 use crate::tiles::Tiles;
 use atomic_table::{Join, Play, Split, TableRule};
 use cvl_base::{Monoid, Packed};
+use least_boards::Gather;
 use status_word::Pass;
 use std::marker::PhantomData;
 
@@ -82,4 +84,8 @@ impl<I> Join<Pass<I>> for OneMore {
     ghost both = { passes_joined };
 
     ghost spent = { spent_pass };
+}
+
+impl<I> Gather<Pass<I>> for OneMore {
+    ghost AreJoined = { AreJoined };
 }

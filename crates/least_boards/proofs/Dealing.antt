@@ -1,43 +1,48 @@
 -- How the seats of a board are dealt out, and what one pass has that gathers several: for the passes of any board, and for a least board's.
 -- Source: what the definitions of Joined imply.
-use Rattle.least_boards.proofs.Cited.{◌≡◌, refl, sym, ap, ◌∙◌, subst, ℕ, ◌+◌, ◌≤◌, false, cond, List, [], ◌∷◌, ◌++◌, length, replicate, arith, length-append, length_push, replicate_more}
-use Rattle.least_boards.proofs.Cited.{sum_by_push, sum_by, Hand, hands_joined, times}
+use Rattle.least_boards.proofs.Cited.{◌≡◌, refl, sym, ap, ◌∙◌, subst, ℕ, ◌+◌, ◌-◌, ◌≤◌, cond, List, [], ◌∷◌, ◌++◌, length, replicate, arith, length-append, length_push, replicate_more}
+use Rattle.least_boards.proofs.Cited.{sum_by_push, sum_by, State, Hand, hands_joined, times}
 use Rattle.atomic_table.specs.Seated.{TableId}
 use Rattle.status_word.proofs.Dealt.{times-append}
 use Rattle.least_boards.specs.declared.least_pass.LeastPass.{LeastPass}
-use Rattle.least_boards.specs.Joined.{AreHandsJoined, AreLeastsJoined}
+use Rattle.least_boards.specs.Joined.{AreHandsJoined, AreLeastsJoined, IsSeatPass}
 use Rattle.least_boards.specs.LeastPasses.{least_passes_joined, lowered_in, seen_in}
-use Rattle.least_boards.specs.Seats.{Seated}
+use Rattle.least_boards.specs.Seats.{Seated, StandsFor, idle_seat}
 use Rattle.least_boards.proofs.Lowest.{lowest_push, lows-append}
 
 -- ---- the passes of any board
 
-module _ {P : Type 0} where
-  -- the last seat is the one that the others were cut from
-  pub last_dealt : (workers left : ℕ) (seats : List (Seated P)) (id board : TableId) (last new : P) → left ≤ 1 → 1 ≤ left → length seats + left ≡ workers
-      → seats ≡ replicate (length seats) record { id = board; pass = new; is_done = false } → id ≡ board → last ≡ new
-      → seats ++ record { id = id; pass = last; is_done = false } ∷ [] ≡ replicate workers record { id = board; pass = new; is_done = false }
-  last_dealt workers left seats id board last new most least count dealt same_id same =
-      let n = length seats in
-      let seat : Seated P = record { id = board; pass = new; is_done = false } in
-      let named : ◌≡◌ {A = Seated P} record { id = id; pass = last; is_done = false } seat = λ i. record { id = same_id i; pass = same i; is_done = false } in
-      ap (λ xs. xs ++ record { id = id; pass = last; is_done = false } ∷ []) dealt
-      ∙ ap (λ x. replicate n seat ++ x ∷ []) named
-      ∙ replicate_more n seat
-      ∙ ap (λ k. replicate k seat) (omega arith)
+-- one seat more is dealt out
+pub one_dealt : {P : Type 0} (seats : List (Seated P)) (id board : TableId) (pass new : P) → seats ≡ replicate (length seats) (idle_seat board new) → id ≡ board → pass ≡ new
+    → seats ++ idle_seat id pass ∷ [] ≡ replicate (length seats + 1) (idle_seat board new)
+one_dealt {P} seats id board pass new dealt same_id same =
+    let n = length seats in
+    let named : ◌≡◌ {A = Seated P} (idle_seat id pass) (idle_seat board new) = λ i. idle_seat (same_id i) (same i) in
+    ap (λ xs. xs ++ idle_seat id pass ∷ []) dealt
+    ∙ ap (λ x. replicate n (idle_seat board new) ++ x ∷ []) named
+    ∙ replicate_more n (idle_seat board new)
+
+-- what is left of a pass from which one is cut, and the pass of the last worker
+module _ {P : Type 0} {hand : P → Hand} {left right : P → P} {holds : State (Unit {0}) P → Type 0} where
+  pub cut_again : (whole now : P) (n : ℕ) → now ≡ left whole → StandsFor hand left right holds whole n
+      → StandsFor hand left right holds now (n - 1) × (right now ≡ right whole)
+  cut_again whole now n cut stands =
+      let all : now ≡ stands.some (n - 1) = cut ∙ ap left stands.all ∙ stands.fewer n in (
+        record { some = stands.some; all = all; fewer = stands.fewer; one = stands.one; idle = stands.idle; keeps = stands.keeps },
+        ap right all ∙ stands.one (n - 1) ∙ sym (ap right stands.all ∙ stands.one n),
+      )
+
+  pub one_left : (whole : P) (n : ℕ) → n ≡ 1 → StandsFor hand left right holds whole n → whole ≡ right whole
+  one_left whole n one stands = stands.all ∙ ap stands.some one ∙ sym (ap right stands.all ∙ stands.one n)
 
 module _ {P : Type 0} (hand : P → Hand) where
-  -- the marks of a pass, where its seat has one if it was told that no tile is left
-  abbrev pub IsSeatPass : Seated P → P → Type 0
-  IsSeatPass s p = (p ≡ s.pass) × ((hand p).share ≡ 1) × ((hand p).done ≡ cond s.is_done 1 0)
-
   -- a measure of the hands of all seats, where one is the last
-  seats_push : (f : Hand → ℕ) (rest : List (Seated P)) (next : Seated P) (p : P) → IsSeatPass next p
+  seats_push : (f : Hand → ℕ) (rest : List (Seated P)) (next : Seated P) (p : P) → IsSeatPass hand next p
       → sum_by (λ s. f (hand s.pass)) (rest ++ next ∷ []) ≡ sum_by (λ s. f (hand s.pass)) rest + f (hand p)
   seats_push f rest next p is = omega (arith, sum_by_push (λ s. f (hand s.pass)) rest next, ap (λ q. f (hand q)) is.0)
 
   -- one seat alone
-  pub hands_first : (rest : List (Seated P)) (first : Seated P) (p : P) → IsSeatPass first p → AreHandsJoined hand p rest (rest ++ first ∷ [])
+  pub hands_first : (rest : List (Seated P)) (first : Seated P) (p : P) → IsSeatPass hand first p → AreHandsJoined hand p rest (rest ++ first ∷ [])
   hands_first rest first p is = record {
     given = λ t. omega (arith, seats_push (λ h. times t h.given) rest first p is);
     count = omega (arith, seats_push (λ h. length h.given) rest first p is);
@@ -46,7 +51,7 @@ module _ {P : Type 0} (hand : P → Hand) where
   }
 
   -- and one seat more
-  pub hands_more : (rest all : List (Seated P)) (next : Seated P) (p whole now : P) → IsSeatPass next p → hand now ≡ hands_joined (hand whole) (hand p)
+  pub hands_more : (rest all : List (Seated P)) (next : Seated P) (p whole now : P) → IsSeatPass hand next p → hand now ≡ hands_joined (hand whole) (hand p)
       → AreHandsJoined hand whole (rest ++ next ∷ []) all → AreHandsJoined hand now rest all
   hands_more rest all next p whole now is both so_far = record {
     given = λ t.

@@ -9,11 +9,11 @@ ghost use Rattle.least_boards.specs.LeastPasses.{on_least_hand};
 ghost use Rattle.tile_plan.specs.Ranges.{tile_count};
 
 use crate::claim::Claim;
-use crate::least_hands::{deal_least_seats, join_least_seats};
+use crate::hands::{deal_seats, join_seats};
 use crate::least_pass::LeastPass;
-use crate::least_rule::{LeastClaim, LeastRule, Slotted};
-use crate::least_seat::LeastSeat;
+use crate::least_rule::{LeastClaim, LeastRule, OneMoreLeast, Slotted};
 use crate::leasts::Leasts;
+use crate::seat::LeastSeat;
 use crate::targets::Targets;
 use atomic_table::Table;
 use cvl_base::{Memory, NoResources};
@@ -83,8 +83,8 @@ impl<T: Targets, A: Memory> LeastBoard<T, A> {
             workers,
         };
         let (table, whole) = Table::of_words(alloc, words.as_slice(), &slotted)?;
+        let seats = deal_seats::<OneMoreLeast, _, _, _, _>(alloc, &table.shared, workers, whole)?;
         let board = LeastBoard { table, slotted };
-        let seats = deal_least_seats(alloc, &board, whole)?;
         Ok((board, seats))
     }
 }
@@ -119,7 +119,7 @@ impl<T: Targets, A: Allocator> LeastBoard<T, A> {
         ensures { IsLeastEnd self seats.items result }
     {
         hand_law::<LeastPass>();
-        let whole = join_least_seats(&self, seats);
+        let whole = join_seats::<OneMoreLeast, _, _, _, _>(&self.table.shared, seats);
         let LeastBoard { table, slotted } = self;
         Leasts::of(table.close_with(whole), slotted.slots)
     }

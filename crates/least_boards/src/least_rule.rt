@@ -6,7 +6,9 @@ ghost use Rattle.least_boards.specs.LeastPasses.{first_least_pass, least_passes_
 ghost use Rattle.least_boards.specs.LeastPasses.{split_least_left, split_least_right};
 ghost use Rattle.least_boards.specs.LeastRules.{IsLeastRuled, LeastGives, LowerGives};
 ghost use Rattle.least_boards.specs.ClaimSteps.{ClaimGives};
+ghost use Rattle.least_boards.specs.Joined.{AreLeastsJoined};
 
+use crate::hands::Gather;
 use crate::least_pass::LeastPass;
 use crate::targets::Targets;
 use atomic_table::{Join, Play, Split, TableRule};
@@ -69,4 +71,8 @@ impl Join<LeastPass> for OneMoreLeast {
     ghost both = { least_passes_joined };
 
     ghost spent = { spent_least_pass };
+}
+
+impl Gather<LeastPass> for OneMoreLeast {
+    ghost AreJoined = { AreLeastsJoined };
 }

@@ -8,7 +8,7 @@ ghost use Rattle.least_boards.specs.LeastPasses.{known_in, place_lowered, place_
 use crate::least_board::LeastBoard;
 use crate::least_pass::LeastPass;
 use crate::least_rule::{LeastStep, LowerStep};
-use crate::least_seat::LeastSeat;
+use crate::seat::LeastSeat;
 use crate::targets::Targets;
 use status_word::hand_law;
 use std::alloc::Allocator;

@@ -3,17 +3,18 @@
 #![tactic(auto)]
 
 pub mod claim;
+mod hands;
 pub mod least_board;
-mod least_hands;
 pub mod least_pass;
 mod least_rule;
-pub mod least_seat;
 mod least_words;
 pub mod leasts;
+pub mod seat;
 pub mod targets;
 
 pub use claim::Claim;
+pub use hands::{Gather, deal_seats, join_seats};
 pub use least_board::LeastBoard;
-pub use least_seat::LeastSeat;
 pub use leasts::Leasts;
+pub use seat::{BoardSeat, Handed, LeastSeat};
 pub use targets::Targets;
