@@ -17,7 +17,7 @@ mark_elsewhere t x rank looks marks differ =
     ap (λ b. max (cond b rank 0) (highest_mark x marks)) other ∙ omega arith
 
 module _ {Item : Type 0} where
-  -- a look at a tile of which nothing was told, and then its sum was
+  -- a look at a tile of which nothing was published, and then its sum was
   pub find_silent : (at : ℕ) (old now : Pass Item) → now ≡ told_state (looked old at 0) at 1 → known_at at old ≤ 0 → IsOneLook at 1 old now
   find_silent at old now is risen =
       let seen = mark_here at 0 old.looks old.seen in

@@ -1,6 +1,6 @@
 -- What the calls of a scan board promise.
 -- Source: the decoupled look-back of Merrill and Garland, Single-pass Parallel Prefix Scan with Decoupled Look-back, 2016. That a worker
--- adds up a tile of which nothing is told yet, instead of waiting for it, is this library's profile.
+-- adds up a tile of which nothing is published yet, instead of waiting for it, is this library's profile.
 use Rattle.std.specs.Prelude.{◌≡◌, ℕ, ◌+◌, ◌-◌, ◌<◌, ◌≤◌, ◌⊎◌, max, Bool, IsTrue, List, length, replicate}
 use Rattle.std.specs.List.{Any, sum_by}
 use Rattle.status_word.specs.declared.pass.Pass.{Pass}
@@ -30,10 +30,10 @@ pub record IsLookBack {Item : Type 0} (t looks : ℕ) (old new : Pass Item) : Ty
   pub met : looks < t → known_at (t - looks) new ≡ 2
   -- and at no prefix before
   pub passed : (x : ℕ) → t - looks < x → x < t → known_at x new < 2
-  -- it told sums alone, and of these tiles
+  -- it published sums alone, and of these tiles
   pub told : (x : ℕ) → (told_at x old ≤ told_at x new) × (told_at x new ≤ max (told_at x old) 1)
   pub told_outside : (x : ℕ) → IsOutside t looks x → told_at x new ≡ told_at x old
-  -- and nothing that was told before is lost
+  -- and nothing that was published before is lost
   pub kept : (x rank when : ℕ) → WasTold x rank when old → WasTold x rank when new
   -- it saw only these tiles
   pub seen : (x : ℕ) → seen_at x old ≤ seen_at x new
@@ -46,5 +46,5 @@ pub record IsEnd {Item : Type 0} (tiles : ℕ) (seats : List (Seated (Pass Item)
   pub once : AreGivenOnce (λ p. p.hand) tiles seats
   pub counted : given ≡ sum_by (λ s. length s.pass.hand.given) seats
   pub every : Any (λ s. IsTrue s.is_done) seats → given ≡ tiles
-  -- no seat saw a higher state of a tile than some seat told
+  -- no seat saw a higher state of a tile than some seat published
   pub seen : (t : ℕ) → highest (λ s. seen_at t s.pass) seats ≤ highest (λ s. told_at t s.pass) seats

@@ -1,4 +1,4 @@
--- The rule of a scan board's table: the words of the tiles, then the claim word, and the pass of each seat; and what each step tells.
+-- The rule of a scan board's table: the words of the tiles, then the claim word, and the pass of each seat; and what each step shows.
 -- Source: the bookkeeping behind Merrill and Garland's decoupled look-back, 2016.
 use Rattle.std.specs.Prelude.{◌≡◌, ℕ, ◌+◌, ◌≤◌, Bool, List, length, slice_index}
 use Rattle.atomic_table.specs.Table.{State, Me, Step}
@@ -22,6 +22,6 @@ LookGives m s me found after =
     (rank : ℕ) × (found ≡ code m me.0.sums s.word rank) × (rank ≤ 2) × (known_at s.word me.0 ≤ rank)
     × (after ≡ (looked me.0 s.word rank, me.1))
 
--- a state that was told
+-- a state that was published
 abbrev pub TellGives : {Item : Type 0} → ℕ → Step (Unit {0}) → PassOf Item → ℕ → PassOf Item → Type 0
 TellGives rank s me found after = after ≡ (told_state me.0 s.word rank, me.1)

@@ -17,7 +17,7 @@ abbrev pub rank_of : {Item : Type 0} → Found Item → ℕ
 rank_of (Sum starts value) = 1
 rank_of (Prefix starts value) = 2
 
--- one look at tile `at`, whose state is known to be this afterwards, and perhaps its sum told
+-- one look at tile `at`, whose state is known to be this afterwards, and perhaps its sum published
 pub record IsOneLook {Item : Type 0} (at rank : ℕ) (old new : Pass Item) : Type 0 where
   pub looks : new.looks ≡ old.looks + 1
   pub known : known_at at new ≡ rank
@@ -28,7 +28,7 @@ pub record IsOneLook {Item : Type 0} (at rank : ℕ) (old new : Pass Item) : Typ
   pub hand : new.hand ≡ old.hand
   pub sums : new.sums ≡ old.sums
 
--- one look at each of the tiles from `at` to before t, none of which told a prefix
+-- one look at each of the tiles from `at` to before t, none of which had a published prefix
 pub record IsWalk {Item : Type 0} (t at : ℕ) (old new : Pass Item) : Type 0 where
   pub looks : new.looks + at ≡ old.looks + t
   pub known : (x : ℕ) → at ≤ x → x < t → known_at x new ≡ 1

@@ -17,8 +17,8 @@ use status_word::{code_law, rule_law};
 use std::alloc::Allocator;
 use std::marker::Model;
 
-/// Shared by the workers of a single-pass scan: a word for each tile, which says what has been told of the tile so far, and a
-/// word that counts the claims. Each call takes one atomic step on one word, or a bounded number of them, and waits for nobody.
+/// Shared by the workers of a single-pass scan: a word for each tile, which says what has been published of the tile so far, and
+/// a word that counts the claims. Each call takes one atomic step on one word, or a bounded number of them, and waits for nobody.
 /// Its model is which board it is, the sums of its tiles, and for how many workers it was made.
 ///
 /// Source: Merrill and Garland, Single-pass Parallel Prefix Scan with Decoupled Look-back, 2016.

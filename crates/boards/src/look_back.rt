@@ -1,4 +1,4 @@
-//! The look-back: what the tiles before a tile join to, from what has been told of them.
+//! The look-back: what the tiles before a tile join to, from what has been published of them.
 
 ghost use Rattle.std.specs.Prelude.{◌≡◌, ◌<◌, length};
 ghost use Rattle.boards.specs.Answers.{IsLookBack};
@@ -33,8 +33,8 @@ enum Found<I> {
 
 impl<T: Tiles, A: Allocator> ScanBoard<T, A> {
     /// What the tiles before tile `t` join to. It looks at tile t-1, t-2 and so on, once at each, until it finds a prefix or the
-    /// first tile is done; if nothing is told of a tile yet, it adds it up itself, and tells its sum. So it looks at no tile
-    /// twice, waits for nobody, and takes no memory.
+    /// first tile is done; if nothing is published of a tile yet, it adds it up itself, and publishes its sum. So it looks at
+    /// no tile twice, waits for nobody, and takes no memory.
     ///
     /// Source: Merrill and Garland's decoupled look-back.
     pub fn look_back(&self, seat: &mut ScanSeat<T::M>, t: u32) -> Back<<T::M as Monoid>::Item>
@@ -67,7 +67,7 @@ impl<T: Tiles, A: Allocator> ScanBoard<T, A> {
         }
     }
 
-    /// One look at tile `at`; if nothing is told of the tile yet, it is added up and its sum is told.
+    /// One look at tile `at`; if nothing is published of the tile yet, it is added up and its sum is published.
     fn find(&self, seat: &mut ScanSeat<T::M>, at: u32) -> Found<<T::M as Monoid>::Item>
         requires seat { IsSeatOf self.now seat.old }
         requires tile { at < length self.now.sums }

@@ -1,4 +1,4 @@
-//! The rule of a scan board's table, and what each of its steps tells. Except for the tiles, these types are only for proofs.
+//! The rule of a scan board's table, and what each of its steps shows. Except for the tiles, these types are only for proofs.
 
 ghost use Rattle.std.specs.Prelude.{◌≡◌, ◌≤◌, length};
 ghost use Rattle.std.specs.List.{AllPass};
@@ -57,14 +57,14 @@ impl<M: Packed> Play<(), Pass<M::Item>> for LookStep<M> {
     ghost then = { LookGives (coding M.Packed) };
 }
 
-/// A tile's sum is told.
+/// A tile's sum is published.
 pub(crate) struct SumStep;
 
 impl<I> Play<(), Pass<I>> for SumStep {
     ghost then = { TellGives 1 };
 }
 
-/// A tile's prefix is told.
+/// A tile's prefix is published.
 pub(crate) struct PrefixStep;
 
 impl<I> Play<(), Pass<I>> for PrefixStep {

@@ -1,4 +1,4 @@
-//! What has been told of a tile: a look at its word, and how its sum and its prefix are told.
+//! What has been published of a tile: a look at its word, and how its sum and its prefix are published.
 
 ghost use Rattle.std.specs.Prelude.{◌≡◌, ◌<◌, ◌≤◌, length};
 ghost use Rattle.boards.specs.Boards.{IsSeatOf, with_pass};
@@ -17,8 +17,8 @@ use status_word::{Status, code_law, pack_status, read_status, rule_law};
 use std::alloc::Allocator;
 
 impl<T: Tiles, A: Allocator> ScanBoard<T, A> {
-    /// What has been told of tile `t`: a status that is lawful there, never lower than what this seat told or saw of it. One
-    /// load, which takes no memory.
+    /// What has been published of tile `t`: a status that is lawful there, never lower than what this seat published or saw of
+    /// it. One load, which takes no memory.
     pub fn look(&self, seat: &mut ScanSeat<T::M>, t: u32) -> Status<<T::M as Monoid>::Item>
         requires seat { IsSeatOf self.now seat.old }
         requires tile { t < length self.now.sums }
@@ -37,7 +37,7 @@ impl<T: Tiles, A: Allocator> ScanBoard<T, A> {
         read_status::<T::M>(word)
     }
 
-    /// Tells the sum of tile `t`, after adding it up. One fetch_max, which takes no memory.
+    /// Publishes the sum of tile `t`, after adding it up. One fetch_max, which takes no memory.
     pub fn tell_sum(&self, seat: &mut ScanSeat<T::M>, t: u32)
         requires seat { IsSeatOf self.now seat.old }
         requires tile { t < length self.now.sums }
@@ -47,8 +47,8 @@ impl<T: Tiles, A: Allocator> ScanBoard<T, A> {
         self.tell_known_sum(seat, t, self.counted.tiles.sum(t));
     }
 
-    /// Tells the prefix of tile `t`, after adding it up; `before` is what the tiles before it join to, as `look_back` gives it.
-    /// One fetch_max, which takes no memory.
+    /// Publishes the prefix of tile `t`, after adding it up; `before` is what the tiles before it join to, as `look_back` gives
+    /// it. One fetch_max, which takes no memory.
     pub fn tell_prefix(
         &self,
         seat: &mut ScanSeat<T::M>,
@@ -65,7 +65,7 @@ impl<T: Tiles, A: Allocator> ScanBoard<T, A> {
         self.tell_known_prefix(seat, t, before, self.counted.tiles.sum(t));
     }
 
-    /// Tells the sum of tile `t`, for a caller that has added it up. One fetch_max, which takes no memory.
+    /// Publishes the sum of tile `t`, for a caller that has added it up. One fetch_max, which takes no memory.
     pub fn tell_known_sum(
         &self,
         seat: &mut ScanSeat<T::M>,
@@ -86,7 +86,7 @@ impl<T: Tiles, A: Allocator> ScanBoard<T, A> {
         shared.fetch_max::<SumStep>(&mut seat.seat, t as usize, word);
     }
 
-    /// Tells the prefix of tile `t`, for a caller that has added the tile up. One fetch_max, which takes no memory.
+    /// Publishes the prefix of tile `t`, for a caller that has added the tile up. One fetch_max, which takes no memory.
     pub fn tell_known_prefix(
         &self,
         seat: &mut ScanSeat<T::M>,

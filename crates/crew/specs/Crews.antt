@@ -11,7 +11,7 @@ pub record AreNewSeats {Seat : Type 0} (IsSeat : Seat → Type 0) (given : Seat 
   pub of_board : All IsSeat seats
   pub fresh : All (λ seat. given seat ≡ []) seats
 
--- as many seats of that board as there were workers, each of which was told that no tile is left and has the facts of the tiles given to
+-- as many seats of that board as there were workers, each of which has the answer that no tile is left, and the facts of the tiles given to
 -- it, and the pieces of these tiles if they are kept
 pub record IsCrewed {Seat Item : Type 0} (count : ℕ) (items : ℕ → List Item)
     (IsSeat : Seat → Type 0) (HasFact : Seat → ℕ → Type 0) (given : Seat → List ℕ) (is_done : Seat → Bool)

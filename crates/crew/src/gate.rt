@@ -5,7 +5,7 @@
 pub enum Point {
     /// The tile was given to the worker.
     Claimed(u32),
-    /// The worker has told the tile's sum.
+    /// The worker has published the tile's sum.
     Summed(u32),
     /// The worker knows what stands before the tile.
     Looked(u32),

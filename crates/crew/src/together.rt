@@ -23,11 +23,11 @@ use tile_plan::Piece;
 pub struct Crewed<W: Work, A: Allocator> {
     /// The pieces of the tiles, in no particular order.
     pub pieces: Vec<Piece<W::Item, A>, A>,
-    /// The seats, each told that no tile is left.
+    /// The seats, to each of which a claim has answered that no tile is left.
     pub seats: Vec<W::Seat, A>,
 }
 
-/// One worker for each seat, numbered from 0 in the order of the seats, claims tiles until it is told that none is left.
+/// One worker for each seat, numbered from 0 in the order of the seats, claims tiles until none is left.
 ///
 /// There is one seat or more, at most as many as there are `workers`, all of the work's board, to none of which a tile was given
 /// before. A worker passes `Claimed` before it works at a tile, and `Finished` after it has the tile's items. The thread that
@@ -55,8 +55,8 @@ pub fn run_crew<R: Threads + Sync, A: Memory, W: Work, G: Gate>(
         (given_to W.given crewed.seats.items)
         (map (λ p. (p.tile, p.items.items)) crewed.pieces.items)) }
 {
-    // its contract bounds the number of workers
-    let _workers = workers.get();
+    // for the proof alone: its contract bounds the number of workers
+    let _bound = workers.get();
     run_from(rt, alloc, work, 0, seats, true, gate)
 }
 
@@ -79,8 +79,8 @@ pub fn run_crew_for_facts<R: Threads + Sync, A: Memory, W: Work, G: Gate>(
     ensures done { IfOk result (λ left. All (λ seat. IsTrue (W.is_done seat)) left.items) }
     ensures facts { IfOk result (λ left. All (HasFacts (W.HasFact work.now) W.given) left.items) }
 {
-    // its contract bounds the number of workers
-    let _workers = workers.get();
+    // for the proof alone: its contract bounds the number of workers
+    let _bound = workers.get();
     let crewed = run_from(rt, alloc, work, 0, seats, false, gate)?;
     Ok(crewed.seats)
 }

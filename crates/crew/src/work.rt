@@ -11,8 +11,8 @@ use cvl_base::{Memory, NoResources};
 /// A work that is cut into tiles, which its board gives to its seats.
 ///
 /// Its meaning is the number of tiles, the items of each tile, which seats are seats of its board, and for a seat as it is now
-/// the tiles that were given to it, the newest first, and whether it was told that none is left. It also names the fact of a
-/// tile: what a worker does at a tile for the others besides its items, such as what it tells them of the tile.
+/// the tiles that were given to it, the newest first, and whether a claim has answered that none is left. It also names the fact
+/// of a tile: what a worker does at a tile for the others besides its items, such as what it publishes of the tile.
 pub trait Work: Sync {
     /// A worker's place at the board.
     type Seat: Send + Drop;

@@ -11,7 +11,7 @@ use boards::Claim;
 use cvl_base::{Memory, NoResources};
 use tile_plan::Piece;
 
-/// The pieces of the tiles that are given to the seat, until it is told that none is left; no pieces if none are to be kept. Each
+/// The pieces of the tiles that are given to the seat, until none is left; no pieces if none are to be kept. Each
 /// claim gives a tile that the seat didn't have, so there are at most as many as the work has tiles. The seat then has the fact
 /// of each.
 pub(crate) fn take_tiles<A: Memory, W: Work, G: Gate>(

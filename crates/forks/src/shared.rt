@@ -8,10 +8,10 @@ use std::thread::{Threads, join_mut};
 
 /// Work over a slice, and over another beside it, of which each of several threads does a part, over a run of both of its own.
 ///
-/// Its meaning is what it needs of the slices by so many threads, what these leave there and tell, and what two halves tell
+/// Its meaning is what it needs of the slices by so many threads, what these leave there and return, and what two halves return
 /// together. What takes no second slice is given an empty one.
 pub trait Work<T, U>: Sized {
-    /// What is told of a part.
+    /// What is returned of a part.
     type Told: Send + Drop;
 
     ghost IsReady: { Self → ℕ → List T → List U → Type 0 };
@@ -44,7 +44,7 @@ pub trait Work<T, U>: Sized {
         requires ready { IsReady self.now 1 out.old beside.old }
         ensures { Does self.now 1 out.old beside.old out.new beside.new result };
 
-    /// What two halves tell together.
+    /// What two halves return together.
     fn together(first: Self::Told, second: Self::Told) -> Self::Told
         ensures { result ≡ together first second };
 }

@@ -15,7 +15,7 @@ use std::thread::Threads;
 
 /// What some neighbouring places are written from, in one or more parts.
 ///
-/// Its meaning hangs on the first of its places and on their number: whether it is a share of these places, the items that it
+/// Its meaning depends on the first of its places and on their number: whether it is a share of these places, the items that it
 /// writes there, the first place of them whose item has no value, if it looks for one, and how many of them the first of its
 /// parts have where it is cut in two. It has at least one part.
 pub trait Share<T>: Sized {
@@ -49,7 +49,7 @@ pub trait Share<T>: Sized {
         ensures found { found self first room ≡ option_or (found result.0 first result.1)
             (found result.2 (first + result.1) (room - result.1)) };
 
-    /// Writes the one part into an empty run of the share's places, and tells the first place whose item has no value.
+    /// Writes the one part into an empty run of the share's places, and returns the first place whose item has no value.
     fn write(self, run: Run<T>) -> (Run<T>, Option<usize>)
         requires one { parts self < 2 }
         requires empty { run.items ≡ [] }
@@ -116,7 +116,7 @@ fn write_both<T: Send + Drop, R: Threads + Sync, S: Share<T> + Send + Drop>(
 }
 
 /// Writes the next places of a run, as many as the share has, behind the items that it has, each part of the share by a thread
-/// of its own. The share has at most `threads` parts. It tells the first place whose item has no value.
+/// of its own. The share has at most `threads` parts. It returns the first place whose item has no value.
 pub fn extend_in_parts<T: Send + Drop, R: Threads + Sync, S: Share<T> + Send + Drop>(
     rt: &R,
     threads: ThreadCount,

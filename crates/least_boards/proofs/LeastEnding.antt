@@ -1,4 +1,4 @@
--- What the words of a closed least board tell, from the rule and from the one pass that stands for all seats.
+-- What the words of a closed least board say, from the rule and from the one pass that stands for all seats.
 -- Source: the laws of the crate `status_word` on the hand that stands for all workers.
 use Rattle.least_boards.proofs.Cited.{◌≡◌, refl, sym, ap, ◌∙◌, ℕ, ◌+◌, ◌<◌, ◌≤◌, min, ltb, List, [], length, map, take, get_or, Option, Some, None, arith, ⊎_elim, cases_lt, cond_both, ltb-false}
 use Rattle.least_boards.proofs.Cited.{ltb-true, get_or-map, get_or-take, get_or_past, length-map, length-take, length-take-le, some, get_elem?, State, WholeDeals, element_at, one_alone, others_none}
@@ -19,7 +19,7 @@ pub target_within : (targets : List (Option ℕ)) (place slot : ℕ) → get_or 
 target_within targets place slot is =
     ⊎_elim (λ within. within) (λ past. absurd (none-some slot (sym (get_or_past targets place None past) ∙ is))) (cases_lt place (length targets))
 
--- a word that is a place of its slot, or no place, is told as such
+-- a word that is a place of its slot, or no place, is read as such
 told_back : (targets : List (Option ℕ)) (slot word : ℕ) → length targets ≤ most_elements → IsOfSlot targets slot word → word_of_place (place_of_word word) ≡ word
 told_back targets slot word few is =
     cond_both (ltb word 4294967296) (Some word) None (λ o. word_of_place o ≡ word)
@@ -32,11 +32,11 @@ told_slot targets slot word place is told =
     let found = cond_some (ltb word 4294967296) word place told in
     ⊎_elim (λ none. absurd (omega (arith, none, ltb-true word 4294967296 found.0))) (λ target. ap (λ n. get_or targets n None) (sym found.1) ∙ target) is
 
--- what is told of a slot is what its word stands for
+-- what is read of a slot is what its word stands for
 pub told_at_slot : (words : List ℕ) (slots s : ℕ) → s < slots → slots < length words → get_or (map place_of_word (take slots words)) s None ≡ place_of_word (get_or words s 0)
 told_at_slot words slots s below within = get_or-map place_of_word (take slots words) s 0 None (omega (arith, length-take slots words)) ∙ ap place_of_word (get_or-take slots words s 0 below)
 
--- what its seats did in all, and the least places that its words tell
+-- what its seats did in all, and the least places that its words say
 pub least_ended : WholeDeals {P = LeastPass} (λ p. p.hand) → (board : LeastView) (id : ℕ) (s : State (Unit {0}) LeastPass) (words : List ℕ) (p : LeastPass) (seats : List (Seated LeastPass))
     → length board.targets ≤ most_elements → length seats ≡ board.workers → IsLeastRuled board.targets board.slots board.tiles board.workers s → get_elem? s.views id ≡ some p
     → s.words ≡ words → AreLeastsJoined p [] seats → IsLeastEnd board seats (map place_of_word (take board.slots words))

@@ -1,4 +1,4 @@
--- What a step on the claim word of any board tells its seat.
+-- What a step on the claim word of any board shows its seat.
 -- Source: the tile counter of Merrill and Garland, Single-pass Parallel Prefix Scan with Decoupled Look-back, 2016.
 use Rattle.std.specs.Prelude.{◌≡◌, ℕ, ◌<◌, nat_lt, if◌then◌else◌}
 use Rattle.atomic_table.specs.Table.{Me, Step}

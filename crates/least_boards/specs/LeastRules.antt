@@ -1,4 +1,4 @@
--- The rule of a least board's table: the words of the slots, then the claim word, and the pass of each seat; and what each step tells.
+-- The rule of a least board's table: the words of the slots, then the claim word, and the pass of each seat; and what each step shows.
 -- Source: the priority write of a parallel machine with concurrent writes, by which the least of all writers of a cell wins.
 use Rattle.std.specs.Prelude.{◌≡◌, ℕ, ◌+◌, ◌<◌, ◌≤◌, ◌⊎◌, List, [], length, slice_index, slice_index_or, Option, Some, None}
 use Rattle.std.specs.List.{All}

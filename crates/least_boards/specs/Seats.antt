@@ -6,7 +6,7 @@ use Rattle.atomic_table.specs.Table.{Splits, State}
 use Rattle.status_word.specs.declared.pass.Hand.{Hand}
 use Rattle.status_word.specs.Hands.{new_hand}
 
--- at which board the seat is, what its worker did, and whether it was told that no tile is left
+-- at which board the seat is, what its worker did, and whether a claim has answered that no tile is left
 pub record Seated (P : Type 0) : Type 0 where
   pub id : TableId
   pub pass : P
@@ -20,11 +20,11 @@ with_pass seat pass = record { id = seat.id; pass = pass; is_done = seat.is_done
 abbrev pub idle_seat : {P : Type 0} → TableId → P → Seated P
 idle_seat id pass = record { id = id; pass = pass; is_done = false }
 
--- A pass that stands for so many workers, none of which did anything: the passes of one of them can be cut from it, one by one, and each cut
--- keeps the board's rule.
+-- A pass that stands for so many workers, none of which did anything yet: the pass of each of them can be cut from it, one by one, and each
+-- cut keeps the board's rule.
 pub record StandsFor {P : Type 0} (hand : P → Hand) (left right : P → P) (holds : State (Unit {0}) P → Type 0) (whole : P) (workers : ℕ)
     : Type 0 where
-  -- the pass that stands for some of them
+  -- the pass that stands for some of the workers
   pub some : ℕ → P
   pub all : whole ≡ some workers
   pub fewer : (n : ℕ) → left (some n) ≡ some (n - 1)

@@ -1,4 +1,4 @@
-//! The rule of a least board's table, and what each of its steps tells. Except for the targets, these types are only for proofs.
+//! The rule of a least board's table, and what each of its steps shows. Except for the targets, these types are only for proofs.
 
 ghost use Rattle.std.specs.Prelude.{◌≡◌, ◌≤◌, length};
 ghost use Rattle.cvl_base.specs.Limits.{most_elements, most_workers};

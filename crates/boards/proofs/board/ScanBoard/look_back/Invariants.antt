@@ -3,7 +3,7 @@ use Rattle.boards.specs.Boards.{IsSeatOf}
 use Rattle.boards.specs.Walks.{IsWalk}
 use Rattle.boards.proofs.board.ScanBoard.look_back.Given as goal
 
--- the tiles from `at` on are added up, and none of them told a prefix
+-- the tiles from `at` on are added up, and the prefix of none of them was published
 abbrev pub invariant-loop-at : goal.invariant-loop-at
 invariant-loop-at g l =
     (l.at ≤ l.t)
