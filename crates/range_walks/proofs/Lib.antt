@@ -4,6 +4,7 @@ pub mod LastStart
 pub mod Marks
 pub mod RangeParts
 pub mod Scanned
+pub mod SegmentNumbers
 pub mod SegmentReduces
 pub mod Segments
 pub mod Written

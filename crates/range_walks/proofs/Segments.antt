@@ -2,7 +2,7 @@
 use Rattle.range_walks.proofs.Cited.{rules, ◌≡◌, ℕ, zero, suc, ◌-◌, ℤ, pos, to_z, of_z, w32, w64, Fits, ◌+◌, ◌<◌, ◌≤◌, min, List, [], ◌∷◌, ◌++◌, length, take, drop, map, get_or, refl, sym, ap, ◌∙◌}
 use Rattle.range_walks.proofs.Cited.{arith, take-add, sum, unsigned_abs, length-map, length-take, drop-take, take-take, length-drop, drop_more, take_all, drop-drop, take_min, drop_min, append-nil}
 use Rattle.range_walks.proofs.Cited.{length-append, map-append, flat_map-append, sum_by-append, sum_by-drop_more, sum_by_more, sum_by-take-drop, scan_of, cut_of, length-scan_of, sum-cons, start_of}
-use Rattle.range_walks.proofs.Cited.{scans_of}
+use Rattle.range_walks.proofs.Cited.{fold_of, reduces_of, scans_of}
 use Rattle.std.proofs.Math.Facts.{Fits-below}
 use Rattle.std.specs.Int.{IsNonNegative}
 use Rattle.cvl_base.specs.Descriptors.{AreLengthsWithin}
@@ -43,6 +43,17 @@ module _ {Item : Type 0} (join : Item → Item → Item) (unit : Item) where
   scans_left s k n later cut lengths rest is_later is_n is_cut =
       let behind : drop k (drop s lengths) ≡ drop later lengths = drop-drop k s lengths ∙ ap (λ j. drop j lengths) (sym is_later) in
       scans_parted k n cut (drop s lengths) rest is_n is_cut ∙ ap (λ ls. scans_of join unit (take k (drop s lengths)) (take cut rest) ++ scans_of join unit ls (drop cut rest)) behind
+
+  -- the same for reduces, of elements that begin with those of the segments
+  pub reduces_left : (s k n later : ℕ) (lengths : List ℕ) (rest : List Item) → later ≡ s + k → n ≡ sum (take k (drop s lengths))
+      → reduces_of join unit (drop s lengths) rest ≡ reduces_of join unit (take k (drop s lengths)) (take n rest) ++ reduces_of join unit (drop later lengths) (drop n rest)
+  reduces_left s k n later lengths rest is_later is_n =
+      let ls = drop s lengths in
+      let behind : drop k ls ≡ drop later lengths = drop-drop k s lengths ∙ ap (λ j. drop j lengths) (sym is_later) in
+      let is : n ≡ start_of ls k = is_n in
+      let front = cut_of (take k ls) (take (start_of ls k) rest) in
+      let back = cut_of (drop k ls) (drop (start_of ls k) rest) in
+      cc (cut_parted k ls rest, map-append (fold_of join unit) front back, is, behind)
 
   -- scans of segments are as long as the elements
   pub length-scans_of : (lengths : List ℕ) (xs : List Item) → length xs ≤ sum lengths → length (scans_of join unit lengths xs) ≡ length xs

@@ -7,11 +7,13 @@
 //! vectors are above, in the crate `scan_walks`.
 #![tactic(auto)]
 
+mod ends;
 pub mod plain;
 pub mod range_parts;
 pub mod ranges;
 pub mod readings;
 mod segment_sums;
+mod short_reduces;
 mod short_segments;
 
 pub use plain::{scan_into, scan_vec, sum_from};

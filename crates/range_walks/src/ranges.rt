@@ -16,7 +16,8 @@ use crate::plain::{scan_into, sum_from};
 use crate::range_parts::parts_of_range;
 use crate::readings::Reading;
 use crate::segment_sums::sum_of_segment;
-use crate::short_segments::{marks_pay, scans_of_groups};
+use crate::short_reduces::reduces_of_groups;
+use crate::short_segments::{groups_pay, scans_of_groups};
 use cvl_base::Monoid;
 use cvl_base::monoid::know_laws;
 use fresh::Run;
@@ -42,7 +43,7 @@ pub fn scans_into<M: Monoid, X: Copy, E: Reading<X, M::Item>>(
     requires items { AllPass (λ x. M.is_item (E.item x)) xs.now }
     ensures { result ≡ with_items run (scans_of M.join M.unit (map unsigned_abs lengths.now) (map E.item xs.now)) }
 {
-    if marks_pay(lengths, xs.len()) {
+    if groups_pay(lengths, xs.len()) {
         return scans_of_groups::<M, X, E>(run, lengths, xs);
     }
     scans_in_turn::<M, X, E>(run, lengths, xs)
@@ -79,6 +80,24 @@ pub(crate) fn scans_in_turn<M: Monoid, X: Copy, E: Reading<X, M::Item>>(
 /// must have room for one item for each segment. All elements must be read as items of the monoid. Source: CVL's segmented
 /// reduces.
 pub fn reduces_into<M: Monoid, X: Copy, E: Reading<X, M::Item>>(
+    run: Run<M::Item>,
+    lengths: &[i32],
+    xs: &[X],
+) -> Run<M::Item>
+    requires lengths { AreLengthsWithin most_places lengths.now }
+    requires covered { sum (map unsigned_abs lengths.now) ≤ length xs.now }
+    requires room { length lengths.now ≤ run.room }
+    requires items { AllPass (λ x. M.is_item (E.item x)) xs.now }
+    ensures { result ≡ with_items run (reduces_of M.join M.unit (map unsigned_abs lengths.now) (map E.item xs.now)) }
+{
+    if groups_pay(lengths, xs.len()) {
+        return reduces_of_groups::<M, X, E>(run, lengths, xs);
+    }
+    reduces_in_turn::<M, X, E>(run, lengths, xs)
+}
+
+/// The same as [`reduces_into`], by a loop for each segment.
+pub(crate) fn reduces_in_turn<M: Monoid, X: Copy, E: Reading<X, M::Item>>(
     run: Run<M::Item>,
     lengths: &[i32],
     xs: &[X],

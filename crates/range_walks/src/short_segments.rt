@@ -18,29 +18,37 @@ use cvl_base::monoid::know_laws;
 use fresh::Run;
 
 /// How many segments are marked at once.
-const GROUP: usize = 128;
+pub(crate) const GROUP: usize = 128;
 
 /// How many elements they have at most; more are walked segment by segment.
-const MARKED: usize = 1024;
+pub(crate) const MARKED: usize = 1024;
 
-/// Whether marks pay: the segments have fewer than two elements on average, or few and not all equally many, so that the
-/// processor does not foresee where each ends. The first segments show that.
-pub(crate) fn marks_pay(lengths: &[i32], elements: usize) -> bool {
-    if elements / 2 < lengths.len() {
-        return true;
-    }
-    if elements / 8 > lengths.len() {
-        return false;
-    }
+/// Fewer segments than this are walked one by one, since many at once take some preparation.
+const FEW: usize = 8;
+
+/// Whether one of the lengths is another than this.
+fn differ(lengths: &[i32], length: i32) -> bool {
     let mut differ = false;
-    for length in &lengths[..lengths.len().min(GROUP)] {
-        differ |= *length != lengths[0];
+    for other in lengths {
+        differ |= *other != length;
     }
     differ
 }
 
+/// Whether the segments are walked many at once: they have at most eight elements on average and are not equally long, so that
+/// the processor does not foresee where each ends. The first and the last segments show that.
+pub(crate) fn groups_pay(lengths: &[i32], elements: usize) -> bool {
+    if lengths.len() < FEW || elements / 8 > lengths.len() {
+        return false;
+    }
+    let shown = lengths.len().min(GROUP);
+    let (first, _) = lengths.split_at(shown);
+    let (_, last) = lengths.split_at(lengths.len() - shown);
+    differ(first, lengths[0]) || differ(last, lengths[0])
+}
+
 /// How many elements the segments with these lengths have together.
-fn total_of(lengths: &[i32]) -> usize
+pub(crate) fn total_of(lengths: &[i32]) -> usize
     requires { AreLengthsWithin most_places lengths.now }
     ensures { result ≡ sum (map unsigned_abs lengths.now) }
 {

@@ -1,5 +1,5 @@
 use Rattle.range_walks.proofs.Cited.{◌≡◌, ◌-◌, ◌≤◌, length, drop, map, unsigned_abs, sum, AllPass, with_items, reduces_of}
-use Rattle.range_walks.proofs.ranges.reduces_into.Given as goal
+use Rattle.range_walks.proofs.ranges.reduces_in_turn.Given as goal
 
 -- what is written with the reduces of the segments left is the whole
 abbrev pub invariant-loop-length : goal.invariant-loop-length

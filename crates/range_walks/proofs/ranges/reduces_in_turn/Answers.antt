@@ -1,7 +1,7 @@
 use Rattle.range_walks.proofs.Cited.{◌≡◌, ◌+◌, ◌-◌, ◌∷◌, [], true, drop, map, unsigned_abs, sym, subst, ap, ◌∙◌, arith, AllPass, drop-map, take-map, All-drop, fold_of, reduces_of}
 use Rattle.range_walks.proofs.Segments.{cut_more, length_here, read_at}
 use Rattle.range_walks.proofs.Written.{written_more}
-use Rattle.range_walks.proofs.ranges.reduces_into.Goals as goal
+use Rattle.range_walks.proofs.ranges.reduces_in_turn.Goals as goal
 
 pub overflow_cast-length : goal.overflow_cast-length
 overflow_cast-length g c = (length_here c.requires.lengths c.loop-length-test.true).fits
