@@ -461,7 +461,7 @@ static void make(const Row *row, Given *g) {
     const bool few_places = (row->model == COMBINE_PERMUTE || row->model == COUNTS) && chance(2);
     const size_t n = few_places || chance(9) ? below(MOST_PLACES / 4) : below(14);
     const size_t m = few_places ? 1 + below(n / 8) : chance(3) ? below(14) : n + below(5);
-    const size_t segments = chance(9) ? 0 : 1 + below(5), count = count_of(row), marks = operand_of(row, WRITES, WORD);
+    const size_t segments = chance(9) ? 0 : 1 + below(chance(4) ? 40 : 5), count = count_of(row), marks = operand_of(row, WRITES, WORD);
     memset(g, 0, sizeof *g);
     fill_bytes();
     g->op = chance(30) && !row->is_call ? (uint32_t)below(24) : operator_for(row, (uint32_t)below(32));

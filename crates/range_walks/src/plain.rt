@@ -14,6 +14,8 @@ use std::alloc::Allocator;
 /// What stands before the elements, joined from left to right with the items read from them.
 ///
 /// `before` and all items read must be items of the monoid. It takes no memory. Source: CVL's reduces.
+// inlined, since a call takes longer than a short segment
+#[inline(always)]
 pub fn sum_from<M: Monoid, X: Copy, E: Reading<X, M::Item>>(before: M::Item, xs: &[X]) -> M::Item
     requires before { IsTrue (M.is_item before) }
     requires items { AllPass (λ x. M.is_item (E.item x)) xs.now }

@@ -35,16 +35,20 @@ fn differ(lengths: &[i32], length: i32) -> bool {
     differ
 }
 
-/// Whether the segments are walked many at once: they have at most eight elements on average and are not equally long, so that
-/// the processor does not foresee where each ends. The first and the last segments show that.
-pub(crate) fn groups_pay(lengths: &[i32], elements: usize) -> bool {
-    if lengths.len() < FEW || elements / 8 > lengths.len() {
+/// Whether the segments are walked many at once: they have at most eight elements on average, all or the first ones, and are not
+/// equally long, so that the processor does not foresee where each ends. The first and the last segments show that. More elements
+/// may be counted than the segments have.
+pub(crate) fn groups_pay(lengths: &[i32], elements: usize) -> bool
+    requires { AreLengthsWithin most_places lengths.now }
+{
+    if lengths.len() < FEW {
         return false;
     }
     let shown = lengths.len().min(GROUP);
     let (first, _) = lengths.split_at(shown);
     let (_, last) = lengths.split_at(lengths.len() - shown);
-    differ(first, lengths[0]) || differ(last, lengths[0])
+    let are_short = elements / 8 <= lengths.len() || total_of(first) / 8 <= shown;
+    are_short && (differ(first, lengths[0]) || differ(last, lengths[0]))
 }
 
 /// How many elements the segments with these lengths have together.
