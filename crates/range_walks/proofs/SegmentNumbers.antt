@@ -1,6 +1,7 @@
 -- Where segments end, counted, and the reduces of the segments as their elements are joined one by one.
 -- Source: what the definitions of ends and of reduces imply.
-use Rattle.range_walks.proofs.Cited.{◌≡◌, ℕ, ℤ, unsigned_abs, zero, suc, ◌+◌, ◌-◌, ◌<◌, ◌≤◌, Bool, List, [], ◌∷◌, ◌++◌, length, take, drop, map, get_or, refl, subst, sym, ap, ◌∙◌, true, IsTrue, arith, sum, AllPass}
+use Rattle.range_walks.proofs.Cited.{◌≡◌, ℕ, ℤ, unsigned_abs, zero, suc, ◌+◌, ◌-◌, ◌<◌, ◌≤◌, Bool, List, [], ◌∷◌, ◌++◌}
+use Rattle.range_walks.proofs.Cited.{length, take, drop, map, get_or, refl, subst, sym, ap, ◌∙◌, true, IsTrue, arith, sum, AllPass}
 use Rattle.range_walks.proofs.Cited.{take_all, drop_all, drop-take, length-take, length-drop, length-map, sum_by_more, sum_by-take-drop, sum-cons, All-take, All-drop, fold_of, fold_of_is_item}
 use Rattle.range_walks.proofs.Cited.{MonoidLaws, start_of, cut_of, reduces_of}
 use Rattle.range_walks.specs.Ends.{AreEnds, IsIn}

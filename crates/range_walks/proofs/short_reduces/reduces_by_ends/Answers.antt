@@ -17,42 +17,44 @@ loop-place-init g c =
 
 pub overflow_add-segment : goal.overflow_add-segment
 overflow_add-segment g c =
-    let below = holder_below c.args.lengths.now c.args.ends.now (length c.args.xs.now) c.loop-place.place c.loop-place.segment c.requires.ends c.requires.covered c.requires.places c.loop-place-test.true
+    let below = holder_below c.args.lengths.now c.args.ends.now _ c.loop-place.place c.loop-place.segment c.requires.ends c.requires.covered c.requires.places c.loop-place-test.true
     c.loop-place.invariant.segment c.requires.few in
     record { fits = omega (arith, below) }
 
 pub offset_bounds-sums-segment : goal.offset_bounds-sums-segment
 offset_bounds-sums-segment g c =
-    let below = holder_below c.args.lengths.now c.args.ends.now (length c.args.xs.now) c.loop-place.place c.loop-place.segment c.requires.ends c.requires.covered c.requires.places c.loop-place-test.true
+    let below = holder_below c.args.lengths.now c.args.ends.now _ c.loop-place.place c.loop-place.segment c.requires.ends c.requires.covered c.requires.places c.loop-place-test.true
     c.loop-place.invariant.segment c.requires.few in
-    record { fits = offset_fits (c.loop-place.segment + get_or c.args.ends.now c.loop-place.place 0) _ c.size_of_val.result c.size_of_val.ensures (omega (arith, c.if-size_of_val-gt-LARGEST.false)) below }
+    let number = c.loop-place.segment + get_or c.args.ends.now c.loop-place.place 0 in
+    record { fits = offset_fits number _ c.size_of_val.result c.size_of_val.ensures (omega (arith, c.if-size_of_val-gt-LARGEST.false)) below }
 
 pub listed : goal.listed
 listed g c =
-    let below = holder_below c.args.lengths.now c.args.ends.now (length c.args.xs.now) c.loop-place.place c.loop-place.segment c.requires.ends c.requires.covered c.requires.places c.loop-place-test.true
+    let below = holder_below c.args.lengths.now c.args.ends.now _ c.loop-place.place c.loop-place.segment c.requires.ends c.requires.covered c.requires.places c.loop-place-test.true
     c.loop-place.invariant.segment c.requires.few in
     omega (arith, below, c.loop-place.invariant.places)
 
 pub bounds-sums-segment : goal.bounds-sums-segment
 bounds-sums-segment g c =
-    holder_below c.args.lengths.now c.args.ends.now (length c.args.xs.now) c.loop-place.place c.loop-place.segment c.requires.ends c.requires.covered c.requires.places c.loop-place-test.true
+    holder_below c.args.lengths.now c.args.ends.now _ c.loop-place.place c.loop-place.segment c.requires.ends c.requires.covered c.requires.places c.loop-place-test.true
     c.loop-place.invariant.segment c.requires.few
 
 pub offset_bounds-sums-segment-in-loop-place : goal.offset_bounds-sums-segment-in-loop-place
 offset_bounds-sums-segment-in-loop-place g c =
-    let below = holder_below c.args.lengths.now c.args.ends.now (length c.args.xs.now) c.loop-place.place c.loop-place.segment c.requires.ends c.requires.covered c.requires.places c.loop-place-test.true
+    let below = holder_below c.args.lengths.now c.args.ends.now _ c.loop-place.place c.loop-place.segment c.requires.ends c.requires.covered c.requires.places c.loop-place-test.true
     c.loop-place.invariant.segment c.requires.few in
-    record { fits = offset_fits (c.loop-place.segment + get_or c.args.ends.now c.loop-place.place 0) _ c.size_of_val.result c.size_of_val.ensures (omega (arith, c.if-size_of_val-gt-LARGEST.false)) below }
+    let number = c.loop-place.segment + get_or c.args.ends.now c.loop-place.place 0 in
+    record { fits = offset_fits number _ c.size_of_val.result c.size_of_val.ensures (omega (arith, c.if-size_of_val-gt-LARGEST.false)) below }
 
 pub listed-in-loop-place : goal.listed-in-loop-place
 listed-in-loop-place g c =
-    let below = holder_below c.args.lengths.now c.args.ends.now (length c.args.xs.now) c.loop-place.place c.loop-place.segment c.requires.ends c.requires.covered c.requires.places c.loop-place-test.true
+    let below = holder_below c.args.lengths.now c.args.ends.now _ c.loop-place.place c.loop-place.segment c.requires.ends c.requires.covered c.requires.places c.loop-place-test.true
     c.loop-place.invariant.segment c.requires.few in
     omega (arith, below, c.loop-place.invariant.places)
 
 pub bounds-sums-segment-in-loop-place : goal.bounds-sums-segment-in-loop-place
 bounds-sums-segment-in-loop-place g c =
-    holder_below c.args.lengths.now c.args.ends.now (length c.args.xs.now) c.loop-place.place c.loop-place.segment c.requires.ends c.requires.covered c.requires.places c.loop-place-test.true
+    holder_below c.args.lengths.now c.args.ends.now _ c.loop-place.place c.loop-place.segment c.requires.ends c.requires.covered c.requires.places c.loop-place-test.true
     c.loop-place.invariant.segment c.requires.few
 
 pub join-requires-clause-first : goal.join-requires-clause-first
@@ -63,7 +65,8 @@ join-requires-clause-first g c =
     let lengths = map unsigned_abs c.args.lengths.now in
     let xs = map item c.args.xs.now in
     let next = now.segment + get_or c.args.ends.now now.place 0 in
-    let own = in_count lengths next now.place (holder lengths c.args.ends.now (length c.args.xs.now) now.place now.segment c.requires.ends c.requires.covered c.requires.places c.loop-place-test.true now.invariant.segment).1 in
+    let holds = holder lengths c.args.ends.now _ now.place now.segment c.requires.ends c.requires.covered c.requires.places c.loop-place-test.true now.invariant.segment in
+    let own = in_count lengths next now.place holds.1 in
     let items = All-take (λ y. m.is_item y ≡ true) now.place xs (All-map (λ y. m.is_item y ≡ true) item c.args.xs.now c.requires.items) in
     ap m.is_item (sum_read m.join m.unit lengths (take now.place xs) _ now.sums next c.index-sums-segment.result now.invariant.sums own)
     ∙ reduced_is_item c.know_laws.ensures lengths (take now.place xs) next c.index-sums-segment.result items own
@@ -76,7 +79,7 @@ loop-place-preserved g c =
     let lengths = map unsigned_abs c.args.lengths.now in
     let xs = map item c.args.xs.now in
     let next = now.segment + get_or c.args.ends.now now.place 0 in
-    let holds = holder lengths c.args.ends.now (length c.args.xs.now) now.place now.segment c.requires.ends c.requires.covered c.requires.places c.loop-place-test.true now.invariant.segment in
+    let holds = holder lengths c.args.ends.now _ now.place now.segment c.requires.ends c.requires.covered c.requires.places c.loop-place-test.true now.invariant.segment in
     let own = in_count lengths next now.place holds.1 in
     let d = c.index-sums-segment.result in
     let x = item c.index-xs-place.result in

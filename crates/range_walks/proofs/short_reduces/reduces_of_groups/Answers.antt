@@ -1,4 +1,5 @@
-use Rattle.range_walks.proofs.Cited.{rules, ◌≡◌, ◌+◌, ◌-◌, ◌++◌, true, drop, map, take, unsigned_abs, sum, sym, subst, ap, ◌∙◌, arith, AllPass, All-drop, drop-map, take-map, length-map, length-take, length-drop}
+use Rattle.range_walks.proofs.Cited.{rules, ◌≡◌, ◌+◌, ◌-◌, ◌++◌, true, drop, length, map, take, unsigned_abs, sum}
+use Rattle.range_walks.proofs.Cited.{sym, subst, ap, ◌∙◌, arith, AllPass, All-drop, drop-map, take-map, length-map, length-take, length-drop}
 use Rattle.range_walks.proofs.Cited.{reduces_of, with_items}
 use Rattle.range_walks.proofs.SegmentNumbers.{length-reduced}
 use Rattle.range_walks.proofs.Segments.{range_left, range_lengths, range_read, reduces_left}
@@ -14,7 +15,8 @@ split_at-requires g c =
     let first = c.loop-first.first in
     let next = c.min-next.result in
     let read = range_read row (map unsigned_abs row) first (next - first) c.requires.lengths.none_negative in
-    omega (arith, c.total_of.ensures, ap sum read, range_left (map unsigned_abs row) first (next - first) next (omega (arith, c.min-next.ensures, c.loop-first-test.true)), c.loop-first.invariant.covered)
+    let ends : next ≡ first + (next - first) = omega (arith, c.min-next.ensures, c.loop-first-test.true) in
+    omega (arith, c.total_of.ensures, ap sum read, range_left (map unsigned_abs row) first (next - first) next ends, c.loop-first.invariant.covered)
 
 pub reduces_of_group-run-requires-clause-lengths : goal.reduces_of_group-run-requires-clause-lengths
 reduces_of_group-run-requires-clause-lengths g c = search (rules, range_lengths)
@@ -43,9 +45,11 @@ loop-first-preserved g c =
     let written : c.reduces_of_group-run.result ≡ with_items c.loop-first.run now =
     c.reduces_of_group-run.ensures ∙ ap (λ ls. with_items c.loop-first.run (reduces_of m.join m.unit ls elements)) read in
     let long = length-reduced m.join m.unit (take k (drop first lengths)) elements in
+    let left_room = ap (λ r. r.room) written in
+    let count : length (take k (drop first lengths)) ≡ k = omega (arith, length-take k (drop first lengths), length-drop first lengths, length-map row unsigned_abs, ends, c.min-next.ensures) in
     record {
       whole = written_more c.loop-first.run c.reduces_of_group-run.result _ now _ _ written left c.loop-first.invariant.whole;
       covered = omega (arith, c.loop-first.invariant.covered, is_n, c.split_at.ensures.back_len, range_left lengths first k next ends);
-      room = omega (arith, ap (λ r. r.room) written, long, length-take k (drop first lengths), length-drop first lengths, length-map row unsigned_abs, ends, c.min-next.ensures, c.loop-first.invariant.room);
+      room = omega (arith, left_room, long, count, ends, c.min-next.ensures, c.loop-first.invariant.room);
       items = subst (λ xs. AllPass (λ x. m.is_item (item x)) xs) (sym c.split_at.ensures.back) (All-drop (λ x. m.is_item (item x) ≡ true) n rest c.loop-first.invariant.items);
     }
