@@ -1,7 +1,8 @@
 -- The text of a value: integers in decimal, booleans `T` and `F`, vectors `[0 3 4]`, the empty vector `[]`, a
 -- descriptor as its lengths, a vector with a descriptor as the vectors of its segments, `[[] [5 1]]`.
 -- Source: this library's text format.
-use Rattle.std.specs.Prelude.{ℕ, Bool, true, false, List, ◌∷◌, ◌++◌, map, codes, Option, Some, None, Result, Ok, Err}
+use Rattle.std.specs.Prelude.{◌≡◌, ℕ, ℤ, Bool, true, false, List, ◌∷◌, ◌++◌, length, map, take, codes, unsigned_abs}
+use Rattle.std.specs.Prelude.{Option, Some, None, Result, Ok, Err, OnOk}
 use Rattle.std.specs.List.{flat_map, join_with_byte}
 use Rattle.std.specs.Fmt.{decimal, signed_decimal}
 use Rattle.cvl_base.specs.declared.fault.Fault.{Fault}
@@ -10,7 +11,7 @@ use Rattle.cvl_base.specs.declared.value.Value.{Value}
 use Rattle.cvl_base.specs.declared.value.Value.TheVariants as value
 use Rattle.cvl_base.specs.Faults.{fault}
 use Rattle.cvl_base.specs.Gives.{◌>>=◌}
-use Rattle.cvl_base.specs.Nests.{nest}
+use Rattle.cvl_base.specs.Nests.{cut_of, nest}
 use Rattle.value_texts.specs.declared.flat_vectors.FlatVector.{FlatVector}
 use Rattle.value_texts.specs.declared.flat_vectors.FlatVector.TheVariants as flat
 
@@ -34,6 +35,19 @@ vector_text text_of xs = bracketed (map text_of xs)
 -- the text of the list of lists
 abbrev pub nest_text : {X : Type 0} → (X → List ℕ) → List (List X) → List ℕ
 nest_text text_of xss = bracketed (map (vector_text text_of) xss)
+
+module _ {X : Type 0} (text_of : X → List ℕ) (lengths : List ℤ) (xs : List X) where
+  -- the texts of the vectors into which the lengths cut the elements, with a space before each
+  abbrev pub spaced_segments : List ℕ
+  spaced_segments = spaced (vector_text text_of) (cut_of (map unsigned_abs lengths) xs)
+
+  -- the text of the list of these vectors
+  abbrev pub segments_text : List ℕ
+  segments_text = nest_text text_of (cut_of (map unsigned_abs lengths) xs)
+
+-- a call appends bytes to a text; if it is refused, the text begins as before
+abbrev pub Appends : {X E : Type 0} → Result X E → List ℕ → List ℕ → List ℕ → Type 0
+Appends result before after bytes = OnOk result (after ≡ before ++ bytes) × (take (length before) after ≡ before)
 
 -- the text of a value
 abbrev pub text_of : {A : Type 0} → Value A → List ℕ

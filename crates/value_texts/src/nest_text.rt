@@ -1,8 +1,7 @@
 //! The text of nests.
 
 ghost use Rattle.std.specs.Prelude.{◌≡◌, ◌≤◌, List, ◌++◌, length, map, sum, take, drop, unsigned_abs, OnOk};
-ghost use Rattle.cvl_base.specs.Nests.{cut_of};
-ghost use Rattle.value_texts.specs.Texts.{spaced, vector_text, nest_text};
+ghost use Rattle.value_texts.specs.Texts.{Appends, nest_text, segments_text, spaced, spaced_segments, vector_text};
 
 use crate::part_writes::put_in_parts;
 use crate::segments::SegmentTexts;
@@ -44,9 +43,7 @@ fn put_segments_alone<T: Written, A: Allocator>(
     text: &mut Vec<u8, A>,
 ) -> Result<(), NoResources>
     requires { sum (map unsigned_abs lengths.now) ≡ length xs.now }
-    ensures ok { OnOk result (text.new.items
-        ≡ text.old.items ++ spaced (vector_text T.text_of) (cut_of (map unsigned_abs lengths.now) xs.now)) }
-    ensures begins { take (length text.old.items) text.new.items ≡ text.old.items }
+    ensures { Appends result text.old.items text.new.items (spaced_segments T.text_of lengths.now xs.now) }
 {
     let mut left = lengths;
     let mut rest = xs;
@@ -69,9 +66,7 @@ pub(crate) fn put_nest_alone<T: Written, A: Allocator>(
     text: &mut Vec<u8, A>,
 ) -> Result<(), NoResources>
     requires { sum (map unsigned_abs lengths.now) ≡ length xs.now }
-    ensures ok { OnOk result (text.new.items
-        ≡ text.old.items ++ nest_text T.text_of (cut_of (map unsigned_abs lengths.now) xs.now)) }
-    ensures begins { take (length text.old.items) text.new.items ≡ text.old.items }
+    ensures { Appends result text.old.items text.new.items (segments_text T.text_of lengths.now xs.now) }
 {
     let begun = text.len();
     put_segments_alone(lengths, xs, page, text)?;
@@ -92,9 +87,7 @@ fn put_segments_in_turn<R: Threads + Sync, T: Written + Sync, A: Memory>(
     text: &mut Vec<u8, A>,
 ) -> Result<(), NoResources>
     requires { sum (map unsigned_abs lengths.now) ≡ length xs.now }
-    ensures ok { OnOk result (text.new.items
-        ≡ text.old.items ++ spaced (vector_text T.text_of) (cut_of (map unsigned_abs lengths.now) xs.now)) }
-    ensures begins { take (length text.old.items) text.new.items ≡ text.old.items }
+    ensures { Appends result text.old.items text.new.items (spaced_segments T.text_of lengths.now xs.now) }
 {
     let mut left = lengths;
     let mut rest = xs;
@@ -127,9 +120,7 @@ fn put_spaced_segments<R: Threads + Sync, T: Written + Sync, A: Memory>(
     text: &mut Vec<u8, A>,
 ) -> Result<(), NoResources>
     requires { sum (map unsigned_abs lengths.now) ≡ length xs.now }
-    ensures ok { OnOk result (text.new.items
-        ≡ text.old.items ++ spaced (vector_text T.text_of) (cut_of (map unsigned_abs lengths.now) xs.now)) }
-    ensures begins { take (length text.old.items) text.new.items ≡ text.old.items }
+    ensures { Appends result text.old.items text.new.items (spaced_segments T.text_of lengths.now xs.now) }
 {
     let most = xs.len().max(lengths.len());
     let threads = threads_writing_text(config, most);
@@ -152,9 +143,7 @@ pub(crate) fn put_nest<R: Threads + Sync, T: Written + Sync, A: Memory>(
     text: &mut Vec<u8, A>,
 ) -> Result<(), NoResources>
     requires { sum (map unsigned_abs lengths.now) ≡ length xs.now }
-    ensures ok { OnOk result (text.new.items
-        ≡ text.old.items ++ nest_text T.text_of (cut_of (map unsigned_abs lengths.now) xs.now)) }
-    ensures begins { take (length text.old.items) text.new.items ≡ text.old.items }
+    ensures { Appends result text.old.items text.new.items (segments_text T.text_of lengths.now xs.now) }
 {
     let begun = text.len();
     put_spaced_segments(rt, alloc, config, lengths, xs, page, text)?;

@@ -2,12 +2,13 @@
 
 ghost use Rattle.std.specs.Prelude.{◌≡◌, ◌++◌, length, map, take, unsigned_abs, IsOk, Ok, OnOk, OnErr};
 ghost use Rattle.std.specs.Option.{ForSome, option_copied};
-ghost use Rattle.value_texts.specs.Texts.{after_bytes, cut_text, text_of, value_text};
+ghost use Rattle.value_texts.specs.Texts.{Appends, after_bytes, cut_text, text_of, value_text};
 
 use crate::nest_text::put_nest;
 use crate::vector_text::{PAGE_BYTES, Page, put_element, put_vector};
 use cvl_base::{Config, Memory, NoResources, Value};
 use segdes::SegDes;
+use std::alloc::Allocator;
 use std::thread::Threads;
 
 /// Appends the text of a value on its own. After a refusal the text begins as before.
@@ -19,8 +20,7 @@ fn put_plain<R: Threads + Sync, A: Memory>(
     page: &mut Page,
     text: &mut Vec<u8, A>,
 ) -> Result<(), NoResources>
-    ensures ok { OnOk result (text.new.items ≡ text.old.items ++ text_of value.now) }
-    ensures begins { take (length text.old.items) text.new.items ≡ text.old.items }
+    ensures { Appends result text.old.items text.new.items (text_of value.now) }
 {
     match value {
         Value::Integers(numbers) => put_vector(rt, alloc, config, numbers.as_slice(), page, text),
@@ -69,33 +69,20 @@ fn put_nested<R: Threads + Sync, A: Memory>(
     }
 }
 
-/// Appends the text of a value, cut by a descriptor if there is one. After a refusal the text begins as before.
-fn put_beside<R: Threads + Sync, A: Memory>(
-    rt: &R,
-    alloc: A,
-    config: Config,
-    value: &Value<A>,
-    descriptor: Option<&SegDes<A>>,
+/// The outcome of a call that appends to a text of `len` bytes. After a refusal what it has appended goes.
+fn undo_refused<A: Allocator>(
+    outcome: Result<(), NoResources>,
+    len: usize,
     text: &mut Vec<u8, A>,
 ) -> Result<(), NoResources>
-    requires { ForSome descriptor (λ d. IsOk (cut_text d.now value.now)) }
-    ensures ok { OnOk result
-        (after_bytes text.old.items (value_text (option_copied descriptor.entry) value.now) ≡ Ok text.new.items) }
-    ensures begins { take (length text.old.items) text.new.items ≡ text.old.items }
+    ensures same { result ≡ outcome }
+    ensures ok { OnOk outcome (text.new.items ≡ text.old.items) }
+    ensures err { OnErr outcome (text.new.items ≡ take len text.old.items) }
 {
-    let mut page = [0; PAGE_BYTES];
-    match descriptor {
-        None => put_plain(rt, alloc, config, value, &mut page, text),
-        Some(descriptor) => put_nested(
-            rt,
-            alloc,
-            config,
-            value,
-            descriptor.lengths(),
-            &mut page,
-            text,
-        ),
+    if outcome.is_err() {
+        text.truncate(len);
     }
+    outcome
 }
 
 /// Appends the text of a value: integers in decimal, booleans as `T` and `F`, vectors as `[0 3 4]`, the empty vector as `[]`, a
@@ -119,9 +106,16 @@ pub fn put_value<R: Threads + Sync, A: Memory>(
     ensures err { OnErr result (text.new.items ≡ text.old.items) }
 {
     let len = text.len();
-    let outcome = put_beside(rt, alloc, config, value, descriptor, text);
-    if outcome.is_err() {
-        text.truncate(len);
+    let mut page = [0; PAGE_BYTES];
+    match descriptor {
+        None => {
+            let outcome = put_plain(rt, alloc, config, value, &mut page, text);
+            undo_refused(outcome, len, text)
+        }
+        Some(descriptor) => {
+            let lengths = descriptor.lengths();
+            let outcome = put_nested(rt, alloc, config, value, lengths, &mut page, text);
+            undo_refused(outcome, len, text)
+        }
     }
-    outcome
 }

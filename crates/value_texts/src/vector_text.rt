@@ -1,14 +1,13 @@
 //! The text of vectors.
 
 ghost use Rattle.std.specs.Prelude.{◌≡◌, ◌+◌, ◌*◌, ◌≤◌, ◌++◌, codes, length, take, drop, vec_len, vec_capacity, IfOk, IsOk, OnOk};
-ghost use Rattle.cvl_base.specs.Limits.{most_elements};
-ghost use Rattle.value_texts.specs.Texts.{spaced, vector_text};
+ghost use Rattle.value_texts.specs.Texts.{Appends, spaced, vector_text};
 
 use crate::elements::ElementTexts;
 use crate::part_writes::put_in_parts;
 use crate::written::{MOST_TEXT_BYTES, Written};
 use cvl_base::{Config, Memory, NoResources};
-use sharing::{ThreadCount, threads_writing_text};
+use sharing::threads_writing_text;
 use std::alloc::Allocator;
 use std::thread::Threads;
 
@@ -55,8 +54,7 @@ pub(crate) fn put_spaced_alone<T: Written, A: Allocator>(
     page: &mut Page,
     text: &mut Vec<u8, A>,
 ) -> Result<(), NoResources>
-    ensures ok { OnOk result (text.new.items ≡ text.old.items ++ spaced T.text_of xs.now) }
-    ensures begins { take (length text.old.items) text.new.items ≡ text.old.items }
+    ensures appends { Appends result text.old.items text.new.items (spaced T.text_of xs.now) }
     ensures in_room { vec_len text.old + 12 * length xs.now ≤ vec_capacity text.old → IsOk result }
     ensures capacity { vec_capacity text.old ≤ vec_capacity text.new }
 {
@@ -78,8 +76,7 @@ pub(crate) fn put_element<T: Written, A: Allocator>(
     page: &mut Page,
     text: &mut Vec<u8, A>,
 ) -> Result<(), NoResources>
-    ensures ok { OnOk result (text.new.items ≡ text.old.items ++ T.text_of x.now) }
-    ensures begins { take (length text.old.items) text.new.items ≡ text.old.items }
+    ensures { Appends result text.old.items text.new.items (T.text_of x.now) }
 {
     text.extend_from_slice(text_in_page(x, page))?;
     Ok(())
@@ -126,8 +123,7 @@ pub(crate) fn put_vector_alone<T: Written, A: Allocator>(
     page: &mut Page,
     text: &mut Vec<u8, A>,
 ) -> Result<(), NoResources>
-    ensures ok { OnOk result (text.new.items ≡ text.old.items ++ vector_text T.text_of xs.now) }
-    ensures begins { take (length text.old.items) text.new.items ≡ text.old.items }
+    ensures { Appends result text.old.items text.new.items (vector_text T.text_of xs.now) }
 {
     let others = put_first(xs, page, text)?;
     put_spaced_alone(others, page, text)?;
@@ -135,27 +131,8 @@ pub(crate) fn put_vector_alone<T: Written, A: Allocator>(
     Ok(())
 }
 
-/// `put_vector_alone` on `threads` threads. The text moves into fresh memory.
-fn put_vector_in_parts<R: Threads + Sync, T: Written + Sync, A: Memory>(
-    rt: &R,
-    alloc: A,
-    threads: ThreadCount,
-    xs: &[T],
-    page: &mut Page,
-    text: &mut Vec<u8, A>,
-) -> Result<(), NoResources>
-    requires { length xs.now ≤ most_elements }
-    ensures ok { OnOk result (text.new.items ≡ text.old.items ++ vector_text T.text_of xs.now) }
-    ensures begins { take (length text.old.items) text.new.items ≡ text.old.items }
-{
-    let others = put_first(xs, page, text)?;
-    put_in_parts(rt, alloc, threads, ElementTexts { xs: others }, text)?;
-    text.push(b']')?;
-    Ok(())
-}
-
-/// Appends the text of a vector by as many threads as pay. A text that is longer than what is appended stays on one thread.
-/// After a refusal the text begins as before.
+/// Appends the text of a vector by as many threads as pay; the text then moves into fresh memory. A text that is longer than what
+/// is appended stays on one thread. After a refusal the text begins as before.
 pub(crate) fn put_vector<R: Threads + Sync, T: Written + Sync, A: Memory>(
     rt: &R,
     alloc: A,
@@ -164,8 +141,7 @@ pub(crate) fn put_vector<R: Threads + Sync, T: Written + Sync, A: Memory>(
     page: &mut Page,
     text: &mut Vec<u8, A>,
 ) -> Result<(), NoResources>
-    ensures ok { OnOk result (text.new.items ≡ text.old.items ++ vector_text T.text_of xs.now) }
-    ensures begins { take (length text.old.items) text.new.items ≡ text.old.items }
+    ensures { Appends result text.old.items text.new.items (vector_text T.text_of xs.now) }
 {
     if xs.len() <= PAGE_ELEMENTS {
         return put_vector_alone(xs, page, text);
@@ -174,5 +150,8 @@ pub(crate) fn put_vector<R: Threads + Sync, T: Written + Sync, A: Memory>(
     if threads.get() < 2 || text.len() / MOST_TEXT_BYTES > xs.len() {
         return put_vector_alone(xs, page, text);
     }
-    put_vector_in_parts(rt, alloc, threads, xs, page, text)
+    let others = put_first(xs, page, text)?;
+    put_in_parts(rt, alloc, threads, ElementTexts { xs: others }, text)?;
+    text.push(b']')?;
+    Ok(())
 }

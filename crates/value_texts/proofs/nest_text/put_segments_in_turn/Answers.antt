@@ -9,10 +9,13 @@ loop-first-init g c = record { whole = refl; begins = take_all (length c.args.te
 pub split_at-requires : goal.split_at-requires
 split_at-requires g c = segment_within c.loop-first.invariant c.in-Some.first.now c.in-Some.others.now c.unsigned_abs.result c.in-Some.ensures.cases.0 (search rules)
 
-pub returns-in_err-put_vector-clause-begins : goal.returns-in_err-put_vector-clause-begins
-returns-in_err-put_vector-clause-begins g c = refused_after c.loop-first.invariant c.push.new.self.items c.put_vector.new.text.items c.in_ok-push.ensures.items c.put_vector.ensures.begins
+pub returns-in_err-put_vector : goal.returns-in_err-put_vector
+returns-in_err-put_vector g c = (
+  search rules,
+  refused_after c.loop-first.invariant c.push.new.self.items c.put_vector.new.text.items c.in_ok-push.ensures.items c.put_vector.ensures.1,
+)
 
 pub loop-first-preserved : goal.loop-first-preserved
 loop-first-preserved g c =
     segment_written c.loop-first.invariant c.in-Some.first.now c.in-Some.others.now c.unsigned_abs.result c.in-Some.ensures.cases.0 (search rules) c.split_at.result.0.now c.split_at.result.1.now
-    c.push.new.self.items c.put_vector.new.text.items c.split_at.ensures.front c.split_at.ensures.back c.in_ok-push.ensures.items c.in_ok-put_vector.ensures.ok
+    c.push.new.self.items c.put_vector.new.text.items c.split_at.ensures.front c.split_at.ensures.back c.in_ok-push.ensures.items c.in_ok-put_vector.ensures.0
