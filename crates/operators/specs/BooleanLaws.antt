@@ -32,32 +32,25 @@ differ_assoc true true false = refl
 differ_assoc true false c = refl
 differ_assoc false b c = refl
 
-pub both_laws : MonoidLaws is_boolean true both
-both_laws = record {
+-- an operator on booleans obeys the laws if it is associative and its unit changes neither boolean on either side
+laws_of : (unit : Bool) (op : Bool → Bool → Bool) → ((a b c : Bool) → op (op a b) c ≡ op a (op b c)) → ((a : Bool) → op unit a ≡ a)
+    → ((a : Bool) → op a unit ≡ a) → MonoidLaws is_boolean unit op
+laws_of unit op assoc left right = record {
   unit_is_item = refl;
   join_is_item = λ a b _ _. refl;
-  assoc = λ a b c _ _ _. both_assoc a b c;
-  left_unit = λ a _. refl;
-  right_unit = λ a _. both_true a;
+  assoc = λ a b c _ _ _. assoc a b c;
+  left_unit = λ a _. left a;
+  right_unit = λ a _. right a;
 }
+
+pub both_laws : MonoidLaws is_boolean true both
+both_laws = laws_of true both both_assoc (λ a. refl) both_true
 
 pub either_laws : MonoidLaws is_boolean false either
-either_laws = record {
-  unit_is_item = refl;
-  join_is_item = λ a b _ _. refl;
-  assoc = λ a b c _ _ _. either_assoc a b c;
-  left_unit = λ a _. refl;
-  right_unit = λ a _. either_false a;
-}
+either_laws = laws_of false either either_assoc (λ a. refl) either_false
 
 pub differ_laws : MonoidLaws is_boolean false differ
-differ_laws = record {
-  unit_is_item = refl;
-  join_is_item = λ a b _ _. refl;
-  assoc = λ a b c _ _ _. differ_assoc a b c;
-  left_unit = λ a _. refl;
-  right_unit = λ a _. differ_false a;
-}
+differ_laws = laws_of false differ differ_assoc (λ a. refl) differ_false
 
 -- a boolean's word is 0 or 1
 pub boolean_words : WordLaws is_boolean integer_of boolean_of
