@@ -35,6 +35,10 @@ module _ {X Y : Type 0} (f : X → Y) (xs : List X) where
   pub shown-all : length xs ≤ most_elements → take most_elements (map f xs) ≡ map f xs
   shown-all few = take_all most_elements (map f xs) (omega (arith, few, length-map xs f))
 
+-- the slot of a place that has this destination
+pub slot_read : (m : ℕ) (ts : List (Option ℤ)) (k : ℕ) → k < length (slots_of m ts) → {t : Option ℤ} → get_or ts k None ≡ t → get_or (slots_of m ts) k None ≡ slot_of m t
+slot_read m ts k lt is = (shown-at (slot_of m) ts k None None lt).1 ∙ ap (slot_of m) is
+
 -- ---- the least place of each slot is its sender
 
 no_slot : (d a : ℕ) (b : Bool) → eqb a d ≡ false → is_slot d (if b then Some a else None) ≡ false
