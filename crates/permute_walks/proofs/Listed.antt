@@ -1,6 +1,6 @@
 -- The numbers of a range, and those that a test lists, one after another: what holds up to each of them, where the others change nothing.
 use Rattle.permute_walks.proofs.Cited.{◌≡◌, ◌∙◌, ℕ, zero, suc, ◌+◌, ◌<◌, Bool, true, false, cond, List, [], ◌∷◌, ◌++◌, drop, get_or, length, refl, sym, ap, arith, subst, filter, range_with_len}
-use Rattle.permute_walks.proofs.Cited.{map-id, filter_of_map_range_with_len_more}
+use Rattle.permute_walks.proofs.Cited.{ℤ, Option, None, is_between, places_between, map-id, filter_of_map_range_with_len_more}
 
 -- two ranges, one behind the other
 pub range_both : (a n m : ℕ) → range_with_len a (n + m) ≡ range_with_len a n ++ range_with_len (a + n) m
@@ -13,6 +13,11 @@ range_both a (suc n) m =
 -- one number more
 pub listed_more : (p : ℕ → Bool) (first k : ℕ) (b : Bool) → p (first + k) ≡ b → filter p (range_with_len first (k + 1)) ≡ filter p (range_with_len first k) ++ cond b ((first + k) ∷ []) []
 listed_more p first k b is = cc (map-id (range_with_len first (k + 1)), filter_of_map_range_with_len_more p (λ n. n) first k (first + k) refl, map-id (range_with_len first k), is)
+
+-- one place more, which was asked whether it is sent there
+pub asked_more : (ts : List (Option ℤ)) (lowest end first k : ℕ) {t : Option ℤ} {told : Bool} (b : Bool) → get_or ts (first + k) None ≡ t → told ≡ is_between lowest end t → told ≡ b
+    → places_between ts lowest end first (k + 1) ≡ places_between ts lowest end first k ++ cond b ((first + k) ∷ []) []
+asked_more ts lowest end first k b at asked is = listed_more (λ j. is_between lowest end (get_or ts j None)) first k b (ap (is_between lowest end) at ∙ sym asked ∙ is)
 
 -- the rest of a list is that of the numbers from `from` on and before `end`, up to which P holds
 pub record IsRest (p : ℕ → Bool) (P : ℕ → Type 0) (rest : List ℕ) (end : ℕ) : Type 0 where

@@ -1,5 +1,5 @@
-use Rattle.permute_walks.proofs.Cited.{◌≡◌, ◌+◌, ◌∙◌, ◌∷◌, [], None, ap, length, length-append, get_or, sym, arith, is_between, places_between}
-use Rattle.permute_walks.proofs.Listed.{listed_more}
+use Rattle.permute_walks.proofs.Cited.{◌≡◌, ◌+◌, ◌∷◌, [], Bool, true, false, ap, length, length-append, arith, places_between}
+use Rattle.permute_walks.proofs.Listed.{asked_more}
 use Rattle.permute_walks.proofs.ranges.count_block.Goals as goal
 use Rattle.permute_walks.proofs.ranges.count_block.Goals.{then-is_sent_between, else-is_sent_between}
 
@@ -7,15 +7,16 @@ pub loop-k-preserved : goal.loop-k-preserved
 loop-k-preserved g c =
     let ds = g.D.Destinations.destinations c.args.destinations.now in
     let l = c.loop-k in
-    let k = c.args.first + l.k in
-    let p = is_between c.args.lowest (c.args.lowest + c.args.places) in
-    let before = places_between ds c.args.lowest (c.args.lowest + c.args.places) c.args.first l.k in
-    let asked : p (get_or ds k None) ≡ c.is_sent_between.result = ap p c.at-takes_part.ensures ∙ sym c.is_sent_between.ensures in
+    let end = c.args.lowest + c.args.places in
+    let before = places_between ds c.args.lowest end c.args.first l.k in
+    let more = λ (b : Bool) (is : c.is_sent_between.result ≡ b). asked_more ds c.args.lowest end c.args.first l.k b c.at-takes_part.ensures c.is_sent_between.ensures is in
     elim c.if-is_sent_between.branch [
-      | then-is_sent_between w ↦
-          let more = ap length (listed_more (λ j. p (get_or ds j None)) c.args.first l.k _ (asked ∙ w.if-is_sent_between.true)) in
-          record { count_is = omega (arith, more, length-append before (k ∷ []), l.invariant.count_is, w.count-is); in_length = omega arith }
-      | else-is_sent_between w ↦
-          let more = ap length (listed_more (λ j. p (get_or ds j None)) c.args.first l.k _ (asked ∙ w.if-is_sent_between.false)) in
-          record { count_is = omega (arith, more, length-append before [], l.invariant.count_is, w.count-is); in_length = omega arith }
+      | then-is_sent_between w ↦ record {
+        count_is = omega (arith, ap length (more true w.if-is_sent_between.true), length-append before ((c.args.first + l.k) ∷ []), l.invariant.count_is, w.count-is);
+        in_length = omega arith;
+      }
+      | else-is_sent_between w ↦ record {
+        count_is = omega (arith, ap length (more false w.if-is_sent_between.false), length-append before [], l.invariant.count_is, w.count-is);
+        in_length = omega arith;
+      }
     ]
