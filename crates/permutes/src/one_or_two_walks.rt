@@ -4,9 +4,8 @@ ghost use Rattle.std.specs.Prelude.{◌≡◌, ◌≤◌, IfOk, List, Result, le
 ghost use Rattle.cvl_base.specs.declared.fault.Fault.{Fault};
 ghost use Rattle.cvl_base.specs.Gives.{Gives};
 ghost use Rattle.cvl_base.specs.Limits.{most_elements};
-ghost use Rattle.cvl_base.specs.Permutes.{first_fault, wrongs};
-ghost use Rattle.permute_walks.specs.Before.{IsPermuted, values_of};
-ghost use Rattle.permute_walks.specs.Senders.{senders_of};
+ghost use Rattle.permute_walks.specs.Before.{values_of};
+ghost use Rattle.permutes.specs.FlatPermutes.{IsFlatPermute};
 
 use crate::first_walk::senders_to;
 use crate::second_walk::elements_of_senders;
@@ -35,9 +34,8 @@ where
     G: Gate,
     requires sourced { length source.now ≡ length (D.destinations destinations.now) }
     requires few { length (D.destinations destinations.now) ≤ most_elements }
-    ensures values { (meaning : Result (List T) Fault) → IsPermuted source.now before.entry meaning
-        (first_fault 0 (wrongs (length (values_of before.entry)) (D.destinations destinations.now)))
-        (senders_of 0 (D.destinations destinations.now) (length (values_of before.entry))) → Gives (λ v. v.items) result meaning }
+    ensures values { (meaning : Result (List T) Fault)
+        → IsFlatPermute source.now (D.destinations destinations.now) before.entry meaning → Gives (λ v. v.items) result meaning }
     ensures as_long { IfOk result (λ v. vec_len v ≡ length (values_of before.entry)) }
 {
     let places = before.values().len();

@@ -11,8 +11,8 @@ ghost use Rattle.cvl_base.specs.declared.fault.Fault.{Fault};
 ghost use Rattle.cvl_base.specs.Limits.{most_places};
 ghost use Rattle.cvl_base.specs.Permutes.{all_destinations, back_of, default_of, first_fault, select_of, simple_of, wrongs};
 ghost use Rattle.cvl_base.specs.Rooms.{Overwrites, OverwritesOr, in_room};
-ghost use Rattle.permute_walks.specs.Before.{IsPermuted, MayStand, values_of};
-ghost use Rattle.permute_walks.specs.Senders.{senders_of};
+ghost use Rattle.permute_walks.specs.Before.{MayStand, values_of};
+ghost use Rattle.permutes.specs.FlatPermutes.{IsFlatPermute};
 
 use crate::first_walk::senders_alone;
 use crate::second_walk::elements_of_senders_over;
@@ -33,9 +33,8 @@ fn permuted_over<T: Copy, A: Memory, D: Destinations>(
     out: &mut [T],
 ) -> Result<(), Refused>
     requires few { length (D.destinations destinations.now) ≤ most_places }
-    ensures { (meaning : Result (List T) Fault) → IsPermuted source.now before.entry meaning
-        (first_fault 0 (wrongs (length (values_of before.entry)) (D.destinations destinations.now)))
-        (senders_of 0 (D.destinations destinations.now) (length (values_of before.entry)))
+    ensures { (meaning : Result (List T) Fault)
+        → IsFlatPermute source.now (D.destinations destinations.now) before.entry meaning
         → OverwritesOr (in_room (length out.old) meaning) result out.old out.new }
 {
     let found = senders_alone(alloc, before.values().len(), destinations);
@@ -64,9 +63,7 @@ fn all_permuted_over<T: Copy, A: Memory>(
 ) -> Result<(), Refused>
     requires sourced { length source.now ≡ length index.now }
     requires few { length index.now ≤ most_places }
-    ensures { (meaning : Result (List T) Fault) → IsPermuted source.now before.entry meaning
-        (first_fault 0 (wrongs (length (values_of before.entry)) (all_destinations index.now)))
-        (senders_of 0 (all_destinations index.now) (length (values_of before.entry)))
+    ensures { (meaning : Result (List T) Fault) → IsFlatPermute source.now (all_destinations index.now) before.entry meaning
         → OverwritesOr (in_room (length out.old) meaning) result out.old out.new }
 {
     let places = before.values().len();
