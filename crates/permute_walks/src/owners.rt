@@ -2,9 +2,10 @@
 //! Each reads all indices, writes and marks the places of its range to which an index sends, and counts its marks. So no two
 //! threads write one place, no place is waited for, and each thread's writes lie close together.
 
-ghost use Rattle.std.specs.Prelude.{◌≡◌, ◌≤◌, length, IfOk, IfSome, is_none, is_some, vec_len};
+ghost use Rattle.std.specs.Prelude.{◌≡◌, ◌≤◌, length, IfOk, is_none, is_some, vec_len};
 ghost use Rattle.cvl_base.specs.Limits.{most_places};
 ghost use Rattle.cvl_base.specs.Permutes.{first_fault, wrongs};
+ghost use Rattle.permute_walks.specs.OneWalk.{IfMade};
 ghost use Rattle.permute_walks.specs.Senders.{count_destinations, senders_of, written_over};
 
 use crate::marks::{WORD_BITS, count_marks, words_for};
@@ -114,9 +115,9 @@ where
     requires few { length (D.destinations destinations.now) ≤ most_places }
     requires few_places { places ≤ most_places }
     requires whole { places ≡ length (W.whole before.now) }
-    ensures written { IfOk result (λ found. IfSome found (λ v.
-        v.items ≡ written_over source.now (senders_of 0 (D.destinations destinations.now) places) (W.whole before.now))) }
-    ensures as_long { IfOk result (λ found. IfSome found (λ v. vec_len v ≡ places)) }
+    ensures written { IfMade result (λ v.
+        v.items ≡ written_over source.now (senders_of 0 (D.destinations destinations.now) places) (W.whole before.now)) }
+    ensures as_long { IfMade result (λ v. vec_len v ≡ places) }
     ensures bad { IfOk result (λ found. is_none found
         ≡ is_some (first_fault 0 (wrongs places (D.destinations destinations.now)))) }
 {

@@ -1,4 +1,5 @@
 pub mod AllSent
+pub mod Lengths
 pub mod OneSegment
 pub mod Pushed
 pub mod Ranges

@@ -19,7 +19,7 @@ use Rattle.permute_walks.specs.Senders.{senders_of, written_over}
 use Rattle.permute_walks.proofs.Sent.{length-senders_of}
 use Rattle.permute_walks.proofs.Taken.{length-over}
 use Rattle.segment_sends.specs.SegmentDestinations.{destinations_in, fault_from, places_in, senders_from}
-use Rattle.segment_sends.specs.Shares.{AreWithin, IsShare, IsWritten, Sending, fault_behind, segment_at, permuted}
+use Rattle.segment_sends.specs.Shares.{IsSendable, IsShare, IsWritten, Sending, fault_behind, segment_at, permuted}
 use denote.RawPtr.{Ptr}
 use Rattle.segment_sends.proofs.AllSent.{length-senders_from}
 
@@ -131,7 +131,7 @@ module _ {X : Type 0} {w : Sending X} {begin end : ℕ} {old : Stretch X} (share
   whole = permuted w.source segments w.before
 
   whole_long : length whole ≡ length w.before
-  whole_long = length-permuted w.source segments w.before share.as_long
+  whole_long = length-permuted w.source segments w.before share.sendable.as_long
 
   pub walked_none : (place : ℕ) → place ≡ destinations_in (take begin segments) → IsWalked w begin end begin old place old
   walked_none place there =
@@ -153,7 +153,7 @@ module _ {X : Type 0} {w : Sending X} {begin end : ℕ} {old : Stretch X} (share
     ends_here = ahead_order (λ p. p.0) segments s end upto
 
     ends_last : places_in (take end segments) ≤ length w.before
-    ends_last = omega (arith, share.as_long, ahead_all (λ p. p.0) segments end)
+    ends_last = omega (arith, share.sendable.as_long, ahead_all (λ p. p.0) segments end)
 
     done_long : length (part whole old.first (places_in (take s segments) - old.first)) ≡ places_in (take s segments) - old.first
     done_long = length_part whole old.first (places_in (take s segments) - old.first) (omega (arith, starts_before, ends_here, ends_last, whole_long))
@@ -197,7 +197,7 @@ module _ {X : Type 0} {w : Sending X} {begin end : ℕ} {old : Stretch X} (share
       width = ap (λ p. p.0) is ∙ sym wide
 
       pub walked_within : n ≤ w.widest
-      walked_within = omega (arith, width, share.within s lt)
+      walked_within = omega (arith, width, share.sendable.within s lt)
 
       pub walked_room : n ≤ run.room
       walked_room = omega (arith, width, run_room, ends_before)
@@ -206,7 +206,7 @@ module _ {X : Type 0} {w : Sending X} {begin end : ℕ} {old : Stretch X} (share
       walked_before = omega (arith, width, run_end, ends_before, ends_last)
 
       pub walked_limit : place + length ts ≤ most_places
-      walked_limit = omega (arith, share.few, to.there, ahead_within (λ p. length p.1) segments s lt, ap (λ (p : ℕ × List (Option ℤ)). length p.1) is)
+      walked_limit = omega (arith, share.sendable.few, to.there, ahead_within (λ p. length p.1) segments s lt, ap (λ (p : ℕ × List (Option ℤ)). length p.1) is)
 
       pub walked_more : (new : Stretch X) → None ≡ first_fault place (wrongs n ts)
           → new ≡ with_items run (written_over w.source (senders_of place ts n) (part w.before (run.first + length run.items) n))
@@ -236,7 +236,7 @@ module _ {X : Type 0} {w : Sending X} {begin end : ℕ} {old : Stretch X} (share
       to.is ∙ ap (λ k. stretch old.block old.first (part whole old.first (places_in (take k segments) - old.first)) (last - places_in (take k segments))) same
       ∙ (λ i. stretch old.block old.first (part whole old.first (width i)) (none i)) in
       record {
-        full = (part whole old.first old.room, length_part whole old.first old.room (omega (arith, share.ends, whole_long, share.as_long, ahead_all (λ p. p.0) segments end)), is);
+        full = (part whole old.first old.room, length_part whole old.first old.room (omega (arith, share.ends, whole_long, share.sendable.as_long, ahead_all (λ p. p.0) segments end)), is);
         no_fault = λ told. to.no_fault ∙ ap (fault_behind segments) same;
         items = λ told. is;
       }
@@ -267,9 +267,7 @@ module _ {X : Type 0} {w : Sending X} {begin end : ℕ} {old : Stretch X} (share
 
       pub front_share : IsShare w begin middle front
       front_share = record {
-        few = share.few;
-        as_long = share.as_long;
-        within = share.within;
+        sendable = share.sendable;
         in_order = from;
         in_segments = omega (arith, to, share.in_segments);
         starts = ap (λ (r : Stretch X). r.first) front_cut ∙ share.starts;
@@ -279,9 +277,7 @@ module _ {X : Type 0} {w : Sending X} {begin end : ℕ} {old : Stretch X} (share
 
       pub back_share : IsShare w middle end back
       back_share = record {
-        few = share.few;
-        as_long = share.as_long;
-        within = share.within;
+        sendable = share.sendable;
         in_order = to;
         in_segments = share.in_segments;
         starts = omega (arith, ap (λ (r : Stretch X). r.first) back_cut, is, middle_first);
@@ -323,17 +319,15 @@ module _ {X : Type 0} {w : Sending X} {begin end : ℕ} {old : Stretch X} (share
 
 -- ---- all segments
 
-module _ {X : Type 0} {w : Sending X} {old : Stretch X} (few : destinations_in w.segments ≤ most_places) (long : places_in w.segments ≡ length w.before) (within : AreWithin w.widest w.segments)
+module _ {X : Type 0} {w : Sending X} {old : Stretch X} (sendable : IsSendable w)
     {block : Ptr} (is : old ≡ stretch block 0 [] (length w.before)) {count : ℕ} (all : count ≡ length w.segments) where
   pub whole_share : IsShare w 0 count old
   whole_share = record {
-    few = few;
-    as_long = long;
-    within = within;
+    sendable = sendable;
     in_order = omega arith;
     in_segments = omega (arith, all);
     starts = ap (λ (r : Stretch X). r.first) is;
-    ends = omega (arith, ap (λ (r : Stretch X). r.first) is, ap (λ (r : Stretch X). r.room) is, long, ap places_in (take_all count w.segments (omega (arith, all))));
+    ends = omega (arith, ap (λ (r : Stretch X). r.first) is, ap (λ (r : Stretch X). r.room) is, sendable.as_long, ap places_in (take_all count w.segments (omega (arith, all))));
     empty = ap (λ (r : Stretch X). r.items) is;
   }
 
@@ -344,7 +338,7 @@ module _ {X : Type 0} {w : Sending X} {old : Stretch X} (few : destinations_in w
     pub whole_items : right ≡ true → written.items ≡ permuted w.source w.segments w.before
     whole_items is_right =
         let whole = permuted w.source w.segments w.before in
-        let width : old.room ≡ length whole = ap (λ (r : Stretch X). r.room) is ∙ sym (length-permuted w.source w.segments w.before long) in
+        let width : old.room ≡ length whole = ap (λ (r : Stretch X). r.room) is ∙ sym (length-permuted w.source w.segments w.before sendable.as_long) in
         ap (λ (r : Stretch X). r.items) (told.items is_right)
         ∙ (λ i. part whole (ap (λ (r : Stretch X). r.first) is i) (width i))
         ∙ take_all (length whole) whole (omega arith)

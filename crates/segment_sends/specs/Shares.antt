@@ -35,11 +35,15 @@ pub record Sending (X : Type 0) : Type 0 where
 abbrev pub sending : {X : Type 0} → List X → List (ℕ × List (Option ℤ)) → List X → ℕ → Sending X
 sending source segments before widest = record { source = source; segments = segments; before = before; widest = widest }
 
--- The segments from `begin` up to before `end`, whose places an empty run has. What stands before has as many places as all segments.
-pub record IsShare {X : Type 0} (w : Sending X) (begin end : ℕ) (run : Stretch X) : Type 0 where
+-- The lengths agree: what stands before has as many places as all segments, none of which is wider than `widest`.
+pub record IsSendable {X : Type 0} (w : Sending X) : Type 0 where
   pub few : destinations_in w.segments ≤ most_places
   pub as_long : places_in w.segments ≡ length w.before
   pub within : AreWithin w.widest w.segments
+
+-- The segments from `begin` up to before `end`, whose places an empty run has.
+pub record IsShare {X : Type 0} (w : Sending X) (begin end : ℕ) (run : Stretch X) : Type 0 where
+  pub sendable : IsSendable w
   pub in_order : begin ≤ end
   pub in_segments : end ≤ length w.segments
   pub starts : run.first ≡ places_in (take begin w.segments)

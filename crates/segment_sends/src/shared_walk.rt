@@ -1,8 +1,9 @@
 //! A permute by segments in one walk that several threads share: each walks whole segments, by a buffer of its own.
 
-ghost use Rattle.std.specs.Prelude.{◌≡◌, ◌+◌, ◌≤◌, List, length, map, IfOk, IfSome, None, vec_len};
+ghost use Rattle.std.specs.Prelude.{◌≡◌, ◌+◌, ◌≤◌, List, length, map, None, vec_len};
 ghost use denote.Param.Send.{Frees, IsSend, IsSync};
 ghost use Rattle.cvl_base.specs.Limits.{most_places};
+ghost use Rattle.permute_walks.specs.OneWalk.{IfMade};
 ghost use Rattle.segdes.specs.Shares.{IsShareEnd};
 ghost use Rattle.segment_sends.specs.SegmentDestinations.{destinations_in, fault_from, places_in};
 ghost use Rattle.segment_sends.specs.Shares.{AreWithin, IsShare, IsWritten, permuted, sending};
@@ -188,10 +189,9 @@ where
     requires few { destinations_in (D.segments segments.now) ≤ most_places }
     requires as_long { places_in (D.segments segments.now) ≡ length before.now }
     requires within { AreWithin widest (D.segments segments.now) }
-    ensures right { IfOk result (λ found. IfSome found (λ _. None ≡ fault_from 0 (D.segments segments.now))) }
-    ensures written { IfOk result (λ found. IfSome found (λ v.
-        v.items ≡ permuted source.now (D.segments segments.now) before.now)) }
-    ensures as_long { IfOk result (λ found. IfSome found (λ v. vec_len v ≡ length before.now)) }
+    ensures right { IfMade result (λ _. None ≡ fault_from 0 (D.segments segments.now)) }
+    ensures written { IfMade result (λ v. v.items ≡ permuted source.now (D.segments segments.now) before.now) }
+    ensures as_long { IfMade result (λ v. vec_len v ≡ length before.now) }
 {
     let (room, run) = Room::new(alloc, before.len())?;
     let sides = BothSides { source, before };

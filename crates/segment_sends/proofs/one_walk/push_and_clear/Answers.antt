@@ -1,11 +1,10 @@
 use Rattle.std.proofs.Common.{rules, ◌≡◌, ◌∙◌, ◌+◌, ◌<◌, ◌∷◌, [], ◌++◌, length, replicate, take, get_or, refl, sym, ap, arith, slice_get, unwrap_or}
 use Rattle.std.proofs.lemmas.Grind.{drop_more_same}
-use Rattle.std.proofs.lemmas.List.{drop-set-lt, get_or-drop, length-take-le, replicate_more, take_all, take_more_set}
-use Rattle.fresh.specs.Places.{Stretch, with_items}
+use Rattle.std.proofs.lemmas.List.{drop-set-lt, get_or-drop, replicate_more, take_all, take_more_set}
+use Rattle.fresh.specs.Places.{with_items}
 use Rattle.fresh.proofs.Written.{nothing_written, one_written}
 use Rattle.permute_walks.specs.Senders.{nobody, written_over}
-use Rattle.permute_walks.proofs.Taken.{length-over}
-use Rattle.segment_sends.proofs.Pushed.{written_more}
+use Rattle.segment_sends.proofs.Pushed.{all_pushed, room_for_next, written_more}
 use Rattle.segment_sends.proofs.one_walk.push_and_clear.Goals as goal
 
 pub loop-k-init : goal.loop-k-init
@@ -13,13 +12,7 @@ loop-k-init g c = record { pushed = sym (nothing_written c.args.run); cleared = 
 
 pub push-requires : goal.push-requires
 push-requires g c =
-    let senders = c.args.senders.now in
-    let values = c.args.values.now in
-    let k = c.loop-k.k in
-    let front : length (take k senders) ≡ k = length-take-le k senders (omega (arith, c.loop-k-test.true)) in
-    let back : length (take k values) ≡ k = length-take-le k values (omega (arith, c.loop-k-test.true, c.requires.as_long)) in
-    let long = length-over c.args.source.now (take k senders) (take k values) (front ∙ sym back) in
-    omega (arith, ap (λ (r : Stretch _). r.room) c.loop-k.invariant.pushed, long, back, c.requires.room, c.loop-k-test.true)
+    room_for_next c.args.source.now c.args.senders.now c.args.values.now c.requires.as_long c.loop-k.k c.args.run c.loop-k.invariant.pushed c.requires.room (omega (arith, c.loop-k-test.true))
 
 pub loop-k-preserved : goal.loop-k-preserved
 loop-k-preserved g c =
@@ -47,13 +40,7 @@ loop-k-preserved g c =
 
 pub returns-clause-pushed : goal.returns-clause-pushed
 returns-clause-pushed g c =
-    let source = c.args.source.now in
-    let senders = c.args.senders.now in
-    let values = c.args.values.now in
-    let k = c.loop-k.k in
-    c.loop-k.invariant.pushed
-    ∙ ap (λ ss. with_items c.args.run (written_over source ss (take k values))) (take_all k senders (omega (arith, c.loop-k-test.false)))
-    ∙ ap (λ vs. with_items c.args.run (written_over source senders vs)) (take_all k values (omega (arith, c.loop-k-test.false, c.requires.as_long)))
+    all_pushed c.args.source.now c.args.senders.now c.args.values.now c.requires.as_long c.loop-k.k c.args.run c.loop-k.invariant.pushed (omega (arith, c.loop-k-test.false))
 
 pub returns-clause-cleared : goal.returns-clause-cleared
 returns-clause-cleared g c =
