@@ -28,26 +28,6 @@ fn shortest(d: &SegLengths) -> usize
     shortest as usize
 }
 
-/// `check_segments`, one segment after another.
-fn check_each_segment(
-    index: &[i32],
-    source_d: &SegLengths,
-    index_d: &SegLengths,
-) -> Result<(), Fault>
-    requires total { sum index_d.now ≡ length index.now }
-    requires count { length source_d.now ≡ length index_d.now }
-    requires in_limit { length index.now ≤ most_places }
-    ensures { fault_told result ≡ outside_from 0 source_d.now index_d.now index.now }
-{
-    let mut first = 0;
-    for s in 0..index_d.count() {
-        let last = first + index_d.length(s);
-        check_places_alone(&index[first..last], source_d.length(s), first)?;
-        first = last;
-    }
-    Ok(())
-}
-
 /// The first walk: `IndexOutOfRange` at the first place whose index is no place of its segment of the source.
 // If each index is a place of the shortest segment, as with segments of one length, no segment is checked alone.
 pub(crate) fn check_segments(
@@ -60,10 +40,16 @@ pub(crate) fn check_segments(
     requires in_limit { length index.now ≤ most_places }
     ensures { fault_told result ≡ outside_from 0 source_d.now index_d.now index.now }
 {
-    match check_places_alone(index, shortest(source_d), 0) {
-        Ok(()) => Ok(()),
-        Err(_) => check_each_segment(index, source_d, index_d),
+    if let Ok(()) = check_places_alone(index, shortest(source_d), 0) {
+        return Ok(());
     }
+    let mut first = 0;
+    for s in 0..index_d.count() {
+        let last = first + index_d.length(s);
+        check_places_alone(&index[first..last], source_d.length(s), first)?;
+        first = last;
+    }
+    Ok(())
 }
 
 /// Writes the element at each index of a short segment.

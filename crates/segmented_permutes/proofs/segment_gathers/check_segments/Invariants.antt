@@ -1,7 +1,7 @@
 use Rattle.std.proofs.Common.{◌≡◌, drop}
 use Rattle.segdes.specs.Starts.{start_of}
 use Rattle.segmented_permutes.specs.Backs.{outside_from}
-use Rattle.segmented_permutes.proofs.segment_gathers.check_each_segment.Given as goal
+use Rattle.segmented_permutes.proofs.segment_gathers.check_segments.Given as goal
 
 abbrev pub invariant-loop-s : goal.invariant-loop-s
 invariant-loop-s l = record {
