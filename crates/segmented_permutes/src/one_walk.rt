@@ -1,11 +1,11 @@
 //! A permute by segments, in one walk that several threads share.
 
-ghost use Rattle.std.specs.Prelude.{◌≡◌, ◌≤◌, IfOk, IfSome, List, Ok, Result, length, vec_len};
-ghost use Rattle.cvl_base.specs.declared.fault.Fault.{Fault};
+ghost use Rattle.std.specs.Prelude.{◌≡◌, ◌≤◌, IfOk, length, vec_len};
 ghost use Rattle.cvl_base.specs.Limits.{most_elements};
-ghost use Rattle.permute_walks.specs.Before.{IsPermuted, values_of};
+ghost use Rattle.permute_walks.specs.Before.{values_of};
 ghost use Rattle.permutes.specs.Ways.{RacesWithin};
-ghost use Rattle.segment_sends.specs.SegmentDestinations.{destinations_in, fault_from, places_in, senders_from};
+ghost use Rattle.segment_sends.specs.SegmentDestinations.{destinations_in, places_in};
+ghost use Rattle.segmented_permutes.specs.SegmentPermutes.{AreMeant, IfMadeInOne};
 
 use cvl_base::{Config, Memory, NoResources};
 use permute_walks::Before;
@@ -31,11 +31,8 @@ where
     requires cut { D.AreCut segments.now }
     requires few { destinations_in (D.segments segments.now) ≤ most_elements }
     requires whole { places_in (D.segments segments.now) ≡ length (values_of before) }
-    ensures values { IfOk result (λ made. IfSome made.0 (λ v. (meaning : Result (List T) Fault)
-        → IsPermuted source.now before.entry meaning (fault_from 0 (D.segments segments.now))
-        (senders_from 0 (D.segments segments.now))
-        → meaning ≡ Ok v.items)) }
-    ensures as_long { IfOk result (λ made. IfSome made.0 (λ v. vec_len v ≡ length (values_of before.entry))) }
+    ensures values { IfMadeInOne result (λ v. AreMeant source.now (D.segments segments.now) before.entry v.items) }
+    ensures as_long { IfMadeInOne result (λ v. vec_len v ≡ length (values_of before.entry)) }
     ensures raced { IfOk result (λ made. RacesWithin (length (values_of before.entry)) made.1) }
 {
     let values = before.values();

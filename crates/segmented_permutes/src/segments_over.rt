@@ -10,8 +10,9 @@ ghost use Rattle.cvl_base.specs.declared.fault.Fault.{Fault};
 ghost use Rattle.cvl_base.specs.Limits.{most_places};
 ghost use Rattle.cvl_base.specs.Rooms.{Overwrites, OverwritesOr, in_room};
 ghost use Rattle.cvl_base.specs.SegmentedCalls.{seg_back_of, seg_default_of, seg_select_of, seg_simple_of};
-ghost use Rattle.permute_walks.specs.Before.{IsPermuted, values_of};
-ghost use Rattle.segment_sends.specs.SegmentDestinations.{destinations_in, fault_from, places_in, senders_from};
+ghost use Rattle.permute_walks.specs.Before.{values_of};
+ghost use Rattle.segment_sends.specs.SegmentDestinations.{destinations_in, places_in};
+ghost use Rattle.segmented_permutes.specs.SegmentPermutes.{IsSegmentPermute};
 
 use crate::segment_gathers::{check_segments, gather_segments_over};
 use cvl_base::{Fault, Memory, Refused, check_agree, true_count};
@@ -34,9 +35,7 @@ fn permuted_over<T: Copy, A: Memory, D: SegmentDestinations>(
     requires cut { D.AreCut segments.now }
     requires few { destinations_in (D.segments segments.now) ≤ most_places }
     requires whole { places_in (D.segments segments.now) ≡ length (values_of before) }
-    ensures { (meaning : Result (List T) Fault)
-        → IsPermuted source.now before.entry meaning (fault_from 0 (D.segments segments.now))
-        (senders_from 0 (D.segments segments.now))
+    ensures { (meaning : Result (List T) Fault) → IsSegmentPermute source.now (D.segments segments.now) before.entry meaning
         → OverwritesOr (in_room (length out.old) meaning) result out.old out.new }
 {
     let found = segment_senders_alone(alloc, before.values().len(), segments);
