@@ -1,6 +1,6 @@
 -- The flat indices of the segmented permutes: the walk that makes them, and what destinations they are.
 use Rattle.std.proofs.Common.{◌≡◌, ◌∙◌, ℕ, suc, ◌+◌, ◌<◌, ◌≤◌, Bool, true, false, if◌then◌else◌, List, [], ◌∷◌, ◌++◌, length, map, sum, take, drop, refl, sym, ap, arith, inl, inr}
-use Rattle.std.proofs.Common.{length-drop, ℤ, pos, negsuc, Option, Some, None, Ok}
+use Rattle.std.proofs.Common.{length-drop, subst, ℤ, pos, negsuc, IfSome, Option, Some, None, Ok}
 use Rattle.std.specs.Option.{option_or}
 use Rattle.std.proofs.lemmas.Bool.{lt-ltb, le-ltb}
 use Rattle.std.proofs.lemmas.Bool.Decides.{leb_tells}
@@ -8,10 +8,13 @@ use Rattle.std.proofs.lemmas.List.{length-map, length-take-le, map-append}
 use Rattle.std.proofs.lemmas.Simd.{map-map}
 use Rattle.cvl_base.specs.declared.fault.FaultNo.TheVariants.{IndexOutOfRange}
 use Rattle.cvl_base.specs.Gives.{unless}
+use Rattle.cvl_base.specs.Limits.{most_elements}
 use Rattle.cvl_base.specs.Packs.{count_of}
 use Rattle.cvl_base.specs.Permutes.{all_destinations, flagged_destinations, first_fault, destination_if, wrongs}
 use Rattle.permute_walks.specs.Indices.{first_outside, outside}
 use Rattle.permute_walks.specs.Senders.{senders_of}
+use Rattle.permutes.specs.Ways.{RacesWithin, pace_of}
+use Rattle.permutes.specs.declared.ways.Way.{Way}
 use Rattle.cvl_base.proofs.Permutes.{length-all_destinations, length-flagged_destinations}
 use Rattle.segmented_permutes.specs.Backs.{outside_from}
 use Rattle.segmented_permutes.specs.FlatIndices.{flat_index, flat_indices}
@@ -121,3 +124,8 @@ pub raced_flat : (segments : List (ℕ × List (Option ℤ))) (whole : ℕ) (ts 
 raced_flat segments whole ts wide are =
     ap (λ us. unless (first_fault 0 (wrongs whole us)) (Ok (senders_of 0 us whole))) are
     ∙ (λ i. unless (sym (fault_flat segments whole wide) i) (Ok (sym (senders_flat segments whole wide) i)))
+
+-- ---- a race for the senders
+
+pub raced_within : (places : ℕ) (way : Way) → RacesWithin places way → {pace : Option (ℕ × ℕ)} {race : ℕ × ℕ} → pace ≡ pace_of way → pace ≡ Some race → places ≤ most_elements
+raced_within places way few made is = subst (λ o. IfSome o (λ _. places ≤ most_elements)) (sym made ∙ is) few

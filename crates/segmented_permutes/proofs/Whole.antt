@@ -16,7 +16,7 @@ use Rattle.cvl_base.specs.Permutes.{all_destinations, back_of, default_of, flagg
 use Rattle.cvl_base.specs.Segmented.{beside, end_to_end, in_vector, of_two, of_three, results_from}
 use Rattle.cvl_base.specs.SegmentedCalls.{seg_back_of, seg_default_of, seg_select_of, seg_simple_of}
 use Rattle.fresh.specs.Parts.{part, length_part}
-use Rattle.segment_sends.specs.SegmentDestinations.{fault_from, flagged_in_segments, all_in_segments, senders_from}
+use Rattle.segment_sends.specs.SegmentDestinations.{destinations_in, fault_from, flagged_in_segments, all_in_segments, senders_from}
 use Rattle.permute_walks.specs.Before.{IsPermuted}
 use Rattle.permute_walks.specs.declared.before.Before.TheVariants as before
 use Rattle.permute_walks.specs.Senders.{nobody, written_over}
@@ -25,7 +25,7 @@ use Rattle.cvl_base.proofs.Lists.{sum-cons}
 use Rattle.cvl_base.proofs.Elementwise.{if_as_long-fits, if_as_long-misfits}
 use Rattle.permute_walks.proofs.Told.{IsSent}
 use Rattle.segment_sends.proofs.AllSent.{flagged_segments_sent, length-senders, length-senders_from, segments_sent}
-use Rattle.segment_sends.proofs.Through.{places-flagged}
+use Rattle.segment_sends.proofs.Through.{destinations-all, places-flagged}
 use Rattle.permute_walks.proofs.EndToEnd.{left_more}
 use Rattle.segmented_permutes.proofs.Joined.{front_taken, front_over}
 use Rattle.cvl_base.proofs.Permutes.{length-all_destinations, length-flagged_destinations}
@@ -174,3 +174,8 @@ module _ {X : Type 0} (source : List X) (index : List ℤ) (lengths : List ℕ) 
               ∙ ap (λ xs. unless (fault_from 0 sent) (Ok (written_over source (senders_from 0 sent) xs))) (sym same);
           as_many = length-senders lengths widths index count ∙ default_total;
         }
+
+-- there are as many destinations as indices
+pub few_sent : (lengths widths : List ℕ) (index : List ℤ) (n : ℕ) → length index ≤ n → sum lengths ≡ length index → length lengths ≡ length widths
+    → destinations_in (all_in_segments lengths widths index) ≤ n
+few_sent lengths widths index n few total count = omega (arith, destinations-all lengths widths index total count, few)

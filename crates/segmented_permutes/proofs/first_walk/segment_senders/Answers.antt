@@ -1,10 +1,9 @@
-use Rattle.std.proofs.Common.{◌≤◌, ◌∙◌, ap, subst, sym, arith, IfSome}
+use Rattle.std.proofs.Common.{◌∙◌, ap, subst, sym, arith}
 use Rattle.cvl_base.specs.Gives.{Gives}
-use Rattle.cvl_base.specs.Limits.{most_elements}
 use Rattle.cvl_base.specs.Permutes.{all_destinations}
 use Rattle.segment_sends.specs.SegmentDestinations.{all_in_segments}
 use Rattle.segment_sends.proofs.Through.{destinations-all, places-all}
-use Rattle.segmented_permutes.proofs.FlatIndices.{raced_flat, destinations_all}
+use Rattle.segmented_permutes.proofs.FlatIndices.{raced_flat, raced_within, destinations_all}
 use Rattle.segmented_permutes.proofs.first_walk.segment_senders.Goals as goal
 
 pub flat_indices-requires-clause-as_long : goal.flat_indices-requires-clause-as_long
@@ -12,15 +11,11 @@ flat_indices-requires-clause-as_long g c κs within = destinations-all c.args.d.
 
 pub flat_indices-requires-clause-in_limit : goal.flat_indices-requires-clause-in_limit
 flat_indices-requires-clause-in_limit g c κs within =
-    omega (
-      arith,
-      places-all c.args.d.now c.args.result_d.now c.args.index.now c.requires.count,
-      c.requires.whole,
-      subst (λ o. IfSome o (λ _. c.args.places ≤ most_elements)) (sym c.pace.ensures ∙ c.in-Some.is) c.requires.few_places,
-    )
+    let few_places = raced_within c.args.places c.args.way c.requires.few_places c.pace.ensures c.in-Some.is in
+    omega (arith, places-all c.args.d.now c.args.result_d.now c.args.index.now c.requires.count, c.requires.whole, few_places)
 
 pub senders_raced-requires-clause-few_places : goal.senders_raced-requires-clause-few_places
-senders_raced-requires-clause-few_places g c κs within = subst (λ o. IfSome o (λ _. c.args.places ≤ most_elements)) (sym c.pace.ensures ∙ c.in-Some.is) c.requires.few_places
+senders_raced-requires-clause-few_places g c κs within = raced_within c.args.places c.args.way c.requires.few_places c.pace.ensures c.in-Some.is
 
 pub segment_senders_alone-requires-clause-few : goal.segment_senders_alone-requires-clause-few
 segment_senders_alone-requires-clause-few g c κs within =

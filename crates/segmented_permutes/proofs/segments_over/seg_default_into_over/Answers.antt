@@ -2,14 +2,13 @@ use Rattle.std.proofs.Common.{◌≡◌, ◌∙◌, ap, arith, length, refl, sym
 use Rattle.cvl_base.specs.declared.refused.Refused.TheVariants as refused
 use Rattle.cvl_base.specs.Rooms.{in_room}
 use Rattle.permute_walks.proofs.Told.{told_or}
-use Rattle.segment_sends.proofs.Through.{destinations-all, places-all}
-use Rattle.segmented_permutes.proofs.Whole.{seg_default-differ, seg_default_sent}
+use Rattle.segment_sends.proofs.Through.{places-all}
+use Rattle.segmented_permutes.proofs.Whole.{few_sent, seg_default-differ, seg_default_sent}
 use Rattle.segmented_permutes.proofs.segments_over.seg_default_into_over.Goals as goal
 
 pub permuted_over-requires-clause-few : goal.permuted_over-requires-clause-few
 permuted_over-requires-clause-few g c κs within =
-    let count : length c.args.source_d.now ≡ length c.args.default_d.now = omega (arith, c.in_ok-check_agree.ensures) in
-    omega (arith, destinations-all c.args.source_d.now c.args.default_d.now c.args.index.now c.in_ok-check_total-2.ensures.agrees count, c.requires.in_limit)
+    few_sent c.args.source_d.now c.args.default_d.now c.args.index.now _ c.requires.in_limit c.in_ok-check_total-2.ensures.agrees (omega (arith, c.in_ok-check_agree.ensures))
 
 pub permuted_over-requires-clause-whole : goal.permuted_over-requires-clause-whole
 permuted_over-requires-clause-whole g c κs within =

@@ -2,14 +2,13 @@ use Rattle.std.proofs.Common.{◌≡◌, ◌∙◌, ap, arith, length, refl, sub
 use Rattle.cvl_base.specs.Rooms.{OverwritesOr, in_room}
 use Rattle.cvl_base.specs.SegmentedCalls.{seg_simple_of}
 use Rattle.permute_walks.proofs.Told.{sent_permuted}
-use Rattle.segment_sends.proofs.Through.{destinations-all, places-all}
-use Rattle.segmented_permutes.proofs.Whole.{seg_simple_sent}
+use Rattle.segment_sends.proofs.Through.{places-all}
+use Rattle.segmented_permutes.proofs.Whole.{few_sent, seg_simple_sent}
 use Rattle.segmented_permutes.proofs.segments_over.simple_by_senders.Goals as goal
 
 pub permuted_over-requires-clause-few : goal.permuted_over-requires-clause-few
 permuted_over-requires-clause-few g c κs within =
-    let d = c.in_ok-d.d in
-    omega (arith, destinations-all d d c.args.index.now (ap sum c.in_ok-d.ensures ∙ c.requires.total) refl, c.requires.in_limit)
+    few_sent c.in_ok-d.d c.in_ok-d.d c.args.index.now _ c.requires.in_limit (ap sum c.in_ok-d.ensures ∙ c.requires.total) refl
 
 pub permuted_over-requires-clause-whole : goal.permuted_over-requires-clause-whole
 permuted_over-requires-clause-whole g c κs within =

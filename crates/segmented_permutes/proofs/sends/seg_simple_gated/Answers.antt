@@ -1,12 +1,12 @@
 use Rattle.std.proofs.Common.{◌∙◌, arith, refl, sym}
 use Rattle.permute_walks.proofs.Told.{found_gives, sent_permuted}
-use Rattle.segment_sends.proofs.Through.{destinations-all, places-all}
-use Rattle.segmented_permutes.proofs.Whole.{seg_simple_sent}
+use Rattle.segment_sends.proofs.Through.{places-all}
+use Rattle.segmented_permutes.proofs.Whole.{few_sent, seg_simple_sent}
 use Rattle.segmented_permutes.proofs.sends.seg_simple_gated.Goals as goal
 
 pub permuted_in_one-requires-clause-few : goal.permuted_in_one-requires-clause-few
 permuted_in_one-requires-clause-few g c κs within =
-    omega (arith, destinations-all c.args.d.now c.args.d.now c.args.index.now c.in_ok-check_total-2.ensures.agrees refl, c.requires.in_limit)
+    few_sent c.args.d.now c.args.d.now c.args.index.now _ c.requires.in_limit c.in_ok-check_total-2.ensures.agrees refl
 
 pub permuted_in_one-requires-clause-whole : goal.permuted_in_one-requires-clause-whole
 permuted_in_one-requires-clause-whole g c κs within = places-all c.args.d.now c.args.d.now c.args.index.now refl ∙ c.in_ok-check_total.ensures.agrees
