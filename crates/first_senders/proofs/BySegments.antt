@@ -1,9 +1,10 @@
 -- The walks from segment to segment: what the first has found, and what the second has written.
-use Rattle.first_senders.proofs.Cited.{◌≡◌, ◌∙◌, ℕ, ◌+◌, ◌-◌, ◌<◌, ◌≤◌, List, [], ◌∷◌, ◌++◌, length, length-drop, map, take, drop, get_or, sym, ap, append-nil, append_assoc, arith, ℤ, Option}
+use Rattle.first_senders.proofs.Cited.{◌≡◌, ◌∙◌, ℕ, ◌+◌, ◌-◌, ◌<◌, ◌≤◌, List, [], ◌∷◌, ◌++◌, length, length-drop, map, sum, take, drop, get_or, sym, ap, append-nil, append_assoc, arith, ℤ, Option}
 use Rattle.first_senders.proofs.Cited.{Some, None, drop_all, drop-drop, drop_more, length-take-le, take_all, length-map-range_with_len, put_mid, same_len_mid, Fault}
 use Rattle.first_senders.proofs.Cited.{first_fault}
 use Rattle.std.specs.Option.{option_or}
 use Rattle.std.proofs.lemmas.Slice.{take-put_mid}
+use Rattle.segdes.proofs.Sums.{segment_within}
 use Rattle.first_senders.specs.FirstSenders.{first_sender, first_senders, wrong_in}
 use Rattle.first_senders.specs.Walks.{fault_by, senders_by}
 
@@ -54,6 +55,10 @@ module _ (ns ms : List ℕ) (ts : List (Option ℤ)) (count : length ns ≡ leng
         ∙ ap (λ us. take start out ++ (first_senders segment 0 m ++ senders_by (drop (s + 1) ns) (drop (s + 1) ms) us)) (sym (drop-drop n first ts))
         ∙ (λ i. take start out ++ senders_by (sym lengths_left i) (sym widths_left i) (drop first ts))
         ∙ so_far
+
+-- the places of a segment are among all
+pub places_within : (ns : List ℕ) (s first n total : ℕ) → s < length ns → first ≡ sum (take s ns) → n ≡ get_or ns s 0 → sum ns ≡ total → first + n ≤ total
+places_within ns s first n total lt there is all = omega (arith, segment_within ns s lt, there, is, all)
 
 -- all segments
 pub room_all : (ns ms : List ℕ) (ts : List (Option ℤ)) (s first start : ℕ) (out : List ℤ) → length ns ≤ s → take start out ++ senders_by (drop s ns) (drop s ms) (drop first ts) ≡ senders_by ns ms ts

@@ -1,12 +1,11 @@
 use Rattle.first_senders.proofs.Cited.{◌∙◌, ◌<◌, arith, length, told_again, sum_by_more}
-use Rattle.segdes.proofs.Sums.{segment_within}
-use Rattle.first_senders.proofs.BySegments.{segment_failed, segment_passed}
+use Rattle.first_senders.proofs.BySegments.{places_within, segment_failed, segment_passed}
 use Rattle.first_senders.proofs.segments.check_segments.Goals as goal
 
 pub check_indices-requires-clause-within : goal.check_indices-requires-clause-within
 check_indices-requires-clause-within g c =
-    let lt : c.loop-s.s < length c.args.d.now = omega (arith, c.count-s-end.ensures.value, c.loop-s-test.true) in
-    omega (arith, segment_within c.args.d.now c.loop-s.s lt, c.length-count.ensures, c.loop-s.invariant.first_is, c.requires.total)
+    places_within c.args.d.now c.loop-s.s c.loop-s.first c.length-count.result _ (omega (arith, c.count-s-end.ensures.value, c.loop-s-test.true))
+    c.loop-s.invariant.first_is c.length-count.ensures c.requires.total
 
 pub returns-in_err-check_indices : goal.returns-in_err-check_indices
 returns-in_err-check_indices g c =

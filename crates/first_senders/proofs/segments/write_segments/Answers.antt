@@ -1,7 +1,7 @@
 use Rattle.first_senders.proofs.Cited.{◌≡◌, ◌∙◌, ◌+◌, ◌-◌, ◌<◌, ◌≤◌, ap, arith, drop, length, length-drop, refl, rules, sum, take, length-take-le, take_all, put_mid, sum_by_more}
 use Rattle.first_senders.specs.FirstSenders.{first_senders}
 use Rattle.segdes.proofs.Sums.{segment_within}
-use Rattle.first_senders.proofs.BySegments.{room_all, room_long, room_more}
+use Rattle.first_senders.proofs.BySegments.{places_within, room_all, room_long, room_more}
 use Rattle.first_senders.proofs.segments.write_segments.Goals as goal
 
 pub slice_bounds-write_first-end : goal.slice_bounds-write_first-end
@@ -13,8 +13,8 @@ slice_bounds-write_first-end g c =
 
 pub write_first-requires-clause-within : goal.write_first-requires-clause-within
 write_first-requires-clause-within g c =
-    let lt : c.loop-s.s < length c.args.d.now = omega (arith, c.count-s-end.ensures.value, c.loop-s-test.true) in
-    omega (arith, segment_within c.args.d.now c.loop-s.s lt, c.length-count.ensures, c.loop-s.invariant.first_is, c.requires.total)
+    places_within c.args.d.now c.loop-s.s c.loop-s.first c.length-count.result _ (omega (arith, c.count-s-end.ensures.value, c.loop-s-test.true))
+    c.loop-s.invariant.first_is c.length-count.ensures c.requires.total
 
 pub loop-s-preserved : goal.loop-s-preserved
 loop-s-preserved g c =
