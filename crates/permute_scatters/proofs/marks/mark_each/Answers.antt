@@ -1,4 +1,4 @@
-use Rattle.permute_walks.proofs.Cited.{rules, ◌∙◌, ◌<◌, ◌==◌, not, ap, refl, take, length, length-map, arith, index_is, all_destinations, last_senders, mark_words, nobody, sent_marks}
+use Rattle.permute_walks.proofs.Cited.{rules, ◌∙◌, ◌<◌, ◌==◌, not, ap, refl, take, length-map, arith, index_is, all_destinations, last_senders, mark_words, nobody, sent_marks}
 use Rattle.permute_walks.proofs.LastSent.{length-last_senders}
 use Rattle.permute_walks.proofs.Scattered.{marks_more, named_below, right_inside}
 use Rattle.permute_scatters.proofs.Walked.{marked_none}
