@@ -1,4 +1,4 @@
-use Rattle.std.proofs.Common.{◌≡◌, ◌∙◌, ap, arith, length, refl, sym, Err}
+use Rattle.std.proofs.Common.{◌∙◌, ap, arith, length, refl, sym, Err}
 use Rattle.cvl_base.specs.declared.refused.Refused.TheVariants as refused
 use Rattle.cvl_base.specs.Rooms.{in_room}
 use Rattle.permute_walks.proofs.Told.{told_or}

@@ -1,4 +1,4 @@
-use Rattle.std.proofs.Common.{◌≡◌, ◌∙◌, ap, arith, length, refl, subst, sum, sym}
+use Rattle.std.proofs.Common.{◌≡◌, ◌∙◌, ap, length, refl, subst, sum, sym}
 use Rattle.cvl_base.specs.Rooms.{OverwritesOr, in_room}
 use Rattle.cvl_base.specs.SegmentedCalls.{seg_simple_of}
 use Rattle.permute_walks.proofs.Told.{sent_permuted}

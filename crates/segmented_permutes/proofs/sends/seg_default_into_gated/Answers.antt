@@ -1,4 +1,4 @@
-use Rattle.std.proofs.Common.{◌≡◌, ◌∙◌, ap, sym, arith, length, Err}
+use Rattle.std.proofs.Common.{◌∙◌, ap, sym, arith, Err}
 use Rattle.std.proofs.lemmas.Result.{err_from_is_err_and}
 use Rattle.permute_walks.proofs.Told.{found_gives}
 use Rattle.segment_sends.proofs.Through.{places-all}
