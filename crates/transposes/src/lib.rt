@@ -5,11 +5,11 @@
 //! of its places.
 #![tactic(auto)]
 
-pub mod blocks;
+mod blocks;
+mod matrices;
 pub mod ranges;
 mod strided;
 pub mod whole;
 
-pub use blocks::transpose_columns;
 pub use ranges::transpose_range_over;
 pub use whole::transpose_over;

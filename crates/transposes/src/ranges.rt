@@ -8,39 +8,25 @@ ghost use Rattle.cvl_base.specs.Rooms.{Overwrites};
 ghost use Rattle.transposes.specs.Transposes.{AreTurned, transpose_range_of};
 
 use crate::blocks::transpose_columns;
+use crate::matrices::{Matrix, check_shape};
 use crate::strided::write_strided;
-use crate::whole::check_shape;
 use cvl_base::{Fault, FaultNo};
 
 /// Writes the places of the transpose from that of this row and column of the matrix on: the rest of the column, whole columns,
 /// and the beginning of one.
-fn write_from<T: Copy>(
-    source: &[T],
-    rows: usize,
-    columns: usize,
-    column: usize,
-    row: usize,
-    out: &mut [T],
-)
-    requires long { rows * columns ≡ length source.now }
-    requires in_limit { length source.now ≤ most_places }
-    requires row { row < rows }
+fn write_from<T: Copy>(matrix: &Matrix<T>, column: usize, row: usize, out: &mut [T])
+    requires row { row < matrix.now.rows }
     requires some { 0 < length out.old }
-    requires within { column * rows + row + length out.old ≤ length source.now }
-    ensures { AreTurned rows columns (column * rows + row) source.now out.new }
+    requires within { column * matrix.now.rows + row + length out.old ≤ length matrix.now.elements.now }
+    ensures { AreTurned matrix.now.rows matrix.now.columns (column * matrix.now.rows + row)
+        matrix.now.elements.now out.new }
 {
+    let (source, rows, columns) = (matrix.elements, matrix.rows, matrix.columns);
     let head = out.len().min(rows - row);
     write_strided(source, row * columns + column, columns, head, out, 0);
     let whole = (out.len() - head) / rows;
     let tail = head + whole * rows;
-    transpose_columns(
-        source,
-        rows,
-        columns,
-        column + 1,
-        whole,
-        &mut out[head..tail],
-    );
+    transpose_columns(matrix, column + 1, whole, &mut out[head..tail]);
     write_strided(
         source,
         column + 1 + whole,
@@ -79,7 +65,12 @@ pub fn transpose_range_over<T: Copy>(
     check_shape(rows, columns, source.len())?;
     check_range(lowest, out.len(), source.len())?;
     if !out.is_empty() {
-        write_from(source, rows, columns, lowest / rows, lowest % rows, out);
+        let matrix = Matrix {
+            elements: source,
+            rows,
+            columns,
+        };
+        write_from(&matrix, lowest / rows, lowest % rows, out);
     }
     Ok(())
 }

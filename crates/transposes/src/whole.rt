@@ -1,26 +1,13 @@
 //! The transpose of a whole matrix.
 
-ghost use Rattle.std.specs.Prelude.{◌≡◌, ◌≢◌, ◌*◌, ◌≤◌, MatchResult, length};
-ghost use Rattle.cvl_base.specs.Faults.{fault};
+ghost use Rattle.std.specs.Prelude.{◌≤◌, length};
 ghost use Rattle.cvl_base.specs.Limits.{most_places};
-ghost use Rattle.cvl_base.specs.declared.fault.FaultNo.TheVariants as no;
 ghost use Rattle.cvl_base.specs.Rooms.{Overwrites, in_room};
 ghost use Rattle.transposes.specs.Transposes.{transpose_of};
 
 use crate::blocks::transpose_columns;
-use cvl_base::{Fault, FaultNo, check_agree};
-
-/// `LengthMismatch` unless `rows` times `columns` is `elements`.
-pub(crate) fn check_shape(rows: usize, columns: usize, elements: usize) -> Result<(), Fault>
-    requires { elements ≤ most_places }
-    ensures { MatchResult result (λ _. rows * columns ≡ elements)
-        (λ f. (f ≡ fault no.LengthMismatch) × (rows * columns ≢ elements)) }
-{
-    match rows.checked_mul(columns) {
-        Some(product) => check_agree(product, elements),
-        None => Err(Fault::new(FaultNo::LengthMismatch)),
-    }
-}
+use crate::matrices::{Matrix, check_shape};
+use cvl_base::{Fault, check_agree};
 
 /// The transpose of a matrix in row order: element `r` of row `c` of the result is element `c` of row `r`.
 ///
@@ -37,6 +24,11 @@ pub fn transpose_over<T: Copy>(
 {
     check_shape(rows, columns, source.len())?;
     check_agree(source.len(), out.len())?;
-    transpose_columns(source, rows, columns, 0, columns, out);
+    let matrix = Matrix {
+        elements: source,
+        rows,
+        columns,
+    };
+    transpose_columns(&matrix, 0, columns, out);
     Ok(())
 }

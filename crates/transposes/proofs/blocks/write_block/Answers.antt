@@ -7,8 +7,8 @@ pub write_strided-requires-clause-within : goal.write_strided-requires-clause-wi
 write_strided-requires-clause-within g c = λ k lt.
     omega (
       arith,
-      c.requires.long,
-      element_within c.args.rows c.args.columns (c.args.top + k) (c.args.from + c.loop-column.column)
+      c.args.matrix.now.long,
+      element_within c.args.matrix.now.rows c.args.matrix.now.columns (c.args.top + k) (c.args.from + c.loop-column.column)
           (omega (arith, lt, c.requires.rows_within)) (omega (arith, c.loop-column-test.true, c.requires.columns_within)),
     )
 

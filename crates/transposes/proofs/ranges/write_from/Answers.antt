@@ -15,16 +15,16 @@ runs rows columns column row n old head elements same lt some long within is = r
 
 pub write_strided-requires-clause-within : goal.write_strided-requires-clause-within
 write_strided-requires-clause-within g c =
-    let a = c.args in let r = c.requires in let n = length a.out.now in
-    let cut = runs a.rows a.columns a.column a.row n n c.min-head.result (length a.source.now) refl r.row r.some r.long r.within c.min-head.ensures in
-    λ k lt. omega (arith, r.long, element_within a.rows a.columns (a.row + k) a.column (head_below cut k lt) (column_below cut))
+    let a = c.args in let m = a.matrix.now in let r = c.requires in let n = length a.out.now in
+    let cut = runs m.rows m.columns a.column a.row n n c.min-head.result (length m.elements.now) refl r.row r.some m.long r.within c.min-head.ensures in
+    λ k lt. omega (arith, m.long, element_within m.rows m.columns (a.row + k) a.column (head_below cut k lt) (column_below cut))
 
 pub transpose_columns-requires-clause-columns_within : goal.transpose_columns-requires-clause-columns_within
 transpose_columns-requires-clause-columns_within g c =
-    let a = c.args in let r = c.requires in
+    let a = c.args in let m = a.matrix.now in let r = c.requires in
     whole_fits
-    (runs a.rows a.columns a.column a.row (length c.write_strided.new.out) (length a.out.now) c.min-head.result (length a.source.now)
-    c.write_strided.auto.out r.row r.some r.long r.within c.min-head.ensures)
+    (runs m.rows m.columns a.column a.row (length c.write_strided.new.out) (length a.out.now) c.min-head.result (length m.elements.now)
+    c.write_strided.auto.out r.row r.some m.long r.within c.min-head.ensures)
 
 -- the middle of a room, from its head to its tail
 middle_of : {X : Type 0} (rows columns column row n head whole : ℕ) (first middle : List X) → AreRuns rows columns column row n head whole → length first ≡ n
@@ -34,28 +34,28 @@ middle_of rows columns column row n head whole first middle cut long is =
 
 pub write_strided-requires-2-clause-within : goal.write_strided-requires-2-clause-within
 write_strided-requires-2-clause-within g c = λ k lt.
-    let a = c.args in let q = c.requires in let first = c.write_strided.new.out in
-    let head = c.min-head.result in let whole = (length first - head) / a.rows in
-    let cut = runs a.rows a.columns a.column a.row (length first) (length a.out.now) head (length a.source.now)
-    c.write_strided.auto.out q.row q.some q.long q.within c.min-head.ensures in
-    let middle = middle_of a.rows a.columns a.column a.row (length first) head whole first c.transpose_columns.new.out cut refl c.transpose_columns.auto.out in
-    let inside = put_long cut first c.transpose_columns.new.out (head + whole * a.rows) refl middle refl in
-    let before : head + whole * a.rows < length first = omega (arith, lt, inside) in
+    let a = c.args in let m = a.matrix.now in let q = c.requires in let first = c.write_strided.new.out in
+    let head = c.min-head.result in let whole = (length first - head) / m.rows in
+    let cut = runs m.rows m.columns a.column a.row (length first) (length a.out.now) head (length m.elements.now)
+    c.write_strided.auto.out q.row q.some m.long q.within c.min-head.ensures in
+    let middle = middle_of m.rows m.columns a.column a.row (length first) head whole first c.transpose_columns.new.out cut refl c.transpose_columns.auto.out in
+    let inside = put_long cut first c.transpose_columns.new.out (head + whole * m.rows) refl middle refl in
+    let before : head + whole * m.rows < length first = omega (arith, lt, inside) in
     omega (
       arith,
-      q.long,
-      element_within a.rows a.columns k (a.column + 1 + whole) (omega (arith, lt, inside, last_short cut)) (last_below cut before),
+      m.long,
+      element_within m.rows m.columns k (a.column + 1 + whole) (omega (arith, lt, inside, last_short cut)) (last_below cut before),
     )
 
 pub returns : goal.returns
 returns g c = λ r col d within from to.
-    let a = c.args in let q = c.requires in let first = c.write_strided.new.out in let out = c.write_strided-2.new.out in
-    let head = c.min-head.result in let whole = (length first - head) / a.rows in
-    let cut = runs a.rows a.columns a.column a.row (length first) (length a.out.now) head (length a.source.now)
-    c.write_strided.auto.out q.row q.some q.long q.within c.min-head.ensures in
-    let middle = middle_of a.rows a.columns a.column a.row (length first) head whole first c.transpose_columns.new.out cut refl c.transpose_columns.auto.out in
-    let inside = put_long cut first c.transpose_columns.new.out (head + whole * a.rows) refl middle refl in
-    let written : AreWritten a.rows a.columns a.column a.row (length first) head whole (head + whole * a.rows) a.source.now first c.transpose_columns.new.out out =
+    let a = c.args in let m = a.matrix.now in let q = c.requires in let first = c.write_strided.new.out in let out = c.write_strided-2.new.out in
+    let head = c.min-head.result in let whole = (length first - head) / m.rows in
+    let cut = runs m.rows m.columns a.column a.row (length first) (length a.out.now) head (length m.elements.now)
+    c.write_strided.auto.out q.row q.some m.long q.within c.min-head.ensures in
+    let middle = middle_of m.rows m.columns a.column a.row (length first) head whole first c.transpose_columns.new.out cut refl c.transpose_columns.auto.out in
+    let inside = put_long cut first c.transpose_columns.new.out (head + whole * m.rows) refl middle refl in
+    let written : AreWritten m.rows m.columns a.column a.row (length first) head whole (head + whole * m.rows) m.elements.now first c.transpose_columns.new.out out =
     record {
       long = refl;
       middle_long = middle;
