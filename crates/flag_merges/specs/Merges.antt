@@ -30,12 +30,21 @@ merge_or f flags xs ys = fault_if (not (are_counts flags (length xs) (length ys)
 abbrev pub merge_of : {X : Type 0} → List Bool → List X → List X → Result (List X) Fault
 merge_of flags xs ys = merge_or (fault LengthMismatch) flags xs ys
 
--- The same on each segment; the fault is at the number of the segment. The segments of the flags and of both vectors have lengths of their
--- own.
+-- the merge of one segment; the fault is at the number of the segment
+abbrev pub segment_merge_of : {X : Type 0} → List Bool → List X → List X → Result (List X) Fault
+segment_merge_of flags xs ys = merge_or (fault_at LengthMismatch 0) flags xs ys
+
+-- Each segment of the flags beside the segments of both vectors with its number. LengthMismatch if segments do not add up to their vector,
+-- or the vectors do not have as many segments as the flags.
+abbrev pub segments_to_merge : {X : Type 0} → List Bool → List ℕ → List X → List ℕ → List X → List ℕ
+    → Result (List ((List Bool × List X) × List X)) Fault
+segments_to_merge flags lengths xs true_lengths ys false_lengths =
+    beside (beside (nest lengths flags) (nest true_lengths xs)) (nest false_lengths ys)
+
+-- the merges of all segments, one after another
 abbrev pub seg_merge_of : {X : Type 0} → List Bool → List ℕ → List X → List ℕ → List X → List ℕ → Result (List X) Fault
 seg_merge_of flags lengths xs true_lengths ys false_lengths =
-    end_to_end at_segment (of_three (merge_or (fault_at LengthMismatch 0)))
-    (beside (beside (nest lengths flags) (nest true_lengths xs)) (nest false_lengths ys))
+    end_to_end at_segment (of_three segment_merge_of) (segments_to_merge flags lengths xs true_lengths ys false_lengths)
 
 -- the counts of the flags of each segment
 abbrev pub AreCounts : List Bool → List ℕ → List ℕ → List ℕ → Type 0
