@@ -1,48 +1,25 @@
 //! Combining permutes that several threads share: each owns a range of the room, and reads all indices. So no two threads join at
 //! one place, no place is waited for, and the elements are joined in their order.
 
-ghost use Rattle.std.specs.Prelude.{◌≡◌, ◌+◌, ◌≤◌, ℤ, Bool, List, length, map, true};
-ghost use Rattle.std.specs.List.{AllPass, list_all, zip};
-ghost use Rattle.std.specs.Thread.{IsSend, IsSync};
+ghost use Rattle.std.specs.Prelude.{◌≡◌, ◌≤◌, length, map, true};
+ghost use Rattle.std.specs.List.{AllPass, list_all};
 ghost use Rattle.cvl_base.specs.Limits.{most_places};
 ghost use Rattle.cvl_base.specs.Rooms.{Overwrites};
 ghost use Rattle.cvl_base.specs.Scans.{int_join_of};
-ghost use Rattle.combining_permutes.specs.CombiningPermutes.{combine_of, combined};
+ghost use Rattle.combining_permutes.specs.CombiningPermutes.{combine_of};
 
 use crate::cuts::places_of_first;
 use crate::flat::combine_over;
 use crate::ranges::combine_range;
 use cvl_base::{Fault, IntMonoid, Monoid, by_int_monoid, check_agree};
+use forks::{Work, run_shared};
 use permute_walks::check_places_alone;
 use scan_walks::{Itself, Reading, know_numbers};
 use sharing::{LEAST_EACH, ThreadCount};
 use std::marker::PhantomData;
-use std::thread::{Threads, join_mut};
+use std::thread::Threads;
 
-/// Joins the elements that are sent to a range of the places.
-// By this trait, and not as a slice, the elements go to other threads beside the range, whose items are of the same type.
-trait Sender<T> {
-    ghost is_item: { T → Bool };
-
-    ghost join: { T → T → T };
-
-    ghost sends: { Self → List (ℤ × T) };
-
-    /// Joins those that are sent to one range.
-    fn send(&self, lowest: usize, out: &mut [T])
-        requires within { lowest + length out.old ≤ most_places }
-        requires items { AllPass is_item out.old }
-        ensures { out.new ≡ combined join (sends self.now) lowest out.old };
-
-    /// How many places of a range the first few of so many threads have.
-    fn places_of_first(&self, lowest: usize, places: usize, few: usize, threads: usize) -> usize
-        requires some { 1 ≤ threads }
-        requires no_more { few ≤ threads }
-        requires within { lowest + places ≤ most_places }
-        ensures { result ≤ places };
-}
-
-/// Sends the elements of a slice, as they are read.
+/// The elements of a slice, as they are read, and the place to which each is sent.
 #[derive(Drop)]
 struct Sends<'a, M: Monoid, X: Copy, E: Reading<X, M::Item>> {
     source: &'a [X],
@@ -54,83 +31,50 @@ struct Sends<'a, M: Monoid, X: Copy, E: Reading<X, M::Item>> {
     ghost elements: { list_all (λ x. M.is_item (E.item x)) source.now ≡ true },
 }
 
-impl<'a, M: Monoid, X: Copy, E: Reading<X, M::Item>> Sender<M::Item> for Sends<'a, M, X, E> {
-    ghost is_item = { M.is_item };
-
-    ghost join = { M.join };
-
-    ghost sends = { λ s. zip s.index.now (map E.item s.source.now) };
-
-    fn send(&self, lowest: usize, out: &mut [M::Item]) {
-        combine_range::<M, X, E>(self.source, self.index, lowest, out);
-    }
-
-    fn places_of_first(&self, lowest: usize, places: usize, few: usize, threads: usize) -> usize {
-        places_of_first(self.index, lowest, places, few, threads)
-    }
+/// Joins those elements that are sent to one range of the places, which begins at place `lowest`.
+#[derive(Drop)]
+struct SendsToRange<'a, M: Monoid, X: Copy, E: Reading<X, M::Item>> {
+    sends: &'a Sends<'a, M, X, E>,
+    lowest: usize,
 }
 
-/// Joins the elements that are sent to one range, which at most so many threads share.
-#[cycle(ranges)]
-fn send_ranges<T: Copy + Send, R: Threads + Sync, W: Sender<T> + Sync>(
-    rt: &R,
-    sender: &W,
-    threads: ThreadCount,
-    lowest: usize,
-    out: &mut [T],
-)
-    requires within { lowest + length out.old ≤ most_places }
-    requires items { AllPass W.is_item out.old }
-    ensures { out.new ≡ combined W.join (W.sends sender.now) lowest out.old }
-{
-    if threads.get() < 2 {
-        sender.send(lowest, out);
-        return;
-    }
-    let (fewer, others) = threads.split();
-    let places = sender.places_of_first(lowest, out.len(), fewer.get(), threads.get());
-    let (low, high) = out.split_at_mut(places);
-    send_both(
-        rt,
-        sender,
-        fewer,
-        lowest,
-        low,
-        others,
-        lowest + places,
-        high,
-    );
-}
+impl<'a, M: Monoid, X: Copy, E: Reading<X, M::Item>> Work<M::Item, ()>
+    for SendsToRange<'a, M, X, E> {
+    ghost use Rattle.std.specs.Prelude.{◌≡◌, ◌+◌, ◌≤◌, length, map};
+    ghost use Rattle.std.specs.List.{AllPass, zip};
+    ghost use Rattle.cvl_base.specs.Limits.{most_places};
+    ghost use Rattle.combining_permutes.specs.CombiningPermutes.{combined};
 
-/// `send_ranges` for two ranges, each in a thread of its own.
-#[cycle(ranges)]
-fn send_both<T: Copy + Send, R: Threads + Sync, W: Sender<T> + Sync>(
-    rt: &R,
-    sender: &W,
-    fewer: ThreadCount,
-    lowest: usize,
-    low: &mut [T],
-    others: ThreadCount,
-    middle: usize,
-    high: &mut [T],
-)
-    requires some { (1 ≤ fewer) × (1 ≤ others) }
-    requires within { (lowest + length low.old ≤ most_places) × (middle + length high.old ≤ most_places) }
-    requires items { AllPass W.is_item low.old × AllPass W.is_item high.old }
-    ensures low { low.new ≡ combined W.join (W.sends sender.now) lowest low.old }
-    ensures high { high.new ≡ combined W.join (W.sends sender.now) middle high.old }
-{
-    let mut send_low = || -> ()
-        requires { IsSync R.row × IsSend T.row × IsSync W.row × (1 ≤ fewer) × (lowest + length low.now ≤ most_places)
-            × AllPass W.is_item low.now }
-        ensures { low.exit.now ≡ combined W.join (W.sends sender.entry.now) lowest low.entry.now }
-    { send_ranges(rt, sender, fewer, lowest, low) };
-    let mut send_high = || -> ()
-        requires { IsSync R.row × IsSend T.row × IsSync W.row × (1 ≤ others) × (middle + length high.now ≤ most_places)
-            × AllPass W.is_item high.now }
-        ensures { high.exit.now ≡ combined W.join (W.sends sender.entry.now) middle high.entry.now }
-    { send_ranges(rt, sender, others, middle, high) };
-    join_mut(rt, &mut send_low, &mut send_high);
+    type Told = ();
+
+    ghost IsReady = { λ s threads out _. (s.lowest + length out ≤ most_places) × AllPass M.is_item out };
+
+    ghost Does = { λ s threads old _ out _ _. out
+        ≡ combined M.join (zip s.sends.now.index.now (map E.item s.sends.now.source.now)) s.lowest old };
+
+    ghost together = { λ _ _. tt };
+
+    fn split(
+        &self,
+        few: usize,
+        threads: usize,
+        out: &[M::Item],
+        _: &[()],
+    ) -> (Self, usize, usize, Self) {
+        let places = places_of_first(self.sends.index, self.lowest, out.len(), few, threads);
+        let low = SendsToRange { ..*self };
+        let high = SendsToRange {
+            lowest: self.lowest + places,
+            ..*self
+        };
+        (low, places, 0, high)
+    }
+
+    fn run(&self, out: &mut [M::Item], _: &mut [()]) {
+        combine_range::<M, X, E>(self.sends.source, self.sends.index, self.lowest, out);
+    }
+
+    fn together(_: (), _: ()) {}
 }
 
 /// [`combine_over`](crate::combine_over), which at most so many threads share. Its definition, its faults and its conditions are
@@ -160,34 +104,18 @@ where
     }
     check_agree(source.len(), index.len())?;
     check_places_alone(index, out.len(), 0)?;
-    let sender: Sends<M, X, E> = Sends {
+    let sends: Sends<M, X, E> = Sends {
         source,
         index,
         monoid: PhantomData,
         reading: PhantomData,
     };
-    send_ranges(rt, &sender, threads, 0, out);
+    let to_all = SendsToRange {
+        sends: &sends,
+        lowest: 0,
+    };
+    run_shared(rt, threads, &to_all, out, &mut []);
     Ok(())
-}
-
-/// The same of items, which are read as themselves.
-fn items_shared<R, M>(
-    rt: &R,
-    threads: ThreadCount,
-    source: &[M::Item],
-    index: &[i32],
-    out: &mut [M::Item],
-) -> Result<(), Fault>
-where
-    R: Threads + Sync,
-    M: Monoid + Sync,
-    M::Item: Send + Sync,
-    requires in_limit { (length index.now ≤ most_places) × (length out.old ≤ most_places) }
-    requires elements { AllPass M.is_item source.now }
-    requires items { AllPass M.is_item out.old }
-    ensures { Overwrites (combine_of M.join source.now index.now out.old) result out.old out.new }
-{
-    combine_shared::<R, M, M::Item, Itself>(rt, threads, source, index, out)
 }
 
 /// [`int_combine_over`](crate::int_combine_over), which at most so many threads share.
@@ -204,5 +132,8 @@ pub fn int_combine_shared<R: Threads + Sync>(
 {
     know_numbers(source);
     know_numbers(out);
-    by_int_monoid!(op, items_shared::<R, _>(rt, threads, source, index, out))
+    by_int_monoid!(
+        op,
+        combine_shared::<R, _, i32, Itself>(rt, threads, source, index, out)
+    )
 }
