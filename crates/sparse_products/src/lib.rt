@@ -6,6 +6,7 @@
 #![tactic(auto)]
 
 mod answers;
+mod matrix_rows;
 pub mod offsets;
 pub mod products;
 mod row_counts;

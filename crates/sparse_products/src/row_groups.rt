@@ -6,12 +6,13 @@ ghost use Rattle.std.specs.List.{zip};
 ghost use Rattle.cvl_base.specs.Descriptors.{AreLengthsWithin};
 ghost use Rattle.cvl_base.specs.Integers.{wrap};
 ghost use Rattle.cvl_base.specs.Limits.{most_places};
-ghost use Rattle.cvl_base.specs.Nests.{cut_of};
 ghost use Rattle.fresh.specs.Found.{first_without};
 ghost use Rattle.fresh.specs.Places.{with_items};
 ghost use Rattle.sparse_products.specs.EntrySums.{AreSums, between};
+ghost use Rattle.sparse_products.specs.Products.{rows_of};
 ghost use Rattle.sparse_products.specs.Rows.{row_item, row_value, wrapping};
 
+use crate::matrix_rows::Rows;
 use crate::row_counts::entries_of;
 use crate::row_sums::{Wrapping, element_of, with_product};
 use crate::row_walks::{RowByRow, RowWalk};
@@ -74,27 +75,17 @@ fn differences_into(run: Run<i32>, lengths: &[i32], sums: &[i32]) -> Run<i32>
 }
 
 /// Writes the values of a group of rows, as [`RowWalk::walk`] does.
-fn group_into(
-    run: Run<i32>,
-    sums: &mut [i32],
-    lengths: &[i32],
-    columns: &[i32],
-    values: &[i32],
-    x: &[i32],
-) -> (Run<i32>, Option<usize>)
-    requires lengths { AreLengthsWithin most_places lengths.now }
-    requires as_many { length values.now ≡ length columns.now }
-    requires covered { sum (map unsigned_abs lengths.now) ≡ length columns.now }
-    requires room { length lengths.now ≤ run.room }
+fn group_into(run: Run<i32>, sums: &mut [i32], rows: &Rows, x: &[i32]) -> (Run<i32>, Option<usize>)
+    requires room { length rows.now.lengths.now ≤ run.room }
     ensures run { result.0 ≡ with_items run (map (row_item wrapping x.now)
-        (cut_of (map unsigned_abs lengths.now) (zip columns.now values.now))) }
+        (rows_of rows.now.lengths.now rows.now.columns.now rows.now.values.now)) }
     ensures found { result.1 ≡ first_without (run.first + length run.items) (map (row_value wrapping x.now)
-        (cut_of (map unsigned_abs lengths.now) (zip columns.now values.now))) }
+        (rows_of rows.now.lengths.now rows.now.columns.now rows.now.values.now)) }
 {
-    if columns.len() < sums.len() && sums_into(sums, columns, values, x) {
-        return (differences_into(run, lengths, sums), None);
+    if rows.columns.len() < sums.len() && sums_into(sums, rows.columns, rows.values, x) {
+        return (differences_into(run, rows.lengths, sums), None);
     }
-    RowByRow::<Wrapping>::walk(run, lengths, columns, values, x)
+    RowByRow::<Wrapping>::walk(run, rows, x)
 }
 
 /// Rows are added up group by group.
@@ -105,23 +96,22 @@ impl RowWalk for GroupByGroup {
 
     ghost rule = { wrapping };
 
-    fn walk(
-        run: Run<i32>,
-        lengths: &[i32],
-        columns: &[i32],
-        values: &[i32],
-        x: &[i32],
-    ) -> (Run<i32>, Option<usize>) {
+    fn walk(run: Run<i32>, rows: &Rows, x: &[i32]) -> (Run<i32>, Option<usize>) {
         let mut sums = [0; SUMS];
         let (mut run, mut found, mut first) = (run, None, 0);
-        let (mut columns_left, mut values_left) = (columns, values);
-        while first < lengths.len() {
-            let next = (first + GROUP).min(lengths.len());
-            let group = &lengths[first..next];
-            let entries = entries_of(group);
-            let (own_columns, later_columns) = columns_left.split_at(entries);
-            let (own_values, later_values) = values_left.split_at(entries);
-            let (written, missing) = group_into(run, &mut sums, group, own_columns, own_values, x);
+        let (mut columns_left, mut values_left) = (rows.columns, rows.values);
+        while first < rows.lengths.len() {
+            let next = (first + GROUP).min(rows.lengths.len());
+            let lengths = &rows.lengths[first..next];
+            let entries = entries_of(lengths);
+            let (columns, later_columns) = columns_left.split_at(entries);
+            let (values, later_values) = values_left.split_at(entries);
+            let group = Rows {
+                lengths,
+                columns,
+                values,
+            };
+            let (written, missing) = group_into(run, &mut sums, &group, x);
             run = written;
             found = found.or(missing);
             columns_left = later_columns;
@@ -138,16 +128,10 @@ impl RowWalk for Wrapping {
 
     ghost rule = { wrapping };
 
-    fn walk(
-        run: Run<i32>,
-        lengths: &[i32],
-        columns: &[i32],
-        values: &[i32],
-        x: &[i32],
-    ) -> (Run<i32>, Option<usize>) {
-        if columns.len() < LEAST {
-            return RowByRow::<Wrapping>::walk(run, lengths, columns, values, x);
+    fn walk(run: Run<i32>, rows: &Rows, x: &[i32]) -> (Run<i32>, Option<usize>) {
+        if rows.columns.len() < LEAST {
+            return RowByRow::<Wrapping>::walk(run, rows, x);
         }
-        GroupByGroup::walk(run, lengths, columns, values, x)
+        GroupByGroup::walk(run, rows, x)
     }
 }

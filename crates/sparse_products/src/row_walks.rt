@@ -2,6 +2,7 @@
 
 ghost use Rattle.std.specs.Prelude.{◌≡◌, length, sum};
 
+use crate::matrix_rows::Rows;
 use crate::row_counts::{entries_of, rows_of_share};
 use crate::row_sums::RowSum;
 use fresh::{CheckedWriter, Run, first_found};
@@ -10,36 +11,22 @@ use std::marker::PhantomData;
 
 /// A walk over the rows of a matrix, by a rule for the sum of a row.
 pub(crate) trait RowWalk {
-    ghost use Rattle.std.specs.Prelude.{◌≡◌, ◌+◌, ◌≤◌, ℤ, Option, length, map, sum, unsigned_abs};
-    ghost use Rattle.std.specs.List.{zip};
-    ghost use Rattle.cvl_base.specs.Descriptors.{AreLengthsWithin};
-    ghost use Rattle.cvl_base.specs.Limits.{most_places};
-    ghost use Rattle.cvl_base.specs.Nests.{cut_of};
+    ghost use Rattle.std.specs.Prelude.{◌≡◌, ◌+◌, ◌≤◌, ℤ, Option, length, map};
     ghost use Rattle.fresh.specs.Found.{first_without};
     ghost use Rattle.fresh.specs.Places.{with_items};
+    ghost use Rattle.sparse_products.specs.Products.{rows_of};
     ghost use Rattle.sparse_products.specs.Rows.{row_item, row_value};
 
     ghost rule: { ℤ → Option ℤ };
 
-    /// Writes the values of the rows with these lengths, 0 for a row that has none, and tells the place of the first of these.
-    ///
-    /// The entries begin with those of the rows; what stands behind them is not read. The run must have room for one element
-    /// for each row.
-    fn walk(
-        run: Run<i32>,
-        lengths: &[i32],
-        columns: &[i32],
-        values: &[i32],
-        x: &[i32],
-    ) -> (Run<i32>, Option<usize>)
-        requires lengths { AreLengthsWithin most_places lengths.now }
-        requires as_many { length values.now ≡ length columns.now }
-        requires covered { sum (map unsigned_abs lengths.now) ≤ length columns.now }
-        requires room { length lengths.now ≤ run.room }
+    /// Writes the values of the rows, 0 for a row that has none, and tells the place of the first of these. The run must have
+    /// room for one element for each row.
+    fn walk(run: Run<i32>, rows: &Rows, x: &[i32]) -> (Run<i32>, Option<usize>)
+        requires room { length rows.now.lengths.now ≤ run.room }
         ensures run { result.0 ≡ with_items run (map (row_item rule x.now)
-            (cut_of (map unsigned_abs lengths.now) (zip columns.now values.now))) }
+            (rows_of rows.now.lengths.now rows.now.columns.now rows.now.values.now)) }
         ensures found { result.1 ≡ first_without (run.first + length run.items) (map (row_value rule x.now)
-            (cut_of (map unsigned_abs lengths.now) (zip columns.now values.now))) };
+            (rows_of rows.now.lengths.now rows.now.columns.now rows.now.values.now)) };
 }
 
 /// Each row is added up by itself.
@@ -48,19 +35,14 @@ pub(crate) struct RowByRow<S>(PhantomData<S>);
 impl<S: RowSum> RowWalk for RowByRow<S> {
     ghost rule = { S.rule };
 
-    fn walk(
-        run: Run<i32>,
-        lengths: &[i32],
-        columns: &[i32],
-        values: &[i32],
-        x: &[i32],
-    ) -> (Run<i32>, Option<usize>) {
-        let (mut run, mut columns_left, mut values_left, mut found) = (run, columns, values, None);
-        for length in lengths {
+    fn walk(run: Run<i32>, rows: &Rows, x: &[i32]) -> (Run<i32>, Option<usize>) {
+        let (mut run, mut found) = (run, None);
+        let (mut columns_left, mut values_left) = (rows.columns, rows.values);
+        for length in rows.lengths {
             let entries = *length as usize;
-            let (row_columns, later_columns) = columns_left.split_at(entries);
-            let (row_values, later_values) = values_left.split_at(entries);
-            let value = S::value(row_columns, row_values, x);
+            let (columns, later_columns) = columns_left.split_at(entries);
+            let (values, later_values) = values_left.split_at(entries);
+            let value = S::value(columns, values, x);
             found = first_found(found, value, run.next_place());
             run.push(value.unwrap_or(0));
             columns_left = later_columns;
@@ -113,7 +95,12 @@ impl<'a, S: RowWalk> CheckedWriter<i32> for RowValues<'a, S> {
         let start = entries_of(before);
         let (_, columns) = self.columns.split_at(start);
         let (_, values) = self.values.split_at(start);
-        S::walk(run, lengths, columns, values, self.x)
+        let rows = Rows {
+            lengths,
+            columns,
+            values,
+        };
+        S::walk(run, &rows, self.x)
     }
 
     /// Rows with about as many entries for each thread.

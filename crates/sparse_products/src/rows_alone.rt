@@ -7,6 +7,7 @@ ghost use Rattle.sparse_products.specs.Answers.{checked_rows_product, rows_produ
 ghost use Rattle.sparse_products.specs.Rows.{product_by};
 
 use crate::answers::{check_entries, product_or_fault};
+use crate::matrix_rows::Rows;
 use crate::row_sums::{Checked, Wrapping};
 use crate::row_walks::{RowByRow, RowWalk};
 use cvl_base::Refused;
@@ -27,7 +28,12 @@ fn product_alone<S: RowWalk, A: Allocator>(
 {
     check_entries(columns, values, x.len(), rows.total())?;
     let (room, run) = Room::new(alloc, rows.count())?;
-    let (run, found) = S::walk(run, rows.lengths(), columns, values, x);
+    let all_rows = Rows {
+        lengths: rows.lengths(),
+        columns,
+        values,
+    };
+    let (run, found) = S::walk(run, &all_rows, x);
     product_or_fault::<S, A>(columns, x.len(), room.into_vec(run), found)
 }
 

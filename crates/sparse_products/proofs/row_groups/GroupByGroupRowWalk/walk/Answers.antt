@@ -9,27 +9,31 @@ entries_of-entries-requires c = search (rules, range_lengths)
 
 pub split_at-requires : goal.split_at-requires
 split_at-requires c =
-    let row = c.args.lengths.now in
+    let row = c.args.rows.now.lengths.now in
     let lengths = map unsigned_abs row in
     let first = c.loop-first.first in
     let k = c.min-next.result - first in
-    let read = range_read row lengths first k c.requires.lengths.none_negative in
+    let read = range_read row lengths first k c.args.rows.now.are_lengths.none_negative in
     omega (arith, c.entries_of-entries.ensures, ap sum read, range_left lengths first k c.min-next.result (omega (arith, c.min-next.ensures, c.loop-first-test.true)), c.loop-first.invariant.covered)
 
-pub group_into-written-requires-clause-lengths : goal.group_into-written-requires-clause-lengths
-group_into-written-requires-clause-lengths c = search (rules, range_lengths)
+pub invariant_of-group : goal.invariant_of-group
+invariant_of-group c = record {
+  are_lengths = search (rules, range_lengths);
+  as_many = omega (arith, c.split_at.ensures.front_len, c.split_at-in-loop-first.ensures.front_len);
+  covered = omega (arith, c.entries_of-entries.ensures, c.split_at.ensures.front_len);
+}
 
 pub loop-first-preserved : goal.loop-first-preserved
 loop-first-preserved c =
     let x = c.args.x.now in
-    let row = c.args.lengths.now in
+    let row = c.args.rows.now.lengths.now in
     let lengths = map unsigned_abs row in
     let first = c.loop-first.first in
     let next = c.min-next.result in
     let k = next - first in
     let run = c.loop-first.run in
     let group = map unsigned_abs (take k (drop first row)) in
-    let read : group ≡ take k (drop first lengths) = range_read row lengths first k c.requires.lengths.none_negative in
+    let read : group ≡ take k (drop first lengths) = range_read row lengths first k c.args.rows.now.are_lengths.none_negative in
     let later : next ≡ first + k = omega (arith, c.min-next.ensures, c.loop-first-test.true) in
     let n = c.entries_of-entries.result in
     let cs = c.loop-first.columns_left.now in

@@ -4,8 +4,8 @@ use Rattle.sparse_products.proofs.row_groups.GroupByGroupRowWalk.walk.Given as g
 -- what is written and found with the rows that are left is what the whole has
 abbrev pub invariant-loop-first : goal.invariant-loop-first
 invariant-loop-first l =
-    let lengths = map unsigned_abs l.lengths in
-    let all = cut_of lengths (zip l.columns l.values) in
+    let lengths = map unsigned_abs l.rows.lengths.now in
+    let all = cut_of lengths (zip l.rows.columns.now l.rows.values.now) in
     let left = cut_of (drop l.first lengths) (zip l.columns_left l.values_left) in
     record {
       whole : with_items l.run (map (row_item wrapping l.x) left) ≡ with_items l.fn.run (map (row_item wrapping l.x) all);
@@ -13,10 +13,10 @@ invariant-loop-first l =
           ≡ first_without (l.fn.run.first + length l.fn.run.items) (map (row_value wrapping l.x) all);
       as_many : length l.values_left ≡ length l.columns_left;
       covered : sum (drop l.first lengths) ≤ length l.columns_left;
-      room : length l.lengths - l.first ≤ l.run.room;
-      within : l.first ≤ length l.lengths;
+      room : length l.rows.lengths.now - l.first ≤ l.run.room;
+      within : l.first ≤ length l.rows.lengths.now;
     }
 
 -- how many rows are left
 abbrev pub decreases-loop-first : goal.decreases-loop-first
-decreases-loop-first l = length l.lengths - l.first
+decreases-loop-first l = length l.rows.lengths.now - l.first

@@ -4,10 +4,10 @@ use Rattle.sparse_products.proofs.Answered.{found_more}
 use Rattle.sparse_products.proofs.row_walks.RowByRowRowWalk.walk.Goals as goal
 
 pub overflow_cast-entries : goal.overflow_cast-entries
-overflow_cast-entries g c = (length_here c.requires.lengths c.loop-length-test.true).fits
+overflow_cast-entries g c = (length_here c.args.rows.now.are_lengths c.loop-length-test.true).fits
 
 pub split_at-requires : goal.split_at-requires
-split_at-requires g c = let here = length_here c.requires.lengths c.loop-length-test.true in omega (arith, here.left, c.loop-length.invariant.covered)
+split_at-requires g c = let here = length_here c.args.rows.now.are_lengths c.loop-length-test.true in omega (arith, here.left, c.loop-length.invariant.covered)
 
 pub value-value-requires-clause-few : goal.value-value-requires-clause-few
 value-value-requires-clause-few g c = search (rules, length_here, sum_by-take-drop)
@@ -16,12 +16,12 @@ pub loop-length-preserved : goal.loop-length-preserved
 loop-length-preserved g c =
     let rule = g.S.RowSum.rule in
     let x = c.args.x.now in
-    let row = c.args.lengths.now in
+    let row = c.args.rows.now.lengths.now in
     let lengths = map unsigned_abs row in
     let s = c.loop-length.length-index in
     let n = read_at row s in
     let run = c.loop-length.run in
-    let here = length_here c.requires.lengths c.loop-length-test.true in
+    let here = length_here c.args.rows.now.are_lengths c.loop-length-test.true in
     let cs = c.loop-length.columns_left.now in
     let vs = c.loop-length.values_left.now in
     let front = zip c.split_at.result.0.now c.split_at-in-loop-length.result.0.now in

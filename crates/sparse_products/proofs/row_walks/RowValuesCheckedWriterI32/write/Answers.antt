@@ -48,16 +48,25 @@ split_at-requires-3 g c =
 pub split_at-requires-4 : goal.split_at-requires-4
 split_at-requires-4 g c = search (rules, is_share, sum_by-take-le)
 
-pub walk-requires-clause-lengths : goal.walk-requires-clause-lengths
-walk-requires-clause-lengths g c = search (rules, range_lengths)
-
-pub walk-requires-clause-covered : goal.walk-requires-clause-covered
-walk-requires-clause-covered g c =
+pub invariant_of-rows : goal.invariant_of-rows
+invariant_of-rows g c =
     let d = c.args.self.now.rows.now in
     let first = c.next_place-first.result in
     let count = c.room-count.result in
     let share = is_share d first count c.lengths.ensures.value c.split_at.ensures.front c.split_at.ensures.back c.split_at-2.ensures.front c.entries_of-start.ensures in
-    omega (arith, ap sum share.read, sum_by-take-drop (λ x. x) d first, sum_by-take-drop (λ x. x) (drop first d) count, share.starts, c.split_at-3.ensures.back_len, c.args.self.now.covered)
+    record {
+      are_lengths = search (rules, range_lengths);
+      as_many = omega (arith, c.split_at-3.ensures.back_len, c.split_at-4.ensures.back_len, c.args.self.now.as_many);
+      covered = omega (
+        arith,
+        ap sum share.read,
+        sum_by-take-drop (λ x. x) d first,
+        sum_by-take-drop (λ x. x) (drop first d) count,
+        share.starts,
+        c.split_at-3.ensures.back_len,
+        c.args.self.now.covered,
+      );
+    }
 
 pub returns : goal.returns
 returns g c =
