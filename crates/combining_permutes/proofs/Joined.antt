@@ -1,8 +1,7 @@
 -- The walk that joins: the room, joined with the elements that are left, stays the same.
 use Rattle.combining_permutes.proofs.Cited.{◌≡◌, ◌∙◌, ◌∷◌, ◌++◌, [], ℕ, zero, suc, ◌+◌, ◌<◌, ◌≤◌, List, Bool, true, false, cond, length, map, drop}
 use Rattle.combining_permutes.proofs.Cited.{get_or, set, zip, filter, refl, sym, ap, arith, ℤ, pos}
-use Rattle.combining_permutes.proofs.Cited.{AllPass, Some, count_by, drop_all, drop_more, sum_by-drop_more, Decides-int_eq, is_between, other_place, fold_of, combined, names, sent_there}
-use Rattle.combining_permutes.proofs.Named.{named_between, names_none}
+use Rattle.combining_permutes.proofs.Cited.{AllPass, Some, count_by, drop_all, drop_more, Decides-int_eq, is_between, other_place, fold_of, combined, names, sent_there}
 
 -- ---- the elements that are sent to a place, by whether the first is one of them
 
@@ -82,45 +81,23 @@ pub walked_all : {X : Type 0} (join : X → X → X) (index : List ℤ) (element
     → combined join (zip (drop k index) (drop k elements)) lowest out ≡ out
 walked_all join index elements lowest k out past = ap (λ is. combined join (zip is (drop k elements)) lowest out) (drop_all k index past) ∙ combined_none join lowest out
 
--- ---- all that the walk keeps
+-- ---- all that a walk keeps
+
+-- the walk through all elements
+pub record IsCombinedTo {X : Type 0} (is_item : X → Bool) (join : X → X → X) (index : List ℤ) (elements before : List X) (k : ℕ) (out : List X) : Type 0 where
+  -- the room, joined with the elements that are left, is what it is to be
+  pub joined : combined join (zip index elements) 0 before ≡ combined join (zip (drop k index) (drop k elements)) 0 out
+  pub items : AllPass is_item out
 
 abbrev pub is_among : ℕ → ℕ → ℤ → Bool
 is_among lowest places i = is_between lowest (lowest + places) (Some i)
 
+-- the walk of one range's owner, who counts the indices that name a place of it
 pub record IsJoinedTo {X : Type 0} (is_item : X → Bool) (join : X → X → X) (index : List ℤ) (elements before : List X) (lowest k : ℕ) (out : List X) (named : ℕ) : Type 0 where
-  -- the room, joined with the elements that are left, is what it is to be
   pub joined : combined join (zip index elements) lowest before ≡ combined join (zip (drop k index) (drop k elements)) lowest out
   pub items : AllPass is_item out
   pub few : named ≤ k
   pub counted : named + count_by (is_among lowest (length before)) (drop k index) ≡ count_by (is_among lowest (length before)) index
-
-module _ {X : Type 0} {is_item : X → Bool} {join : X → X → X} {index : List ℤ} {elements before : List X} {lowest k : ℕ} {out : List X} {named : ℕ}
-    (to : IsJoinedTo is_item join index elements before lowest k out named) (lt : k < length index) (long : length elements ≡ length index) (room : length out ≡ length before) where
-  count_more : (b : Bool) → is_among lowest (length before) (get_or index k (pos 0)) ≡ b
-      → count_by (is_among lowest (length before)) (drop k index) ≡ cond b 1 0 + count_by (is_among lowest (length before)) (drop (k + 1) index)
-  count_more b is =
-      sum_by-drop_more (λ j. cond (is_among lowest (length before) j) 1 0) index k (pos 0) lt
-      ∙ ap (λ v. cond v 1 0 + count_by (is_among lowest (length before)) (drop (k + 1) index)) is
-
-  -- an element that is sent to none of the places
-  pub joined_past : is_among lowest (length before) (get_or index k (pos 0)) ≡ false → IsJoinedTo is_item join index elements before lowest (k + 1) out named
-  joined_past away = record {
-    joined = walked_past join index elements (combined join (zip index elements) lowest before) lowest k long lt out to.joined
-        (λ d from within. names_none lowest (length before) (get_or index k (pos 0)) away d from (omega (arith, within, room)));
-    items = to.items;
-    few = omega (arith, to.few);
-    counted = omega (arith, to.counted, count_more false away);
-  }
-
-  -- one, x, that is sent to the place e behind the lowest, where y stands
-  pub joined_here : (x : X) → get_or elements k x ≡ x → (e : ℕ) (y : X) (new : List X) (more : ℕ) → get_or index k (pos 0) ≡ pos (lowest + e) → e < length out
-      → y ≡ get_or out e y → new ≡ set out e (join y x) → more ≡ named + 1 → AllPass is_item new → IsJoinedTo is_item join index elements before lowest (k + 1) new more
-  joined_here x element e y new more is within stood stored one items = record {
-    joined = walked_here join index elements (combined join (zip index elements) lowest before) lowest k long lt out to.joined x element e y new is within stood stored;
-    items = items;
-    few = omega (arith, to.few, one);
-    counted = omega (arith, to.counted, one, count_more true (named_between lowest (length before) e (get_or index k (pos 0)) is (omega (arith, within, room))));
-  }
 
 -- ---- two ranges side by side
 

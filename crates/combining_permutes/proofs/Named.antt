@@ -1,5 +1,5 @@
 -- Whether an index names a place of a range, by how far it is from the lowest.
-use Rattle.combining_permutes.proofs.Cited.{◌≡◌, ◌∙◌, ℕ, ◌+◌, ◌<◌, ◌≤◌, true, false, ap, arith, ℤ, pos, negsuc, Some, refl, leb, ltb, and_from, le-leb, lt-ltb}
+use Rattle.combining_permutes.proofs.Cited.{◌≡◌, ℕ, ◌+◌, ◌<◌, ◌≤◌, true, false, arith, ℤ, pos, negsuc, Some, refl, leb, ltb, and_from, le-leb, lt-ltb}
 use Rattle.combining_permutes.proofs.Cited.{is_between, names, other_place}
 
 -- one that names none of them
@@ -8,9 +8,3 @@ names_none lowest places (negsuc j) is d from to = refl
 names_none lowest places (pos j) is d from to =
     other_place j d (λ same. let yes : is_between lowest (lowest + places) (Some (pos j)) ≡ true =
     and_from (leb lowest j) (ltb j (lowest + places)) (le-leb lowest j (omega (arith, same, from))) (lt-ltb j (lowest + places) (omega (arith, same, to))) in cc)
-
--- one that names one of them
-pub named_between : (lowest places e : ℕ) (i : ℤ) → i ≡ pos (lowest + e) → e < places → is_between lowest (lowest + places) (Some i) ≡ true
-named_between lowest places e i is within =
-    ap (λ j. is_between lowest (lowest + places) (Some j)) is
-    ∙ and_from (leb lowest (lowest + e)) (ltb (lowest + e) (lowest + places)) (le-leb lowest (lowest + e) (omega arith)) (lt-ltb (lowest + e) (lowest + places) (omega (arith, within)))

@@ -2,7 +2,7 @@
 -- Source: the combining send of Blelloch, Vector Models for Data-Parallel Computing, 1990 (the Connection Machine's send with an operator):
 -- of the pairs of CVL's permute, d[i[k]] = s[k], all that name one place are joined. The room, the order and the faults are this library's
 -- profile.
-use Rattle.std.specs.Prelude.{ℕ, ℤ, pos, Bool, List, count_by, length, map, Result, Ok}
+use Rattle.std.specs.Prelude.{ℕ, ◌+◌, ℤ, pos, Bool, List, Some, count_by, length, map, Result, Ok}
 use Rattle.std.specs.List.{enumerate_from, filter, range_with_len, zip}
 use Rattle.std.specs.Ordering.{int_eq}
 use Rattle.cvl_base.specs.declared.fault.Fault.{Fault}
@@ -12,6 +12,7 @@ use Rattle.cvl_base.specs.Nests.{nest}
 use Rattle.cvl_base.specs.Segmented.{beside, end_to_end, in_vector, of_three, of_two}
 use Rattle.cvl_base.specs.Folds.{fold_of}
 use Rattle.permute_walks.specs.Indices.{first_outside}
+use Rattle.permute_walks.specs.Senders.{is_between}
 
 -- whether an index names place d
 abbrev pub names : ℕ → ℤ → Bool
@@ -39,6 +40,10 @@ seg_combine_of join source index lengths room_lengths before =
     (beside (beside (nest lengths source) (nest lengths index)) (nest room_lengths before))
 
 -- ---- how many name a place
+
+-- how many indices name one of the n places from `low` on
+abbrev pub named_between : List ℤ → ℕ → ℕ → ℕ
+named_between index low n = count_by (λ i. is_between low (low + n) (Some i)) index
 
 -- how many indices name each of the n places from `lowest` on
 abbrev pub place_counts : List ℤ → ℕ → ℕ → List ℤ

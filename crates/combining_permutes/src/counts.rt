@@ -35,7 +35,7 @@ pub fn counts_over(index: &[i32], out: &mut [i32]) -> Result<(), Fault>
     check_places_alone(index, out.len(), 0)?;
     out.fill(0);
     know_numbers(out);
-    combine_each::<Add, i32, One>(index, index, 0, out);
+    combine_each::<Add, i32, One>(index, index, out);
     Ok(())
 }
 

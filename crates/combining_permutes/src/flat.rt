@@ -30,22 +30,8 @@ pub fn combine_over<M: Monoid, X: Copy, E: Reading<X, M::Item>>(
 {
     check_agree(source.len(), index.len())?;
     check_places_alone(index, out.len(), 0)?;
-    combine_each::<M, X, E>(source, index, 0, out);
+    combine_each::<M, X, E>(source, index, out);
     Ok(())
-}
-
-/// The same of items, which are read as themselves.
-fn items_over<M: Monoid>(
-    source: &[M::Item],
-    index: &[i32],
-    out: &mut [M::Item],
-) -> Result<(), Fault>
-    requires in_limit { (length index.now ≤ most_places) × (length out.old ≤ most_places) }
-    requires elements { AllPass M.is_item source.now }
-    requires items { AllPass M.is_item out.old }
-    ensures { Overwrites (combine_of M.join source.now index.now out.old) result out.old out.new }
-{
-    combine_over::<M, M::Item, Itself>(source, index, out)
 }
 
 /// Combines integers by one of the seven operators: at each place of the room what stood there, joined with all that are sent
@@ -65,7 +51,7 @@ pub fn int_combine_over(
 {
     know_numbers(source);
     know_numbers(out);
-    by_int_monoid!(op, items_over::<_>(source, index, out))
+    by_int_monoid!(op, combine_over::<_, i32, Itself>(source, index, out))
 }
 
 /// The same of booleans, by and, or, or exclusive or.
@@ -78,5 +64,5 @@ pub fn bool_combine_over(
     requires in_limit { (length index.now ≤ most_places) × (length out.old ≤ most_places) }
     ensures { Overwrites (combine_of (bool_join_of op) source.now index.now out.old) result out.old out.new }
 {
-    by_bool_binary!(op, items_over::<_>(source, index, out))
+    by_bool_binary!(op, combine_over::<_, bool, Itself>(source, index, out))
 }

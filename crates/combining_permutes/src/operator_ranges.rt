@@ -1,11 +1,10 @@
 //! The walk over one range of the room by an operator of the table, and the counts of one range.
 
-ghost use Rattle.std.specs.Prelude.{◌≡◌, ◌+◌, ◌≤◌, Some, count_by, length};
+ghost use Rattle.std.specs.Prelude.{◌≡◌, ◌+◌, ◌≤◌, length};
 ghost use Rattle.std.specs.List.{AllPass, zip};
 ghost use Rattle.cvl_base.specs.Limits.{most_places};
 ghost use Rattle.cvl_base.specs.Scans.{bool_join_of, int_join_of};
-ghost use Rattle.combining_permutes.specs.CombiningPermutes.{combined, place_counts};
-ghost use Rattle.permute_walks.specs.Senders.{is_between};
+ghost use Rattle.combining_permutes.specs.CombiningPermutes.{combined, named_between, place_counts};
 
 use crate::counts::One;
 use crate::ranges::combine_range;
@@ -26,7 +25,7 @@ fn items_range<M: Monoid>(
     requires elements { AllPass M.is_item source.now }
     requires items { AllPass M.is_item out.old }
     ensures joined { out.new ≡ combined M.join (zip index.now source.now) lowest out.old }
-    ensures counted { result ≡ count_by (λ i. is_between lowest (lowest + length out.old) (Some i)) index.now }
+    ensures counted { result ≡ named_between index.now lowest (length out.old) }
 {
     combine_range::<M, M::Item, Itself>(source, index, lowest, out)
 }
@@ -47,7 +46,7 @@ pub fn int_combine_range(
     requires within { lowest + length out.old ≤ most_places }
     requires in_limit { length index.now ≤ most_places }
     ensures joined { out.new ≡ combined (int_join_of op) (zip index.now source.now) lowest out.old }
-    ensures counted { result ≡ count_by (λ i. is_between lowest (lowest + length out.old) (Some i)) index.now }
+    ensures counted { result ≡ named_between index.now lowest (length out.old) }
 {
     know_numbers(source);
     know_numbers(out);
@@ -66,7 +65,7 @@ pub fn bool_combine_range(
     requires within { lowest + length out.old ≤ most_places }
     requires in_limit { length index.now ≤ most_places }
     ensures joined { out.new ≡ combined (bool_join_of op) (zip index.now source.now) lowest out.old }
-    ensures counted { result ≡ count_by (λ i. is_between lowest (lowest + length out.old) (Some i)) index.now }
+    ensures counted { result ≡ named_between index.now lowest (length out.old) }
 {
     by_bool_binary!(op, items_range::<_>(source, index, lowest, out))
 }
@@ -79,7 +78,7 @@ pub fn counts_range(index: &[i32], lowest: usize, out: &mut [i32]) -> usize
     requires within { lowest + length out.old ≤ most_places }
     requires in_limit { length index.now ≤ most_places }
     ensures written { out.new ≡ place_counts index.now lowest (length out.old) }
-    ensures counted { result ≡ count_by (λ i. is_between lowest (lowest + length out.old) (Some i)) index.now }
+    ensures counted { result ≡ named_between index.now lowest (length out.old) }
 {
     out.fill(0);
     know_numbers(out);

@@ -3,11 +3,11 @@
 //! element is sent, which a processor guesses wrongly where the indices are in no order. Where they are in order most blocks have
 //! no such element: behind one of these a block is counted first, which takes less time than a list.
 
-ghost use Rattle.std.specs.Prelude.{◌≡◌, ◌+◌, ◌<◌, ◌≤◌, pos, Some, count_by, drop, length, map, slice_get, slice_index_or, take};
+ghost use Rattle.std.specs.Prelude.{◌≡◌, ◌+◌, ◌<◌, ◌≤◌, pos, Some, drop, length, map, slice_get, slice_index_or, take};
 ghost use Rattle.std.specs.Prelude.{true};
 ghost use Rattle.std.specs.List.{AllPass, zip};
 ghost use Rattle.cvl_base.specs.Limits.{most_places};
-ghost use Rattle.combining_permutes.specs.CombiningPermutes.{combined};
+ghost use Rattle.combining_permutes.specs.CombiningPermutes.{combined, named_between};
 ghost use Rattle.combining_permutes.specs.Walks.{those_between};
 ghost use Rattle.permute_walks.specs.Senders.{is_between};
 
@@ -160,7 +160,7 @@ pub fn combine_range<M: Monoid, X: Copy, E: Reading<X, M::Item>>(
     requires items { AllPass M.is_item out.old }
     ensures joined { out.new ≡ combined M.join (zip index.now (map E.item source.now)) lowest out.old }
     ensures items { AllPass M.is_item out.new }
-    ensures counted { result ≡ count_by (λ i. is_between lowest (lowest + length out.old) (Some i)) index.now }
+    ensures counted { result ≡ named_between index.now lowest (length out.old) }
 {
     let mut list = [0; BLOCK];
     let mut first = 0;

@@ -60,7 +60,6 @@ pub(crate) fn join_segments<M: Monoid, X: Copy, E: Reading<X, M::Item>>(
         combine_each::<M, X, E>(
             &source[first..next],
             &index[first..next],
-            0,
             &mut out[start..end],
         );
         first = next;
@@ -96,21 +95,6 @@ pub fn seg_combine_over<M: Monoid, X: Copy, E: Reading<X, M::Item>>(
     Ok(())
 }
 
-/// The same of items, which are read as themselves.
-fn seg_items_over<M: Monoid>(
-    source: &[M::Item],
-    index: &[i32],
-    d: &SegLengths,
-    room_d: &SegLengths,
-    out: &mut [M::Item],
-) -> Result<(), Fault>
-    requires elements { AllPass M.is_item source.now }
-    requires items { AllPass M.is_item out.old }
-    ensures { Overwrites (seg_combine_of M.join source.now index.now d.now room_d.now out.old) result out.old out.new }
-{
-    seg_combine_over::<M, M::Item, Itself>(source, index, d, room_d, out)
-}
-
 /// Combines the integers of each segment by one of the seven operators, with the faults of [`seg_combine_over`].
 pub fn seg_int_combine_over(
     op: IntMonoid,
@@ -124,7 +108,10 @@ pub fn seg_int_combine_over(
 {
     know_numbers(source);
     know_numbers(out);
-    by_int_monoid!(op, seg_items_over::<_>(source, index, d, room_d, out))
+    by_int_monoid!(
+        op,
+        seg_combine_over::<_, i32, Itself>(source, index, d, room_d, out)
+    )
 }
 
 /// The same of booleans, by and, or, or exclusive or.
@@ -138,5 +125,8 @@ pub fn seg_bool_combine_over(
 ) -> Result<(), Fault>
     ensures { Overwrites (seg_combine_of (bool_join_of op) source.now index.now d.now room_d.now out.old) result out.old out.new }
 {
-    by_bool_binary!(op, seg_items_over::<_>(source, index, d, room_d, out))
+    by_bool_binary!(
+        op,
+        seg_combine_over::<_, bool, Itself>(source, index, d, room_d, out)
+    )
 }

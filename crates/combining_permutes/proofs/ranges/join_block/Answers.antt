@@ -3,23 +3,19 @@ use Rattle.combining_permutes.proofs.Joined.{walked_here}
 use Rattle.combining_permutes.proofs.Owned.{leaves_end, leaves_next}
 use Rattle.combining_permutes.proofs.ranges.join_block.Goals as goal
 
-pub sent_from-place-requires-clause-inside : goal.sent_from-place-requires-clause-inside
-sent_from-place-requires-clause-inside g c =
+pub sent_from-place-requires : goal.sent_from-place-requires
+sent_from-place-requires g c =
     let item = g.E.Reading.item in
     let elements = map item c.args.source.now in
     let l = c.loop-listed in
     let next = leaves_next g.M.Monoid.join c.args.index.now elements _ c.args.lowest (length c.args.out.now) (length-map c.args.source.now item ∙ c.requires.as_long) _
     c.requires.block l.out l.auto.out c.split_at.result.0.now l.listed-index l.invariant.left c.loop-listed-test.true in
-    omega (arith, next.ends, c.requires.block)
-
-pub sent_from-place-requires-clause-named : goal.sent_from-place-requires-clause-named
-sent_from-place-requires-clause-named g c =
-    let item = g.E.Reading.item in
-    let elements = map item c.args.source.now in
-    let l = c.loop-listed in
-    let next = leaves_next g.M.Monoid.join c.args.index.now elements _ c.args.lowest (length c.args.out.now) (length-map c.args.source.now item ∙ c.requires.as_long) _
-    c.requires.block l.out l.auto.out c.split_at.result.0.now l.listed-index l.invariant.left c.loop-listed-test.true in
-    next.passes
+    record {
+      as_long = c.requires.as_long;
+      inside = omega (arith, next.ends, c.requires.block);
+      within = c.requires.within;
+      named = next.passes;
+    }
 
 pub loop-listed-preserved : goal.loop-listed-preserved
 loop-listed-preserved g c =
