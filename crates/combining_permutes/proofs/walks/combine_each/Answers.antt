@@ -1,4 +1,5 @@
-use Rattle.combining_permutes.proofs.Cited.{◌≡◌, ◌∙◌, ◌+◌, ◌<◌, All, All-get_or, All-set, IsTrue, Some, ap, arith, false, get_or, get_or-map, length, length-map, map, pos, set, subst, sym, true, is_between}
+use Rattle.combining_permutes.proofs.Cited.{◌≡◌, ◌∙◌, ◌+◌, ◌<◌, All, All-get_or, All-set, IsTrue, Some, ap, arith, false, get_or, get_or-map}
+use Rattle.combining_permutes.proofs.Cited.{length, length-map, map, pos, set, subst, sym, true, is_between}
 use Rattle.combining_permutes.proofs.Joined.{IsCombinedTo, walked_all, walked_here, walked_past}
 use Rattle.combining_permutes.proofs.Named.{names_none}
 use Rattle.combining_permutes.proofs.walks.combine_each.Goals as goal
