@@ -11,6 +11,7 @@
 //! elements that are read as items, and the scan that is written once that is known.
 #![tactic(auto)]
 
+mod after_befores;
 mod known_befores;
 mod pace;
 mod race;

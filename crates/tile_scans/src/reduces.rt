@@ -9,7 +9,6 @@ ghost use Rattle.cvl_base.specs.SegmentedCalls.{seg_reduce_of};
 use crate::known_befores::KnownBefores;
 use crate::pace::reduce_pace;
 use crate::race::race_for_befores;
-use crate::reduces_after_befores::reduces_known;
 use crate::tiled::Tiled;
 use crew::{Gate, OpenGate};
 use cvl_base::monoid::know_laws;
@@ -133,10 +132,6 @@ where
     check_total(a, d)?;
     let vector = Tiled::<M, X, E, A>::new(a, Some(d), pace.tile());
     let before = race_for_befores(rt, alloc, pace, &vector, gate)?;
-    let known = KnownBefores {
-        vector: &vector,
-        before: &before,
-    };
-    let reduces = reduces_known(rt, alloc, pace, &known, d)?;
+    let reduces = vector.reduces_after(rt, alloc, pace, d, &before)?;
     Ok(reduces)
 }

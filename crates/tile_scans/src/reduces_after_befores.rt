@@ -1,57 +1,24 @@
 //! The reduces of segments, written in runs once what stands before each tile is known.
 
-ghost use Rattle.std.specs.Prelude.{◌≡◌, ◌≤◌, IfOk, Some, length, map, vec_len};
+ghost use Rattle.std.specs.Prelude.{◌≡◌, ◌≤◌, Some};
 ghost use Rattle.std.specs.Option.{option_copied};
-ghost use Rattle.scan_walks.specs.Ranges.{reduces_of};
 
 use crate::known_befores::KnownBefores;
-use crate::steps::{InSteps, Steps};
+use crate::steps::Steps;
+use cvl_base::Packed;
 use cvl_base::monoid::know_laws;
-use cvl_base::{Memory, NoResources, Packed};
-use fresh::{Run, write_in_runs};
+use fresh::Run;
 use scan_walks::{Reading, seg_reduces_into};
 use segdes::SegDes;
-use sharing::Pace;
 use std::alloc::Allocator;
-use std::thread::Threads;
 
 /// The reduces of the segments of a vector that is not empty, with what stands before each tile.
 #[derive(Drop)]
-struct KnownReduces<'a, M: Packed, X: Copy, E: Reading<X, M::Item>, A: Allocator> {
-    known: &'a KnownBefores<'a, M, X, E, A>,
-    segments: &'a SegDes<A>,
+pub(crate) struct KnownReduces<'a, M: Packed, X: Copy, E: Reading<X, M::Item>, A: Allocator> {
+    pub(crate) known: &'a KnownBefores<'a, M, X, E, A>,
+    pub(crate) segments: &'a SegDes<A>,
     ghost cut: { option_copied known.now.vector.now.segments ≡ Some segments.now },
     ghost filled: { 1 ≤ known.now.vector.now.plan.0 },
-}
-
-/// The reduces of the segments of a vector that is not empty, with what stands before each tile. They are written in runs, by
-/// several threads if the vector is long.
-pub(crate) fn reduces_known<R, A, M, X, E>(
-    rt: &R,
-    alloc: A,
-    pace: Pace,
-    known: &KnownBefores<M, X, E, A>,
-    segments: &SegDes<A>,
-) -> Result<Vec<M::Item, A>, NoResources>
-where
-    R: Threads + Sync,
-    A: Memory,
-    M: Packed + Send + Sync,
-    M::Item: Send + Sync,
-    X: Copy + Send + Sync,
-    E: Reading<X, M::Item> + Send + Sync,
-    requires cut { option_copied known.now.vector.now.segments ≡ Some segments.now }
-    requires filled { 1 ≤ known.now.vector.now.plan.0 }
-    ensures values { IfOk result (λ sums. sums.items
-        ≡ reduces_of M.join M.unit segments.now (map E.item known.now.vector.now.elements.now)) }
-    ensures one_each { IfOk result (λ sums. vec_len sums ≡ length segments.now) }
-{
-    let reduces = KnownReduces { known, segments };
-    let in_steps = InSteps { steps: &reduces };
-    let count = segments.count();
-    let threads = pace.threads_writing(known.vector.elements.len().max(count));
-    let sums = write_in_runs(rt, alloc, threads, &in_steps, count)?;
-    Ok(sums)
 }
 
 impl<'a, M: Packed, X: Copy, E: Reading<X, M::Item>, A: Allocator> Steps<M::Item>

@@ -6,10 +6,8 @@ ghost use Rattle.cvl_base.specs.Folds.{scan_of};
 ghost use Rattle.cvl_base.specs.Gives.{Gives};
 ghost use Rattle.cvl_base.specs.SegmentedCalls.{seg_scan_of};
 
-use crate::known_befores::KnownBefores;
 use crate::pace::scan_pace;
 use crate::race::race_for_befores;
-use crate::scans_after_befores::scan_known;
 use crate::tiled::Tiled;
 use crew::{Gate, OpenGate};
 use cvl_base::monoid::know_laws;
@@ -83,11 +81,7 @@ where
     };
     let vector = Tiled::<M, X, E, A>::new(a, None, pace.tile());
     let before = race_for_befores(rt, alloc, pace, &vector, gate)?;
-    let known = KnownBefores {
-        vector: &vector,
-        before: &before,
-    };
-    let sums = scan_known(rt, alloc, pace, &known)?;
+    let sums = vector.scan_after(rt, alloc, pace, &before)?;
     Ok(sums)
 }
 
@@ -134,10 +128,6 @@ where
     check_total(a, d)?;
     let vector = Tiled::<M, M::Item, Itself, A>::new(a, Some(d), pace.tile());
     let before = race_for_befores(rt, alloc, pace, &vector, gate)?;
-    let known = KnownBefores {
-        vector: &vector,
-        before: &before,
-    };
-    let sums = scan_known(rt, alloc, pace, &known)?;
+    let sums = vector.scan_after(rt, alloc, pace, &before)?;
     Ok(sums)
 }

@@ -1,6 +1,6 @@
 //! The scan of a vector once what stands before each tile is known. It is written in runs, without a race.
 
-ghost use Rattle.std.specs.Prelude.{◌≡◌, ◌≤◌, IfOk, length, map, vec_len};
+ghost use Rattle.std.specs.Prelude.{◌≡◌, ◌≤◌, IfOk, length, vec_len};
 ghost use Rattle.std.specs.List.{AllPass};
 ghost use Rattle.std.specs.Option.{option_copied};
 ghost use Rattle.cvl_base.specs.Limits.{most_elements};
@@ -9,11 +9,11 @@ ghost use Rattle.tile_scans.specs.TiledSums.{elements_of, flagged, sums_of};
 ghost use Rattle.tile_scans.specs.Written.{befores_of};
 
 use crate::known_befores::KnownBefores;
-use crate::steps::{InSteps, Steps};
+use crate::steps::Steps;
 use crate::tiled::Tiled;
 use cvl_base::monoid::know_laws;
 use cvl_base::{Memory, NoResources, Packed};
-use fresh::{Run, write_in_runs};
+use fresh::Run;
 use scan_walks::{Itself, Reading};
 use segdes::SegDes;
 use sharing::Pace;
@@ -46,36 +46,7 @@ where
 {
     know_laws::<M>();
     let vector = Tiled::<M, M::Item, Itself, A>::new(a, segments, pace.tile());
-    let known = KnownBefores {
-        vector: &vector,
-        before,
-    };
-    let sums = scan_known(rt, alloc, pace, &known)?;
-    Ok(sums)
-}
-
-/// The scan of a vector, from what stands before each tile. It is written in runs, by several threads if it is long, each tile
-/// after what stands before it. So no item is moved.
-pub(crate) fn scan_known<R, A, M, X, E>(
-    rt: &R,
-    alloc: A,
-    pace: Pace,
-    known: &KnownBefores<M, X, E, A>,
-) -> Result<Vec<M::Item, A>, NoResources>
-where
-    R: Threads + Sync,
-    A: Memory,
-    M: Packed + Send + Sync,
-    M::Item: Send + Sync,
-    X: Copy + Send + Sync,
-    E: Reading<X, M::Item> + Send + Sync,
-    ensures values { IfOk result (λ sums. sums.items ≡ range_scan_of M.join M.unit M.unit
-        (flagged (option_copied known.now.vector.now.segments) (map E.item known.now.vector.now.elements.now))) }
-    ensures as_long { IfOk result (λ sums. vec_len sums ≡ length known.now.vector.now.elements.now) }
-{
-    let len = known.vector.elements.len();
-    let in_steps = InSteps { steps: known };
-    let sums = write_in_runs(rt, alloc, pace.threads_writing(len), &in_steps, len)?;
+    let sums = vector.scan_after(rt, alloc, pace, before)?;
     Ok(sums)
 }
 
