@@ -104,14 +104,16 @@ impl<'a, A: Allocator> Totals<'a, A> {
             ≡ total_of (slice_range self.now.elements.now start place) }
         ensures { result ≡ total_of (slice_range self.now.elements.now start end) }
     {
-        if start == end {
-            return 0;
+        // nothing stands before the only tile, and the division that finds a tile takes longer than a short segment
+        if before.len() < 2 || start == end {
+            return total(&self.elements[start..end]);
         }
         let t = self.plan.tile_at((end - 1) as u32);
         let (from, _) = self.plan.range(t);
         let from = from as usize;
         if start < from {
-            return before[t as usize] + total(&self.elements[from..end]);
+            let own = total(&self.elements[from..end]);
+            return before[t as usize] + own;
         }
         total(&self.elements[start..end])
     }

@@ -12,15 +12,15 @@ overflow_add-result g c =
     let v = c.args.self.now in
     let ws = flagged (option_copied v.segments) v.elements.now in
     let from = ap (λ r. r.0) c.range-from.ensures.value in
-    (parts_summed v.plan ws v.elements.now c.args.before.now c.tile_at-t.result c.args.start c.range-from.result.0 c.args.end c.total.result (omega (arith, v.few, v.whole))
+    (parts_summed v.plan ws v.elements.now c.args.before.now c.tile_at-t.result c.args.start c.range-from.result.0 c.args.end c.total-own.result (omega (arith, v.few, v.whole))
     (AllPass-from_list_all is_number v.elements.now v.numbers) c.requires.known c.tile_at-t.ensures.within from c.if-start-from.true (omega (arith, c.tile_at-t.ensures.begun, from)) c.requires.open
-    c.total.ensures).0
+    c.total-own.ensures).0
 
 pub returns-then-start-from : goal.returns-then-start-from
 returns-then-start-from g c =
     let v = c.args.self.now in
     let ws = flagged (option_copied v.segments) v.elements.now in
     let from = ap (λ r. r.0) c.range-from.ensures.value in
-    (parts_summed v.plan ws v.elements.now c.args.before.now c.tile_at-t.result c.args.start c.range-from.result.0 c.args.end c.total.result (omega (arith, v.few, v.whole))
+    (parts_summed v.plan ws v.elements.now c.args.before.now c.tile_at-t.result c.args.start c.range-from.result.0 c.args.end c.total-own.result (omega (arith, v.few, v.whole))
     (AllPass-from_list_all is_number v.elements.now v.numbers) c.requires.known c.tile_at-t.ensures.within from c.if-start-from.true (omega (arith, c.tile_at-t.ensures.begun, from)) c.requires.open
-    c.total.ensures).1
+    c.total-own.ensures).1
