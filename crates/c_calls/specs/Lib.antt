@@ -2,6 +2,9 @@ pub mod Calls
 pub mod Fronts
 pub mod NestedTexts
 pub mod Numbers
+pub mod PlaceByPlace
 pub mod Products
+pub mod Rooms
+pub mod Scans
 pub mod Tiles
 pub mod Told

@@ -1,6 +1,6 @@
 -- What an export returns, and what it leaves in its caller's room.
 -- Source: this library's faults and their places, as two numbers.
-use Rattle.std.specs.Prelude.{◌≡◌, ℕ, ◌⊎◌, ℤ, pos, negsuc, List, Result, Ok, Err, Option, Some, None}
+use Rattle.std.specs.Prelude.{◌≡◌, ℕ, ◌⊎◌, ℤ, pos, negsuc, List, length, Result, Ok, Err, Option, Some, None}
 use Rattle.cvl_base.specs.declared.fault.Fault.{Fault}
 use Rattle.cvl_base.specs.declared.refused.Refused.{Refused}
 use Rattle.cvl_base.specs.declared.refused.Refused.TheVariants as refused
@@ -39,6 +39,15 @@ Told (Err f) status before now = (status ≡ status_of_fault f) × (now ≡ befo
 -- The same, or memory ran out and the room is as before.
 abbrev pub ToldOr : {X : Type 0} → Result X Fault → CvlStatus → X → X → Type 0
 ToldOr meaning status before now = Told meaning status before now ⊎ ((status ≡ no_resources) × (now ≡ before))
+
+-- A list that has to fill its room: it does, and the answer is that all is done; or the room has another length or there is a fault,
+-- which is the answer, and the room is as before.
+abbrev pub RoomTold : {X : Type 0} → Result (List X) Fault → CvlStatus → List X → List X → Type 0
+RoomTold meaning status before now = Told (in_room (length before) meaning) status before now
+
+-- The same, or memory ran out and the room is as before.
+abbrev pub RoomToldOr : {X : Type 0} → Result (List X) Fault → CvlStatus → List X → List X → Type 0
+RoomToldOr meaning status before now = ToldOr (in_room (length before) meaning) status before now
 
 -- Items whose number the caller may not know: they stand at the front of the room, or the room is too short and as before; in
 -- both cases the count is their number. Or the answer is the fault, and room and count are as before.

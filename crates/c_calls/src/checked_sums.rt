@@ -1,11 +1,10 @@
 //! Sums that never wrap, of whole vectors and of segments.
 
-ghost use Rattle.std.specs.Prelude.{◌≡◌, length};
+ghost use Rattle.std.specs.Prelude.{◌≡◌};
 ghost use Rattle.cvl_base.specs.CheckedSums.{checked_reduce_of, checked_scan_of, checked_seg_reduce_of, checked_seg_scan_of};
 ghost use Rattle.cvl_base.specs.Gives.{Gives};
-ghost use Rattle.cvl_base.specs.Rooms.{Overwrites};
 ghost use Rattle.c_calls.specs.Calls.{by_segments, in_limit};
-ghost use Rattle.c_calls.specs.Told.{in_room};
+ghost use Rattle.c_calls.specs.Rooms.{Fills};
 
 use crate::checks::{check_limit, segments};
 use cvl_base::{Fault, Refused};
@@ -14,7 +13,7 @@ use std::alloc::Global;
 
 /// For each integer the sum of those before it.
 pub fn scan(a: &[i32], out: &mut [i32]) -> Result<(), Fault>
-    ensures { Overwrites (in_room (length out.old) (in_limit a.now (checked_scan_of a.now))) result out.old out.new }
+    ensures { Fills (in_limit a.now (checked_scan_of a.now)) result out.old out.new }
 {
     check_limit(a)?;
     checked_scan_over(a, out)
@@ -30,7 +29,7 @@ pub fn reduce(a: &[i32]) -> Result<i32, Fault>
 
 /// The scan of each segment.
 pub fn scan_each(a: &[i32], lengths: &[i32], out: &mut [i32]) -> Result<(), Fault>
-    ensures { Overwrites (in_room (length out.old) (by_segments lengths.now (checked_seg_scan_of a.now))) result out.old out.new }
+    ensures { Fills (by_segments lengths.now (checked_seg_scan_of a.now)) result out.old out.new }
 {
     let d = segments(lengths)?;
     checked_seg_scan_over(a, &d, out)

@@ -1,10 +1,8 @@
 //! Permutes of whole vectors, by an index of at most 2,147,483,647 elements.
 
-ghost use Rattle.std.specs.Prelude.{length};
 ghost use Rattle.cvl_base.specs.Permutes.{back_of, default_of, select_of, simple_of};
-ghost use Rattle.cvl_base.specs.Rooms.{Overwrites, OverwritesOr};
 ghost use Rattle.c_calls.specs.Calls.{in_limit};
-ghost use Rattle.c_calls.specs.Told.{in_room};
+ghost use Rattle.c_calls.specs.Rooms.{Fills, FillsOr};
 
 use crate::checks::check_limit;
 use cvl_base::{Fault, Refused};
@@ -18,8 +16,7 @@ pub fn simple<T: Copy>(
     index: &[i32],
     out: &mut [T],
 ) -> Result<(), Refused>
-    ensures { OverwritesOr (in_room (length out.old) (in_limit index.now (simple_of source.now index.now)))
-        result out.old out.new }
+    ensures { FillsOr (in_limit index.now (simple_of source.now index.now)) result out.old out.new }
 {
     check_limit(index)?;
     simple_over(alloc, source, index, out)
@@ -33,8 +30,7 @@ pub fn select<T: Copy>(
     flags: &[bool],
     out: &mut [T],
 ) -> Result<(), Refused>
-    ensures { OverwritesOr (in_room (length out.old) (in_limit index.now (select_of source.now index.now flags.now)))
-        result out.old out.new }
+    ensures { FillsOr (in_limit index.now (select_of source.now index.now flags.now)) result out.old out.new }
 {
     check_limit(index)?;
     select_over(alloc, source, index, flags, out)
@@ -48,8 +44,7 @@ pub fn default_into<T: Copy>(
     defaults: &[T],
     out: &mut [T],
 ) -> Result<(), Refused>
-    ensures { OverwritesOr (in_room (length out.old) (in_limit index.now (default_of source.now index.now defaults.now)))
-        result out.old out.new }
+    ensures { FillsOr (in_limit index.now (default_of source.now index.now defaults.now)) result out.old out.new }
 {
     check_limit(index)?;
     default_into_over(alloc, source, index, defaults, out)
@@ -57,7 +52,7 @@ pub fn default_into<T: Copy>(
 
 /// At each place the element at that place's index.
 pub fn back<T: Copy>(source: &[T], index: &[i32], out: &mut [T]) -> Result<(), Fault>
-    ensures { Overwrites (in_room (length out.old) (in_limit index.now (back_of source.now index.now))) result out.old out.new }
+    ensures { Fills (in_limit index.now (back_of source.now index.now)) result out.old out.new }
 {
     check_limit(index)?;
     back_over(source, index, out)

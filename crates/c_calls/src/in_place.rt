@@ -5,11 +5,11 @@ ghost use Rattle.std.specs.Prelude.{◌≡◌, Ok};
 ghost use Rattle.std.specs.List.{AllPass};
 ghost use Rattle.cvl_base.specs.Folds.{scan_of};
 ghost use Rattle.cvl_base.specs.Rooms.{Overwrites};
-ghost use Rattle.cvl_base.specs.Scans.{bool_join_of, bool_scan_of, bool_unit_of, int_join_of, int_scan_of, int_unit_of};
 ghost use Rattle.cvl_base.specs.SegmentedCalls.{seg_scan_of};
-ghost use Rattle.c_calls.specs.Calls.{by_operator, by_segments, in_limit};
-ghost use Rattle.c_calls.specs.Numbers.{bool_binary, int_monoid};
+ghost use Rattle.c_calls.specs.Calls.{by_segments, in_limit};
 ghost use Rattle.c_calls.specs.Tiles.{bool_scan_after, int_scan_after};
+ghost use Rattle.c_calls.specs.Scans.{bool_scan_after_by, bool_scan_by, int_scan_after_by, int_scan_by};
+ghost use Rattle.c_calls.specs.Scans.{seg_bool_scan_by, seg_int_scan_by};
 
 use crate::checks::{check_limit, segments};
 use crate::numbers::operator_of;
@@ -39,7 +39,7 @@ fn seg_scan<M: Monoid>(a: &mut [M::Item], lengths: &[i32]) -> Result<(), Fault>
 
 /// The scan of integers by operator number `op`, over the integers.
 pub fn int_scan(op: u32, a: &mut [i32]) -> Result<(), Fault>
-    ensures { Overwrites (by_operator (int_monoid op) (λ o. in_limit a.old (Ok (int_scan_of o a.old)))) result a.old a.new }
+    ensures { Overwrites (int_scan_by op a.old) result a.old a.new }
 {
     let op = operator_of::<IntMonoid>(op)?;
     know_numbers(a);
@@ -57,8 +57,7 @@ fn int_scan_after_by(op: IntMonoid, before: &i32, a: &mut [i32])
 
 /// The scan of integers by operator number `op`, after an integer, over the integers.
 pub fn int_scan_from(op: u32, before: i32, a: &mut [i32]) -> Result<(), Fault>
-    ensures { Overwrites (by_operator (int_monoid op) (λ o. in_limit a.old (Ok (int_scan_after o before a.old))))
-        result a.old a.new }
+    ensures { Overwrites (int_scan_after_by op before a.old) result a.old a.new }
 {
     let op = operator_of::<IntMonoid>(op)?;
     check_limit(a)?;
@@ -68,8 +67,7 @@ pub fn int_scan_from(op: u32, before: i32, a: &mut [i32]) -> Result<(), Fault>
 
 /// The scan of each segment of integers by operator number `op`, over the integers.
 pub fn seg_int_scan(op: u32, a: &mut [i32], lengths: &[i32]) -> Result<(), Fault>
-    ensures { Overwrites (by_operator (int_monoid op)
-        (λ o. by_segments lengths.now (seg_scan_of (int_join_of o) (int_unit_of o) a.old))) result a.old a.new }
+    ensures { Overwrites (seg_int_scan_by op a.old lengths.now) result a.old a.new }
 {
     let op = operator_of::<IntMonoid>(op)?;
     know_numbers(a);
@@ -78,7 +76,7 @@ pub fn seg_int_scan(op: u32, a: &mut [i32], lengths: &[i32]) -> Result<(), Fault
 
 /// The scan of booleans by operator number `op`, over the booleans.
 pub fn bool_scan(op: u32, a: &mut [bool]) -> Result<(), Fault>
-    ensures { Overwrites (by_operator (bool_binary op) (λ o. in_limit a.old (Ok (bool_scan_of o a.old)))) result a.old a.new }
+    ensures { Overwrites (bool_scan_by op a.old) result a.old a.new }
 {
     let op = operator_of::<BoolBinary>(op)?;
     by_bool_binary!(op, scan::<_>(a))
@@ -93,8 +91,7 @@ fn bool_scan_after_by(op: BoolBinary, before: bool, a: &mut [bool])
 
 /// The scan of booleans by operator number `op`, after a boolean, over the booleans.
 pub fn bool_scan_from(op: u32, before: bool, a: &mut [bool]) -> Result<(), Fault>
-    ensures { Overwrites (by_operator (bool_binary op) (λ o. in_limit a.old (Ok (bool_scan_after o before a.old))))
-        result a.old a.new }
+    ensures { Overwrites (bool_scan_after_by op before a.old) result a.old a.new }
 {
     let op = operator_of::<BoolBinary>(op)?;
     check_limit(a)?;
@@ -104,8 +101,7 @@ pub fn bool_scan_from(op: u32, before: bool, a: &mut [bool]) -> Result<(), Fault
 
 /// The scan of each segment of booleans by operator number `op`, over the booleans.
 pub fn seg_bool_scan(op: u32, a: &mut [bool], lengths: &[i32]) -> Result<(), Fault>
-    ensures { Overwrites (by_operator (bool_binary op)
-        (λ o. by_segments lengths.now (seg_scan_of (bool_join_of o) (bool_unit_of o) a.old))) result a.old a.new }
+    ensures { Overwrites (seg_bool_scan_by op a.old lengths.now) result a.old a.new }
 {
     let op = operator_of::<BoolBinary>(op)?;
     by_bool_binary!(op, seg_scan::<_>(a, lengths))

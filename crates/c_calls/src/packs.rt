@@ -1,12 +1,11 @@
 //! Packs, of whole vectors and of segments, and how many elements they keep. Segments are given as lengths.
 
-ghost use Rattle.std.specs.Prelude.{length};
 ghost use Rattle.cvl_base.specs.Packs.{pack_of};
-ghost use Rattle.cvl_base.specs.Rooms.{Overwrites, OverwritesFront};
+ghost use Rattle.cvl_base.specs.Rooms.{OverwritesFront};
 ghost use Rattle.cvl_base.specs.SegmentedCalls.{counts_of, seg_pack_of};
 ghost use Rattle.c_calls.specs.Calls.{by_segments, in_limit};
 ghost use Rattle.flag_calls.specs.Flags.{flags_of};
-ghost use Rattle.c_calls.specs.Told.{in_room};
+ghost use Rattle.c_calls.specs.Rooms.{Fills};
 
 use crate::checks::{check_limit, segments};
 use cvl_base::Fault;
@@ -44,8 +43,7 @@ pub fn pack_each<T: Copy>(
 
 /// Writes the number of true flags of each segment.
 pub fn count_each(flags: &[u8], lengths: &[i32], out: &mut [i32]) -> Result<(), Fault>
-    ensures { Overwrites (in_room (length out.old) (by_segments lengths.now (counts_of (flags_of flags.now))))
-        result out.old out.new }
+    ensures { Fills (by_segments lengths.now (counts_of (flags_of flags.now))) result out.old out.new }
 {
     let d = segments(lengths)?;
     seg_count_over(flags, &d, out)

@@ -1,12 +1,11 @@
 //! The elementwise calls, on vectors of at most 2,147,483,647 elements.
 
-ghost use Rattle.std.specs.Prelude.{Ok, length};
-ghost use Rattle.cvl_base.specs.Elementwise.{bools_from_ints, choose_of, compare_of, ints2_of};
-ghost use Rattle.cvl_base.specs.Rooms.{Overwrites};
-ghost use Rattle.c_calls.specs.Calls.{by_operator, in_limit};
+ghost use Rattle.std.specs.Prelude.{Ok};
+ghost use Rattle.cvl_base.specs.Elementwise.{bools_from_ints, choose_of};
+ghost use Rattle.c_calls.specs.Calls.{in_limit};
 ghost use Rattle.flag_calls.specs.Flags.{flags_of};
-ghost use Rattle.c_calls.specs.Numbers.{comparison, int_binary};
-ghost use Rattle.c_calls.specs.Told.{in_room};
+ghost use Rattle.c_calls.specs.PlaceByPlace.{compare_by, int2_by};
+ghost use Rattle.c_calls.specs.Rooms.{Fills};
 
 use crate::checks::check_limit;
 use crate::numbers::operator_of;
@@ -16,8 +15,7 @@ use flag_calls::select_over;
 
 /// The operator on each two integers at the same place.
 pub fn int2(op: u32, a: &[i32], b: &[i32], out: &mut [i32]) -> Result<(), Fault>
-    ensures { Overwrites (in_room (length out.old) (by_operator (int_binary op) (λ o. in_limit a.now (ints2_of o a.now b.now))))
-        result out.old out.new }
+    ensures { Fills (int2_by op a.now b.now) result out.old out.new }
 {
     let op = operator_of::<IntBinary>(op)?;
     check_limit(a)?;
@@ -26,8 +24,7 @@ pub fn int2(op: u32, a: &[i32], b: &[i32], out: &mut [i32]) -> Result<(), Fault>
 
 /// The comparison of each two integers at the same place.
 pub fn compare(op: u32, a: &[i32], b: &[i32], out: &mut [bool]) -> Result<(), Fault>
-    ensures { Overwrites (in_room (length out.old) (by_operator (comparison op) (λ o. in_limit a.now (compare_of o a.now b.now))))
-        result out.old out.new }
+    ensures { Fills (compare_by op a.now b.now) result out.old out.new }
 {
     let op = operator_of::<Comparison>(op)?;
     check_limit(a)?;
@@ -36,7 +33,7 @@ pub fn compare(op: u32, a: &[i32], b: &[i32], out: &mut [bool]) -> Result<(), Fa
 
 /// True for each integer that isn't 0.
 pub fn bool_from_int(a: &[i32], out: &mut [bool]) -> Result<(), Fault>
-    ensures { Overwrites (in_room (length out.old) (in_limit a.now (Ok (bools_from_ints a.now)))) result out.old out.new }
+    ensures { Fills (in_limit a.now (Ok (bools_from_ints a.now))) result out.old out.new }
 {
     check_limit(a)?;
     bool_from_int_over(a, out)
@@ -44,8 +41,7 @@ pub fn bool_from_int(a: &[i32], out: &mut [bool]) -> Result<(), Fault>
 
 /// At each place the integer of `a` if the flag is true, else that of `b`.
 pub fn select_int(flags: &[u8], a: &[i32], b: &[i32], out: &mut [i32]) -> Result<(), Fault>
-    ensures { Overwrites (in_room (length out.old) (in_limit flags.now (choose_of (flags_of flags.now) a.now b.now)))
-        result out.old out.new }
+    ensures { Fills (in_limit flags.now (choose_of (flags_of flags.now) a.now b.now)) result out.old out.new }
 {
     check_limit(flags)?;
     select_over(flags, a, b, out)

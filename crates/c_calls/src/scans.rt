@@ -1,14 +1,11 @@
 //! Scans and reduces of whole vectors.
 
-ghost use Rattle.std.specs.Prelude.{◌≡◌, Ok, length};
+ghost use Rattle.std.specs.Prelude.{◌≡◌, Ok};
 ghost use Rattle.std.specs.List.{AllPass};
 ghost use Rattle.cvl_base.specs.Folds.{fold_of, scan_of};
-ghost use Rattle.cvl_base.specs.Rooms.{Overwrites};
-ghost use Rattle.cvl_base.specs.Scans.{bool_reduce_of, bool_scan_of, int_reduce_of, int_scan_of};
-ghost use Rattle.c_calls.specs.Calls.{by_operator, in_limit};
-ghost use Rattle.flag_calls.specs.Flags.{flags_of};
-ghost use Rattle.c_calls.specs.Numbers.{bool_binary, int_monoid};
-ghost use Rattle.c_calls.specs.Told.{in_room};
+ghost use Rattle.c_calls.specs.Calls.{in_limit};
+ghost use Rattle.c_calls.specs.Rooms.{Fills};
+ghost use Rattle.c_calls.specs.Scans.{bool_reduce_by, bool_scan_by, int_reduce_by, int_scan_by};
 
 use crate::checks::check_limit;
 use crate::numbers::operator_of;
@@ -19,7 +16,7 @@ use scan_walks::{Itself, know_numbers, scan_over, sum_from};
 /// At each place the elements before it, joined from left to right; the unit if none is.
 fn scan<M: Monoid>(a: &[M::Item], out: &mut [M::Item]) -> Result<(), Fault>
     requires { AllPass M.is_item a.now }
-    ensures { Overwrites (in_room (length out.old) (in_limit a.now (Ok (scan_of M.join M.unit a.now)))) result out.old out.new }
+    ensures { Fills (in_limit a.now (Ok (scan_of M.join M.unit a.now))) result out.old out.new }
 {
     check_limit(a)?;
     know_laws::<M>();
@@ -38,8 +35,7 @@ fn reduce<M: Monoid>(a: &[M::Item]) -> Result<M::Item, Fault>
 
 /// The scan of integers by operator number `op`.
 pub fn int_scan(op: u32, a: &[i32], out: &mut [i32]) -> Result<(), Fault>
-    ensures { Overwrites (in_room (length out.old) (by_operator (int_monoid op) (λ o. in_limit a.now (Ok (int_scan_of o a.now)))))
-        result out.old out.new }
+    ensures { Fills (int_scan_by op a.now) result out.old out.new }
 {
     let op = operator_of::<IntMonoid>(op)?;
     know_numbers(a);
@@ -48,7 +44,7 @@ pub fn int_scan(op: u32, a: &[i32], out: &mut [i32]) -> Result<(), Fault>
 
 /// The reduce of integers by operator number `op`.
 pub fn int_reduce(op: u32, a: &[i32]) -> Result<i32, Fault>
-    ensures { result ≡ by_operator (int_monoid op) (λ o. in_limit a.now (Ok (int_reduce_of o a.now))) }
+    ensures { result ≡ int_reduce_by op a.now }
 {
     let op = operator_of::<IntMonoid>(op)?;
     know_numbers(a);
@@ -57,8 +53,7 @@ pub fn int_reduce(op: u32, a: &[i32]) -> Result<i32, Fault>
 
 /// The scan of booleans by operator number `op`.
 pub fn bool_scan(op: u32, a: &[bool], out: &mut [bool]) -> Result<(), Fault>
-    ensures { Overwrites (in_room (length out.old)
-        (by_operator (bool_binary op) (λ o. in_limit a.now (Ok (bool_scan_of o a.now))))) result out.old out.new }
+    ensures { Fills (bool_scan_by op a.now) result out.old out.new }
 {
     let op = operator_of::<BoolBinary>(op)?;
     by_bool_binary!(op, scan::<_>(a, out))
@@ -66,7 +61,7 @@ pub fn bool_scan(op: u32, a: &[bool], out: &mut [bool]) -> Result<(), Fault>
 
 /// The reduce of flags by operator number `op`.
 pub fn bool_reduce(op: u32, a: &[u8]) -> Result<bool, Fault>
-    ensures { result ≡ by_operator (bool_binary op) (λ o. in_limit a.now (Ok (bool_reduce_of o (flags_of a.now)))) }
+    ensures { result ≡ bool_reduce_by op a.now }
 {
     let op = operator_of::<BoolBinary>(op)?;
     check_limit(a)?;

@@ -1,13 +1,7 @@
 //! Scans and reduces of each segment. Segments are given as lengths.
 
-ghost use Rattle.std.specs.Prelude.{length};
-ghost use Rattle.cvl_base.specs.Rooms.{Overwrites};
-ghost use Rattle.cvl_base.specs.Scans.{bool_join_of, bool_unit_of, int_join_of, int_unit_of};
-ghost use Rattle.cvl_base.specs.SegmentedCalls.{seg_reduce_of, seg_scan_of};
-ghost use Rattle.c_calls.specs.Calls.{by_operator, by_segments};
-ghost use Rattle.flag_calls.specs.Flags.{flags_of};
-ghost use Rattle.c_calls.specs.Numbers.{bool_binary, int_monoid};
-ghost use Rattle.c_calls.specs.Told.{in_room};
+ghost use Rattle.c_calls.specs.Rooms.{Fills};
+ghost use Rattle.c_calls.specs.Scans.{seg_bool_reduce_by, seg_bool_scan_by, seg_int_reduce_by, seg_int_scan_by};
 
 use crate::checks::segments;
 use crate::numbers::operator_of;
@@ -17,8 +11,7 @@ use scan_walks::{know_numbers, seg_reduce_over, seg_scan_over};
 
 /// The scan of each segment of integers by operator number `op`.
 pub fn int_scan(op: u32, a: &[i32], lengths: &[i32], out: &mut [i32]) -> Result<(), Fault>
-    ensures { Overwrites (in_room (length out.old) (by_operator (int_monoid op)
-        (λ o. by_segments lengths.now (seg_scan_of (int_join_of o) (int_unit_of o) a.now)))) result out.old out.new }
+    ensures { Fills (seg_int_scan_by op a.now lengths.now) result out.old out.new }
 {
     let op = operator_of::<IntMonoid>(op)?;
     let d = segments(lengths)?;
@@ -28,8 +21,7 @@ pub fn int_scan(op: u32, a: &[i32], lengths: &[i32], out: &mut [i32]) -> Result<
 
 /// The reduce of each segment of integers by operator number `op`.
 pub fn int_reduce(op: u32, a: &[i32], lengths: &[i32], out: &mut [i32]) -> Result<(), Fault>
-    ensures { Overwrites (in_room (length out.old) (by_operator (int_monoid op)
-        (λ o. by_segments lengths.now (seg_reduce_of (int_join_of o) (int_unit_of o) a.now)))) result out.old out.new }
+    ensures { Fills (seg_int_reduce_by op a.now lengths.now) result out.old out.new }
 {
     let op = operator_of::<IntMonoid>(op)?;
     let d = segments(lengths)?;
@@ -39,8 +31,7 @@ pub fn int_reduce(op: u32, a: &[i32], lengths: &[i32], out: &mut [i32]) -> Resul
 
 /// The scan of each segment of booleans by operator number `op`.
 pub fn bool_scan(op: u32, a: &[bool], lengths: &[i32], out: &mut [bool]) -> Result<(), Fault>
-    ensures { Overwrites (in_room (length out.old) (by_operator (bool_binary op)
-        (λ o. by_segments lengths.now (seg_scan_of (bool_join_of o) (bool_unit_of o) a.now)))) result out.old out.new }
+    ensures { Fills (seg_bool_scan_by op a.now lengths.now) result out.old out.new }
 {
     let op = operator_of::<BoolBinary>(op)?;
     let d = segments(lengths)?;
@@ -49,9 +40,7 @@ pub fn bool_scan(op: u32, a: &[bool], lengths: &[i32], out: &mut [bool]) -> Resu
 
 /// The reduce of each segment of flags by operator number `op`.
 pub fn bool_reduce(op: u32, a: &[u8], lengths: &[i32], out: &mut [bool]) -> Result<(), Fault>
-    ensures { Overwrites (in_room (length out.old) (by_operator (bool_binary op)
-        (λ o. by_segments lengths.now (seg_reduce_of (bool_join_of o) (bool_unit_of o) (flags_of a.now)))))
-        result out.old out.new }
+    ensures { Fills (seg_bool_reduce_by op a.now lengths.now) result out.old out.new }
 {
     let op = operator_of::<BoolBinary>(op)?;
     let d = segments(lengths)?;

@@ -5,9 +5,11 @@ use Rattle.std.specs.Prelude.{ℤ, Bool, List, Result}
 use Rattle.cvl_base.specs.declared.fault.Fault.{Fault}
 use Rattle.cvl_base.specs.SegmentedCalls.{seg_back_of, seg_default_of, seg_select_of, seg_simple_of}
 use Rattle.c_calls.specs.Calls.{by_segments, in_limit}
+use Rattle.combining_permutes.specs.CombiningPermutes.{seg_place_counts_of}
 use Rattle.first_senders.specs.FirstSenders.{seg_first_senders_of, seg_select_first_senders_of}
 use Rattle.flag_merges.specs.Merges.{seg_merge_of}
 use Rattle.segment_slices.specs.Pairs.{append_segments_of}
+use Rattle.segment_slices.specs.Slices.{gather_segments_of}
 
 module _ {X : Type 0} where
   -- each segment of the source, at the places that its indices name
@@ -27,6 +29,11 @@ module _ {X : Type 0} where
   abbrev pub back_by_lengths : List X → List ℤ → List ℤ → List ℤ → Result (List X) Fault
   back_by_lengths source index lengths index_lengths =
       by_segments lengths (λ d. by_segments index_lengths (λ e. in_limit index (seg_back_of source index d e)))
+
+  -- the slices of the source with these starts and lengths, in order
+  abbrev pub gather_by_lengths : List X → List ℤ → List ℤ → Result (List X) Fault
+  gather_by_lengths source starts lengths =
+      by_segments lengths (λ d. in_limit starts (gather_segments_of source starts lengths))
 
   -- each segment of the first, and behind it that of the second
   abbrev pub append_by_lengths : List X → List ℤ → List X → List ℤ → Result (List X) Fault
@@ -48,3 +55,8 @@ first_senders_by_lengths index lengths result_lengths =
 abbrev pub select_first_senders_by_lengths : List ℤ → List Bool → List ℤ → List ℤ → Result (List ℤ) Fault
 select_first_senders_by_lengths index flags lengths result_lengths =
     by_segments lengths (λ d. by_segments result_lengths (λ e. in_limit index (seg_select_first_senders_of index flags d e)))
+
+-- for each place of a segment of the result, how many indices of the same segment name it
+abbrev pub counts_by_lengths : List ℤ → List ℤ → List ℤ → Result (List ℤ) Fault
+counts_by_lengths index lengths result_lengths =
+    by_segments lengths (λ d. by_segments result_lengths (λ e. seg_place_counts_of index d e))

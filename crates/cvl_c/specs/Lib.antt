@@ -1,1 +1,3 @@
 pub mod ByLengths
+pub mod Combines
+pub mod Keys

@@ -2,11 +2,13 @@
 //! place of the room that its index names.
 
 ghost use Rattle.std.specs.Prelude.{length};
-ghost use Rattle.c_calls.specs.Calls.{by_operator, by_segments, in_limit};
+ghost use Rattle.c_calls.specs.Calls.{in_limit};
 ghost use Rattle.c_calls.specs.Numbers.{bool_binary, int_monoid};
-ghost use Rattle.c_calls.specs.Told.{Told, in_room};
-ghost use Rattle.combining_permutes.specs.CombiningPermutes.{combine_of, place_counts_of, seg_combine_of, seg_place_counts_of};
+ghost use Rattle.c_calls.specs.Told.{RoomTold, Told};
+ghost use Rattle.combining_permutes.specs.CombiningPermutes.{place_counts_of};
 ghost use Rattle.cvl_base.specs.Scans.{bool_join_of, int_join_of};
+ghost use Rattle.cvl_c.specs.ByLengths.{counts_by_lengths};
+ghost use Rattle.cvl_c.specs.Combines.{combine_by, seg_combine_by};
 
 use c_calls::checks::{check_limit, segments};
 use c_calls::numbers::operator_of;
@@ -26,8 +28,7 @@ pub extern "C" fn cvl_proved_combine_permute_int(
     index: &[i32],
     out: &mut [i32],
 ) -> CvlStatus
-    ensures { Told (by_operator (int_monoid op) (λ o. in_limit index.now (in_limit out.old
-        (combine_of (int_join_of o) source.now index.now out.old)))) result out.old out.new }
+    ensures { Told (combine_by (int_monoid op) int_join_of source.now index.now out.old) result out.old out.new }
 {
     let operator = or_tell!(operator_of::<IntMonoid>(op));
     or_tell!(check_limit(index));
@@ -43,8 +44,7 @@ pub extern "C" fn cvl_proved_combine_permute_bool(
     index: &[i32],
     out: &mut [bool],
 ) -> CvlStatus
-    ensures { Told (by_operator (bool_binary op) (λ o. in_limit index.now (in_limit out.old
-        (combine_of (bool_join_of o) source.now index.now out.old)))) result out.old out.new }
+    ensures { Told (combine_by (bool_binary op) bool_join_of source.now index.now out.old) result out.old out.new }
 {
     let operator = or_tell!(operator_of::<BoolBinary>(op));
     or_tell!(check_limit(index));
@@ -72,8 +72,8 @@ pub extern "C" fn cvl_proved_seg_combine_permute_int(
     result_lengths: &[i32],
     out: &mut [i32],
 ) -> CvlStatus
-    ensures { Told (by_operator (int_monoid op) (λ o. by_segments lengths.now (λ d. by_segments result_lengths.now
-        (λ e. seg_combine_of (int_join_of o) source.now index.now d e out.old)))) result out.old out.new }
+    ensures { Told (seg_combine_by (int_monoid op) int_join_of source.now index.now lengths.now result_lengths.now out.old)
+        result out.old out.new }
 {
     let operator = or_tell!(operator_of::<IntMonoid>(op));
     let d = or_tell!(segments(lengths));
@@ -91,8 +91,8 @@ pub extern "C" fn cvl_proved_seg_combine_permute_bool(
     result_lengths: &[i32],
     out: &mut [bool],
 ) -> CvlStatus
-    ensures { Told (by_operator (bool_binary op) (λ o. by_segments lengths.now (λ d. by_segments result_lengths.now
-        (λ e. seg_combine_of (bool_join_of o) source.now index.now d e out.old)))) result out.old out.new }
+    ensures { Told (seg_combine_by (bool_binary op) bool_join_of source.now index.now lengths.now result_lengths.now out.old)
+        result out.old out.new }
 {
     let operator = or_tell!(operator_of::<BoolBinary>(op));
     let d = or_tell!(segments(lengths));
@@ -108,8 +108,7 @@ pub extern "C" fn cvl_proved_seg_counts(
     result_lengths: &[i32],
     out: &mut [i32],
 ) -> CvlStatus
-    ensures { Told (in_room (length out.old) (by_segments lengths.now (λ d. by_segments result_lengths.now
-        (λ e. seg_place_counts_of index.now d e)))) result out.old out.new }
+    ensures { RoomTold (counts_by_lengths index.now lengths.now result_lengths.now) result out.old out.new }
 {
     let d = or_tell!(segments(lengths));
     let result_d = or_tell!(segments(result_lengths));

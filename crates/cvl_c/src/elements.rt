@@ -1,13 +1,13 @@
 //! Counts, single elements, and vectors of a given length: of whole vectors.
 
-ghost use Rattle.std.specs.Prelude.{Ok, length, pos};
+ghost use Rattle.std.specs.Prelude.{Ok, pos};
 ghost use Rattle.cvl_base.specs.Distributes.{distribute_within, index_within};
 ghost use Rattle.cvl_base.specs.Extracts.{extract_of, replace_of};
 ghost use Rattle.cvl_base.specs.Limits.{most_places};
 ghost use Rattle.cvl_base.specs.Packs.{count_of};
 ghost use Rattle.c_calls.specs.Calls.{in_limit};
 ghost use Rattle.flag_calls.specs.Flags.{as_bytes, extract_flag_of, flags_of};
-ghost use Rattle.c_calls.specs.Told.{Told, ToldOr, in_room};
+ghost use Rattle.c_calls.specs.Told.{RoomTold, RoomToldOr, Told};
 
 use c_calls::elements::count;
 use c_calls::or_tell;
@@ -50,7 +50,7 @@ pub extern "C" fn cvl_proved_replace_int(
     value: i32,
     out: &mut [i32],
 ) -> CvlStatus
-    ensures { ToldOr (in_room (length out.old) (replace_of vector.now index value)) result out.old out.new }
+    ensures { RoomToldOr (replace_of vector.now index value) result out.old out.new }
 {
     told(replace(alloc, vector, index, value), out)
 }
@@ -63,7 +63,7 @@ pub extern "C" fn cvl_proved_replace_bool(
     value: bool,
     out: &mut [u8],
 ) -> CvlStatus
-    ensures { Told (in_room (length out.old) (as_bytes (replace_of (flags_of vector.now) index value))) result out.old out.new }
+    ensures { RoomTold (as_bytes (replace_of (flags_of vector.now) index value)) result out.old out.new }
 {
     told_over::<u8>(replace_over(vector, index, value, out))
 }
@@ -71,7 +71,7 @@ pub extern "C" fn cvl_proved_replace_bool(
 /// `count` copies of an integer: `dis_vuz`.
 #[unsafe(no_mangle)]
 pub extern "C" fn cvl_proved_distribute_int(value: i32, count: i32, out: &mut [i32]) -> CvlStatus
-    ensures { Told (in_room (length out.old) (distribute_within most_places value count)) result out.old out.new }
+    ensures { RoomTold (distribute_within most_places value count) result out.old out.new }
 {
     told_over::<i32>(distribute_over(value, count, out))
 }
@@ -79,7 +79,7 @@ pub extern "C" fn cvl_proved_distribute_int(value: i32, count: i32, out: &mut [i
 /// `count` copies of a boolean: `dis_vub`.
 #[unsafe(no_mangle)]
 pub extern "C" fn cvl_proved_distribute_bool(value: bool, count: i32, out: &mut [bool]) -> CvlStatus
-    ensures { Told (in_room (length out.old) (distribute_within most_places value count)) result out.old out.new }
+    ensures { RoomTold (distribute_within most_places value count) result out.old out.new }
 {
     told_over::<bool>(distribute_over(value, count, out))
 }
@@ -87,7 +87,7 @@ pub extern "C" fn cvl_proved_distribute_bool(value: bool, count: i32, out: &mut 
 /// `count` numbers from `init` on in steps of `stride`: `ind_luz`.
 #[unsafe(no_mangle)]
 pub extern "C" fn cvl_proved_index(init: i32, stride: i32, count: i32, out: &mut [i32]) -> CvlStatus
-    ensures { Told (in_room (length out.old) (index_within most_places init stride count)) result out.old out.new }
+    ensures { RoomTold (index_within most_places init stride count) result out.old out.new }
 {
     told_over::<i32>(index_over(init, stride, count, out))
 }

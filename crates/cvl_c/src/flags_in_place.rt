@@ -1,14 +1,11 @@
 //! The calls on booleans, and the choices, in place: the result overwrites a vector that the call reads.
 
-ghost use Rattle.std.specs.Prelude.{Ok};
-ghost use Rattle.cvl_base.specs.Elementwise.{bools1_of, bools2_of, choose_of};
-ghost use Rattle.cvl_base.specs.Scans.{bool_join_of, bool_scan_of, bool_unit_of};
-ghost use Rattle.cvl_base.specs.SegmentedCalls.{seg_scan_of};
-ghost use Rattle.c_calls.specs.Calls.{by_operator, by_segments, in_limit};
-ghost use Rattle.flag_calls.specs.Flags.{as_bytes, flags_of};
-ghost use Rattle.c_calls.specs.Numbers.{bool_binary, unary};
-ghost use Rattle.c_calls.specs.Tiles.{bool_scan_after};
+ghost use Rattle.cvl_base.specs.Elementwise.{choose_of};
+ghost use Rattle.c_calls.specs.Calls.{in_limit};
+ghost use Rattle.flag_calls.specs.Flags.{flags_of};
 ghost use Rattle.c_calls.specs.Told.{Told};
+ghost use Rattle.c_calls.specs.PlaceByPlace.{bool1_by, bool2_by, choose_flags};
+ghost use Rattle.c_calls.specs.Scans.{bool_scan_after_by, bool_scan_by, seg_bool_scan_by};
 
 use c_calls::checks::check_limit;
 use c_calls::in_place::{bool_scan, bool_scan_from, seg_bool_scan};
@@ -24,8 +21,7 @@ use flag_calls::{
 /// `cvl_proved_bool2` over `a`.
 #[unsafe(no_mangle)]
 pub extern "C" fn cvl_proved_bool2_in_first(op: u32, a: &mut [u8], b: &[u8]) -> CvlStatus
-    ensures { Told (as_bytes (by_operator (bool_binary op)
-        (λ o. in_limit a.old (bools2_of o (flags_of a.old) (flags_of b.now))))) result a.old a.new }
+    ensures { Told (bool2_by op a.old b.now) result a.old a.new }
 {
     let op = or_tell!(operator_of::<BoolBinary>(op));
     or_tell!(check_limit(a));
@@ -35,8 +31,7 @@ pub extern "C" fn cvl_proved_bool2_in_first(op: u32, a: &mut [u8], b: &[u8]) -> 
 /// `cvl_proved_bool2` over `b`.
 #[unsafe(no_mangle)]
 pub extern "C" fn cvl_proved_bool2_in_second(op: u32, a: &[u8], b: &mut [u8]) -> CvlStatus
-    ensures { Told (as_bytes (by_operator (bool_binary op)
-        (λ o. in_limit a.now (bools2_of o (flags_of a.now) (flags_of b.old))))) result b.old b.new }
+    ensures { Told (bool2_by op a.now b.old) result b.old b.new }
 {
     let op = or_tell!(operator_of::<BoolBinary>(op));
     or_tell!(check_limit(a));
@@ -46,8 +41,7 @@ pub extern "C" fn cvl_proved_bool2_in_second(op: u32, a: &[u8], b: &mut [u8]) ->
 /// `cvl_proved_bool2` of `a` and itself, over `a`.
 #[unsafe(no_mangle)]
 pub extern "C" fn cvl_proved_bool2_in_both(op: u32, a: &mut [u8]) -> CvlStatus
-    ensures { Told (as_bytes (by_operator (bool_binary op)
-        (λ o. in_limit a.old (bools2_of o (flags_of a.old) (flags_of a.old))))) result a.old a.new }
+    ensures { Told (bool2_by op a.old a.old) result a.old a.new }
 {
     let op = or_tell!(operator_of::<BoolBinary>(op));
     or_tell!(check_limit(a));
@@ -57,8 +51,7 @@ pub extern "C" fn cvl_proved_bool2_in_both(op: u32, a: &mut [u8]) -> CvlStatus
 /// `cvl_proved_bool1` over `a`.
 #[unsafe(no_mangle)]
 pub extern "C" fn cvl_proved_bool1_in(op: u32, a: &mut [u8]) -> CvlStatus
-    ensures { Told (as_bytes (by_operator (unary op)
-        (λ o. in_limit a.old (Ok (bools1_of o (flags_of a.old)))))) result a.old a.new }
+    ensures { Told (bool1_by op a.old) result a.old a.new }
 {
     let op = or_tell!(operator_of::<Unary>(op));
     or_tell!(check_limit(a));
@@ -94,8 +87,7 @@ pub extern "C" fn cvl_proved_select_int_in_second(
 /// `cvl_proved_select_bool` over `a`.
 #[unsafe(no_mangle)]
 pub extern "C" fn cvl_proved_select_bool_in_first(flags: &[u8], a: &mut [u8], b: &[u8]) -> CvlStatus
-    ensures { Told (as_bytes (in_limit flags.now
-        (choose_of (flags_of flags.now) (flags_of a.old) (flags_of b.now)))) result a.old a.new }
+    ensures { Told (choose_flags flags.now a.old b.now) result a.old a.new }
 {
     or_tell!(check_limit(flags));
     told_over::<u8>(select_flags_in_first(flags, a, b))
@@ -108,8 +100,7 @@ pub extern "C" fn cvl_proved_select_bool_in_second(
     a: &[u8],
     b: &mut [u8],
 ) -> CvlStatus
-    ensures { Told (as_bytes (in_limit flags.now
-        (choose_of (flags_of flags.now) (flags_of a.now) (flags_of b.old)))) result b.old b.new }
+    ensures { Told (choose_flags flags.now a.now b.old) result b.old b.new }
 {
     or_tell!(check_limit(flags));
     told_over::<u8>(select_flags_in_second(flags, a, b))
@@ -118,7 +109,7 @@ pub extern "C" fn cvl_proved_select_bool_in_second(
 /// `cvl_proved_bool_scan` over `a`.
 #[unsafe(no_mangle)]
 pub extern "C" fn cvl_proved_bool_scan_in(op: u32, a: &mut [bool]) -> CvlStatus
-    ensures { Told (by_operator (bool_binary op) (λ o. in_limit a.old (Ok (bool_scan_of o a.old)))) result a.old a.new }
+    ensures { Told (bool_scan_by op a.old) result a.old a.new }
 {
     told_over::<bool>(bool_scan(op, a))
 }
@@ -126,7 +117,7 @@ pub extern "C" fn cvl_proved_bool_scan_in(op: u32, a: &mut [bool]) -> CvlStatus
 /// `cvl_proved_bool_scan_after` over `a`.
 #[unsafe(no_mangle)]
 pub extern "C" fn cvl_proved_bool_scan_after_in(op: u32, before: bool, a: &mut [bool]) -> CvlStatus
-    ensures { Told (by_operator (bool_binary op) (λ o. in_limit a.old (Ok (bool_scan_after o before a.old)))) result a.old a.new }
+    ensures { Told (bool_scan_after_by op before a.old) result a.old a.new }
 {
     told_over::<bool>(bool_scan_from(op, before, a))
 }
@@ -134,8 +125,7 @@ pub extern "C" fn cvl_proved_bool_scan_after_in(op: u32, before: bool, a: &mut [
 /// `cvl_proved_seg_bool_scan` over `a`.
 #[unsafe(no_mangle)]
 pub extern "C" fn cvl_proved_seg_bool_scan_in(op: u32, a: &mut [bool], lengths: &[i32]) -> CvlStatus
-    ensures { Told (by_operator (bool_binary op)
-        (λ o. by_segments lengths.now (seg_scan_of (bool_join_of o) (bool_unit_of o) a.old))) result a.old a.new }
+    ensures { Told (seg_bool_scan_by op a.old lengths.now) result a.old a.new }
 {
     told_over::<bool>(seg_bool_scan(op, a, lengths))
 }

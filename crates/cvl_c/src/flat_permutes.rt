@@ -1,9 +1,8 @@
 //! Permutes of whole vectors, by an index of at most 2,147,483,647 elements.
 
-ghost use Rattle.std.specs.Prelude.{length};
 ghost use Rattle.cvl_base.specs.Permutes.{back_of, default_of, select_of, simple_of};
 ghost use Rattle.c_calls.specs.Calls.{in_limit};
-ghost use Rattle.c_calls.specs.Told.{Told, ToldOr, in_room};
+ghost use Rattle.c_calls.specs.Told.{RoomTold, RoomToldOr};
 
 use c_calls::flat_permutes::{back, default_into, select, simple};
 use c_calls::status::{CvlStatus, told_over, told_over_or};
@@ -17,7 +16,7 @@ pub extern "C" fn cvl_proved_permute_int(
     index: &[i32],
     out: &mut [i32],
 ) -> CvlStatus
-    ensures { ToldOr (in_room (length out.old) (in_limit index.now (simple_of source.now index.now))) result out.old out.new }
+    ensures { RoomToldOr (in_limit index.now (simple_of source.now index.now)) result out.old out.new }
 {
     told_over_or::<i32>(simple(alloc, source, index, out))
 }
@@ -30,7 +29,7 @@ pub extern "C" fn cvl_proved_permute_bool(
     index: &[i32],
     out: &mut [bool],
 ) -> CvlStatus
-    ensures { ToldOr (in_room (length out.old) (in_limit index.now (simple_of source.now index.now))) result out.old out.new }
+    ensures { RoomToldOr (in_limit index.now (simple_of source.now index.now)) result out.old out.new }
 {
     told_over_or::<bool>(simple(alloc, source, index, out))
 }
@@ -44,8 +43,7 @@ pub extern "C" fn cvl_proved_select_permute_int(
     flags: &[bool],
     out: &mut [i32],
 ) -> CvlStatus
-    ensures { ToldOr (in_room (length out.old) (in_limit index.now (select_of source.now index.now flags.now)))
-        result out.old out.new }
+    ensures { RoomToldOr (in_limit index.now (select_of source.now index.now flags.now)) result out.old out.new }
 {
     told_over_or::<i32>(select(alloc, source, index, flags, out))
 }
@@ -59,8 +57,7 @@ pub extern "C" fn cvl_proved_select_permute_bool(
     flags: &[bool],
     out: &mut [bool],
 ) -> CvlStatus
-    ensures { ToldOr (in_room (length out.old) (in_limit index.now (select_of source.now index.now flags.now)))
-        result out.old out.new }
+    ensures { RoomToldOr (in_limit index.now (select_of source.now index.now flags.now)) result out.old out.new }
 {
     told_over_or::<bool>(select(alloc, source, index, flags, out))
 }
@@ -74,8 +71,7 @@ pub extern "C" fn cvl_proved_default_permute_int(
     defaults: &[i32],
     out: &mut [i32],
 ) -> CvlStatus
-    ensures { ToldOr (in_room (length out.old) (in_limit index.now (default_of source.now index.now defaults.now)))
-        result out.old out.new }
+    ensures { RoomToldOr (in_limit index.now (default_of source.now index.now defaults.now)) result out.old out.new }
 {
     told_over_or::<i32>(default_into(alloc, source, index, defaults, out))
 }
@@ -89,8 +85,7 @@ pub extern "C" fn cvl_proved_default_permute_bool(
     defaults: &[bool],
     out: &mut [bool],
 ) -> CvlStatus
-    ensures { ToldOr (in_room (length out.old) (in_limit index.now (default_of source.now index.now defaults.now)))
-        result out.old out.new }
+    ensures { RoomToldOr (in_limit index.now (default_of source.now index.now defaults.now)) result out.old out.new }
 {
     told_over_or::<bool>(default_into(alloc, source, index, defaults, out))
 }
@@ -102,7 +97,7 @@ pub extern "C" fn cvl_proved_back_permute_int(
     index: &[i32],
     out: &mut [i32],
 ) -> CvlStatus
-    ensures { Told (in_room (length out.old) (in_limit index.now (back_of source.now index.now))) result out.old out.new }
+    ensures { RoomTold (in_limit index.now (back_of source.now index.now)) result out.old out.new }
 {
     told_over::<i32>(back(source, index, out))
 }
@@ -114,7 +109,7 @@ pub extern "C" fn cvl_proved_back_permute_bool(
     index: &[i32],
     out: &mut [bool],
 ) -> CvlStatus
-    ensures { Told (in_room (length out.old) (in_limit index.now (back_of source.now index.now))) result out.old out.new }
+    ensures { RoomTold (in_limit index.now (back_of source.now index.now)) result out.old out.new }
 {
     told_over::<bool>(back(source, index, out))
 }

@@ -1,14 +1,10 @@
 //! The calls in place: the result overwrites a vector that the call reads, and there is no room.
 
-ghost use Rattle.std.specs.Prelude.{Ok};
 ghost use Rattle.cvl_base.specs.CheckedSums.{checked_scan_of, checked_seg_scan_of};
-ghost use Rattle.cvl_base.specs.Elementwise.{ints1_of, ints2_of};
-ghost use Rattle.cvl_base.specs.Scans.{int_join_of, int_scan_of, int_unit_of};
-ghost use Rattle.cvl_base.specs.SegmentedCalls.{seg_scan_of};
-ghost use Rattle.c_calls.specs.Calls.{by_operator, by_segments, in_limit};
-ghost use Rattle.c_calls.specs.Numbers.{int_binary, int_monoid, unary};
-ghost use Rattle.c_calls.specs.Tiles.{int_scan_after};
+ghost use Rattle.c_calls.specs.Calls.{by_segments, in_limit};
 ghost use Rattle.c_calls.specs.Told.{Told};
+ghost use Rattle.c_calls.specs.PlaceByPlace.{int1_by, int2_by};
+ghost use Rattle.c_calls.specs.Scans.{int_scan_after_by, int_scan_by, seg_int_scan_by};
 
 use c_calls::checks::{check_limit, segments};
 use c_calls::in_place::{int_scan, int_scan_from, seg_int_scan};
@@ -22,7 +18,7 @@ use scan_walks::{checked_scan_in, checked_seg_scan_in};
 /// `cvl_proved_int2` over `a`.
 #[unsafe(no_mangle)]
 pub extern "C" fn cvl_proved_int2_in_first(op: u32, a: &mut [i32], b: &[i32]) -> CvlStatus
-    ensures { Told (by_operator (int_binary op) (λ o. in_limit a.old (ints2_of o a.old b.now))) result a.old a.new }
+    ensures { Told (int2_by op a.old b.now) result a.old a.new }
 {
     let op = or_tell!(operator_of::<IntBinary>(op));
     or_tell!(check_limit(a));
@@ -32,7 +28,7 @@ pub extern "C" fn cvl_proved_int2_in_first(op: u32, a: &mut [i32], b: &[i32]) ->
 /// `cvl_proved_int2` over `b`.
 #[unsafe(no_mangle)]
 pub extern "C" fn cvl_proved_int2_in_second(op: u32, a: &[i32], b: &mut [i32]) -> CvlStatus
-    ensures { Told (by_operator (int_binary op) (λ o. in_limit a.now (ints2_of o a.now b.old))) result b.old b.new }
+    ensures { Told (int2_by op a.now b.old) result b.old b.new }
 {
     let op = or_tell!(operator_of::<IntBinary>(op));
     or_tell!(check_limit(a));
@@ -42,7 +38,7 @@ pub extern "C" fn cvl_proved_int2_in_second(op: u32, a: &[i32], b: &mut [i32]) -
 /// `cvl_proved_int2` of `a` and itself, over `a`.
 #[unsafe(no_mangle)]
 pub extern "C" fn cvl_proved_int2_in_both(op: u32, a: &mut [i32]) -> CvlStatus
-    ensures { Told (by_operator (int_binary op) (λ o. in_limit a.old (ints2_of o a.old a.old))) result a.old a.new }
+    ensures { Told (int2_by op a.old a.old) result a.old a.new }
 {
     let op = or_tell!(operator_of::<IntBinary>(op));
     or_tell!(check_limit(a));
@@ -52,7 +48,7 @@ pub extern "C" fn cvl_proved_int2_in_both(op: u32, a: &mut [i32]) -> CvlStatus
 /// `cvl_proved_int1` over `a`.
 #[unsafe(no_mangle)]
 pub extern "C" fn cvl_proved_int1_in(op: u32, a: &mut [i32]) -> CvlStatus
-    ensures { Told (by_operator (unary op) (λ o. in_limit a.old (Ok (ints1_of o a.old)))) result a.old a.new }
+    ensures { Told (int1_by op a.old) result a.old a.new }
 {
     let op = or_tell!(operator_of::<Unary>(op));
     or_tell!(check_limit(a));
@@ -63,7 +59,7 @@ pub extern "C" fn cvl_proved_int1_in(op: u32, a: &mut [i32]) -> CvlStatus
 /// `cvl_proved_int_scan` over `a`.
 #[unsafe(no_mangle)]
 pub extern "C" fn cvl_proved_int_scan_in(op: u32, a: &mut [i32]) -> CvlStatus
-    ensures { Told (by_operator (int_monoid op) (λ o. in_limit a.old (Ok (int_scan_of o a.old)))) result a.old a.new }
+    ensures { Told (int_scan_by op a.old) result a.old a.new }
 {
     told_over::<i32>(int_scan(op, a))
 }
@@ -71,7 +67,7 @@ pub extern "C" fn cvl_proved_int_scan_in(op: u32, a: &mut [i32]) -> CvlStatus
 /// `cvl_proved_int_scan_after` over `a`.
 #[unsafe(no_mangle)]
 pub extern "C" fn cvl_proved_int_scan_after_in(op: u32, before: i32, a: &mut [i32]) -> CvlStatus
-    ensures { Told (by_operator (int_monoid op) (λ o. in_limit a.old (Ok (int_scan_after o before a.old)))) result a.old a.new }
+    ensures { Told (int_scan_after_by op before a.old) result a.old a.new }
 {
     told_over::<i32>(int_scan_from(op, before, a))
 }
@@ -88,8 +84,7 @@ pub extern "C" fn cvl_proved_checked_scan_in(a: &mut [i32]) -> CvlStatus
 /// `cvl_proved_seg_int_scan` over `a`.
 #[unsafe(no_mangle)]
 pub extern "C" fn cvl_proved_seg_int_scan_in(op: u32, a: &mut [i32], lengths: &[i32]) -> CvlStatus
-    ensures { Told (by_operator (int_monoid op)
-        (λ o. by_segments lengths.now (seg_scan_of (int_join_of o) (int_unit_of o) a.old))) result a.old a.new }
+    ensures { Told (seg_int_scan_by op a.old lengths.now) result a.old a.new }
 {
     told_over::<i32>(seg_int_scan(op, a, lengths))
 }

@@ -2,7 +2,7 @@
 
 ghost use Rattle.std.specs.Prelude.{length};
 ghost use Rattle.c_calls.specs.Calls.{in_limit};
-ghost use Rattle.c_calls.specs.Told.{Told, in_room};
+ghost use Rattle.c_calls.specs.Told.{RoomTold, Told};
 ghost use Rattle.part_calls.specs.TransposeRanges.{few_turned_of};
 ghost use Rattle.transposes.specs.Transposes.{transpose_of};
 
@@ -20,8 +20,7 @@ pub extern "C" fn cvl_proved_transpose_int(
     columns: usize,
     out: &mut [i32],
 ) -> CvlStatus
-    ensures { Told (in_room (length out.old) (in_limit source.now (transpose_of rows columns source.now)))
-        result out.old out.new }
+    ensures { RoomTold (in_limit source.now (transpose_of rows columns source.now)) result out.old out.new }
 {
     or_tell!(check_limit(source));
     told_over::<i32>(transpose_over(source, rows, columns, out))
@@ -35,8 +34,7 @@ pub extern "C" fn cvl_proved_transpose_bool(
     columns: usize,
     out: &mut [bool],
 ) -> CvlStatus
-    ensures { Told (in_room (length out.old) (in_limit source.now (transpose_of rows columns source.now)))
-        result out.old out.new }
+    ensures { RoomTold (in_limit source.now (transpose_of rows columns source.now)) result out.old out.new }
 {
     or_tell!(check_limit(source));
     told_over::<bool>(transpose_over(source, rows, columns, out))

@@ -1,8 +1,7 @@
 //! Merges by flags, of whole vectors and of each segment.
 
-ghost use Rattle.std.specs.Prelude.{length};
 ghost use Rattle.c_calls.specs.Calls.{in_limit};
-ghost use Rattle.c_calls.specs.Told.{Told, in_room};
+ghost use Rattle.c_calls.specs.Told.{RoomTold};
 ghost use Rattle.cvl_c.specs.ByLengths.{merge_by_lengths};
 ghost use Rattle.flag_merges.specs.Merges.{merge_of};
 
@@ -19,8 +18,7 @@ pub extern "C" fn cvl_proved_merge_by_flags_int(
     when_false: &[i32],
     out: &mut [i32],
 ) -> CvlStatus
-    ensures { Told (in_room (length out.old) (in_limit flags.now (merge_of flags.now when_true.now when_false.now)))
-        result out.old out.new }
+    ensures { RoomTold (in_limit flags.now (merge_of flags.now when_true.now when_false.now)) result out.old out.new }
 {
     or_tell!(check_limit(flags));
     told_over::<i32>(merge_by_flags_over(flags, when_true, when_false, out))
@@ -34,8 +32,7 @@ pub extern "C" fn cvl_proved_merge_by_flags_bool(
     when_false: &[bool],
     out: &mut [bool],
 ) -> CvlStatus
-    ensures { Told (in_room (length out.old) (in_limit flags.now (merge_of flags.now when_true.now when_false.now)))
-        result out.old out.new }
+    ensures { RoomTold (in_limit flags.now (merge_of flags.now when_true.now when_false.now)) result out.old out.new }
 {
     or_tell!(check_limit(flags));
     told_over::<bool>(merge_by_flags_over(flags, when_true, when_false, out))
@@ -52,8 +49,7 @@ pub extern "C" fn cvl_proved_seg_merge_by_flags_int(
     false_lengths: &[i32],
     out: &mut [i32],
 ) -> CvlStatus
-    ensures { Told (in_room (length out.old)
-        (merge_by_lengths flags.now lengths.now when_true.now true_lengths.now when_false.now false_lengths.now))
+    ensures { RoomTold (merge_by_lengths flags.now lengths.now when_true.now true_lengths.now when_false.now false_lengths.now)
         result out.old out.new }
 {
     let d = or_tell!(segments(lengths));
@@ -75,8 +71,7 @@ pub extern "C" fn cvl_proved_seg_merge_by_flags_bool(
     false_lengths: &[i32],
     out: &mut [bool],
 ) -> CvlStatus
-    ensures { Told (in_room (length out.old)
-        (merge_by_lengths flags.now lengths.now when_true.now true_lengths.now when_false.now false_lengths.now))
+    ensures { RoomTold (merge_by_lengths flags.now lengths.now when_true.now true_lengths.now when_false.now false_lengths.now)
         result out.old out.new }
 {
     let d = or_tell!(segments(lengths));

@@ -1,11 +1,10 @@
 //! Packs, of whole vectors and of segments, and how many elements they keep. Segments are given as lengths.
 
-ghost use Rattle.std.specs.Prelude.{length};
 ghost use Rattle.cvl_base.specs.Packs.{pack_of};
 ghost use Rattle.cvl_base.specs.SegmentedCalls.{counts_of, seg_pack_of};
 ghost use Rattle.c_calls.specs.Calls.{by_segments, in_limit};
 ghost use Rattle.flag_calls.specs.Flags.{flags_of};
-ghost use Rattle.c_calls.specs.Told.{FrontTold, Told, in_room};
+ghost use Rattle.c_calls.specs.Told.{FrontTold, RoomTold};
 
 use c_calls::packs::{count_each, pack, pack_each};
 use c_calls::status::{CvlStatus, told_over};
@@ -71,7 +70,7 @@ pub extern "C" fn cvl_proved_packed_lengths(
     lengths: &[i32],
     out: &mut [i32],
 ) -> CvlStatus
-    ensures { Told (in_room (length out.old) (by_segments lengths.now (counts_of (flags_of flags.now)))) result out.old out.new }
+    ensures { RoomTold (by_segments lengths.now (counts_of (flags_of flags.now))) result out.old out.new }
 {
     told_over::<i32>(count_each(flags, lengths, out))
 }
@@ -79,7 +78,7 @@ pub extern "C" fn cvl_proved_packed_lengths(
 /// The number of true flags of each segment: `cnt_leb`.
 #[unsafe(no_mangle)]
 pub extern "C" fn cvl_proved_seg_count(flags: &[u8], lengths: &[i32], out: &mut [i32]) -> CvlStatus
-    ensures { Told (in_room (length out.old) (by_segments lengths.now (counts_of (flags_of flags.now)))) result out.old out.new }
+    ensures { RoomTold (by_segments lengths.now (counts_of (flags_of flags.now))) result out.old out.new }
 {
     told_over::<i32>(count_each(flags, lengths, out))
 }

@@ -4,7 +4,7 @@
 ghost use Rattle.std.specs.Prelude.{ℕ, List, Ok, Result, length};
 ghost use Rattle.cvl_base.specs.declared.fault.Fault.{Fault};
 ghost use Rattle.cvl_base.specs.Exact.{total_of};
-ghost use Rattle.c_calls.specs.Told.{FrontToldOr, Told, in_room};
+ghost use Rattle.c_calls.specs.Told.{FrontToldOr, RoomTold, Told};
 ghost use Rattle.part_calls.specs.Limits.{few_enough};
 ghost use Rattle.part_calls.specs.Pieces.{piece_of};
 ghost use Rattle.part_calls.specs.Ranges.{WritesRange, select_range_of, simple_range_of};
@@ -47,8 +47,7 @@ pub extern "C" fn cvl_proved_checked_scan_after(
     a: &[i32],
     out: &mut [i32],
 ) -> CvlStatus
-    ensures { Told (in_room (length out.old) (few_enough (length a.now) (checked_scan_after before a.now)))
-        result out.old out.new }
+    ensures { RoomTold (few_enough (length a.now) (checked_scan_after before a.now)) result out.old out.new }
 {
     told_over::<i32>(checked_scan_from(&before, a, out))
 }

@@ -1,12 +1,12 @@
 //! The elementwise calls, on vectors of at most 2,147,483,647 elements.
 
-ghost use Rattle.std.specs.Prelude.{Ok, length};
-ghost use Rattle.cvl_base.specs.Elementwise.{bools1_of, bools2_of, bools_from_ints, choose_of, compare_of, ints1_of, ints2_of};
+ghost use Rattle.std.specs.Prelude.{Ok};
+ghost use Rattle.cvl_base.specs.Elementwise.{bools_from_ints, choose_of};
 ghost use Rattle.cvl_base.specs.Elementwise.{ints_from_bools};
-ghost use Rattle.c_calls.specs.Calls.{by_operator, in_limit};
-ghost use Rattle.flag_calls.specs.Flags.{as_bytes, flags_of};
-ghost use Rattle.c_calls.specs.Numbers.{bool_binary, comparison, int_binary, unary};
-ghost use Rattle.c_calls.specs.Told.{Told, in_room};
+ghost use Rattle.c_calls.specs.Calls.{in_limit};
+ghost use Rattle.flag_calls.specs.Flags.{flags_of};
+ghost use Rattle.c_calls.specs.Told.{RoomTold};
+ghost use Rattle.c_calls.specs.PlaceByPlace.{bool1_by, bool2_by, choose_flags, compare_by, int1_by, int2_by};
 
 use c_calls::checks::check_limit;
 use c_calls::numbers::operator_of;
@@ -20,8 +20,7 @@ use flag_calls::{bool1_over, bool2_over, int_from_bool_over, select_flags_over};
 /// The operator on each two integers at the same place: `add_wuz` and its like.
 #[unsafe(no_mangle)]
 pub extern "C" fn cvl_proved_int2(op: u32, a: &[i32], b: &[i32], out: &mut [i32]) -> CvlStatus
-    ensures { Told (in_room (length out.old) (by_operator (int_binary op) (λ o. in_limit a.now (ints2_of o a.now b.now))))
-        result out.old out.new }
+    ensures { RoomTold (int2_by op a.now b.now) result out.old out.new }
 {
     told_over::<i32>(int2(op, a, b, out))
 }
@@ -29,8 +28,7 @@ pub extern "C" fn cvl_proved_int2(op: u32, a: &[i32], b: &[i32], out: &mut [i32]
 /// The operator on each integer: `not_wuz` and `cpy_wuz`.
 #[unsafe(no_mangle)]
 pub extern "C" fn cvl_proved_int1(op: u32, a: &[i32], out: &mut [i32]) -> CvlStatus
-    ensures { Told (in_room (length out.old) (by_operator (unary op) (λ o. in_limit a.now (Ok (ints1_of o a.now)))))
-        result out.old out.new }
+    ensures { RoomTold (int1_by op a.now) result out.old out.new }
 {
     let op = or_tell!(operator_of::<Unary>(op));
     or_tell!(check_limit(a));
@@ -40,8 +38,7 @@ pub extern "C" fn cvl_proved_int1(op: u32, a: &[i32], out: &mut [i32]) -> CvlSta
 /// The comparison of each two integers at the same place: `grt_wuz` and its like.
 #[unsafe(no_mangle)]
 pub extern "C" fn cvl_proved_compare(op: u32, a: &[i32], b: &[i32], out: &mut [bool]) -> CvlStatus
-    ensures { Told (in_room (length out.old) (by_operator (comparison op) (λ o. in_limit a.now (compare_of o a.now b.now))))
-        result out.old out.new }
+    ensures { RoomTold (compare_by op a.now b.now) result out.old out.new }
 {
     told_over::<bool>(compare(op, a, b, out))
 }
@@ -49,8 +46,7 @@ pub extern "C" fn cvl_proved_compare(op: u32, a: &[i32], b: &[i32], out: &mut [b
 /// The operator on each two flags at the same place: `and_wub` and its like.
 #[unsafe(no_mangle)]
 pub extern "C" fn cvl_proved_bool2(op: u32, a: &[u8], b: &[u8], out: &mut [u8]) -> CvlStatus
-    ensures { Told (in_room (length out.old) (as_bytes (by_operator (bool_binary op)
-        (λ o. in_limit a.now (bools2_of o (flags_of a.now) (flags_of b.now)))))) result out.old out.new }
+    ensures { RoomTold (bool2_by op a.now b.now) result out.old out.new }
 {
     let op = or_tell!(operator_of::<BoolBinary>(op));
     or_tell!(check_limit(a));
@@ -60,8 +56,7 @@ pub extern "C" fn cvl_proved_bool2(op: u32, a: &[u8], b: &[u8], out: &mut [u8]) 
 /// The operator on each flag: `not_wub` and `cpy_wub`.
 #[unsafe(no_mangle)]
 pub extern "C" fn cvl_proved_bool1(op: u32, a: &[u8], out: &mut [u8]) -> CvlStatus
-    ensures { Told (in_room (length out.old) (as_bytes (by_operator (unary op)
-        (λ o. in_limit a.now (Ok (bools1_of o (flags_of a.now))))))) result out.old out.new }
+    ensures { RoomTold (bool1_by op a.now) result out.old out.new }
 {
     let op = or_tell!(operator_of::<Unary>(op));
     or_tell!(check_limit(a));
@@ -71,7 +66,7 @@ pub extern "C" fn cvl_proved_bool1(op: u32, a: &[u8], out: &mut [u8]) -> CvlStat
 /// 1 for each true flag, and 0 for each false one: `int_wub`.
 #[unsafe(no_mangle)]
 pub extern "C" fn cvl_proved_int_from_bool(a: &[u8], out: &mut [i32]) -> CvlStatus
-    ensures { Told (in_room (length out.old) (in_limit a.now (Ok (ints_from_bools (flags_of a.now))))) result out.old out.new }
+    ensures { RoomTold (in_limit a.now (Ok (ints_from_bools (flags_of a.now)))) result out.old out.new }
 {
     or_tell!(check_limit(a));
     told_over::<i32>(int_from_bool_over(a, out))
@@ -80,7 +75,7 @@ pub extern "C" fn cvl_proved_int_from_bool(a: &[u8], out: &mut [i32]) -> CvlStat
 /// True for each integer that isn't 0: `boo_wuz`.
 #[unsafe(no_mangle)]
 pub extern "C" fn cvl_proved_bool_from_int(a: &[i32], out: &mut [bool]) -> CvlStatus
-    ensures { Told (in_room (length out.old) (in_limit a.now (Ok (bools_from_ints a.now)))) result out.old out.new }
+    ensures { RoomTold (in_limit a.now (Ok (bools_from_ints a.now))) result out.old out.new }
 {
     told_over::<bool>(bool_from_int(a, out))
 }
@@ -93,8 +88,7 @@ pub extern "C" fn cvl_proved_select_int(
     b: &[i32],
     out: &mut [i32],
 ) -> CvlStatus
-    ensures { Told (in_room (length out.old) (in_limit flags.now (choose_of (flags_of flags.now) a.now b.now)))
-        result out.old out.new }
+    ensures { RoomTold (in_limit flags.now (choose_of (flags_of flags.now) a.now b.now)) result out.old out.new }
 {
     told_over::<i32>(select_int(flags, a, b, out))
 }
@@ -107,8 +101,7 @@ pub extern "C" fn cvl_proved_select_bool(
     b: &[u8],
     out: &mut [u8],
 ) -> CvlStatus
-    ensures { Told (in_room (length out.old) (as_bytes (in_limit flags.now
-        (choose_of (flags_of flags.now) (flags_of a.now) (flags_of b.now))))) result out.old out.new }
+    ensures { RoomTold (choose_flags flags.now a.now b.now) result out.old out.new }
 {
     or_tell!(check_limit(flags));
     told_over::<u8>(select_flags_over(flags, a, b, out))

@@ -1,8 +1,7 @@
 //! Products of sparse matrices with vectors. The rows are given as lengths, or by offsets.
 
-ghost use Rattle.std.specs.Prelude.{length};
 ghost use Rattle.c_calls.specs.Products.{checked_product_by_offsets_of, checked_product_of, product_by_offsets_of, product_of};
-ghost use Rattle.c_calls.specs.Told.{ToldOr, in_room};
+ghost use Rattle.c_calls.specs.Told.{RoomToldOr};
 
 use c_calls::products::{checked_product, checked_product_by_offsets, product, product_by_offsets};
 use c_calls::status::{CvlStatus, told};
@@ -18,8 +17,7 @@ pub extern "C" fn cvl_proved_sparse_product(
     x: &[i32],
     out: &mut [i32],
 ) -> CvlStatus
-    ensures { ToldOr (in_room (length out.old) (product_of lengths.now columns.now values.now x.now))
-        result out.old out.new }
+    ensures { RoomToldOr (product_of lengths.now columns.now values.now x.now) result out.old out.new }
 {
     told(product(alloc, lengths, columns, values, x), out)
 }
@@ -34,8 +32,7 @@ pub extern "C" fn cvl_proved_checked_sparse_product(
     x: &[i32],
     out: &mut [i32],
 ) -> CvlStatus
-    ensures { ToldOr (in_room (length out.old) (checked_product_of lengths.now columns.now values.now x.now))
-        result out.old out.new }
+    ensures { RoomToldOr (checked_product_of lengths.now columns.now values.now x.now) result out.old out.new }
 {
     told(checked_product(alloc, lengths, columns, values, x), out)
 }
@@ -50,8 +47,7 @@ pub extern "C" fn cvl_proved_sparse_product_by_offsets(
     x: &[i32],
     out: &mut [i32],
 ) -> CvlStatus
-    ensures { ToldOr (in_room (length out.old) (product_by_offsets_of offsets.now columns.now values.now x.now))
-        result out.old out.new }
+    ensures { RoomToldOr (product_by_offsets_of offsets.now columns.now values.now x.now) result out.old out.new }
 {
     told(product_by_offsets(alloc, offsets, columns, values, x), out)
 }
@@ -66,8 +62,7 @@ pub extern "C" fn cvl_proved_checked_sparse_product_by_offsets(
     x: &[i32],
     out: &mut [i32],
 ) -> CvlStatus
-    ensures { ToldOr (in_room (length out.old) (checked_product_by_offsets_of offsets.now columns.now values.now x.now))
-        result out.old out.new }
+    ensures { RoomToldOr (checked_product_by_offsets_of offsets.now columns.now values.now x.now) result out.old out.new }
 {
     told(
         checked_product_by_offsets(alloc, offsets, columns, values, x),

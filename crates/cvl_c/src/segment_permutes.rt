@@ -1,7 +1,6 @@
 //! Permutes of each segment, by an index of at most 2,147,483,647 elements. Segments are given as lengths.
 
-ghost use Rattle.std.specs.Prelude.{length};
-ghost use Rattle.c_calls.specs.Told.{ToldOr, in_room};
+ghost use Rattle.c_calls.specs.Told.{RoomToldOr};
 ghost use Rattle.cvl_c.specs.ByLengths.{back_by_lengths, default_by_lengths, select_by_lengths, simple_by_lengths};
 
 use c_calls::checks::{check_limit, descriptor, segments};
@@ -19,7 +18,7 @@ pub extern "C" fn cvl_proved_seg_permute_int(
     lengths: &[i32],
     out: &mut [i32],
 ) -> CvlStatus
-    ensures { ToldOr (in_room (length out.old) (simple_by_lengths source.now index.now lengths.now)) result out.old out.new }
+    ensures { RoomToldOr (simple_by_lengths source.now index.now lengths.now) result out.old out.new }
 {
     let d = or_tell!(segments(lengths));
     or_tell!(check_limit(index));
@@ -35,7 +34,7 @@ pub extern "C" fn cvl_proved_seg_permute_bool(
     lengths: &[i32],
     out: &mut [bool],
 ) -> CvlStatus
-    ensures { ToldOr (in_room (length out.old) (simple_by_lengths source.now index.now lengths.now)) result out.old out.new }
+    ensures { RoomToldOr (simple_by_lengths source.now index.now lengths.now) result out.old out.new }
 {
     let d = or_tell!(segments(lengths));
     or_tell!(check_limit(index));
@@ -52,8 +51,7 @@ pub extern "C" fn cvl_proved_seg_select_permute_int(
     lengths: &[i32],
     out: &mut [i32],
 ) -> CvlStatus
-    ensures { ToldOr (in_room (length out.old) (select_by_lengths source.now index.now flags.now lengths.now))
-        result out.old out.new }
+    ensures { RoomToldOr (select_by_lengths source.now index.now flags.now lengths.now) result out.old out.new }
 {
     let d = or_tell!(descriptor(alloc, lengths));
     or_tell!(check_limit(index));
@@ -70,8 +68,7 @@ pub extern "C" fn cvl_proved_seg_select_permute_bool(
     lengths: &[i32],
     out: &mut [bool],
 ) -> CvlStatus
-    ensures { ToldOr (in_room (length out.old) (select_by_lengths source.now index.now flags.now lengths.now))
-        result out.old out.new }
+    ensures { RoomToldOr (select_by_lengths source.now index.now flags.now lengths.now) result out.old out.new }
 {
     let d = or_tell!(descriptor(alloc, lengths));
     or_tell!(check_limit(index));
@@ -89,8 +86,8 @@ pub extern "C" fn cvl_proved_seg_default_permute_int(
     default_lengths: &[i32],
     out: &mut [i32],
 ) -> CvlStatus
-    ensures { ToldOr (in_room (length out.old)
-        (default_by_lengths source.now index.now defaults.now lengths.now default_lengths.now)) result out.old out.new }
+    ensures { RoomToldOr (default_by_lengths source.now index.now defaults.now lengths.now default_lengths.now)
+        result out.old out.new }
 {
     let d = or_tell!(descriptor(alloc, lengths));
     let e = or_tell!(descriptor(alloc, default_lengths));
@@ -109,8 +106,8 @@ pub extern "C" fn cvl_proved_seg_default_permute_bool(
     default_lengths: &[i32],
     out: &mut [bool],
 ) -> CvlStatus
-    ensures { ToldOr (in_room (length out.old)
-        (default_by_lengths source.now index.now defaults.now lengths.now default_lengths.now)) result out.old out.new }
+    ensures { RoomToldOr (default_by_lengths source.now index.now defaults.now lengths.now default_lengths.now)
+        result out.old out.new }
 {
     let d = or_tell!(descriptor(alloc, lengths));
     let e = or_tell!(descriptor(alloc, default_lengths));
@@ -127,8 +124,7 @@ pub extern "C" fn cvl_proved_seg_back_permute_int(
     index_lengths: &[i32],
     out: &mut [i32],
 ) -> CvlStatus
-    ensures { ToldOr (in_room (length out.old) (back_by_lengths source.now index.now lengths.now index_lengths.now))
-        result out.old out.new }
+    ensures { RoomToldOr (back_by_lengths source.now index.now lengths.now index_lengths.now) result out.old out.new }
 {
     let d = or_tell!(segments(lengths));
     let e = or_tell!(segments(index_lengths));
@@ -145,8 +141,7 @@ pub extern "C" fn cvl_proved_seg_back_permute_bool(
     index_lengths: &[i32],
     out: &mut [bool],
 ) -> CvlStatus
-    ensures { ToldOr (in_room (length out.old) (back_by_lengths source.now index.now lengths.now index_lengths.now))
-        result out.old out.new }
+    ensures { RoomToldOr (back_by_lengths source.now index.now lengths.now index_lengths.now) result out.old out.new }
 {
     let d = or_tell!(segments(lengths));
     let e = or_tell!(segments(index_lengths));

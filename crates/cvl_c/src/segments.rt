@@ -1,11 +1,10 @@
 //! Single elements of segments, and vectors of given segments. Segments are given as lengths.
 
-ghost use Rattle.std.specs.Prelude.{length};
 ghost use Rattle.cvl_base.specs.Limits.{most_places};
 ghost use Rattle.cvl_base.specs.SegmentedCalls.{seg_distribute_within, seg_extract_of, seg_index_within, seg_replace_of};
 ghost use Rattle.c_calls.specs.Calls.{by_segments};
 ghost use Rattle.flag_calls.specs.Flags.{made_flags};
-ghost use Rattle.c_calls.specs.Told.{ToldOr, in_room};
+ghost use Rattle.c_calls.specs.Told.{RoomToldOr};
 
 use c_calls::checks::{descriptor, segments};
 use c_calls::elements::extract_each_flag;
@@ -23,8 +22,7 @@ pub extern "C" fn cvl_proved_seg_extract_int(
     lengths: &[i32],
     out: &mut [i32],
 ) -> CvlStatus
-    ensures { ToldOr (in_room (length out.old) (by_segments lengths.now (seg_extract_of vector.now index.now)))
-        result out.old out.new }
+    ensures { RoomToldOr (by_segments lengths.now (seg_extract_of vector.now index.now)) result out.old out.new }
 {
     let d = or_tell!(segments(lengths));
     told(seg_extract(alloc, vector, index, &d), out)
@@ -39,8 +37,7 @@ pub extern "C" fn cvl_proved_seg_extract_bool(
     lengths: &[i32],
     out: &mut [u8],
 ) -> CvlStatus
-    ensures { ToldOr (in_room (length out.old) (made_flags (by_segments lengths.now (seg_extract_of vector.now index.now))))
-        result out.old out.new }
+    ensures { RoomToldOr (made_flags (by_segments lengths.now (seg_extract_of vector.now index.now))) result out.old out.new }
 {
     told(extract_each_flag(alloc, vector, index, lengths), out)
 }
@@ -55,8 +52,7 @@ pub extern "C" fn cvl_proved_seg_replace_int(
     lengths: &[i32],
     out: &mut [i32],
 ) -> CvlStatus
-    ensures { ToldOr (in_room (length out.old) (by_segments lengths.now (seg_replace_of vector.now index.now values.now)))
-        result out.old out.new }
+    ensures { RoomToldOr (by_segments lengths.now (seg_replace_of vector.now index.now values.now)) result out.old out.new }
 {
     let d = or_tell!(segments(lengths));
     told(seg_replace(alloc, vector, index, values, &d), out)
@@ -72,8 +68,7 @@ pub extern "C" fn cvl_proved_seg_replace_bool(
     lengths: &[i32],
     out: &mut [bool],
 ) -> CvlStatus
-    ensures { ToldOr (in_room (length out.old) (by_segments lengths.now (seg_replace_of vector.now index.now values.now)))
-        result out.old out.new }
+    ensures { RoomToldOr (by_segments lengths.now (seg_replace_of vector.now index.now values.now)) result out.old out.new }
 {
     let d = or_tell!(segments(lengths));
     told(seg_replace(alloc, vector, index, values, &d), out)
@@ -87,8 +82,7 @@ pub extern "C" fn cvl_proved_seg_distribute_int(
     lengths: &[i32],
     out: &mut [i32],
 ) -> CvlStatus
-    ensures { ToldOr (in_room (length out.old) (by_segments lengths.now (seg_distribute_within most_places values.now)))
-        result out.old out.new }
+    ensures { RoomToldOr (by_segments lengths.now (seg_distribute_within most_places values.now)) result out.old out.new }
 {
     let d = or_tell!(descriptor(alloc, lengths));
     told_over::<i32>(seg_distribute_over(values, &d, out))
@@ -102,8 +96,7 @@ pub extern "C" fn cvl_proved_seg_distribute_bool(
     lengths: &[i32],
     out: &mut [bool],
 ) -> CvlStatus
-    ensures { ToldOr (in_room (length out.old) (by_segments lengths.now (seg_distribute_within most_places values.now)))
-        result out.old out.new }
+    ensures { RoomToldOr (by_segments lengths.now (seg_distribute_within most_places values.now)) result out.old out.new }
 {
     let d = or_tell!(descriptor(alloc, lengths));
     told_over::<bool>(seg_distribute_over(values, &d, out))
@@ -118,8 +111,7 @@ pub extern "C" fn cvl_proved_seg_index(
     lengths: &[i32],
     out: &mut [i32],
 ) -> CvlStatus
-    ensures { ToldOr (in_room (length out.old) (by_segments lengths.now (seg_index_within most_places inits.now strides.now)))
-        result out.old out.new }
+    ensures { RoomToldOr (by_segments lengths.now (seg_index_within most_places inits.now strides.now)) result out.old out.new }
 {
     let d = or_tell!(descriptor(alloc, lengths));
     told_over::<i32>(seg_index_over(inits, strides, &d, out))

@@ -3,7 +3,7 @@
 
 ghost use Rattle.std.specs.Prelude.{ℕ, List, Result, length};
 ghost use Rattle.c_calls.specs.Calls.{in_limit};
-ghost use Rattle.c_calls.specs.Told.{Told, in_room};
+ghost use Rattle.c_calls.specs.Told.{RoomTold, Told};
 ghost use Rattle.cvl_base.specs.declared.fault.Fault.{Fault};
 ghost use Rattle.cvl_c.specs.ByLengths.{first_senders_by_lengths, select_first_senders_by_lengths};
 ghost use Rattle.first_senders.specs.FirstSenders.{first_senders_of, select_first_senders_of};
@@ -50,8 +50,7 @@ pub extern "C" fn cvl_proved_seg_first_senders(
     result_lengths: &[i32],
     out: &mut [i32],
 ) -> CvlStatus
-    ensures { Told (in_room (length out.old) (first_senders_by_lengths index.now lengths.now result_lengths.now))
-        result out.old out.new }
+    ensures { RoomTold (first_senders_by_lengths index.now lengths.now result_lengths.now) result out.old out.new }
 {
     let d = or_tell!(segments(lengths));
     let result_d = or_tell!(segments(result_lengths));
@@ -68,8 +67,8 @@ pub extern "C" fn cvl_proved_seg_select_first_senders(
     result_lengths: &[i32],
     out: &mut [i32],
 ) -> CvlStatus
-    ensures { Told (in_room (length out.old)
-        (select_first_senders_by_lengths index.now flags.now lengths.now result_lengths.now)) result out.old out.new }
+    ensures { RoomTold (select_first_senders_by_lengths index.now flags.now lengths.now result_lengths.now)
+        result out.old out.new }
 {
     let d = or_tell!(segments(lengths));
     let result_d = or_tell!(segments(result_lengths));

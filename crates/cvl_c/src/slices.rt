@@ -1,11 +1,10 @@
 //! Slices and segments in order, and values of segments that no operator joins.
 
-ghost use Rattle.std.specs.Prelude.{Ok, length};
+ghost use Rattle.std.specs.Prelude.{Ok};
 ghost use Rattle.c_calls.specs.Calls.{by_segments, in_limit};
-ghost use Rattle.c_calls.specs.Told.{Told, in_room};
+ghost use Rattle.c_calls.specs.Told.{RoomTold, Told};
 ghost use Rattle.cvl_base.specs.Exact.{total_of};
-ghost use Rattle.cvl_c.specs.ByLengths.{append_by_lengths};
-ghost use Rattle.segment_slices.specs.Slices.{gather_segments_of};
+ghost use Rattle.cvl_c.specs.ByLengths.{append_by_lengths, gather_by_lengths};
 ghost use Rattle.flag_calls.specs.Flags.{flag_of};
 ghost use Rattle.segment_values.specs.Values.{each_of, first_by};
 
@@ -25,8 +24,7 @@ pub extern "C" fn cvl_proved_gather_segments_int(
     lengths: &[i32],
     out: &mut [i32],
 ) -> CvlStatus
-    ensures { Told (in_room (length out.old) (by_segments lengths.now (λ d. in_limit starts.now
-        (gather_segments_of source.now starts.now lengths.now)))) result out.old out.new }
+    ensures { RoomTold (gather_by_lengths source.now starts.now lengths.now) result out.old out.new }
 {
     or_tell!(segments(lengths));
     or_tell!(check_limit(starts));
@@ -41,8 +39,7 @@ pub extern "C" fn cvl_proved_gather_segments_bool(
     lengths: &[i32],
     out: &mut [bool],
 ) -> CvlStatus
-    ensures { Told (in_room (length out.old) (by_segments lengths.now (λ d. in_limit starts.now
-        (gather_segments_of source.now starts.now lengths.now)))) result out.old out.new }
+    ensures { RoomTold (gather_by_lengths source.now starts.now lengths.now) result out.old out.new }
 {
     or_tell!(segments(lengths));
     or_tell!(check_limit(starts));
@@ -58,8 +55,7 @@ pub extern "C" fn cvl_proved_append_segments_int(
     other_lengths: &[i32],
     out: &mut [i32],
 ) -> CvlStatus
-    ensures { Told (in_room (length out.old) (append_by_lengths a.now lengths.now b.now other_lengths.now))
-        result out.old out.new }
+    ensures { RoomTold (append_by_lengths a.now lengths.now b.now other_lengths.now) result out.old out.new }
 {
     let d = or_tell!(segments(lengths));
     let other = or_tell!(segments(other_lengths));
@@ -75,8 +71,7 @@ pub extern "C" fn cvl_proved_append_segments_bool(
     other_lengths: &[i32],
     out: &mut [bool],
 ) -> CvlStatus
-    ensures { Told (in_room (length out.old) (append_by_lengths a.now lengths.now b.now other_lengths.now))
-        result out.old out.new }
+    ensures { RoomTold (append_by_lengths a.now lengths.now b.now other_lengths.now) result out.old out.new }
 {
     let d = or_tell!(segments(lengths));
     let other = or_tell!(segments(other_lengths));
@@ -110,8 +105,7 @@ pub extern "C" fn cvl_proved_seg_first_true(
     lengths: &[i32],
     out: &mut [i32],
 ) -> CvlStatus
-    ensures { Told (in_room (length out.old) (by_segments lengths.now (each_of (first_by flag_of) flags.now)))
-        result out.old out.new }
+    ensures { RoomTold (by_segments lengths.now (each_of (first_by flag_of) flags.now)) result out.old out.new }
 {
     let d = or_tell!(segments(lengths));
     told_over::<i32>(seg_first_that_over::<u8, IsTrue>(flags, &d, out))
@@ -124,7 +118,7 @@ pub extern "C" fn cvl_proved_seg_exact_sums(
     lengths: &[i32],
     out: &mut [i64],
 ) -> CvlStatus
-    ensures { Told (in_room (length out.old) (by_segments lengths.now (each_of total_of a.now))) result out.old out.new }
+    ensures { RoomTold (by_segments lengths.now (each_of total_of a.now)) result out.old out.new }
 {
     let d = or_tell!(segments(lengths));
     told_over::<i64>(seg_exact_sums_over(a, &d, out))

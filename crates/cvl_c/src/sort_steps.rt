@@ -2,7 +2,7 @@
 //! result, and places alone. The driver runs them. A step whose operands do not agree reports `LengthMismatch`, without a place,
 //! and writes nothing.
 
-ghost use Rattle.std.specs.Prelude.{◌≡◌, ◌≢◌, ◌+◌, ◌^◌, ◌≤◌, false, length, map, IsTrue};
+ghost use Rattle.std.specs.Prelude.{◌≡◌, ◌≢◌, ◌+◌, ◌^◌, ◌≤◌, false, length, map, IsTrue, MatchResult};
 ghost use Rattle.std.specs.List.{enumerate_from, flat_map, range_with_len};
 ghost use Rattle.c_calls.specs.Told.{done, status_of_fault};
 ghost use Rattle.cvl_base.specs.declared.fault.FaultNo.TheVariants as no;
@@ -14,23 +14,32 @@ ghost use Rattle.digit_partitions.specs.Pieces.{IsRange, digit_piece};
 ghost use Rattle.stable_sorts.specs.Placed.{with_key};
 ghost use Rattle.stable_sorts.specs.Steps.{IsBlock, digit_of_pass};
 
-use c_calls::status::{CvlStatus, done, status_of};
+use c_calls::or_tell;
+use c_calls::status::{CvlStatus, done};
 use cvl_base::{Fault, FaultNo};
 use digit_partitions::gather_pieces;
 use stable_sorts::{DIGITS, Placed, key_block, placed_from, places_of};
 
-/// Tells whether the operands of a step agree.
+/// Checks that the operands of a step agree, else `LengthMismatch`, without a place.
+fn check_step(agrees: bool) -> Result<(), Fault>
+    ensures { MatchResult result (λ _. IsTrue agrees) (λ f. (f ≡ fault no.LengthMismatch) × (agrees ≡ false)) }
+{
+    if !agrees {
+        return Err(Fault::new(FaultNo::LengthMismatch));
+    }
+    Ok(())
+}
+
+/// Tells whether the operands of a step agree: for the blocks, whose clauses a search would unfold digit by digit, so that their
+/// proofs cite these.
 fn told_step(agree: bool) -> CvlStatus
     ensures done { IsTrue agree → result ≡ done }
     ensures refused { agree ≡ false → result ≡ status_of_fault (fault no.LengthMismatch) }
     ensures agree { result ≡ done → IsTrue agree }
     ensures differ { result ≢ done → agree ≡ false }
 {
-    if agree {
-        done()
-    } else {
-        status_of(Fault::new(FaultNo::LengthMismatch).into())
-    }
+    or_tell!(check_step(agree));
+    done()
 }
 
 /// Each key of a block beside its place; the first key stands at place `first`.
@@ -44,7 +53,8 @@ pub extern "C" fn cvl_proved_placed_from(
     ensures written { result ≡ done → placed.new ≡ map with_key (enumerate_from first keys.now) }
     ensures as_before { result ≢ done → placed.new ≡ placed.old }
 {
-    told_step(placed_from(first, keys, placed))
+    or_tell!(check_step(placed_from(first, keys, placed)));
+    done()
 }
 
 /// A block of keys, the first of which stands at place `first`, in the order of a pass's digit, and where each digit ends.
@@ -97,7 +107,8 @@ pub extern "C" fn cvl_proved_gather_keys(
         ≡ flat_map (digit_piece elements.now ends.now 2048 blocks) (range_with_len from count) }
     ensures as_before { result ≢ done → out.new ≡ out.old }
 {
-    told_step(gather_pieces(elements, ends, DIGITS, blocks, from, count, out))
+    or_tell!(check_step(gather_pieces(elements, ends, DIGITS, blocks, from, count, out)));
+    done()
 }
 
 /// The same for keys beside their places.
@@ -115,7 +126,8 @@ pub extern "C" fn cvl_proved_gather_placed(
         ≡ flat_map (digit_piece elements.now ends.now 2048 blocks) (range_with_len from count) }
     ensures as_before { result ≢ done → out.new ≡ out.old }
 {
-    told_step(gather_pieces(elements, ends, DIGITS, blocks, from, count, out))
+    or_tell!(check_step(gather_pieces(elements, ends, DIGITS, blocks, from, count, out)));
+    done()
 }
 
 /// The places alone.
@@ -125,5 +137,6 @@ pub extern "C" fn cvl_proved_places_of(placed: &[Placed], out: &mut [i32]) -> Cv
     ensures written { result ≡ done → out.new ≡ map (λ p. p.place) placed.now }
     ensures as_before { result ≢ done → out.new ≡ out.old }
 {
-    told_step(places_of(placed, out))
+    or_tell!(check_step(places_of(placed, out)));
+    done()
 }

@@ -4,7 +4,7 @@ ghost use Rattle.std.specs.Prelude.{Ok, map, pos};
 ghost use Rattle.c_calls.specs.Calls.{by_segments, in_limit};
 ghost use Rattle.c_calls.specs.Told.{ToldOr};
 ghost use Rattle.orders.specs.Orders.{order_of, rank_of, seg_order_of, seg_rank_of, seg_sorted_of, sorted_of};
-ghost use Rattle.cvl_base.specs.Elementwise.{if_as_long};
+ghost use Rattle.cvl_c.specs.Keys.{by_keys};
 
 use c_calls::checks::{check_limit, segments};
 use c_calls::or_tell;
@@ -18,7 +18,7 @@ use std::alloc::Global;
 /// The places in ascending order of their keys, equal keys in the order of their places.
 #[unsafe(no_mangle)]
 pub extern "C" fn cvl_proved_order(alloc: Global, keys: &[i32], out: &mut [i32]) -> CvlStatus
-    ensures { ToldOr (in_limit keys.now (if_as_long keys.now out.old (Ok (map pos (order_of keys.now))))) result out.old out.new }
+    ensures { ToldOr (by_keys keys.now out.old (Ok (map pos (order_of keys.now)))) result out.old out.new }
 {
     or_tell!(check_limit(keys));
     told_over_or::<i32>(order_over(alloc, keys, out))
@@ -27,7 +27,7 @@ pub extern "C" fn cvl_proved_order(alloc: Global, keys: &[i32], out: &mut [i32])
 /// At each place how many keys stand before its key in that order.
 #[unsafe(no_mangle)]
 pub extern "C" fn cvl_proved_rank(alloc: Global, keys: &[i32], out: &mut [i32]) -> CvlStatus
-    ensures { ToldOr (in_limit keys.now (if_as_long keys.now out.old (Ok (map pos (rank_of keys.now))))) result out.old out.new }
+    ensures { ToldOr (by_keys keys.now out.old (Ok (map pos (rank_of keys.now)))) result out.old out.new }
 {
     or_tell!(check_limit(keys));
     told_over_or::<i32>(rank_over(alloc, keys, out))
@@ -36,7 +36,7 @@ pub extern "C" fn cvl_proved_rank(alloc: Global, keys: &[i32], out: &mut [i32]) 
 /// The keys in ascending order.
 #[unsafe(no_mangle)]
 pub extern "C" fn cvl_proved_sort(alloc: Global, keys: &[i32], out: &mut [i32]) -> CvlStatus
-    ensures { ToldOr (in_limit keys.now (if_as_long keys.now out.old (Ok (sorted_of keys.now)))) result out.old out.new }
+    ensures { ToldOr (by_keys keys.now out.old (Ok (sorted_of keys.now))) result out.old out.new }
 {
     or_tell!(check_limit(keys));
     told_over_or::<i32>(sort_over(alloc, keys, out))
@@ -60,8 +60,7 @@ pub extern "C" fn cvl_proved_seg_order(
     lengths: &[i32],
     out: &mut [i32],
 ) -> CvlStatus
-    ensures { ToldOr (by_segments lengths.now (λ d. in_limit keys.now (if_as_long keys.now out.old (seg_order_of keys.now d))))
-        result out.old out.new }
+    ensures { ToldOr (by_segments lengths.now (λ d. by_keys keys.now out.old (seg_order_of keys.now d))) result out.old out.new }
 {
     let d = or_tell!(segments(lengths));
     or_tell!(check_limit(keys));
@@ -76,8 +75,7 @@ pub extern "C" fn cvl_proved_seg_rank(
     lengths: &[i32],
     out: &mut [i32],
 ) -> CvlStatus
-    ensures { ToldOr (by_segments lengths.now (λ d. in_limit keys.now (if_as_long keys.now out.old (seg_rank_of keys.now d))))
-        result out.old out.new }
+    ensures { ToldOr (by_segments lengths.now (λ d. by_keys keys.now out.old (seg_rank_of keys.now d))) result out.old out.new }
 {
     let d = or_tell!(segments(lengths));
     or_tell!(check_limit(keys));
@@ -92,8 +90,7 @@ pub extern "C" fn cvl_proved_seg_sort(
     lengths: &[i32],
     out: &mut [i32],
 ) -> CvlStatus
-    ensures { ToldOr (by_segments lengths.now (λ d. in_limit keys.now (if_as_long keys.now out.old (seg_sorted_of keys.now d))))
-        result out.old out.new }
+    ensures { ToldOr (by_segments lengths.now (λ d. by_keys keys.now out.old (seg_sorted_of keys.now d))) result out.old out.new }
 {
     let d = or_tell!(segments(lengths));
     or_tell!(check_limit(keys));

@@ -35,8 +35,7 @@ pub extern "C" fn cvl_proved_write_ints(
     out: &mut [u8],
     count: &mut usize,
 ) -> CvlStatus
-    ensures { FrontToldOr (in_limit a.now (Ok (vector_text signed_decimal a.now)))
-        result out.old out.new count.old count.new }
+    ensures { FrontToldOr (in_limit a.now (Ok (vector_text signed_decimal a.now))) result out.old out.new count.old count.new }
 {
     told_in_front(text(alloc, a), out, count)
 }
@@ -49,8 +48,7 @@ pub extern "C" fn cvl_proved_write_bools(
     out: &mut [u8],
     count: &mut usize,
 ) -> CvlStatus
-    ensures { FrontToldOr (in_limit a.now (Ok (vector_text boolean_text a.now)))
-        result out.old out.new count.old count.new }
+    ensures { FrontToldOr (in_limit a.now (Ok (vector_text boolean_text a.now))) result out.old out.new count.old count.new }
 {
     told_in_front(text(alloc, a), out, count)
 }

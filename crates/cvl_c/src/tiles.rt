@@ -1,10 +1,7 @@
 //! Scans that continue from what stands before: several threads of the caller's share a vector, and each scans its own tiles.
 
-ghost use Rattle.std.specs.Prelude.{Ok, length};
-ghost use Rattle.c_calls.specs.Calls.{by_operator, in_limit};
-ghost use Rattle.c_calls.specs.Numbers.{bool_binary, int_monoid};
-ghost use Rattle.c_calls.specs.Told.{Told, in_room};
-ghost use Rattle.c_calls.specs.Tiles.{bool_scan_after, int_scan_after};
+ghost use Rattle.c_calls.specs.Told.{RoomTold};
+ghost use Rattle.c_calls.specs.Scans.{bool_scan_after_by, int_scan_after_by};
 
 use c_calls::status::{CvlStatus, told_over};
 use c_calls::tiles::{bool_scan_from, int_scan_from};
@@ -18,8 +15,7 @@ pub extern "C" fn cvl_proved_int_scan_after(
     a: &[i32],
     out: &mut [i32],
 ) -> CvlStatus
-    ensures { Told (in_room (length out.old)
-        (by_operator (int_monoid op) (λ o. in_limit a.now (Ok (int_scan_after o before a.now))))) result out.old out.new }
+    ensures { RoomTold (int_scan_after_by op before a.now) result out.old out.new }
 {
     told_over::<i32>(int_scan_from(op, before, a, out))
 }
@@ -32,8 +28,7 @@ pub extern "C" fn cvl_proved_bool_scan_after(
     a: &[bool],
     out: &mut [bool],
 ) -> CvlStatus
-    ensures { Told (in_room (length out.old)
-        (by_operator (bool_binary op) (λ o. in_limit a.now (Ok (bool_scan_after o before a.now))))) result out.old out.new }
+    ensures { RoomTold (bool_scan_after_by op before a.now) result out.old out.new }
 {
     told_over::<bool>(bool_scan_from(op, before, a, out))
 }
