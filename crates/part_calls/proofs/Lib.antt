@@ -1,3 +1,4 @@
 pub mod Carried
+pub mod Checked
 pub mod Placed
 pub mod Cited

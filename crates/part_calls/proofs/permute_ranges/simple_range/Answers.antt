@@ -1,4 +1,5 @@
-use Rattle.part_calls.proofs.Cited.{◌∙◌, ◌+◌, Ok, arith, eq-eqb, length, sym, le-ltb, most_places, length-all_destinations, words_for}
+use Rattle.part_calls.proofs.Cited.{◌∙◌, Ok, arith, eq-eqb, length, sym, length-all_destinations, words_for}
+use Rattle.part_calls.proofs.Checked.{after_sends}
 use Rattle.part_calls.proofs.permute_ranges.simple_range.Goals as goal
 
 pub write_counted-requires-clause-sourced : goal.write_counted-requires-clause-sourced
@@ -9,11 +10,7 @@ write_counted-requires-clause-few g c = omega (arith, length-all_destinations c.
 
 pub returns : goal.returns
 returns g c =
-    let told = c.write_counted.ensures in let index = c.args.index.now in let out = c.args.out.now in
-    rw (
-      le-ltb most_places (length index) c.in_ok-check_few.ensures,
-      le-ltb most_places (c.args.lowest + length out) c.in_ok-check_end.ensures,
-      eq-eqb (length c.args.source.now) (length index) c.in_ok-check_agree.ensures,
-      eq-eqb (words_for (length out)) (length c.args.marks.now) (sym c.words_for.ensures ∙ c.in_ok-check_agree-2.ensures),
-    )
+    let told = c.write_counted.ensures in let out = c.args.out.now in
+    after_sends c.args.index.now c.args.lowest (length out) c.in_ok-check_few.ensures c.in_ok-check_end.ensures _ c.args.source.now c.in_ok-check_agree.ensures
+    ∙ rw (eq-eqb (words_for (length out)) (length c.args.marks.now) (sym c.words_for.ensures ∙ c.in_ok-check_agree-2.ensures))
     (λ i. Ok (sym told.written i, sym told.marked i, sym told.counted i))

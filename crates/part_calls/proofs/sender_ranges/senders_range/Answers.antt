@@ -1,4 +1,5 @@
-use Rattle.part_calls.proofs.Cited.{◌+◌, Ok, arith, length, sym, le-ltb, most_places, length-all_destinations}
+use Rattle.part_calls.proofs.Cited.{◌∙◌, Ok, arith, length, sym, length-all_destinations}
+use Rattle.part_calls.proofs.Checked.{after_limits}
 use Rattle.part_calls.proofs.sender_ranges.senders_range.Goals as goal
 
 pub write_counted-requires-clause-few : goal.write_counted-requires-clause-few
@@ -7,8 +8,5 @@ write_counted-requires-clause-few c = omega (arith, length-all_destinations c.ar
 pub returns : goal.returns
 returns c =
     let told = c.write_counted.ensures in
-    rw (
-      le-ltb most_places (length c.args.index.now) c.in_ok-check_few.ensures,
-      le-ltb most_places (c.args.lowest + length c.args.out.now) c.in_ok-check_end.ensures,
-    )
-    (λ i. Ok (sym told.written i, sym told.counted i))
+    after_limits c.args.index.now c.args.lowest (length c.args.out.now) c.in_ok-check_few.ensures c.in_ok-check_end.ensures _
+    ∙ (λ i. Ok (sym told.written i, sym told.counted i))
