@@ -211,13 +211,21 @@ Climbs-kept test (p ∷ ps) climbs =
 
 -- ---- what each rank has is its range
 
-fronts-are : (s : ℕ × ℤ) (pieces : List (List (ℕ × ℤ))) → AllByRecursion (Climbs int_lt) pieces → map (up_to s) pieces ≡ map (filter (goes_before s)) pieces
-fronts-are s [] all = refl
-fronts-are s (piece ∷ pieces) all = (λ i. front-is s piece all.0 i ∷ fronts-are s pieces all.1 i)
+-- two maps of climbing pieces that agree on each
+maps-are : (f g : List (ℕ × ℤ) → List (ℕ × ℤ)) → ((ps : List (ℕ × ℤ)) → Climbs int_lt ps → f ps ≡ g ps)
+    → (pieces : List (List (ℕ × ℤ))) → AllByRecursion (Climbs int_lt) pieces → map f pieces ≡ map g pieces
+maps-are f g agree [] all = refl
+maps-are f g agree (piece ∷ pieces) all = (λ i. agree piece all.0 i ∷ maps-are f g agree pieces all.1 i)
 
-rests-are : (s : ℕ × ℤ) (pieces : List (List (ℕ × ℤ))) → AllByRecursion (Climbs int_lt) pieces → map (from_on s) pieces ≡ map (filter (not_before s)) pieces
-rests-are s [] all = refl
-rests-are s (piece ∷ pieces) all = (λ i. rest-is s piece all.0 i ∷ rests-are s pieces all.1 i)
+-- what is sorted of one side of each piece is that side of the sort of all
+side-is : (side : List (ℕ × ℤ) → List (ℕ × ℤ)) (test : ℕ × ℤ → Bool) → ((ps : List (ℕ × ℤ)) → Climbs int_lt ps → side ps ≡ filter test ps)
+    → (pieces : List (List (ℕ × ℤ))) → AllByRecursion (Climbs int_lt) pieces → Climbs int_lt (stably_sorted has_lesser_key (joined pieces))
+    → stably_sorted has_lesser_key (joined (map side pieces)) ≡ side (stably_sorted has_lesser_key (joined pieces))
+side-is side test agree pieces all climbs =
+    ap (λ lists. stably_sorted has_lesser_key (joined lists)) (maps-are side (filter test) agree pieces all)
+    ∙ ap (stably_sorted has_lesser_key) (kept-joined has_lesser_key pairs_order test pieces)
+    ∙ sym (kept-sorted has_lesser_key pairs_order test (joined pieces))
+    ∙ sym (agree (stably_sorted has_lesser_key (joined pieces)) climbs)
 
 rests-climb : (s : ℕ × ℤ) (pieces : List (List (ℕ × ℤ))) → AllByRecursion (Climbs int_lt) pieces → AllByRecursion (Climbs int_lt) (map (from_on s) pieces)
 rests-climb s [] all = tt
@@ -229,18 +237,10 @@ ranges-are [] pieces all climbs = refl
 ranges-are (s ∷ splitters) pieces all climbs =
     (λ i. front i ∷ (ranges-are splitters (map (from_on s) pieces) (rests-climb s pieces all) behind ∙ ap (cut_at splitters) rest) i) where
       front : stably_sorted has_lesser_key (joined (map (up_to s) pieces)) ≡ up_to s (stably_sorted has_lesser_key (joined pieces))
-      front =
-          ap (λ lists. stably_sorted has_lesser_key (joined lists)) (fronts-are s pieces all)
-          ∙ ap (stably_sorted has_lesser_key) (kept-joined has_lesser_key pairs_order (goes_before s) pieces)
-          ∙ sym (kept-sorted has_lesser_key pairs_order (goes_before s) (joined pieces))
-          ∙ sym (front-is s (stably_sorted has_lesser_key (joined pieces)) climbs)
+      front = side-is (up_to s) (goes_before s) (front-is s) pieces all climbs
 
       rest : stably_sorted has_lesser_key (joined (map (from_on s) pieces)) ≡ from_on s (stably_sorted has_lesser_key (joined pieces))
-      rest =
-          ap (λ lists. stably_sorted has_lesser_key (joined lists)) (rests-are s pieces all)
-          ∙ ap (stably_sorted has_lesser_key) (kept-joined has_lesser_key pairs_order (not_before s) pieces)
-          ∙ sym (kept-sorted has_lesser_key pairs_order (not_before s) (joined pieces))
-          ∙ sym (rest-is s (stably_sorted has_lesser_key (joined pieces)) climbs)
+      rest = side-is (from_on s) (not_before s) (rest-is s) pieces all climbs
 
       behind : Climbs int_lt (stably_sorted has_lesser_key (joined (map (from_on s) pieces)))
       behind =
