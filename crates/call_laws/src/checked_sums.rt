@@ -4,7 +4,7 @@ ghost use Rattle.std.specs.Prelude.{◌≡◌, ◌+◌, ◌≤◌, ◌^◌, ◌+
 ghost use Rattle.std.specs.Int.{w64};
 ghost use Rattle.std.specs.List.{AllPass};
 ghost use Rattle.std.specs.Option.{ok_or};
-ghost use Rattle.call_laws.specs.Carried.{seg_reduce_after};
+ghost use Rattle.call_laws.specs.Carried.{Continues, StartsAnew, seg_reduce_after};
 ghost use Rattle.call_laws.specs.CheckedParts.{checked_seg_reduce_after, checked_seg_scan_after};
 ghost use Rattle.call_laws.specs.InParts.{in_two};
 ghost use Rattle.cvl_base.specs.CheckedSums.{checked_reduce_of, checked_scan_of, checked_seg_reduce_of, checked_seg_scan_of};
@@ -31,15 +31,8 @@ pub fn checked_sums_in_parts()
 /// of the first part's reduces over whole numbers; after a cut between segments it starts anew. The fault of a reduce has the
 /// segment's number.
 pub fn checked_segments_in_parts()
-    ensures scan { (carry out : ℤ) (xs ys closed : List ℤ) (lengths more : List ℕ) (m n : ℕ) →
-        sum lengths + m ≡ length xs → n + sum more ≡ length ys →
-        seg_reduce_after ◌+ℤ◌ (pos 0) carry xs (lengths ++ m ∷ []) ≡ Ok (closed ++ out ∷ []) →
-        checked_seg_scan_after carry (xs ++ ys) (lengths ++ (m + n) ∷ more)
-        ≡ in_two (length xs) (checked_seg_scan_after carry xs (lengths ++ m ∷ [])) (checked_seg_scan_after out ys (n ∷ more)) }
-    ensures scan_between { (carry : ℤ) (xs ys : List ℤ) (k : ℕ) (lengths more : List ℕ) → sum (k ∷ lengths) ≡ length xs
-        → sum more ≡ length ys →
-        checked_seg_scan_after carry (xs ++ ys) ((k ∷ lengths) ++ more)
-        ≡ in_two (length xs) (checked_seg_scan_after carry xs (k ∷ lengths)) (checked_seg_scan_of ys more) }
+    ensures scan { Continues (seg_reduce_after ◌+ℤ◌ (pos 0)) checked_seg_scan_after }
+    ensures scan_between { StartsAnew checked_seg_scan_after checked_seg_scan_of }
     ensures scan_call { (xs : List ℤ) (lengths : List ℕ)
         → checked_seg_scan_after (pos 0) xs lengths ≡ checked_seg_scan_of xs lengths }
     ensures reduce { (carry out : ℤ) (xs ys closed : List ℤ) (lengths more : List ℕ) (m n : ℕ) →

@@ -3,7 +3,7 @@
 
 ghost use Rattle.std.specs.Prelude.{◌≡◌, ◌+◌, ℕ, Bool, nat_lt, Result, List, [], ◌∷◌, ◌++◌, length, sum, IsTrue};
 ghost use Rattle.std.specs.List.{AllPass};
-ghost use Rattle.call_laws.specs.Carried.{seg_reduce_after, seg_scan_after};
+ghost use Rattle.call_laws.specs.Carried.{Continues, StartsAnew, seg_reduce_after, seg_scan_after};
 ghost use Rattle.call_laws.specs.InParts.{in_two};
 ghost use Rattle.cvl_base.specs.declared.fault.Fault.{Fault};
 ghost use Rattle.cvl_base.specs.Gives.{after};
@@ -63,16 +63,8 @@ pub fn cut_segment_in_parts<S, T>()
 /// of which may be none; the second part then continues from the last reduce of the first. After a cut between segments, with a
 /// segment before it, the second part starts anew. A scan that continues from the unit is the call's.
 pub fn segmented_scan_in_parts<M: Monoid>()
-    ensures inside { (carry out : M.Item) (xs ys closed : List M.Item) (lengths more : List ℕ) (m n : ℕ) →
-        sum lengths + m ≡ length xs → n + sum more ≡ length ys →
-        seg_reduce_after M.join M.unit carry xs (lengths ++ m ∷ []) ≡ Ok (closed ++ out ∷ []) →
-        seg_scan_after M.join M.unit carry (xs ++ ys) (lengths ++ (m + n) ∷ more)
-        ≡ in_two (length xs) (seg_scan_after M.join M.unit carry xs (lengths ++ m ∷ []))
-        (seg_scan_after M.join M.unit out ys (n ∷ more)) }
-    ensures between { (carry : M.Item) (xs ys : List M.Item) (k : ℕ) (lengths more : List ℕ) →
-        sum (k ∷ lengths) ≡ length xs → sum more ≡ length ys →
-        seg_scan_after M.join M.unit carry (xs ++ ys) ((k ∷ lengths) ++ more)
-        ≡ in_two (length xs) (seg_scan_after M.join M.unit carry xs (k ∷ lengths)) (seg_scan_of M.join M.unit ys more) }
+    ensures inside { Continues (seg_reduce_after M.join M.unit) (seg_scan_after M.join M.unit) }
+    ensures between { StartsAnew (seg_scan_after M.join M.unit) (seg_scan_of M.join M.unit) }
     ensures call { (xs : List M.Item) (lengths : List ℕ) →
         seg_scan_after M.join M.unit M.unit xs lengths ≡ seg_scan_of M.join M.unit xs lengths }
 {}
@@ -85,10 +77,7 @@ pub fn segmented_reduce_in_parts<M: Monoid>()
         seg_reduce_after M.join M.unit carry xs (lengths ++ m ∷ []) ≡ Ok (closed ++ out ∷ []) →
         seg_reduce_after M.join M.unit carry (xs ++ ys) (lengths ++ (m + n) ∷ more)
         ≡ after closed (seg_reduce_after M.join M.unit out ys (n ∷ more)) }
-    ensures between { (carry : M.Item) (xs ys : List M.Item) (k : ℕ) (lengths more : List ℕ) →
-        sum (k ∷ lengths) ≡ length xs → sum more ≡ length ys →
-        seg_reduce_after M.join M.unit carry (xs ++ ys) ((k ∷ lengths) ++ more)
-        ≡ in_two (length xs) (seg_reduce_after M.join M.unit carry xs (k ∷ lengths)) (seg_reduce_of M.join M.unit ys more) }
+    ensures between { StartsAnew (seg_reduce_after M.join M.unit) (seg_reduce_of M.join M.unit) }
     ensures call { (xs : List M.Item) (lengths : List ℕ) →
         seg_reduce_after M.join M.unit M.unit xs lengths ≡ seg_reduce_of M.join M.unit xs lengths }
 {}
