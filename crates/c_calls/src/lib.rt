@@ -1,6 +1,6 @@
 //! What the exports of the static library `cvl_c` share: checks of whatever a caller may get wrong, operators by their numbers,
 //! and the answers to a caller; and calls on a caller's own memory that are generic over a monoid, or that Rattle itself makes.
-//! An export states its call's contract again, and answers by two numbers.
+//! An export cites the definition that its call here cites, and answers by two numbers.
 //!
 //! Each call reports the first fault, in this order: `UnknownCall` if no operator has the number; the faults of its lengths, as
 //! [`checks::segments`] has them; `TooLong` if its first vector (a permute's index, a product's columns, a pack's flags) has more
