@@ -7,6 +7,7 @@ import re
 
 from clauses import specs
 from clauses.sources import Item, Source
+from clauses.unfold import say_the_same
 
 WORD = re.compile(r"[^\s(){}\[\],;.]+")
 
@@ -29,7 +30,7 @@ class Tree:
     """The public functions and the definitions of a tree, whose files come with their texts."""
 
     def __init__(self, files, renamed=()):
-        self.functions, self.definitions = {}, {}
+        self.functions, self.definitions, self.imports = {}, {}, {}
         for file, text in sorted(files.items()):
             for old, new in renamed:
                 text = re.sub(rf"(?<![\w◌-]){re.escape(old)}(?![\w◌-])", new, text)
@@ -37,6 +38,7 @@ class Tree:
                 for item in Source(file, text).items:
                     self.add(self.functions if item.is_function else self.definitions, item)
             else:
+                self.imports[file] = specs.imports(text)
                 for item in specs.definitions(file, text):
                     self.add(self.definitions, item)
 
@@ -52,11 +54,17 @@ class Tree:
     def meant(self, item, word):
         """What a word of an item's text names: a definition, or else the path of its import, or nothing."""
         path = item.imports.get(word)
-        if path is None:
-            return self.definitions.get((item.file, word))
+        return self.definitions.get((item.file, word)) if path is None else self.at(path)
+
+    def at(self, path):
+        """The definition of a path, also if its file hands it on from another one; the path itself if there is none."""
         crate, _, rest = path.removeprefix("Rattle.").partition(".specs.")
         folder, _, name = rest.rpartition(".")
-        return self.definitions.get((f"crates/{crate}/specs/{folder.replace('.', '/')}.antt", name), path)
+        file = f"crates/{crate}/specs/{folder.replace('.', '/')}.antt"
+        onward = self.imports.get(file, {}).get(name)
+        if (file, name) in self.definitions or onward in (None, path):
+            return self.definitions.get((file, name), path)
+        return self.at(onward)
 
 
 def paired(olds, news):
@@ -123,7 +131,9 @@ def clauses_differ(where, old, new, trees):
         for name, text in gone.items():
             label = f"{where}: {kind} {name}".rstrip()
             if name in come:
-                yield Difference(f"{label} changed", text, with_definitions(come[name], new, trees), True)
+                is_same = say_the_same((text, old), (come[name], new), trees)
+                what = f"{label} says the same by other names" if is_same else f"{label} changed"
+                yield Difference(what, text, with_definitions(come[name], new, trees), not is_same)
             else:
                 yield Difference(f"{label} went", text, is_judged=kind == "ensures")
         for name, text in come.items():
@@ -149,8 +159,12 @@ def compare(before, after):
             if key != pairs[key]:
                 yield Difference(f"{kind} {key[1]} moved from {old.file} to {new.file}")
             if old.text != new.text:
-                after_text = with_definitions(new.text, new, (before, after)) if kind == "definition" else new.text
-                yield Difference(f"{where} has changed", old.text, after_text, kind == "definition")
+                is_definition = kind == "definition"
+                after_text = with_definitions(new.text, new, (before, after)) if is_definition else new.text
+                if is_definition and say_the_same((old.text, old), (new.text, new), (before, after)):
+                    yield Difference(f"{where} says the same by other names", old.text, after_text)
+                else:
+                    yield Difference(f"{where} has changed", old.text, after_text, is_definition)
             elif kind == "definition":
                 for words in other_words(old.text, old, new, (before, after)):
                     yield Difference(f"{where}: {words}", old.text, new.text, True)

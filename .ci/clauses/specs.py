@@ -40,17 +40,22 @@ def name_of(line):
     return found[2]
 
 
+def imports(text):
+    """The paths of the names that a file imports, and may hand on."""
+    return imported(COMMENT.sub("", text), IMPORT)
+
+
 def definitions(file, text):
     """The top-level definitions of a file."""
     text = COMMENT.sub("", text)
-    imports, found, last = imported(text, IMPORT), {}, None
+    paths, found, last = imported(text, IMPORT), {}, None
     for head, line in logical_lines(text):
         if re.match(r"\s*(?:pub\s+)?use\s|\s*pub\s+mod\s", line):
             continue
         name = name_of(line)
         if name is not None:
             last = name
-            found[name] = Item(file, name, f"{head} {plain(line)}".strip(), [], imports, False)
+            found[name] = Item(file, name, f"{head} {plain(line)}".strip(), [], paths, False)
         elif last is not None:
             found[last].text += f" ; {plain(line)}"
     return list(found.values())
