@@ -8,7 +8,7 @@ pub mod on_each;
 pub mod on_pairs;
 pub mod or_zero;
 
-pub use choice::Chosen;
+pub use choice::{Chosen, Same, choose};
 pub use copies::Copied;
 pub use on_each::OnEach;
 pub use on_pairs::OnPairs;

@@ -6,7 +6,7 @@ ghost use Rattle.cvl_base.specs.Gives.{Gives};
 
 use crate::shared::written_by_rayon;
 use cvl_base::{Config, Memory, Refused, check_agree};
-use element_walks::Chosen;
+use element_walks::{Chosen, Same};
 use std::mem::size_of_val;
 use std::thread::Threads;
 
@@ -28,10 +28,6 @@ pub fn select<T: Copy + Send + Sync, R: Threads + Sync, A: Memory>(
     check_agree(flags.len(), a.len())?;
     check_agree(flags.len(), b.len())?;
     let read = flags.len().saturating_add(size_of_val(a).saturating_mul(2));
-    let chosen = Chosen {
-        flags,
-        first: a,
-        second: b,
-    };
+    let chosen = Chosen::<Same, Same, bool, T>::new(flags, a, b);
     Ok(written_by_rayon(rt, alloc, &chosen, flags.len(), read)?)
 }

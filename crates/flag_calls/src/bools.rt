@@ -6,9 +6,10 @@ ghost use Rattle.cvl_base.specs.Limits.{most_places};
 ghost use Rattle.cvl_base.specs.Rooms.{Overwrites, in_room};
 ghost use Rattle.flag_calls.specs.Flags.{as_bytes, flags_of};
 
-use crate::flags::{OnBytes, OneForTrue, Same};
+use crate::flags::{OnBytes, OneForTrue};
 use cvl_base::singles::NotBool;
 use cvl_base::{Binary, BoolBinary, Fault, Unary, by_bool_binary};
+use element_walks::Same;
 use elementwise::{
     on_each_in, on_each_over, on_pairs_in_both, on_pairs_in_first, on_pairs_in_second,
     on_pairs_over,

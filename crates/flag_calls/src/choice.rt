@@ -1,59 +1,15 @@
 //! The choice between two vectors by flags that come as bytes: into a room, or over one of the two.
 
-ghost use Rattle.std.specs.Prelude.{◌≡◌, ◌+◌, ◌≤◌, ◌<◌, [], length, map, slice_index_or};
-ghost use Rattle.std.specs.List.{zip};
-ghost use Rattle.cvl_base.specs.Elementwise.{choose_of, chosen};
+ghost use Rattle.std.specs.Prelude.{◌≤◌, length};
+ghost use Rattle.cvl_base.specs.Elementwise.{choose_of};
 ghost use Rattle.cvl_base.specs.Limits.{most_places};
 ghost use Rattle.cvl_base.specs.Rooms.{Overwrites, in_room};
-ghost use Rattle.fresh.specs.Parts.{part};
-ghost use Rattle.fresh.specs.Places.{stretch};
 ghost use Rattle.flag_calls.specs.Flags.{as_bytes, choose_by, flag_of, flags_of};
 
-use crate::flags::{FalseByte, OnBytes, Same, TrueByte, flag_of};
+use crate::flags::{FalseByte, OnBytes, TrueByte};
 use cvl_base::{Fault, Single, check_agree};
-use fresh::{Run, Writer, write_over};
-use std::marker::PhantomData;
-
-/// `a` if the flag is true, else `b`.
-#[inline]
-fn choose<T: Copy>(flag: bool, a: T, b: T) -> T
-    ensures { result ≡ chosen flag (a, b) }
-{
-    if flag { a } else { b }
-}
-
-/// Writes at each place the element of the first vector if the byte is true, else that of the second, through an operator.
-#[derive(Drop)]
-struct ChosenByBytes<'a, O, T> {
-    bytes: &'a [u8],
-    first: &'a [T],
-    second: &'a [T],
-    operator: PhantomData<O>,
-}
-
-impl<'a, O: Single<T, T>, T: Copy> Writer<T> for ChosenByBytes<'a, O, T> {
-    ghost whole = { λ w. map (λ p. O.value (chosen (flag_of p.0) p.1)) (zip w.bytes.now (zip w.first.now w.second.now)) };
-
-    fn write(&self, run: Run<T>) -> Run<T>
-        requires empty { run.items ≡ [] }
-        requires within { run.first + run.room
-            ≤ length (map (λ p. O.value (chosen (flag_of p.0) p.1))
-            (zip self.now.bytes.now (zip self.now.first.now self.now.second.now))) }
-        ensures { result ≡ stretch run.block run.first
-            (part (map (λ p. O.value (chosen (flag_of p.0) p.1))
-            (zip self.now.bytes.now (zip self.now.first.now self.now.second.now))) run.first run.room) 0 }
-    {
-        let (bytes, xs, ys) = (self.bytes, self.first, self.second);
-        run.fill(
-            move |place: usize| -> T
-                requires { (place < length bytes.now) × (place < length xs.now) × (place < length ys.now) }
-                ensures { (z : T) → result ≡ slice_index_or
-                    (map (λ p. O.value (chosen (flag_of p.0) p.1)) (zip bytes.entry.now (zip xs.entry.now ys.entry.now))) place
-                    z }
-            { O::apply(choose(flag_of(bytes[place]), xs[place], ys[place])) },
-        )
-    }
-}
+use element_walks::{Chosen, Same, choose};
+use fresh::write_over;
 
 /// The choice into a room, whose length is checked last.
 fn choose_over<O: Single<T, T>, T: Copy>(
@@ -68,13 +24,7 @@ fn choose_over<O: Single<T, T>, T: Copy>(
     check_agree(bytes.len(), a.len())?;
     check_agree(bytes.len(), b.len())?;
     check_agree(bytes.len(), out.len())?;
-    let chosen = ChosenByBytes::<O, T> {
-        bytes,
-        first: a,
-        second: b,
-        operator: PhantomData,
-    };
-    write_over(out, &chosen);
+    write_over(out, &Chosen::<TrueByte, O, u8, T>::new(bytes, a, b));
     Ok(())
 }
 

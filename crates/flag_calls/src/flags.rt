@@ -7,6 +7,7 @@ ghost use Rattle.flag_calls.specs.Flags.{as_flag, byte_of, flag_of, is_flag};
 
 use cvl_base::singles::IntOfBool;
 use cvl_base::{Binary, Single};
+use element_walks::Same;
 use elementwise::on_each_in;
 use scan_walks::Reading;
 use std::marker::PhantomData;
@@ -44,17 +45,6 @@ pub fn make_flags(bytes: &mut [u8])
     ensures { bytes.new ≡ map as_flag bytes.old }
 {
     on_each_in::<OnBytes<Same>, u8>(bytes);
-}
-
-/// What stands there.
-pub(crate) struct Same;
-
-impl<X> Single<X, X> for Same {
-    ghost value = { λ x. x };
-
-    fn apply(a: X) -> X {
-        a
-    }
 }
 
 /// An operator on booleans, on bytes that stand for them.

@@ -5,9 +5,9 @@ ghost use Rattle.cvl_base.specs.Extracts.{replace_of};
 ghost use Rattle.cvl_base.specs.Rooms.{Overwrites, in_room};
 ghost use Rattle.flag_calls.specs.Flags.{as_bytes, flags_of};
 
-use crate::flags::{OnBytes, Same, byte_of};
+use crate::flags::{OnBytes, byte_of};
 use cvl_base::{Fault, FaultNo, check_agree, place_among};
-use element_walks::OnEach;
+use element_walks::{OnEach, Same};
 use fresh::write_over;
 
 /// The flags with another one at the index, a place counted from 0, in a room: `rep_vub`. `IndexOutOfRange`, at 0, if there is no
