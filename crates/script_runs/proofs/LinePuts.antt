@@ -1,5 +1,5 @@
 -- A line whose text is put, or cut, or that has none.
-use Rattle.std.proofs.Common.{◌≡◌, ℕ, List, [], take, None, Result, Ok, Err, refl, ap}
+use Rattle.std.proofs.Common.{◌≡◌, ℕ, List, [], take, None, unwrap_or, Result, Ok, Err, refl, sym, ap}
 use Rattle.cvl_base.specs.declared.fault.Fault.{Fault}
 use Rattle.vector_handles.specs.Names.{Entries}
 use Rattle.vector_handles.specs.Steps.{Stepped}
@@ -23,11 +23,11 @@ module _ {A : Type 0} where
   cut_line number meaning stepped text f a b is text_is put =
       record { written = take put.0 text; ends = (refl, (stepped, put.0, is, rw text_is at put.1, ap (take put.0) text_is)); shown = put.2 }
 
-  -- a line without a call
-  pub empty_line : (number : ℕ) (meaning : Result (Stepped A) Fault) (names : Entries A) (s : Seen) → meaning ≡ Ok (record { names = names; shown = None })
-      → LineRuns number meaning names s s (Ok tt)
-  empty_line number meaning names s is =
-      record { written = []; ends = (record { names = names; shown = None }, is, refl, refl); shown = nothing_answered (Ok tt) s refl }
+  -- a line that shows nothing
+  pub silent_line : (number : ℕ) (meaning : Result (Stepped A) Fault) (stepped : Stepped A) (s : Seen) → meaning ≡ Ok stepped → stepped.shown ≡ None
+      → LineRuns number meaning stepped.names s s (Ok tt)
+  silent_line number meaning stepped s is nothing =
+      record { written = []; ends = (stepped, is, refl, ap (λ shown. unwrap_or shown []) (sym nothing)); shown = nothing_answered (Ok tt) s refl }
 
   -- a line that is refused memory before anything is put
   pub starved_line : (number : ℕ) (meaning : Result (Stepped A) Fault) (names : Entries A) (s : Seen) → LineRuns number meaning names s s (Err (stop.NoResources number))

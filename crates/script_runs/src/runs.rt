@@ -1,11 +1,14 @@
 //! Runs of scripts.
 
-ghost use Rattle.std.specs.Prelude.{◌≡◌, ◌^◌, ◌<◌, ◌-◌, ◌≤◌, [], length, unwrap_or, OnErr};
+ghost use Rattle.std.specs.Prelude.{◌≡◌, ◌^◌, ◌<◌, ◌-◌, ◌≤◌, [], length, Result};
+ghost use Rattle.cvl_base.specs.declared.fault.Fault.{Fault};
+ghost use Rattle.cvl_base.specs.Gives.{Gives};
 ghost use Rattle.cvl_base.specs.Limits.{most_script_bytes};
-ghost use Rattle.vector_handles.specs.Sessions.{text_shown};
-ghost use Rattle.vector_handles.specs.Steps.{step};
+ghost use Rattle.vector_handles.specs.LongWrites.{text_written};
+ghost use Rattle.vector_handles.specs.Names.{Entries};
+ghost use Rattle.vector_handles.specs.Steps.{Stepped};
 ghost use Rattle.script_runs.specs.Ends.{AtEnd, AtFault, Runs};
-ghost use Rattle.script_runs.specs.LineRuns.{LineRuns, refused_at};
+ghost use Rattle.script_runs.specs.LineRuns.{LineRuns, refused_at, with_text};
 ghost use Rattle.script_runs.specs.Meaning.{meaning, from_line, line_step, lines_of, names_left};
 
 use crate::lines::next_line;
@@ -15,20 +18,10 @@ use crate::sink::Sink;
 use crate::stop::Stop;
 use crew::{Gate, OpenGate};
 use cvl_base::limits::MOST_SCRIPT_BYTES;
-use cvl_base::{Call, Config, Fault, FaultNo, Memory, Refused};
+use cvl_base::{Config, Fault, FaultNo, Memory, Refused};
 use line_reader::read_line;
 use std::thread::Threads;
-use vector_handles::{Input, Session, Shown};
-
-/// The bytes of the text that a call shows; none if it shows nothing.
-fn shown_bytes<A: Memory>(shown: &Shown<A>) -> &[u8]
-    ensures { result.now ≡ unwrap_or (text_shown shown.now) [] }
-{
-    match shown {
-        Shown::Nothing => b"",
-        Shown::Text(text) => text.as_slice(),
-    }
-}
+use vector_handles::{Input, Session, WrittenText};
 
 fn stop_of(refused: Refused, number: u32) -> Stop
     ensures { result ≡ refused_at number refused }
@@ -42,35 +35,30 @@ fn stop_of(refused: Refused, number: u32) -> Stop
     }
 }
 
-/// Makes the call of a line and puts its text into the sink: whole, or piece by piece if a vector is long.
-fn run_call<R: Threads + Sync, A: Memory, S: Sink, G: Gate>(
+/// Puts the text of a write into the sink: whole, or piece by piece if a vector is long.
+fn run_write<R: Threads + Sync, A: Memory, S: Sink>(
     rt: &R,
     alloc: A,
-    session: &mut Session<A>,
-    call: &Call<A>,
+    written: Result<WrittenText<'_, A>, Refused>,
     number: u32,
     sink: &mut S,
-    gate: &G,
 ) -> Result<(), Stop>
     requires { (S.seen sink.old).failed_puts < 2 ^ 64 - 1 }
-    ensures runs { LineRuns number (step session.old.names session.old.inputs call.now) session.new.names
-        (S.seen sink.old) (S.seen sink.new) result }
-    ensures inputs { session.new.inputs ≡ session.old.inputs }
-    ensures refused { AtFault result (session.new.names ≡ session.old.names) }
+    ensures { (meaning : Result (Stepped A) Fault) (names : Entries A) →
+        Gives (λ text. with_text names (text_written text)) written.entry meaning →
+        LineRuns number meaning names (S.seen sink.old) (S.seen sink.new) result }
 {
-    if let Some(write) = session.long_write(call) {
-        return run_long_write(rt, alloc, &write, number, sink);
-    }
-    match session.apply_gated(rt, call, gate) {
+    match written {
         Err(refused) => Err(stop_of(refused, number)),
-        Ok(shown) => match put_all(sink, shown_bytes(&shown)) {
+        Ok(WrittenText::Long(write)) => run_long_write(rt, alloc, &write, number, sink),
+        Ok(WrittenText::Whole(text)) => match put_all(sink, text.as_slice()) {
             Ok(()) => Ok(()),
             Err(_) => Err(Stop::WriteFailed { line: number }),
         },
     }
 }
 
-/// Runs the line of this number, from 1 on.
+/// Runs the line of this number, from 1 on, and puts its text into the sink.
 fn run_line<R: Threads + Sync, A: Memory, S: Sink, G: Gate>(
     rt: &R,
     alloc: A,
@@ -86,10 +74,18 @@ fn run_line<R: Threads + Sync, A: Memory, S: Sink, G: Gate>(
     ensures inputs { session.new.inputs ≡ session.old.inputs }
     ensures refused { AtFault result (session.new.names ≡ session.old.names) }
 {
-    match read_line(alloc, line) {
+    let call = match read_line(alloc, line) {
+        Err(refused) => return Err(stop_of(refused, number)),
+        Ok(None) => return Ok(()),
+        Ok(Some(call)) => call,
+    };
+    if let Some(written) = session.written(rt, &call) {
+        return run_write(rt, alloc, written, number, sink);
+    }
+    match session.apply_gated(rt, &call, gate) {
+        // a binding shows nothing
+        Ok(_) => Ok(()),
         Err(refused) => Err(stop_of(refused, number)),
-        Ok(None) => Ok(()),
-        Ok(Some(call)) => run_call(rt, alloc, session, &call, number, sink, gate),
     }
 }
 

@@ -7,17 +7,17 @@ ghost use Rattle.bound_names.specs.Operands.{AreTaken, held_at};
 use crate::kept::KeptInput;
 use crate::session::Session;
 use bound_names::{Operands, resolve};
-use cvl_base::{Arg, Config, Fault, Memory, NoResources, Op};
-use std::thread::Threads;
+use cvl_base::{Arg, Config, Fault, Memory, Op};
 
-/// The values of a call's arguments, the session's inputs, and what a kernel takes besides.
+/// The values of a call's arguments, the session's inputs, and what a kernel takes besides. The names and the inputs have
+/// lifetimes of their own, so that an input can be read once the arguments are found.
 #[derive(Drop)]
-pub(crate) struct Asked<'a, R, A: Memory> {
+pub(crate) struct Asked<'a, 'n, R, A: Memory> {
     pub(crate) rt: &'a R,
     pub(crate) alloc: A,
     pub(crate) config: Config,
     pub(crate) inputs: &'a [KeptInput<A>],
-    pub(crate) operands: Operands<'a, A>,
+    pub(crate) operands: Operands<'n, A>,
 }
 
 impl<A: Memory> Session<A> {
@@ -27,7 +27,7 @@ impl<A: Memory> Session<A> {
         rt: &'a R,
         op: Op,
         args: &[Arg],
-    ) -> Result<Asked<'a, R, A>, Fault>
+    ) -> Result<Asked<'a, 'a, R, A>, Fault>
         ensures fault { MatchResult result
             (λ _. args_fault self.now.names op args.now ≡ None)
             (λ fault. args_fault self.now.names op args.now ≡ Some fault) }
@@ -42,29 +42,5 @@ impl<A: Memory> Session<A> {
             inputs: self.inputs.as_slice(),
             operands: resolve(&self.names, op, args)?,
         })
-    }
-
-    /// The number, counted from 1, of the input that these arguments of `input` name.
-    fn number_asked_for(&self, args: &[Arg]) -> Option<i32> {
-        let operands = resolve(&self.names, Op::Input, args).ok()?;
-        Some(operands.first.integer())
-    }
-
-    /// Reads the input that these arguments of `input` name, and keeps its numbers instead of its bytes. Text with a fault stays
-    /// as it is; the call reports it.
-    pub(crate) fn read_asked_for<R: Threads + Sync>(
-        &mut self,
-        rt: &R,
-        args: &[Arg],
-    ) -> Result<(), NoResources>
-        ensures { self.new ≡ self.old }
-    {
-        let (alloc, config) = (self.alloc, self.config);
-        let number = self.number_asked_for(args).unwrap_or(0);
-        let place = usize::try_from(number).unwrap_or(0).wrapping_sub(1);
-        match self.inputs.get_mut(place) {
-            Some(input) => input.read(rt, alloc, config),
-            None => Ok(()),
-        }
     }
 }

@@ -12,7 +12,7 @@ use cvl_base::{Fault, FaultNo, Memory, Op, Refused};
 use segdes::SegDes;
 use std::thread::Threads;
 
-impl<R: Threads + Sync, A: Memory> Asked<'_, R, A> {
+impl<R: Threads + Sync, A: Memory> Asked<'_, '_, R, A> {
     /// The value of a call; `UnknownCall` for `write`, which gives none, and `WrongArgumentCount` for `nested`, which gives two.
     /// The workers that race for it pass the gate.
     pub(crate) fn value<G: Gate>(&self, op: Op, gate: &G) -> Answer<A>

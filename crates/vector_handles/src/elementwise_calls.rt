@@ -12,7 +12,7 @@ use cvl_base::{BoolBinary, Comparison, Element, IntBinary, Memory, Unary};
 use elementwise::{bool_from_int, bool1, bool2, compare, int_from_bool, int1, int2_gated, select};
 use std::thread::Threads;
 
-impl<R: Threads + Sync, A: Memory> Asked<'_, R, A> {
+impl<R: Threads + Sync, A: Memory> Asked<'_, '_, R, A> {
     /// An operator on two integer vectors.
     pub(crate) fn ints2<G: Gate>(&self, operator: IntBinary, gate: &G) -> Answer<A>
         requires kinds { AreTaken (op.Ints2 operator) self.now.operands }

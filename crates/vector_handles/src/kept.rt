@@ -1,12 +1,13 @@
 //! The inputs of a session.
 
 ghost use Rattle.std.specs.Prelude.{◌≡◌, IfOk};
+ghost use Rattle.bound_names.specs.Operands.{AreTaken};
 
 use crate::input::Input;
 use crate::read_bytes::ReadBytes;
-use bound_names::SharedInts;
+use bound_names::{Operands, SharedInts};
 use call_reader::read_vector;
-use cvl_base::{Config, Memory, NoResources, Refused};
+use cvl_base::{Config, Memory, NoResources, Op, Refused};
 use std::marker::Model;
 use std::thread::Threads;
 
@@ -86,4 +87,28 @@ pub(crate) fn kept_inputs<A: Memory>(
         kept.push(KeptInput::new(alloc, input)?)?;
     }
     Ok(kept)
+}
+
+/// Reads the input that a call of `input` names by its number, counted from 1, and keeps its numbers instead of its bytes. Text
+/// with a fault stays as it is; the call reports it. Another call reads nothing here.
+pub(crate) fn read_asked_for<R: Threads + Sync, A: Memory>(
+    rt: &R,
+    alloc: A,
+    config: Config,
+    inputs: &mut Vec<KeptInput<A>, A>,
+    op: Op,
+    operands: &Operands<'_, A>,
+) -> Result<(), NoResources>
+    requires kinds { AreTaken op operands.now }
+    ensures { inputs.new.items ≡ inputs.old.items }
+{
+    let Op::Input = op else {
+        return Ok(());
+    };
+    let number = operands.first.integer();
+    let place = usize::try_from(number).unwrap_or(0).wrapping_sub(1);
+    match inputs.get_mut(place) {
+        Some(input) => input.read(rt, alloc, config),
+        None => Ok(()),
+    }
 }

@@ -25,7 +25,7 @@ pub use input::Input;
 // A crate can name a session in a contract only if the types of its fields are exported.
 #[doc(hidden)]
 pub use kept::{Content, KeptInput};
-pub use long_writes::LongWrite;
+pub use long_writes::{LongWrite, WrittenText};
 #[doc(hidden)]
 pub use read_bytes::ReadBytes;
 pub use session::Session;

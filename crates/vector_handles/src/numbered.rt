@@ -20,7 +20,7 @@ use cvl_base::{Fault, FaultNo, Memory, Refused};
 use segdes::SegDes;
 use std::thread::Threads;
 
-impl<'a, R: Threads + Sync, A: Memory> Asked<'a, R, A> {
+impl<'a, R: Threads + Sync, A: Memory> Asked<'a, '_, R, A> {
     /// The input whose number, counted from 1, is the first argument.
     pub(crate) fn input_asked_for(&self) -> Option<&'a KeptInput<A>>
         requires { kind_held self.now.operands.first ≡ Some kind.Integer }

@@ -19,7 +19,7 @@ use pack_dist::{
 };
 use std::thread::Threads;
 
-impl<R: Threads + Sync, A: Memory> Asked<'_, R, A> {
+impl<R: Threads + Sync, A: Memory> Asked<'_, '_, R, A> {
     /// The number of elements of a vector.
     pub(crate) fn length(&self, element: Element) -> Answer<A>
         requires kinds { AreTaken (op.Length element) self.now.operands }

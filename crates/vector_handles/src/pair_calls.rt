@@ -13,7 +13,7 @@ use cvl_base::{Fault, FaultNo, Memory, Op, Refused};
 use segdes::SegDes;
 use std::thread::Threads;
 
-impl<R: Threads + Sync, A: Memory> Asked<'_, R, A> {
+impl<R: Threads + Sync, A: Memory> Asked<'_, '_, R, A> {
     /// The two values of a call; `WrongArgumentCount` for every call that gives fewer.
     pub(crate) fn pair(&self, op: Op) -> Result<(Bound<A>, Bound<A>), Refused>
         requires kinds { AreTaken op self.now.operands }

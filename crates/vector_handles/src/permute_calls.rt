@@ -19,7 +19,7 @@ use segmented_permutes::{
 };
 use std::thread::Threads;
 
-impl<R: Threads + Sync, A: Memory> Asked<'_, R, A> {
+impl<R: Threads + Sync, A: Memory> Asked<'_, '_, R, A> {
     /// A permute of an integer or a boolean vector.
     pub(crate) fn permute<G: Gate>(
         &self,

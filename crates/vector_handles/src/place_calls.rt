@@ -17,7 +17,7 @@ use pack_dist::{
 };
 use std::thread::Threads;
 
-impl<R: Threads + Sync, A: Memory> Asked<'_, R, A> {
+impl<R: Threads + Sync, A: Memory> Asked<'_, '_, R, A> {
     /// Copies of one value, or of one for each segment.
     pub(crate) fn distribute(&self, cut: Cut, element: Element) -> Answer<A>
         requires kinds { AreTaken (op.Distribute cut element) self.now.operands }

@@ -16,7 +16,7 @@ use scan_ops::{
 };
 use std::thread::Threads;
 
-impl<R: Threads + Sync, A: Memory> Asked<'_, R, A> {
+impl<R: Threads + Sync, A: Memory> Asked<'_, '_, R, A> {
     /// A scan of an integer vector.
     pub(crate) fn scan<G: Gate>(&self, operator: IntMonoid, cut: Cut, gate: &G) -> Answer<A>
         requires kinds { AreTaken (op.Scan operator cut) self.now.operands }

@@ -7,7 +7,7 @@ use crate::kept::{KeptInput, kept_inputs};
 use crate::shown::Shown;
 use bound_names::{Names, bind_answer, bind_answers, take_out, value_of};
 use crew::{Gate, OpenGate};
-use cvl_base::{Call, Config, Memory, Name, NoResources, Op, Refused, ResultNames, Value};
+use cvl_base::{Call, Config, Memory, Name, NoResources, Refused, ResultNames, Value};
 use std::collections::BTreeMap;
 use std::marker::Model;
 use std::thread::Threads;
@@ -86,9 +86,6 @@ impl<A: Memory> Session<A> {
         match call.results {
             ResultNames::None => Ok(Shown::Text(self.text_of_call(rt, call.op, args)?)),
             ResultNames::One(target) => {
-                if let Op::Input = call.op {
-                    self.read_asked_for(rt, args)?;
-                }
                 let answer = self.value_for(rt, &target, call.op, args, gate);
                 bind_answer(&mut self.names, &target, answer)?;
                 Ok(Shown::Nothing)

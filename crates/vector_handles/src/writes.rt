@@ -34,10 +34,10 @@ impl<A: Memory> Session<A> {
     }
 }
 
-impl<R: Threads + Sync, A: Memory> Asked<'_, R, A> {
+impl<R: Threads + Sync, A: Memory> Asked<'_, '_, R, A> {
     /// The name, ` = `, the value and a line feed: `LengthMismatch` if a descriptor beside the value doesn't add up to its
     /// length.
-    fn text_of_write(&self, args: &[Arg]) -> Result<Vec<u8, A>, Refused>
+    pub(crate) fn text_of_write(&self, args: &[Arg]) -> Result<Vec<u8, A>, Refused>
         ensures { Gives (λ text. text.items) result (written args.now (held_at self.now.operands)) }
     {
         let mut text = Vec::new(self.alloc);
