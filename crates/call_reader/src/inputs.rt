@@ -26,8 +26,8 @@ pub(crate) fn is_white_space(byte: u8) -> bool
     (byte == b' ') | (byte == b'\t') | (byte == b'\n') | (byte == b'\r')
 }
 
-/// The classes of an input's bytes: white space is blank.
-pub(crate) enum InputBytes {}
+/// The classes of the bytes of an input of numbers: white space is blank.
+pub enum InputBytes {}
 
 impl Classes for InputBytes {
     ghost class_of = { input_class };

@@ -12,8 +12,9 @@ mod pieces;
 pub mod text_laws;
 mod vector_reads;
 
-pub use inputs::{read_vector_alone, read_vector_within, worked_inputs};
+pub use inputs::{InputBytes, read_vector_alone, read_vector_within, worked_inputs};
 pub use line_reader::{read_line, token};
 pub use nested_reads::{read_nested, read_nested_alone};
+pub use nested_tokens::NestedBytes;
 pub use value_texts::put_value;
 pub use vector_reads::read_vector;

@@ -11,7 +11,7 @@ use line_reader::number::{leading_number, number};
 use line_reader::token::{ByteClass, Classes, begins_in_token, blanks, first_token};
 
 /// The classes of a nested text's bytes: white space is blank, and brackets are tokens of their own.
-pub(crate) enum NestedBytes {}
+pub enum NestedBytes {}
 
 impl Classes for NestedBytes {
     ghost class_of = { nested_class };

@@ -6,8 +6,8 @@ ghost use Rattle.explained_inputs.specs.InputFaults.{bytes_words, end_words, exp
 ghost use Rattle.explained_inputs.specs.InputFaults.{flat_words, input_fault_words, position_words};
 ghost use Rattle.explained_inputs.specs.InputFaults.{quoted, stray_words, too_long_words, vector_words};
 
-use crate::classes::{FlatBytes, NestedBytes};
 use crate::token_places::{column_at, count_of, first_of, from_place, line_at, token_start};
+use call_reader::{InputBytes, NestedBytes};
 use cvl_base::{Memory, NoResources};
 use explained_calls::{put_pieces, put_shortened};
 use itoa::Buffer;
@@ -48,7 +48,7 @@ fn put_flat<B: Memory>(
 {
     put_pieces(text, &[b"  "])?;
     put_position(file, bytes, start, text)?;
-    put_quoted(first_of::<FlatBytes>(from_place(bytes, start)), text)?;
+    put_quoted(first_of::<InputBytes>(from_place(bytes, start)), text)?;
     put_pieces(text, &[b" is no integer from -2147483648 to 2147483647\n"])
 }
 
@@ -61,7 +61,7 @@ fn put_flat_fault<B: Memory>(
 ) -> Result<(), NoResources>
     ensures { OnOk result (text.new.items ≡ text.old.items ++ bytes_words false file.now bytes.now token) }
 {
-    match token_start::<FlatBytes>(bytes, token) {
+    match token_start::<InputBytes>(bytes, token) {
         None => Ok(()),
         Some(start) => put_flat(file, bytes, start, text),
     }

@@ -1,7 +1,6 @@
 //! What is wrong with an input, in words: where the bad token stands, and what was expected there.
 #![tactic(auto)]
 
-mod classes;
 pub mod input_faults;
 mod token_places;
 
