@@ -1,7 +1,6 @@
 pub mod Cut
 pub mod Few
 pub mod LastStart
-pub mod Marks
 pub mod RangeParts
 pub mod Scanned
 pub mod SegmentNumbers

@@ -14,6 +14,9 @@ module _ {X Item : Type 0} (item : X → Item) where
   pub length-read : (xs : List X) (i : ℕ) → i < length xs → i < length (map item xs)
   length-read xs i within = omega (arith, within, length-map xs item)
 
+  pub item_read : (xs : List X) (i : ℕ) (x : X) → i < length xs → x ≡ get_or xs i x → item x ≡ get_or (map item xs) i (item x)
+  item_read xs i x within is = ap item is ∙ sym (get_or-map item xs i x (item x) within)
+
   pub all_read : (xs : List X) (n : ℕ) → length xs ≤ n → take n (map item xs) ≡ map item xs
   all_read xs n covered = take_all n (map item xs) (omega (arith, covered, length-map xs item))
 
@@ -21,7 +24,7 @@ module _ {X Item : Type 0} (item : X → Item) where
 pub joined_reading : {X Item : Type 0} (join : Item → Item → Item) (item : X → Item) (before sum next : Item) (x : X) (xs : List X) (i : ℕ) → i < length xs → x ≡ get_or xs i x
     → sum ≡ fold_of join before (take i (map item xs)) → next ≡ join sum (item x) → next ≡ fold_of join before (take (i + 1) (map item xs))
 joined_reading join item before sum next x xs i within is_x is_sum is_next =
-    joined_more join before sum (item x) next (map item xs) i (length-read item xs i within) (ap item is_x ∙ sym (get_or-map item xs i x (item x) within)) is_sum is_next
+    joined_more join before sum (item x) next (map item xs) i (length-read item xs i within) (item_read item xs i x within is_x) is_sum is_next
 
 -- the scan of what they are read as
 pub length-scan_read : {X Item : Type 0} (join : Item → Item → Item) (item : X → Item) (before : Item) (xs : List X) → length (scan_of join before (map item xs)) ≡ length xs

@@ -1,9 +1,9 @@
--- Where segments end, counted, and the reduces of the segments as their elements are joined one by one.
--- Source: what the definitions of ends and of reduces imply.
+-- Where segments end, counted, and the reduces and scans of the segments as their elements are joined one by one.
+-- Source: what the definitions of ends, of reduces and of scans imply.
 use Rattle.range_walks.proofs.Cited.{◌≡◌, ℕ, ℤ, unsigned_abs, zero, suc, ◌+◌, ◌-◌, ◌<◌, ◌≤◌, Bool, List, [], ◌∷◌, ◌++◌}
 use Rattle.range_walks.proofs.Cited.{length, take, drop, map, get_or, refl, subst, sym, ap, ◌∙◌, true, IsTrue, arith, sum, AllPass}
 use Rattle.range_walks.proofs.Cited.{take_all, drop_all, drop-take, length-take, length-drop, length-map, sum_by_more, sum_by-take-drop, sum-cons, All-take, All-drop, fold_of, fold_of_is_item}
-use Rattle.range_walks.proofs.Cited.{MonoidLaws, start_of, cut_of, reduces_of}
+use Rattle.range_walks.proofs.Cited.{MonoidLaws, start_of, cut_of, reduces_of, append-nil, scan_of, scan_of_more, scans_of}
 use Rattle.range_walks.specs.Ends.{AreEnds, IsIn}
 use Rattle.range_walks.proofs.Cut.{start_of_all}
 use Rattle.cvl_base.specs.Descriptors.{AreLengthsWithin}
@@ -12,9 +12,9 @@ use Rattle.range_walks.proofs.Scanned.{joined_more}
 use Rattle.range_walks.proofs.Segments.{length_here, read_at}
 use Rattle.cvl_base.proofs.Nests.{length-cut}
 use Rattle.std.specs.Prelude.{◌*◌, ◌^◌, replicate, set}
-use Rattle.std.proofs.Common.{⊎_elim, take-take}
+use Rattle.std.proofs.Common.{⊎_elim, append_assoc, take-take}
 use Rattle.std.proofs.lemmas.Bool.{cases_lt}
-use Rattle.std.proofs.lemmas.List.{take-set-le, get_or_append_left, get_or-drop, take-append-le, get_or-take, replicate-append-replicate}
+use Rattle.std.proofs.lemmas.List.{take-set-le, get_or_append_left, get_or-drop, take-append-le, get_or-take, replicate-append-replicate, set-append_left}
 use Rattle.std.proofs.lemmas.List.Sums.{sum_by-set}
 use Rattle.std.proofs.Math.Seq.{take-set-lt}
 use Rattle.std.proofs.Math.Nat.{mul-le-mul_left}
@@ -67,19 +67,30 @@ pub in_count : (lengths : List ℕ) (s place : ℕ) → IsIn lengths s place →
 in_count lengths s place holds = ⊎_elim (λ (lt : s < length lengths). lt)
     (λ (ge : length lengths ≤ s). absurd (omega (arith, holds.0, holds.1, start_of_all lengths s ge, start_of_all lengths (s + 1) (omega (arith, ge))))) (cases_lt s (length lengths))
 
--- the number of the segment that holds the next place
-pub holder : (lengths ends : List ℕ) (count place segment : ℕ) → AreEnds lengths ends → sum lengths ≡ count → count ≤ length ends → place < count → segment ≡ sum (take place ends)
-    → (segment + get_or ends place 0 ≡ sum (take (place + 1) ends)) × IsIn lengths (segment + get_or ends place 0) place
-holder lengths ends count place segment are covered places lt is =
-    let number : segment + get_or ends place 0 ≡ sum (take (place + 1) ends) = omega (arith, is, sum_by_more (λ x. x) ends place 0 (omega (arith, lt, places))) in
-    (number, subst (λ k. IsIn lengths k place) (sym number) (are place (omega (arith, lt, covered))))
+-- a segment of at most 128 that holds the place, with the number that the counts up to there make
+pub record IsHolder (row : List ℤ) (ends : List ℕ) (place s : ℕ) : Type 0 where
+  pub number : s ≡ sum (take (place + 1) ends)
+  pub holds : IsIn (map unsigned_abs row) s place
+  pub own : s < length (map unsigned_abs row)
+  pub below : s < 128
 
--- it is small if the segments are few
-pub holder_below : (row : List ℤ) (ends : List ℕ) (count place segment : ℕ) → AreEnds (map unsigned_abs row) ends → sum (map unsigned_abs row) ≡ count → count ≤ length ends → place < count
-    → segment ≡ sum (take place ends) → length row ≤ 128 → segment + get_or ends place 0 < 128
-holder_below row ends count place segment are covered places lt is few =
+-- the number of the segment that holds the next place
+pub holder : (row : List ℤ) (ends : List ℕ) (count place segment : ℕ) → AreEnds (map unsigned_abs row) ends → count ≤ sum (map unsigned_abs row) → count ≤ length ends → place < count
+    → segment ≡ sum (take place ends) → length row ≤ 128 → IsHolder row ends place (segment + get_or ends place 0)
+holder row ends count place segment are covered places lt is few =
     let lengths = map unsigned_abs row in
-    omega (arith, in_count lengths (segment + get_or ends place 0) place (holder lengths ends count place segment are covered places lt is).1, few, length-map row unsigned_abs)
+    let next = segment + get_or ends place 0 in
+    let number : next ≡ sum (take (place + 1) ends) = omega (arith, is, sum_by_more (λ x. x) ends place 0 (omega (arith, lt, places))) in
+    let holds = subst (λ k. IsIn lengths k place) (sym number) (are place (omega (arith, lt, covered))) in
+    let own = in_count lengths next place holds in
+    record { number = number; holds = holds; own = own; below = omega (arith, own, few, length-map row unsigned_abs) }
+
+-- a place behind the first segment, counted from its end
+in_later : (n : ℕ) (ls : List ℕ) (s place m : ℕ) → IsIn (n ∷ ls) (suc s) place → place ≡ n + m → IsIn ls s m
+in_later n ls s place m holds is =
+    let one_on : suc s + 1 ≡ suc (s + 1) = omega arith in
+    let ends : start_of (n ∷ ls) (suc s + 1) ≡ n + start_of ls (s + 1) = ap (start_of (n ∷ ls)) one_on ∙ sum-cons n (take (s + 1) ls) in
+    (omega (arith, holds.0, is, sum-cons n (take s ls)), omega (arith, holds.1, is, ends))
 
 -- the place of a sum among a few small ones has a number that fits
 pub offset_fits : (i n bytes : ℕ) → bytes ≡ capped n → bytes ≤ 16 → i < 128 → i * n < 2 ^ 64
@@ -125,7 +136,7 @@ module _ {Item : Type 0} (join : Item → Item → Item) (unit : Item) where
   reduced_later n ls xs place m is = cc (is, take-take n (n + m) xs (omega arith), drop-take n m xs)
 
   -- an element at the place is joined to the reduce of segment s, which was `before`
-  pub reduced_more : (lengths : List ℕ) (xs : List Item) (place s : ℕ) (d before x next : Item) → IsIn lengths s place → place < length xs → x ≡ get_or xs place x
+  reduced_more : (lengths : List ℕ) (xs : List Item) (place s : ℕ) (d before x next : Item) → IsIn lengths s place → place < length xs → x ≡ get_or xs place x
       → before ≡ get_or (reduces_of join unit lengths (take place xs)) s d → next ≡ join before x
       → set (reduces_of join unit lengths (take place xs)) s next ≡ reduces_of join unit lengths (take (place + 1) xs)
   reduced_more [] xs place s d before x next holds within is_x is_before is_next = absurd (omega (arith, holds.1, start_of_all [] (s + 1) (omega arith)))
@@ -139,15 +150,61 @@ module _ {Item : Type 0} (join : Item → Item → Item) (unit : Item) where
   reduced_more (n ∷ ls) xs place (suc s) d before x next holds within is_x is_before is_next =
       let m : ℕ = place - n in
       let is_place : place ≡ n + m = omega (arith, holds.0, sum-cons n (take s ls)) in
-      let one_on : suc s + 1 ≡ suc (s + 1) = omega arith in
-      let ends : start_of (n ∷ ls) (suc s + 1) ≡ n + start_of ls (s + 1) = ap (start_of (n ∷ ls)) one_on ∙ sum-cons n (take (s + 1) ls) in
-      let there : IsIn ls s m = (omega (arith, holds.0, is_place, sum-cons n (take s ls)), omega (arith, holds.1, is_place, ends)) in
+      let there : IsIn ls s m = in_later n ls s place m holds is_place in
       let now = reduced_later n ls xs place m is_place in
       let read : x ≡ get_or (drop n xs) m x = is_x ∙ ap (λ k. get_or xs k x) is_place ∙ sym (get_or-drop n xs m x) in
       let is : before ≡ get_or (reduces_of join unit ls (take m (drop n xs))) s d = is_before ∙ ap (λ sums. get_or sums (suc s) d) now in
       ap (λ sums. set sums (suc s) next) now
       ∙ ap (λ sums. fold_of join unit (take n xs) ∷ sums) (reduced_more ls (drop n xs) m s d before x next there (omega (arith, within, is_place, length-drop n xs)) read is is_next)
       ∙ sym (reduced_later n ls xs (place + 1) (m + 1) (omega (arith, is_place)))
+
+  -- the step of a walk that keeps them, with units behind them
+  pub sums_more : (lengths : List ℕ) (xs units sums : List Item) (place s : ℕ) (d x next : Item) → IsIn lengths s place → place < length xs → x ≡ get_or xs place x
+      → sums ≡ reduces_of join unit lengths (take place xs) ++ units → next ≡ join (get_or sums s d) x → set sums s next ≡ reduces_of join unit lengths (take (place + 1) xs) ++ units
+  sums_more lengths xs units sums place s d x next holds within is_x is is_next =
+      let now = reduces_of join unit lengths (take place xs) in
+      let own = in_count lengths s place holds in
+      ap (λ row. set row s next) is
+      ∙ set-append_left now units s next (omega (arith, own, length-reduced lengths (take place xs)))
+      ∙ ap (λ row. row ++ units) (reduced_more lengths xs place s d (get_or sums s d) x next holds within is_x (sum_read lengths (take place xs) units sums s d is own) is_next)
+
+  -- ---- the scans of the segments, which write these reduces on the way
+
+  pub none_scanned : (lengths : List ℕ) → scans_of join unit lengths [] ≡ []
+  none_scanned [] = refl
+  none_scanned (n ∷ ls) = (λ i. scan_of join unit (take_all n [] (omega arith) i) ++ scans_of join unit ls (drop_all n [] (omega arith) i)) ∙ none_scanned ls
+
+  scanned_here : (n : ℕ) (ls : List ℕ) (xs : List Item) (place : ℕ) → place ≤ n → scans_of join unit (n ∷ ls) (take place xs) ≡ scan_of join unit (take place xs)
+  scanned_here n ls xs place lt =
+      let few : length (take place xs) ≤ n = omega (arith, length-take place xs, lt) in
+      (λ i. scan_of join unit (take_all n (take place xs) few i) ++ scans_of join unit ls (drop_all n (take place xs) few i))
+      ∙ ap (λ ys. scan_of join unit (take place xs) ++ ys) (none_scanned ls)
+      ∙ append-nil (scan_of join unit (take place xs))
+
+  scanned_later : (n : ℕ) (ls : List ℕ) (xs : List Item) (place m : ℕ) → place ≡ n + m
+      → scans_of join unit (n ∷ ls) (take place xs) ≡ scan_of join unit (take n xs) ++ scans_of join unit ls (take m (drop n xs))
+  scanned_later n ls xs place m is = cc (is, take-take n (n + m) xs (omega arith), drop-take n m xs)
+
+  -- at the place of an element of segment s stands the reduce of the segment's elements before it
+  pub scans_more : (lengths : List ℕ) (xs : List Item) (place s : ℕ) (d before : Item) → IsIn lengths s place → place < length xs
+      → before ≡ get_or (reduces_of join unit lengths (take place xs)) s d → scans_of join unit lengths (take (place + 1) xs) ≡ scans_of join unit lengths (take place xs) ++ before ∷ []
+  scans_more [] xs place s d before holds within is_before = absurd (omega (arith, holds.1, start_of_all [] (s + 1) (omega arith)))
+  scans_more (n ∷ ls) xs place zero d before holds within is_before =
+      let inside : place < n = omega (arith, holds.1, sum-cons n []) in
+      let is : before ≡ fold_of join unit (take place xs) = is_before ∙ ap (λ sums. get_or sums 0 d) (reduced_here n ls xs place (omega (arith, inside)) (omega (arith, within))) in
+      scanned_here n ls xs (place + 1) (omega (arith, inside))
+      ∙ scan_of_more join unit xs place within
+      ∙ (λ i. sym (scanned_here n ls xs place (omega (arith, inside))) i ++ sym is i ∷ [])
+  scans_more (n ∷ ls) xs place (suc s) d before holds within is_before =
+      let m : ℕ = place - n in
+      let is_place : place ≡ n + m = omega (arith, holds.0, sum-cons n (take s ls)) in
+      let there : IsIn ls s m = in_later n ls s place m holds is_place in
+      let is : before ≡ get_or (reduces_of join unit ls (take m (drop n xs))) s d = is_before ∙ ap (λ sums. get_or sums (suc s) d) (reduced_later n ls xs place m is_place) in
+      let front = scan_of join unit (take n xs) in
+      scanned_later n ls xs (place + 1) (m + 1) (omega (arith, is_place))
+      ∙ ap (λ ys. front ++ ys) (scans_more ls (drop n xs) m s d before there (omega (arith, within, is_place, length-drop n xs)) is)
+      ∙ sym (append_assoc front (scans_of join unit ls (take m (drop n xs))) (before ∷ []))
+      ∙ ap (λ ys. ys ++ before ∷ []) (sym (scanned_later n ls xs place m is_place))
 
 module _ {Item : Type 0} {is_item : Item → Bool} {unit : Item} {join : Item → Item → Item} (laws : MonoidLaws is_item unit join) where
   pub reduced_is_item : (lengths : List ℕ) (xs : List Item) (s : ℕ) (d : Item) → AllPass is_item xs → s < length lengths → IsTrue (is_item (get_or (reduces_of join unit lengths xs) s d))

@@ -14,6 +14,7 @@ pub mod ranges;
 pub mod readings;
 mod segment_sums;
 mod short_reduces;
+mod short_scans;
 mod short_segments;
 
 pub use plain::{scan_into, scan_vec, sum_from};

@@ -1,6 +1,4 @@
-//! Reduces of short segments. A loop over each of them ends where the processor doesn't expect it if their lengths differ, which
-//! takes longer than the elements do. So one loop goes over the elements of many segments, and joins each to the sum of its
-//! segment.
+//! Reduces of short segments, of which one loop walks many: it joins each element to the sum of its segment.
 
 ghost use Rattle.std.specs.Prelude.{◌≡◌, ◌≤◌, length, map, sum, unsigned_abs};
 ghost use Rattle.std.specs.List.{AllPass};
@@ -13,15 +11,11 @@ ghost use Rattle.range_walks.specs.Ranges.{reduces_of};
 use crate::ends::count_ends;
 use crate::ranges::reduces_in_turn;
 use crate::readings::Reading;
-use crate::short_segments::{GROUP, MARKED, total_of};
+use crate::short_segments::{GROUP, GROUP_ELEMENTS, LARGEST, total_of};
 use cvl_base::Monoid;
 use cvl_base::monoid::know_laws;
 use fresh::Run;
 use std::mem::size_of_val;
-
-/// The most bytes of an item for which many sums are kept at once. No monoid of this library has larger items, so the compiler
-/// leaves the test out.
-const LARGEST: usize = 16;
 
 /// Writes the reduces of the segments with these lengths, whose ends are counted: each element is joined to the sum of the
 /// segment that holds it.
@@ -72,10 +66,10 @@ fn reduces_of_group<M: Monoid, X: Copy, E: Reading<X, M::Item>>(
     requires items { AllPass (λ x. M.is_item (E.item x)) xs.now }
     ensures { result ≡ with_items run (reduces_of M.join M.unit (map unsigned_abs lengths.now) (map E.item xs.now)) }
 {
-    if xs.len() > MARKED {
+    if xs.len() > GROUP_ELEMENTS {
         return reduces_in_turn::<M, X, E>(run, lengths, xs);
     }
-    let mut ends = [0; MARKED + 1];
+    let mut ends = [0; GROUP_ELEMENTS + 1];
     count_ends(lengths, &mut ends);
     reduces_by_ends::<M, X, E>(run, lengths, &ends, xs)
 }

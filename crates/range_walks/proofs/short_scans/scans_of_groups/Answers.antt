@@ -2,7 +2,7 @@ use Rattle.range_walks.proofs.Cited.{rules, ◌≡◌, ◌+◌, ◌-◌, ◌++�
 use Rattle.range_walks.proofs.Cited.{scans_of, with_items}
 use Rattle.range_walks.proofs.Segments.{length-scans_of, range_left, range_lengths, range_read, scans_left}
 use Rattle.range_walks.proofs.Written.{written_more}
-use Rattle.range_walks.proofs.short_segments.scans_of_groups.Goals as goal
+use Rattle.range_walks.proofs.short_scans.scans_of_groups.Goals as goal
 
 pub total_of-total-requires : goal.total_of-total-requires
 total_of-total-requires g c = search (rules, range_lengths)
@@ -33,7 +33,7 @@ loop-first-preserved g c =
     let left : scans_of m.join m.unit (drop first lengths) (map item rest) ≡ now ++ scans_of m.join m.unit (drop next lengths) others =
     cc (scans_left m.join m.unit first k c.total_of-total.result next cut lengths (map item rest) ends is_n is_cut, is_elements, is_others) in
     let written : c.scans_of_group-run.result ≡ with_items c.loop-first.run now =
-    c.scans_of_group-run.ensures.scans ∙ ap (λ ls. with_items c.loop-first.run (scans_of m.join m.unit ls elements)) read in
+    c.scans_of_group-run.ensures ∙ ap (λ ls. with_items c.loop-first.run (scans_of m.join m.unit ls elements)) read in
     let as_long : length elements ≡ length c.split_at.result.0.now = length-map c.split_at.result.0.now item in
     let long : length now ≡ length elements = length-scans_of m.join m.unit (take k (drop first lengths)) elements (omega (arith, as_long, c.split_at.ensures.front_len, c.min.ensures, is_n)) in
     record {

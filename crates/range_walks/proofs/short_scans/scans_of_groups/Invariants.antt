@@ -1,5 +1,5 @@
 use Rattle.range_walks.proofs.Cited.{◌≡◌, ◌-◌, ◌≤◌, drop, length, map, unsigned_abs, sum, AllPass, with_items, scans_of}
-use Rattle.range_walks.proofs.short_segments.scans_of_groups.Given as goal
+use Rattle.range_walks.proofs.short_scans.scans_of_groups.Given as goal
 
 -- what is written with what is left to write is the whole
 abbrev pub invariant-loop-first : goal.invariant-loop-first
