@@ -6,5 +6,6 @@ pub mod Scanned
 pub mod SegmentNumbers
 pub mod SegmentReduces
 pub mod Segments
+pub mod WalksLeft
 pub mod Written
 pub mod Cited

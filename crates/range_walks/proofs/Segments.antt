@@ -66,6 +66,11 @@ module _ {Item : Type 0} (join : Item → Item → Item) (unit : Item) where
       → scan_of join unit xs ≡ scans_of join unit (take 1 (drop s lengths)) xs
   one_scanned lengths s n xs lt is few = cc (drop_more lengths s 0 lt, append-nil (scan_of join unit (take (get_or lengths s 0) xs)), take_all (get_or lengths s 0) xs (omega (arith, is, few)))
 
+  -- one segment, and its reduce
+  pub one_reduced : (lengths : List ℕ) (s n : ℕ) (xs : List Item) → s < length lengths → n ≡ get_or lengths s 0 → length xs ≤ n
+      → fold_of join unit xs ∷ [] ≡ reduces_of join unit (take 1 (drop s lengths)) xs
+  one_reduced lengths s n xs lt is few = cc (drop_more lengths s 0 lt, take_all (get_or lengths s 0) xs (omega (arith, is, few)))
+
 pub one_long : (lengths : List ℕ) (s n : ℕ) → s < length lengths → n ≡ get_or lengths s 0 → n ≡ sum (take 1 (drop s lengths))
 one_long lengths s n lt is = omega (arith, is, ap (λ ls. sum (take 1 ls)) (drop_more lengths s 0 lt), sum-cons (get_or lengths s 0) [])
 

@@ -1,6 +1,6 @@
-use Rattle.range_walks.proofs.Cited.{◌≡◌, ◌+◌, ◌-◌, ◌∷◌, [], true, drop, map, unsigned_abs, sym, subst, ap, ◌∙◌, arith, AllPass, drop-map, take-map, All-drop, fold_of, reduces_of}
-use Rattle.range_walks.proofs.Segments.{cut_more, length_here, read_at}
-use Rattle.range_walks.proofs.Written.{written_more}
+use Rattle.range_walks.proofs.Cited.{◌+◌, ◌∷◌, [], map, unsigned_abs, refl, ap, ◌∙◌, arith, length-map, with_items}
+use Rattle.range_walks.proofs.Segments.{length_here, one_long, one_reduced, read_at}
+use Rattle.range_walks.proofs.WalksLeft.{reduces_walked}
 use Rattle.range_walks.proofs.ranges.reduces_in_turn.Goals as goal
 
 pub overflow_cast-length : goal.overflow_cast-length
@@ -13,21 +13,15 @@ pub loop-length-preserved : goal.loop-length-preserved
 loop-length-preserved g c =
     let m = g.M.Monoid in
     let item = g.E.Reading.item in
-    let row = c.args.lengths.now in
-    let lengths = map unsigned_abs row in
-    let s = c.loop-length.length-index in
-    let rest = c.loop-length.rest.now in
+    let lengths = map unsigned_abs c.args.lengths.now in
+    let now = c.loop-length in
+    let s = now.length-index in
+    let n = read_at c.args.lengths.now s in
     let here = length_here c.requires.lengths c.loop-length-test.true in
-    let n = read_at row s in
-    let left : c.push.new.self.room ≡ c.loop-length.run.room - 1 = ap (λ r. r.room) c.push.ensures in
-    record {
-      whole = written_more c.loop-length.run c.push.new.self _ (c.sum_of_segment.result ∷ []) _ _ c.push.ensures
-          (ap (map (fold_of m.join m.unit)) (cut_more lengths s n (map item rest) (map item c.split_at.result.0.now) _ here.within here.is
-          (ap (map item) c.split_at.ensures.front ∙ sym (take-map item n rest)) (ap (map item) c.split_at.ensures.back ∙ sym (drop-map item n rest)))
-          ∙ ap (λ sum. sum ∷ reduces_of m.join m.unit (drop (s + 1) lengths) (map item c.split_at.result.1.now))
-          (sym c.sum_of_segment.ensures))
-          c.loop-length.invariant.whole;
-      covered = omega (arith, here.left, c.split_at.ensures.back_len, c.loop-length.invariant.covered);
-      room = omega (arith, left, c.loop-length.invariant.room, c.loop-length-test.true);
-      items = subst (λ xs. AllPass (λ x. m.is_item (item x)) xs) (sym c.split_at.ensures.back) (All-drop (λ x. m.is_item (item x) ≡ true) n rest c.loop-length.invariant.items);
-    }
+    let parts = c.split_at.result in
+    let elements = map item parts.0.now in
+    reduces_walked m.join m.unit m.is_item item lengths c.args.xs.now c.args.run s now.rest.now now.run 1 n (s + 1) parts.0.now parts.1.now
+    c.push.new.self now.invariant refl (omega (arith, here.within)) (one_long lengths s n here.within here.is) c.split_at.ensures.front c.split_at.ensures.back
+    (c.push.ensures
+    ∙ ap (λ sum. with_items now.run (sum ∷ [])) c.sum_of_segment.ensures
+    ∙ ap (with_items now.run) (one_reduced m.join m.unit lengths s n elements here.within here.is (omega (arith, length-map parts.0.now item, c.split_at.ensures.front_len))))

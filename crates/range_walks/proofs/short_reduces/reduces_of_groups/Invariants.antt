@@ -1,18 +1,9 @@
-use Rattle.range_walks.proofs.Cited.{◌≡◌, ◌-◌, ◌≤◌, drop, length, map, unsigned_abs, sum, AllPass, with_items, reduces_of}
+use Rattle.range_walks.proofs.Cited.{◌-◌, length, map, unsigned_abs}
+use Rattle.range_walks.proofs.WalksLeft.{ReducesLeft}
 use Rattle.range_walks.proofs.short_reduces.reduces_of_groups.Given as goal
 
--- what is written with what is left to write is the whole
 abbrev pub invariant-loop-first : goal.invariant-loop-first
-invariant-loop-first g l =
-    let m = g.M.Monoid in
-    let item = g.E.Reading.item in
-    let lengths = map unsigned_abs l.lengths in
-    record {
-      whole : with_items l.run (reduces_of m.join m.unit (drop l.first lengths) (map item l.rest)) ≡ with_items l.fn.run (reduces_of m.join m.unit lengths (map item l.xs));
-      covered : sum (drop l.first lengths) ≤ length l.rest;
-      room : length l.lengths - l.first ≤ l.run.room;
-      items : AllPass (λ x. m.is_item (item x)) l.rest;
-    }
+invariant-loop-first g l = let m = g.M.Monoid in ReducesLeft m.join m.unit m.is_item g.E.Reading.item (map unsigned_abs l.lengths) l.xs l.fn.run l.first l.rest l.run
 
 -- how many segments are left
 abbrev pub decreases-loop-first : goal.decreases-loop-first

@@ -1,7 +1,6 @@
-use Rattle.range_walks.proofs.Cited.{rules, ◌≡◌, ◌+◌, ◌-◌, ◌++◌, min, true, drop, length, map, take, unsigned_abs, sum, sym, subst, ap, ◌∙◌, arith, AllPass, All-drop, drop-map, take-map, length-map}
-use Rattle.range_walks.proofs.Cited.{scans_of, with_items}
-use Rattle.range_walks.proofs.Segments.{length-scans_of, range_left, range_lengths, range_read, scans_left}
-use Rattle.range_walks.proofs.Written.{written_more}
+use Rattle.range_walks.proofs.Cited.{rules, ◌≡◌, ◌+◌, ◌-◌, map, unsigned_abs, sum, ap, ◌∙◌, arith, scans_of, with_items}
+use Rattle.range_walks.proofs.Segments.{range_lengths, range_read}
+use Rattle.range_walks.proofs.WalksLeft.{scans_walked}
 use Rattle.range_walks.proofs.short_scans.scans_of_groups.Goals as goal
 
 pub total_of-total-requires : goal.total_of-total-requires
@@ -15,30 +14,12 @@ loop-first-preserved g c =
     let m = g.M.Monoid in
     let item = g.E.Reading.item in
     let row = c.args.lengths.now in
-    let lengths = map unsigned_abs row in
-    let first = c.loop-first.first in
+    let now = c.loop-first in
     let next = c.min-next.result in
-    let k = next - first in
-    let rest = c.loop-first.rest.now in
-    let cut = c.min.result in
-    let elements = map item c.split_at.result.0.now in
-    let others = map item c.split_at.result.1.now in
-    let ends : next ≡ first + k = omega (arith, c.min-next.ensures, c.loop-first-test.true) in
-    let read = range_read row lengths first k c.requires.lengths.none_negative in
-    let is_n : c.total_of-total.result ≡ sum (take k (drop first lengths)) = c.total_of-total.ensures ∙ ap sum read in
-    let is_cut : cut ≡ min c.total_of-total.result (length (map item rest)) = c.min.ensures ∙ ap (λ n. min c.total_of-total.result n) (sym (length-map rest item)) in
-    let is_elements : elements ≡ take cut (map item rest) = ap (map item) c.split_at.ensures.front ∙ sym (take-map item cut rest) in
-    let is_others : others ≡ drop cut (map item rest) = ap (map item) c.split_at.ensures.back ∙ sym (drop-map item cut rest) in
-    let now = scans_of m.join m.unit (take k (drop first lengths)) elements in
-    let left : scans_of m.join m.unit (drop first lengths) (map item rest) ≡ now ++ scans_of m.join m.unit (drop next lengths) others =
-    cc (scans_left m.join m.unit first k c.total_of-total.result next cut lengths (map item rest) ends is_n is_cut, is_elements, is_others) in
-    let written : c.scans_of_group-run.result ≡ with_items c.loop-first.run now =
-    c.scans_of_group-run.ensures ∙ ap (λ ls. with_items c.loop-first.run (scans_of m.join m.unit ls elements)) read in
-    let as_long : length elements ≡ length c.split_at.result.0.now = length-map c.split_at.result.0.now item in
-    let long : length now ≡ length elements = length-scans_of m.join m.unit (take k (drop first lengths)) elements (omega (arith, as_long, c.split_at.ensures.front_len, c.min.ensures, is_n)) in
-    record {
-      whole = written_more c.loop-first.run c.scans_of_group-run.result _ now _ _ written left c.loop-first.invariant.whole;
-      covered = omega (arith, c.loop-first.invariant.covered, is_n, c.min.ensures, c.split_at.ensures.back_len, range_left lengths first k next ends);
-      room = omega (arith, ap (λ r. r.room) written, long, as_long, c.min.ensures, c.split_at.ensures.back_len, c.split_at.ensures.front_len, c.loop-first.invariant.room);
-      items = subst (λ xs. AllPass (λ x. m.is_item (item x)) xs) (sym c.split_at.ensures.back) (All-drop (λ x. m.is_item (item x) ≡ true) cut rest c.loop-first.invariant.items);
-    }
+    let k = next - now.first in
+    let parts = c.split_at.result in
+    let ends : next ≡ now.first + k = omega (arith, c.min-next.ensures, c.loop-first-test.true) in
+    let read = range_read row (map unsigned_abs row) now.first k c.requires.lengths.none_negative in
+    scans_walked m.join m.unit m.is_item item (map unsigned_abs row) c.args.xs.now c.args.run now.first now.rest.now now.run k c.total_of-total.result next parts.0.now parts.1.now
+    c.scans_of_group-run.result c.min.result now.invariant ends (c.total_of-total.ensures ∙ ap sum read) c.min.ensures c.split_at.ensures.front c.split_at.ensures.back
+    (c.scans_of_group-run.ensures ∙ ap (λ ls. with_items now.run (scans_of m.join m.unit ls (map item parts.0.now))) read)
