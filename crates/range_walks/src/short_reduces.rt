@@ -43,7 +43,8 @@ fn reduces_by_ends<M: Monoid, X: Copy, E: Reading<X, M::Item>>(
     let mut segment = 0;
     for place in 0..xs.len() {
         segment += ends[place] as usize;
-        sums[segment] = M::join(sums[segment], E::item(xs[place]));
+        let sum = &mut sums[segment];
+        *sum = M::join(*sum, E::item(xs[place]));
     }
     // here, since a call would get the sums by a reference, which says nothing of their size
     let mut run = run;

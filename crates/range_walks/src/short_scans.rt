@@ -45,9 +45,10 @@ fn scans_by_ends<M: Monoid, X: Copy, E: Reading<X, M::Item>>(
     let mut segment = 0;
     for place in 0..xs.len() {
         segment += ends[place] as usize;
-        let before = sums[segment];
+        let sum = &mut sums[segment];
+        let before = *sum;
         run.push(before);
-        sums[segment] = M::join(before, E::item(xs[place]));
+        *sum = M::join(before, E::item(xs[place]));
     }
     run
 }

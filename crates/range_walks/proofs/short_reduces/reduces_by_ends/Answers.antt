@@ -43,27 +43,6 @@ bounds-sums-segment g c =
     let here = holder c.args.lengths.now c.args.ends.now _ now.place now.segment need.ends (omega (arith, need.covered)) need.places c.loop-place-test.true now.invariant.segment need.few in
     here.below
 
-pub offset_bounds-sums-segment-in-loop-place : goal.offset_bounds-sums-segment-in-loop-place
-offset_bounds-sums-segment-in-loop-place g c =
-    let now = c.loop-place in
-    let need = c.requires in
-    let here = holder c.args.lengths.now c.args.ends.now _ now.place now.segment need.ends (omega (arith, need.covered)) need.places c.loop-place-test.true now.invariant.segment need.few in
-    record { fits = offset_fits (now.segment + get_or c.args.ends.now now.place 0) _ c.size_of_val.result c.size_of_val.ensures (omega (arith, c.if-size_of_val-gt-LARGEST.false)) here.below }
-
-pub listed-in-loop-place : goal.listed-in-loop-place
-listed-in-loop-place g c =
-    let now = c.loop-place in
-    let need = c.requires in
-    let here = holder c.args.lengths.now c.args.ends.now _ now.place now.segment need.ends (omega (arith, need.covered)) need.places c.loop-place-test.true now.invariant.segment need.few in
-    omega (arith, here.below, now.invariant.places)
-
-pub bounds-sums-segment-in-loop-place : goal.bounds-sums-segment-in-loop-place
-bounds-sums-segment-in-loop-place g c =
-    let now = c.loop-place in
-    let need = c.requires in
-    let here = holder c.args.lengths.now c.args.ends.now _ now.place now.segment need.ends (omega (arith, need.covered)) need.places c.loop-place-test.true now.invariant.segment need.few in
-    here.below
-
 pub join-requires-clause-first : goal.join-requires-clause-first
 join-requires-clause-first g c =
     let m = g.M.Monoid in
