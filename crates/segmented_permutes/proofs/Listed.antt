@@ -98,7 +98,7 @@ module _ {X : Type 0} where
 -- ---- the walk
 
 -- the last segment that starts before some place, or at it
-pub starts_at : (d : List ℕ) (first before begin : ℕ) → begin ≡ before - 1 → ((s : ℕ) → s < before → start_of d s < first + 1) → start_of d begin ≤ first
+starts_at : (d : List ℕ) (first before begin : ℕ) → begin ≡ before - 1 → ((s : ℕ) → s < before → start_of d s < first + 1) → start_of d begin ≤ first
 starts_at d first zero begin is earlier = let none : begin ≡ 0 = omega (arith, is) in omega (arith, ap (start_of d) none)
 starts_at d first (suc before) begin is earlier = omega (arith, earlier begin (omega (arith, is)))
 
@@ -119,8 +119,14 @@ pub record IsTaken {X : Type 0} (values : List (Option X)) (other : X) (d : List
   pub begins : min (old.first + old.room) (start_of d s) ≤ old.first + count
   pub ends : old.first + count ≤ start_of d (s + 1)
 
+-- The run's next place is one of segment s or its end, and the room has all that is left of the segment.
+pub record IsLeftWhole {X : Type 0} (d : List ℕ) (s : ℕ) (now : Stretch X) : Type 0 where
+  pub begins : start_of d s ≤ now.first + length now.items
+  pub ends : now.first + length now.items ≤ start_of d (s + 1)
+  pub room : start_of d (s + 1) ≤ now.first + length now.items + now.room
+
 module _ {X : Type 0} {values : List (Option X)} {other : X} {d : List ℕ} {old : Stretch X} (empty : old.items ≡ []) (within : old.first + old.room ≤ length values) where
-  pub taken_none : (s : ℕ) → start_of d s ≤ old.first → old.first ≤ start_of d (s + 1) → IsTaken values other d old s old None
+  taken_none : (s : ℕ) → start_of d s ≤ old.first → old.first ≤ start_of d (s + 1) → IsTaken values other d old s old None
   taken_none s begins ends =
       let room : old.room ≡ old.room - 0 = omega arith in
       record {
@@ -132,6 +138,13 @@ module _ {X : Type 0} {values : List (Option X)} {other : X} {d : List ℕ} {old
         ends = omega (arith, ends);
       }
 
+  -- the walk begins at the last segment that starts before the run's first place, or at it
+  pub taken_first : (first before begin : ℕ) → first ≡ old.first → begin ≡ before - 1 → old.first + old.room ≤ sum d → ((s : ℕ) → s < before → start_of d s < first + 1)
+      → ((s : ℕ) → before ≤ s → s < length d → first + 1 ≤ start_of d s) → IsTaken values other d old begin old None
+  taken_first first before begin there is total earlier later =
+      taken_none begin (omega (arith, there, starts_at d first before begin is earlier))
+      (reaches d (begin + 1) old.first (λ lt. omega (arith, there, later (begin + 1) (omega (arith, is)) lt)) (omega (arith, total)))
+
   module _ {s : ℕ} {now : Stretch X} {found : Option ℕ} (w : IsTaken values other d old s now found) where
     long : length (part values old.first w.count) ≡ w.count
     long = length_part values old.first w.count (omega (arith, within, w.few))
@@ -141,6 +154,16 @@ module _ {X : Type 0} {values : List (Option X)} {other : X} {d : List ℕ} {old
 
     pub taken_room : now.room ≡ old.room - w.count
     taken_room = ap (λ (r : Stretch X). r.room) w.held
+
+    pub left_from : start_of d s < old.first + old.room → start_of d s ≤ now.first + length now.items
+    left_from before = omega (arith, taken_place, w.begins, before)
+
+    pub left_whole : start_of d s < old.first + old.room → start_of d (s + 1) ≤ old.first + old.room → IsLeftWhole d s now
+    left_whole before past = record {
+      begins = left_from before;
+      ends = omega (arith, taken_place, w.ends);
+      room = omega (arith, taken_place, taken_room, w.few, past);
+    }
 
     -- all that is left of the segment, or as much as there is room for
     pub taken_next : (place k : ℕ) (next : Stretch X) (here now_found : Option ℕ) → s < length d → place ≡ now.first + length now.items → k ≡ min (start_of d (s + 1) - place) now.room

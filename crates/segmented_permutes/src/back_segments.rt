@@ -2,6 +2,7 @@
 //! segment by segment.
 
 ghost use Rattle.std.specs.Prelude.{◌≡◌, ◌+◌, ◌-◌, ◌<◌, ◌≤◌, [], length, min};
+ghost use Rattle.std.specs.Option.{option_or};
 ghost use Rattle.fresh.specs.Found.{first_without};
 ghost use Rattle.fresh.specs.Parts.{part};
 ghost use Rattle.fresh.specs.Places.{stretch, with_items};
@@ -17,6 +18,18 @@ use std::alloc::Allocator;
 
 /// At this average number of indices a segment, they are checked block by block.
 const LONG: usize = 128;
+
+/// The place found before, else the one found here.
+// The test lets the loop over segments keep `found` as it is after each segment whose indices all take elements.
+#[inline(always)]
+fn first_of(found: Option<usize>, here: Option<usize>) -> Option<usize>
+    ensures { result ≡ option_or found here }
+{
+    if here.is_some() {
+        return found.or(here);
+    }
+    found
+}
 
 /// Takes the element at each index, segment by segment.
 #[derive(Drop)]
@@ -56,6 +69,8 @@ impl<'a, T: Copy, A: Allocator> SegmentsTaken<'a, T, A> {
     }
 
     /// Takes as much as there is room for, segment by segment. Returns the first place whose index takes nothing.
+    // Each segment but the last ends within the room, and the starts are carried along, so that a short one costs little beside
+    // its indices.
     fn take_segments<P: PushAt<T>>(&self, run: Run<T>) -> (Run<T>, Option<usize>)
         requires empty { run.items ≡ [] }
         requires within { run.first + run.room ≤ length (each_or self.now.other
@@ -68,14 +83,27 @@ impl<'a, T: Copy, A: Allocator> SegmentsTaken<'a, T, A> {
     {
         let first = run.next_place();
         let begin = self.index_d.starts_before(first + 1).saturating_sub(1);
-        let last = self.index_d.starts_before(first + run.room());
-        let (mut run, mut found) = (run, None);
-        for s in begin..last {
-            let (next, here) = self.take_segment::<P>(run, s);
-            run = next;
-            found = found.or(here);
+        let past = self.index_d.starts_before(first + run.room());
+        if begin >= past {
+            return (run, None);
         }
-        (run, found)
+        let (widths, lengths) = (self.source_d.as_lengths(), self.index_d.as_lengths());
+        let (mut start, mut end) = (
+            self.source_d.start_or_total(begin),
+            self.index_d.start_or_total(begin),
+        );
+        let (mut run, mut found) = (run, None);
+        for s in begin..past - 1 {
+            let source = &self.source[start..start + widths.length(s)];
+            start += source.len();
+            end += lengths.length(s);
+            let index = &self.index[run.next_place()..end];
+            let (next, here) = P::push_at(run, source, index, self.other);
+            run = next;
+            found = first_of(found, here);
+        }
+        let (run, here) = self.take_segment::<P>(run, past - 1);
+        (run, first_of(found, here))
     }
 }
 
