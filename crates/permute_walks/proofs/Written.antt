@@ -42,6 +42,14 @@ module _ {X : Type 0} (source : List X) (ts : List (Option ℤ)) (lowest : ℕ) 
             marked = to.marked ∙ ap (λ ss. mark_words (sent_marks ss)) as_before;
           }
 
+    pub leaves_at : (k k₁ : ℕ) (room room₁ : List X) (marks marks₁ : List ℕ) → k ≡ k₁ → room₁ ≡ room → marks₁ ≡ marks → Leaves k room marks → Leaves k₁ room₁ marks₁
+    leaves_at k k₁ room room₁ marks marks₁ at room_is marks_are leaves old same given =
+        let to = leaves old same given in
+        record {
+          written = room_is ∙ to.written ∙ ap (λ j. written_over source (last_senders 0 (take j ts) lowest (length old)) old) at;
+          marked = marks_are ∙ to.marked ∙ ap (λ j. mark_words (sent_marks (last_senders 0 (take j ts) lowest (length old)))) at;
+        }
+
     abbrev pub is_own : ℕ → Bool
     is_own k = is_between lowest (lowest + n) (get_or ts k None)
 

@@ -1,7 +1,9 @@
 //! The walk of a permute by the owner of one range of the result: it reads all indices, and writes and marks the places of the
 //! range to which one sends. It lists the places of a block of indices that are sent there, and then writes their elements.
 //! Neither loop has a branch on where a place is sent, which a processor guesses wrongly if the indices are in no order. If they
-//! are in order, most blocks have no such place: after one of these a block is counted first, which is faster than a list.
+//! are in order, most blocks have no such place: after one of these a block is counted first, which is faster than a list. After
+//! a block all of whose places are sent there, as always if the range is the whole result and no place is bad, each place is
+//! written in turn: the branch is then guessed right, and there is no list.
 
 ghost use Rattle.std.specs.Prelude.{◌≡◌, ◌+◌, ◌<◌, ◌≤◌, pos, List, true, length, replicate, slice_get, slice_index_or, take};
 ghost use Rattle.std.specs.Prelude.{Some, None};
@@ -109,7 +111,7 @@ fn sent_from<T: Copy, D: Destinations>(
 /// `write_range` for the places of one block, which begins at place `first` and has as many places as the list has room for.
 /// Returns how many are sent to the range.
 #[inline(never)]
-fn write_block<T: Copy, D: Destinations>(
+fn write_listed<T: Copy, D: Destinations>(
     source: &[T],
     destinations: &D,
     first: usize,
@@ -147,6 +149,41 @@ fn write_block<T: Copy, D: Destinations>(
     count
 }
 
+/// `write_listed` without a list, for a block of `many` places, most of which are sent to the range.
+// It has a branch on where each place is sent.
+#[inline(never)]
+fn write_in_turn<T: Copy, D: Destinations>(
+    source: &[T],
+    destinations: &D,
+    first: usize,
+    many: usize,
+    lowest: usize,
+    out: &mut [T],
+    marks: &mut [u32],
+) -> usize
+    requires sourced { length source.now ≡ length (D.destinations destinations.now) }
+    requires block { first + many ≤ length (D.destinations destinations.now) }
+    requires as_long { length marks.old ≡ words_for (length out.old) }
+    requires within { lowest + length out.old ≤ most_places }
+    requires in_limit { length (D.destinations destinations.now) ≤ most_places }
+    ensures written { (old : List T) → length old ≡ length out.old
+        → IsWrittenTo source.now (D.destinations destinations.now) lowest old first out.old marks.old
+        → IsWrittenTo source.now (D.destinations destinations.now) lowest old (first + many) out.new marks.new }
+{
+    let places = out.len();
+    let mut count = 0;
+    for k in 0..many {
+        let (index, takes_part) = destinations.at(first + k);
+        if is_sent_between(index, takes_part, lowest as u32, places as u32) {
+            let (destination, element) = sent_from(source, destinations, first + k, lowest, places);
+            out[destination] = element;
+            mark(marks, destination);
+            count += 1;
+        }
+    }
+    count
+}
+
 /// Writes the element of each place that takes part at its index, and marks it there, if that is a place of one range of the
 /// result. The range begins at place `lowest`, and at first no place of it is marked. Of several elements that are sent to one
 /// place the last stays.
@@ -169,19 +206,23 @@ pub fn write_range<T: Copy, D: Destinations>(
     let mut list = [0; BLOCK];
     let places = destinations.count();
     let mut first = 0;
-    let mut listed = 1;
+    let mut written = 1;
     while first < places {
         let many = BLOCK.min(places - first);
-        listed = write_block(
-            source,
-            destinations,
-            first,
-            listed == 0,
-            &mut list[..many],
-            lowest,
-            out,
-            marks,
-        );
+        written = if written == BLOCK {
+            write_in_turn(source, destinations, first, many, lowest, out, marks)
+        } else {
+            write_listed(
+                source,
+                destinations,
+                first,
+                written == 0,
+                &mut list[..many],
+                lowest,
+                out,
+                marks,
+            )
+        };
         first += many;
     }
 }

@@ -1,4 +1,4 @@
-use Rattle.permute_walks.proofs.Cited.{ℕ, ◌≡◌, ◌≤◌, ◌+◌, ◌-◌, ◌*◌, ◌/◌, ◌++◌, ◌∙◌, ap, arith, drop, length, length-drop, length-replicate, length-take, words_for, sym, take, take-append-drop, refl}
+use Rattle.permute_walks.proofs.Cited.{ℕ, ◌≡◌, ◌≤◌, ◌+◌, ◌*◌, ◌/◌, ◌++◌, ◌∙◌, ap, arith, drop, length, length-drop, length-replicate, length-take, words_for, sym, take, take-append-drop, refl}
 use Rattle.permute_walks.proofs.Cited.{count_sent, last_senders, written_over}
 use Rattle.permute_walks.proofs.LastSent.{lasts_both, length-last_senders}
 use Rattle.permute_walks.proofs.Written.{count_both, count_within, unmarked_both, written_both}

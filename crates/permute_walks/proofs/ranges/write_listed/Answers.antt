@@ -1,6 +1,6 @@
 use Rattle.permute_walks.proofs.Cited.{◌+◌, get_or, length, arith}
 use Rattle.permute_walks.proofs.Written.{leaves_end, leaves_more, leaves_next}
-use Rattle.permute_walks.proofs.ranges.write_block.Goals as goal
+use Rattle.permute_walks.proofs.ranges.write_listed.Goals as goal
 
 pub sent_from-destination-requires-clause-inside : goal.sent_from-destination-requires-clause-inside
 sent_from-destination-requires-clause-inside g c =

@@ -1,7 +1,7 @@
 use Rattle.permute_walks.proofs.Cited.{◌+◌, drop, length}
 use Rattle.permute_walks.proofs.Listed.{IsRest}
 use Rattle.permute_walks.proofs.Written.{Leaves, is_own}
-use Rattle.permute_walks.proofs.ranges.write_block.Given as goal
+use Rattle.permute_walks.proofs.ranges.write_listed.Given as goal
 
 abbrev pub invariant-loop-place : goal.invariant-loop-place
 invariant-loop-place g l =
