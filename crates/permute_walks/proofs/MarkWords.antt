@@ -5,6 +5,7 @@ use Rattle.permute_walks.proofs.Cited.{length-drop, length-replicate, length-set
 use Rattle.std.specs.Int.{bit_at}
 use Rattle.std.specs.Simd.Lanes.{mask_l}
 use Rattle.std.proofs.Math.Seq.{take-set-lt}
+use Rattle.std.proofs.lemmas.List.{set-get_or, set-set}
 use Rattle.std.proofs.lemmas.Nat.Bits.{bit_at_set_other, bit_at_set_same, same_from_bits}
 use Rattle.std.proofs.lemmas.Simd.{bit_mask_l, ones-mask_l}
 
@@ -52,6 +53,18 @@ words_set (suc n) marks d within all = elim (cases_lt d 32) [
 
 pub marked_one : (marks : List Bool) (d : ℕ) → d < length marks → mark_words (set marks d true) ≡ with_mark (mark_words marks) d
 marked_one marks d within = cc (length-set marks d true, words_set (words_for (length marks)) marks d within (omega arith))
+
+-- ---- a word that is held back
+
+pub first_held : (words : List ℕ) (value : ℕ) → value ≡ get_or words 0 0 → set words 0 value ≡ words
+first_held words value is = ap (set words 0) is ∙ set-get_or words 0 0
+
+-- one more mark in it
+pub held_more : (words : List ℕ) (w value d : ℕ) → d / 32 ≡ w → w < length words → set words w (with_bit value (d % 32)) ≡ with_mark (set words w value) d
+held_more words w value d here within =
+    sym (set-set words w value (with_bit value (d % 32)))
+    ∙ (λ i. set (set words w value) (sym here i) (with_bit (sym (get_or-set_same words w value 0 within) i) (d % 32)))
+    ∙ ap (λ j. set (set words w value) (d / 32) (with_bit (get_or (set words w value) j 0) (d % 32))) (sym here)
 
 -- ---- no mark
 

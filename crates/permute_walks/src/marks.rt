@@ -26,6 +26,52 @@ pub(crate) fn mark(marks: &mut [u32], place: usize)
     marks[place / WORD_BITS] |= 1 << (place % WORD_BITS);
 }
 
+/// A word of marks and its number, held back from the others.
+pub(crate) type HeldWord = (usize, u32);
+
+/// The first word, to hold back; word 0 without marks if there is none.
+#[inline]
+#[tactic(auto, using(std::proofs::lemmas::List::set_past, crate::proofs::MarkWords::first_held))]
+pub(crate) fn hold_first(marks: &[u32]) -> HeldWord
+    ensures { set marks.now result.0 result.1 ≡ marks.now }
+{
+    if marks.is_empty() {
+        return (0, 0);
+    }
+    (0, marks[0])
+}
+
+/// Writes the word that is held back, if there is such a word.
+#[inline]
+#[tactic(auto, using(std::proofs::lemmas::List::set_past))]
+pub(crate) fn put_back(marks: &mut [u32], held: HeldWord)
+    ensures { marks.new ≡ set marks.old held.0 held.1 }
+{
+    let (word, bits) = held;
+    if word < marks.len() {
+        marks[word] = bits;
+    }
+}
+
+/// `mark` if a word is held back, and returns the word that is held back then: the one that has the place's mark.
+// A processor waits for a store before it reads the same word again, and so for each mark if they are in order.
+#[inline]
+#[tactic(auto, using(crate::proofs::MarkWords::marked_one, crate::proofs::MarkWords::held_more))]
+pub(crate) fn mark_held(marks: &mut [u32], held: HeldWord, place: usize) -> HeldWord
+    requires within { place / 32 < length marks.old }
+    ensures { (flags : List Bool) → place < length flags → set marks.old held.0 held.1 ≡ mark_words flags
+        → set marks.new result.0 result.1 ≡ mark_words (set flags place true) }
+{
+    let (word, bits) = held;
+    let named = place / WORD_BITS;
+    let bit = 1 << (place % WORD_BITS);
+    if named == word {
+        return (word, bits | bit);
+    }
+    put_back(marks, held);
+    (named, marks[named] | bit)
+}
+
 /// How many places are marked.
 #[inline(never)]
 pub fn count_marks(marks: &[u32]) -> usize

@@ -12,7 +12,7 @@ ghost use Rattle.cvl_base.specs.Permutes.{destination_if};
 ghost use Rattle.permute_walks.specs.Marks.{mark_words, words_for};
 ghost use Rattle.permute_walks.specs.Senders.{IsWrittenTo, is_between, last_senders, places_between, sent_marks, written_over};
 
-use crate::marks::mark;
+use crate::marks::{hold_first, mark, mark_held, put_back};
 use sent_places::Destinations;
 
 /// How many places are listed at a time; their list stays in the nearest cache of a processor.
@@ -171,16 +171,18 @@ fn write_in_turn<T: Copy, D: Destinations>(
         → IsWrittenTo source.now (D.destinations destinations.now) lowest old (first + many) out.new marks.new }
 {
     let places = out.len();
+    let mut held = hold_first(marks);
     let mut count = 0;
     for k in 0..many {
         let (index, takes_part) = destinations.at(first + k);
         if is_sent_between(index, takes_part, lowest as u32, places as u32) {
             let (destination, element) = sent_from(source, destinations, first + k, lowest, places);
             out[destination] = element;
-            mark(marks, destination);
+            held = mark_held(marks, held, destination);
             count += 1;
         }
     }
+    put_back(marks, held);
     count
 }
 
