@@ -2,10 +2,9 @@
 use Rattle.call_laws.proofs.Cited.{◌≡◌, ◌∙◌, ◌↔◌, ◌+◌, ◌++◌, ◌∷◌, ℕ, Bool, ℤ, pos, true, List, [], length, map, map-append, count_by, cond, refl, sym, ap, arith, Some, None, Option, is_some}
 use Rattle.call_laws.proofs.Cited.{count_destinations, enumerate_from, first_fault, is_between, range_both, range_with_len, sum_by-cons}
 use Rattle.call_laws.proofs.FirstSent.{named-all, named-parts}
-use Rattle.combining_permutes.specs.CombiningPermutes.{combined, names, place_counts, sent_there}
+use Rattle.combining_permutes.specs.CombiningPermutes.{combined, named_between, names, place_counts, sent_there}
 use Rattle.cvl_base.specs.Folds.{fold_of}
 use Rattle.first_senders.specs.FirstSenders.{wrong_in}
-use Rattle.part_calls.specs.CombineRanges.{named_between}
 use Rattle.permute_walks.specs.Indices.{first_outside, outside}
 
 -- ---- what is joined, and counted

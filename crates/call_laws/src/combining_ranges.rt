@@ -2,8 +2,7 @@
 //! contract is the law.
 
 ghost use Rattle.std.specs.Prelude.{◌≡◌, ◌↔◌, ◌+◌, ◌++◌, ℕ, ℤ, None, List, length};
-ghost use Rattle.combining_permutes.specs.CombiningPermutes.{combined, place_counts};
-ghost use Rattle.part_calls.specs.CombineRanges.{named_between};
+ghost use Rattle.combining_permutes.specs.CombiningPermutes.{combined, named_between, place_counts};
 ghost use Rattle.permute_walks.specs.Indices.{first_outside};
 
 /// What is joined at the places of a range is what is joined in its parts, in order, and so are counts. As many indices name a

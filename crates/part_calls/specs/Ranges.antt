@@ -1,14 +1,14 @@
 -- Permutes by ranges of their result: a range's owner reads all indices, writes the elements of the range, and counts its places that get
 -- one.
 -- Source: CVL's permute, d[i[k]] = s[k]; the ranges are this library's.
-use Rattle.std.specs.Prelude.{◌≡◌, ℕ, ◌+◌, ◌==◌, ℤ, Bool, not, List, length, MatchResult, Option, Result, Ok, Err}
+use Rattle.std.specs.Prelude.{◌≡◌, ℕ, ◌==◌, ℤ, Bool, not, List, length, MatchResult, Option, Result, Ok, Err}
 use Rattle.cvl_base.specs.declared.fault.Fault.{Fault}
 use Rattle.cvl_base.specs.declared.fault.FaultNo.TheVariants.{LengthMismatch}
 use Rattle.cvl_base.specs.Elementwise.{if_as_long}
 use Rattle.cvl_base.specs.Faults.{fault}
 use Rattle.cvl_base.specs.Gives.{fault_if}
 use Rattle.cvl_base.specs.Permutes.{all_destinations, flagged_destinations}
-use Rattle.part_calls.specs.Limits.{few_enough}
+use Rattle.part_calls.specs.Limits.{range_within}
 use Rattle.permute_walks.specs.Marks.{mark_words, words_for}
 use Rattle.permute_walks.specs.Senders.{count_sent, last_senders, sent_marks, written_over}
 
@@ -38,15 +38,15 @@ module _ {X : Type 0} where
   -- one range of a simple permute, or of a default permute if the room holds the defaults
   abbrev pub simple_range_of : List X → List ℤ → ℕ → List X → List ℕ → Result (List X × List ℕ × ℕ) Fault
   simple_range_of source index low room marks =
-      few_enough (length index) (few_enough (low + length room)
-      (if_as_long source index (if_marked room marks (Ok (range_of source (all_destinations index) low room)))))
+      range_within (length index) low (length room)
+      (if_as_long source index (if_marked room marks (Ok (range_of source (all_destinations index) low room))))
 
   -- one range of a select permute
   abbrev pub select_range_of : List X → List ℤ → List Bool → ℕ → List X → List ℕ → Result (List X × List ℕ × ℕ) Fault
   select_range_of source index flags low room marks =
-      few_enough (length index) (few_enough (low + length room)
+      range_within (length index) low (length room)
       (if_as_long source index (if_as_long index flags (if_marked room marks
-      (Ok (range_of source (flagged_destinations index flags) low room))))))
+      (Ok (range_of source (flagged_destinations index flags) low room)))))
 
   -- The room and the marks hold what the definition gives, and the answer is its count; or there is a fault, and both are as they were.
   abbrev pub WritesRange : Result (List X × List ℕ × ℕ) Fault → Result ℕ Fault → List X × List ℕ → List X × List ℕ → Type 0
