@@ -6,7 +6,7 @@ ghost use Rattle.cvl_base.specs.declared.fault.FaultNo.TheVariants as no;
 ghost use Rattle.cvl_base.specs.Faults.{fault};
 ghost use Rattle.cvl_base.specs.Gives.{Gives};
 ghost use Rattle.cvl_base.specs.Rooms.{Overwrites, OverwritesOr};
-ghost use Rattle.c_calls.specs.Told.{FrontToldOr, Told, ToldOr, at_front, done, in_room, status_of};
+ghost use Rattle.c_calls.specs.Told.{FrontToldOr, Told, ToldOr, at_front, done, front_of, in_room, status_of};
 
 use cvl_base::{Fault, FaultNo, Refused, check_agree};
 use std::alloc::Global;
@@ -105,7 +105,7 @@ pub fn told_in_front<T: Copy>(
     count: &mut usize,
 ) -> CvlStatus
     ensures { (meaning : Result (List T) Fault) → Gives (λ v. v.items) answer meaning
-        → FrontToldOr meaning result room.old room.new count.old count.new }
+        → FrontToldOr meaning result (front_of room.old count.old) (front_of room.new count.new) }
 {
     match answer {
         Ok(items) => {

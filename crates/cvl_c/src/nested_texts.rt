@@ -5,7 +5,7 @@ ghost use Rattle.call_reader.specs.NestedTexts.{nested_of};
 ghost use Rattle.c_calls.specs.Calls.{by_segments};
 ghost use Rattle.c_calls.specs.Fronts.{FrontsToldOr};
 ghost use Rattle.c_calls.specs.NestedTexts.{segments_text, with_lengths};
-ghost use Rattle.c_calls.specs.Told.{FrontToldOr};
+ghost use Rattle.c_calls.specs.Told.{FrontToldOr, front_of};
 ghost use Rattle.value_texts.specs.Texts.{boolean_text};
 
 use c_calls::checks::segments;
@@ -49,7 +49,7 @@ pub extern "C" fn cvl_proved_seg_write_ints(
     count: &mut usize,
 ) -> CvlStatus
     ensures { FrontToldOr (by_segments lengths.now (segments_text signed_decimal a.now))
-        result out.old out.new count.old count.new }
+        result (front_of out.old count.old) (front_of out.new count.new) }
 {
     let d = or_tell!(segments(lengths));
     or_tell!(check_agree(d.total(), a.len()));
@@ -66,7 +66,7 @@ pub extern "C" fn cvl_proved_seg_write_bools(
     count: &mut usize,
 ) -> CvlStatus
     ensures { FrontToldOr (by_segments lengths.now (segments_text boolean_text a.now))
-        result out.old out.new count.old count.new }
+        result (front_of out.old count.old) (front_of out.new count.new) }
 {
     let d = or_tell!(segments(lengths));
     or_tell!(check_agree(d.total(), a.len()));

@@ -4,7 +4,7 @@ ghost use Rattle.cvl_base.specs.Packs.{pack_of};
 ghost use Rattle.cvl_base.specs.SegmentedCalls.{counts_of, seg_pack_of};
 ghost use Rattle.c_calls.specs.Calls.{by_segments, in_limit};
 ghost use Rattle.flag_calls.specs.Flags.{flags_of};
-ghost use Rattle.c_calls.specs.Told.{FrontTold, RoomTold};
+ghost use Rattle.c_calls.specs.Told.{FrontTold, RoomTold, front_of};
 
 use c_calls::packs::{count_each, pack, pack_each};
 use c_calls::status::{CvlStatus, told_over};
@@ -17,7 +17,8 @@ pub extern "C" fn cvl_proved_pack_int(
     out: &mut [i32],
     count: &mut usize,
 ) -> CvlStatus
-    ensures { FrontTold (in_limit flags.now (pack_of values.now flags.now)) result out.old out.new count.old count.new }
+    ensures { FrontTold (in_limit flags.now (pack_of values.now flags.now))
+        result (front_of out.old count.old) (front_of out.new count.new) }
 {
     told_over::<i32>(pack(values, flags, out, count))
 }
@@ -30,7 +31,8 @@ pub extern "C" fn cvl_proved_pack_bool(
     out: &mut [bool],
     count: &mut usize,
 ) -> CvlStatus
-    ensures { FrontTold (in_limit flags.now (pack_of values.now flags.now)) result out.old out.new count.old count.new }
+    ensures { FrontTold (in_limit flags.now (pack_of values.now flags.now))
+        result (front_of out.old count.old) (front_of out.new count.new) }
 {
     told_over::<bool>(pack(values, flags, out, count))
 }
@@ -44,7 +46,8 @@ pub extern "C" fn cvl_proved_seg_pack_int(
     out: &mut [i32],
     count: &mut usize,
 ) -> CvlStatus
-    ensures { FrontTold (by_segments lengths.now (seg_pack_of values.now flags.now)) result out.old out.new count.old count.new }
+    ensures { FrontTold (by_segments lengths.now (seg_pack_of values.now flags.now))
+        result (front_of out.old count.old) (front_of out.new count.new) }
 {
     told_over::<i32>(pack_each(values, flags, lengths, out, count))
 }
@@ -58,7 +61,8 @@ pub extern "C" fn cvl_proved_seg_pack_bool(
     out: &mut [bool],
     count: &mut usize,
 ) -> CvlStatus
-    ensures { FrontTold (by_segments lengths.now (seg_pack_of values.now flags.now)) result out.old out.new count.old count.new }
+    ensures { FrontTold (by_segments lengths.now (seg_pack_of values.now flags.now))
+        result (front_of out.old count.old) (front_of out.new count.new) }
 {
     told_over::<bool>(pack_each(values, flags, lengths, out, count))
 }

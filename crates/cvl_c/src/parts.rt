@@ -4,7 +4,7 @@
 ghost use Rattle.std.specs.Prelude.{ℕ, List, Ok, Result, length};
 ghost use Rattle.cvl_base.specs.declared.fault.Fault.{Fault};
 ghost use Rattle.cvl_base.specs.Exact.{total_of};
-ghost use Rattle.c_calls.specs.Told.{FrontToldOr, RoomTold, Told};
+ghost use Rattle.c_calls.specs.Told.{FrontToldOr, RoomTold, Told, front_of};
 ghost use Rattle.part_calls.specs.Limits.{few_enough};
 ghost use Rattle.part_calls.specs.Pieces.{piece_of};
 ghost use Rattle.part_calls.specs.Ranges.{WritesRange, select_range_of, simple_range_of};
@@ -133,7 +133,7 @@ pub extern "C" fn cvl_proved_read_ints_after(
     out: &mut [i32],
     count: &mut usize,
 ) -> CvlStatus
-    ensures { FrontToldOr (piece_of before text.now) result out.old out.new count.old count.new }
+    ensures { FrontToldOr (piece_of before text.now) result (front_of out.old count.old) (front_of out.new count.new) }
 {
     told_in_front(read_piece(alloc, before, text), out, count)
 }

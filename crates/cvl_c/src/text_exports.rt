@@ -5,7 +5,7 @@ ghost use Rattle.std.specs.Fmt.{signed_decimal};
 ghost use Rattle.cvl_base.specs.Limits.{most_places};
 ghost use Rattle.call_reader.specs.Inputs.{input_within};
 ghost use Rattle.c_calls.specs.Calls.{in_limit};
-ghost use Rattle.c_calls.specs.Told.{FrontToldOr};
+ghost use Rattle.c_calls.specs.Told.{FrontToldOr, front_of};
 ghost use Rattle.value_texts.specs.Texts.{boolean_text, vector_text};
 
 use c_calls::status::{CvlStatus, told_in_front};
@@ -22,7 +22,7 @@ pub extern "C" fn cvl_proved_read_ints(
     out: &mut [i32],
     count: &mut usize,
 ) -> CvlStatus
-    ensures { FrontToldOr (input_within most_places text.now) result out.old out.new count.old count.new }
+    ensures { FrontToldOr (input_within most_places text.now) result (front_of out.old count.old) (front_of out.new count.new) }
 {
     told_in_front(read_vector_within(alloc, MOST_PLACES, text), out, count)
 }
@@ -35,7 +35,8 @@ pub extern "C" fn cvl_proved_write_ints(
     out: &mut [u8],
     count: &mut usize,
 ) -> CvlStatus
-    ensures { FrontToldOr (in_limit a.now (Ok (vector_text signed_decimal a.now))) result out.old out.new count.old count.new }
+    ensures { FrontToldOr (in_limit a.now (Ok (vector_text signed_decimal a.now)))
+        result (front_of out.old count.old) (front_of out.new count.new) }
 {
     told_in_front(text(alloc, a), out, count)
 }
@@ -48,7 +49,8 @@ pub extern "C" fn cvl_proved_write_bools(
     out: &mut [u8],
     count: &mut usize,
 ) -> CvlStatus
-    ensures { FrontToldOr (in_limit a.now (Ok (vector_text boolean_text a.now))) result out.old out.new count.old count.new }
+    ensures { FrontToldOr (in_limit a.now (Ok (vector_text boolean_text a.now)))
+        result (front_of out.old count.old) (front_of out.new count.new) }
 {
     told_in_front(text(alloc, a), out, count)
 }
