@@ -49,17 +49,18 @@ RoomTold meaning status before now = Told (in_room (length before) meaning) stat
 abbrev pub RoomToldOr : {X : Type 0} → Result (List X) Fault → CvlStatus → List X → List X → Type 0
 RoomToldOr meaning status before now = ToldOr (in_room (length before) meaning) status before now
 
--- a room whose front a list is written to, and the number of elements, which is written beside it
+-- a room for a list whose length the caller may not know, and the count where that length is written
 pub record Front (X : Type 0) : Type 0 where
   pub room : List X
   pub count : ℕ
 
 module _ {X : Type 0} where
+  -- a room and its count
   abbrev pub front_of : List X → ℕ → Front X
   front_of room count = record { room = room; count = count }
 
-  -- A list whose length the caller may not know: it stands at the front of the room, or the room is too short and as before; in
-  -- both cases the count is its length. Or the answer is the fault, and room and count are as before.
+  -- The list stands at the front of the room, or the room is too short and as before; in both cases the count is the list's length.
+  -- Or the answer is the fault, and room and count are as before.
   abbrev pub FrontTold : Result (List X) Fault → CvlStatus → Front X → Front X → Type 0
   FrontTold meaning status before now =
       Told (meaning >>= at_front before.room) status before.room now.room × (now.count ≡ count_or before.count meaning)

@@ -5,6 +5,7 @@ ghost use Rattle.cvl_base.specs.declared.fault.Fault.{Fault};
 ghost use Rattle.cvl_base.specs.Gives.{Gives};
 ghost use Rattle.c_calls.specs.Fronts.{FrontsToldOr, at_fronts};
 ghost use Rattle.c_calls.specs.NestedTexts.{with_lengths};
+ghost use Rattle.c_calls.specs.Told.{front_of};
 
 use crate::status::{CvlStatus, done, put_in_front, status_of};
 use cvl_base::{Fault, FaultNo, Refused};
@@ -43,7 +44,8 @@ pub fn told_nest(
 ) -> CvlStatus
     ensures { (meaning : Result (List ℤ × List ℕ) Fault) → Gives (λ p. (p.0.items, p.1)) answer meaning
         → FrontsToldOr (with_lengths meaning) result
-        (out.old, lengths.old) (out.new, lengths.new) (count.old, segments.old) (count.new, segments.new) }
+        (front_of out.old count.old, front_of lengths.old segments.old)
+        (front_of out.new count.new, front_of lengths.new segments.new) }
 {
     match answer {
         Ok((numbers, d)) => {

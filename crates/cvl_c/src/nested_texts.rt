@@ -28,7 +28,8 @@ pub extern "C" fn cvl_proved_seg_read_ints(
     segments: &mut usize,
 ) -> CvlStatus
     ensures { FrontsToldOr (with_lengths (nested_of text.now)) result
-        (out.old, lengths.old) (out.new, lengths.new) (count.old, segments.old) (count.new, segments.new) }
+        (front_of out.old count.old, front_of lengths.old segments.old)
+        (front_of out.new count.new, front_of lengths.new segments.new) }
 {
     told_nest(
         read_nested_alone(alloc, text),
