@@ -1,7 +1,7 @@
 //! The elementwise calls.
 
-use crate::timing::{Answer, Bench, Family, flags, ints, measure_cases};
-use crate::vectors::{Shape, Vectors};
+use crate::timing::{Answer, Bench, Case, Family, flags, ints, measure_cases};
+use crate::vectors::Shape;
 use cvl_base::limits::MOST_ELEMENTS;
 use cvl_base::{BoolBinary, Comparison, IntBinary, IntMonoid, Unary};
 use elementwise::{bool_from_int, bool1, bool2, compare, int_from_bool, int1, int2, select};
@@ -13,12 +13,9 @@ use std::thread::Threads;
 const LENGTHS: [usize; 6] = [4_194_304, 1_048_576, 262_144, 131_072, 65_536, 1_000];
 
 /// Makes the call of a case.
-pub fn call<R: Threads + Sync>(
-    bench: &Bench<'_, R>,
-    vectors: &Vectors,
-    number: u32,
-) -> Option<Answer> {
+pub fn call<R: Threads + Sync>(bench: &Bench<'_, R>, case: &Case<'_>) -> Option<Answer> {
     let (rt, alloc, config) = (bench.rt, bench.alloc, bench.config);
+    let vectors = case.vectors;
     let (a, b) = (
         vectors.numbers.any.as_slice(),
         vectors.numbers.odd.as_slice(),
@@ -31,7 +28,7 @@ pub fn call<R: Threads + Sync>(
     if a.len() > MOST_ELEMENTS {
         return None;
     }
-    Some(match number {
+    Some(match case.number {
         0 => {
             let add = IntBinary::Monoid(IntMonoid::Add);
             ints("sum", int2(rt, alloc, config, add, a, b))

@@ -1,8 +1,8 @@
 //! The packs, counts, distributes and indexes.
 
 use crate::LENGTHS;
-use crate::timing::{Answer, Bench, Family, ints, measure_cases};
-use crate::vectors::{Shape, Vectors};
+use crate::timing::{Answer, Bench, Case, Family, ints, measure_cases};
+use crate::vectors::Shape;
 use cvl_base::limits::MOST_ELEMENTS;
 use pack_dist::{
     count_true, distribute, index, pack, seg_count, seg_distribute, seg_index, seg_pack,
@@ -15,12 +15,9 @@ use std::thread::Threads;
 const PARTS: &[(i32, &str)] = &[(1, ", 1 % true"), (50, ", 50 % true"), (99, ", 99 % true")];
 
 /// Makes the call of a case: of the flat ones first those that take flags, and then the segmented ones.
-pub fn call<R: Threads + Sync>(
-    bench: &Bench<'_, R>,
-    vectors: &Vectors,
-    number: u32,
-) -> Option<Answer> {
+pub fn call<R: Threads + Sync>(bench: &Bench<'_, R>, case: &Case<'_>) -> Option<Answer> {
     let (rt, alloc, config) = (bench.rt, bench.alloc, bench.config);
+    let vectors = case.vectors;
     let (xs, flags) = (
         vectors.numbers.any.as_slice(),
         vectors.flags.some.as_slice(),
@@ -31,7 +28,7 @@ pub fn call<R: Threads + Sync>(
     }
     let first = firsts.first().copied().unwrap_or(0);
     let count = flags.len() as i32;
-    Some(match number {
+    Some(match case.number {
         0 => ints("pack", pack(rt, alloc, config, xs, flags)),
         1 => ("count", i32::try_from(count_true(flags)).ok()),
         2 => ints("distribute", distribute(rt, alloc, config, first, count)),

@@ -1,8 +1,8 @@
 //! The permutes.
 
 use crate::LENGTHS;
-use crate::timing::{Answer, Bench, Family, ints, measure_cases};
-use crate::vectors::{Shape, Vectors};
+use crate::timing::{Answer, Bench, Case, Family, ints, measure_cases};
+use crate::vectors::Shape;
 use cvl_base::limits::MOST_ELEMENTS;
 use permutes::{back, default_into, select, simple};
 use segmented_permutes::{seg_back, seg_default_into, seg_select, seg_simple};
@@ -17,12 +17,9 @@ const SEGMENT: usize = 1_000;
 const ORDERS: &[(bool, &str)] = &[(false, ", in order"), (true, ", at random")];
 
 /// Makes the call of a case, first the flat ones. The defaults are the divisors.
-pub fn call<R: Threads + Sync>(
-    bench: &Bench<'_, R>,
-    vectors: &Vectors,
-    number: u32,
-) -> Option<Answer> {
+pub fn call<R: Threads + Sync>(bench: &Bench<'_, R>, case: &Case<'_>) -> Option<Answer> {
     let (rt, alloc, config) = (bench.rt, bench.alloc, bench.config);
+    let vectors = case.vectors;
     let (xs, is) = (vectors.numbers.any.as_slice(), vectors.index.as_slice());
     let (defaults, chosen) = (
         vectors.numbers.odd.as_slice(),
@@ -32,7 +29,7 @@ pub fn call<R: Threads + Sync>(
     if is.len() > MOST_ELEMENTS {
         return None;
     }
-    let (name, answer) = match number {
+    let (name, answer) = match case.number {
         0 => ("simple", simple(rt, alloc, config, xs, is)),
         1 => ("back", back(rt, alloc, config, xs, is)),
         2 => ("select of half", select(rt, alloc, config, xs, is, chosen)),

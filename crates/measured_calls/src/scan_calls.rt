@@ -1,8 +1,8 @@
 //! The scans and reduces.
 
 use crate::LENGTHS;
-use crate::timing::{Answer, Bench, Family, ints, measure_cases};
-use crate::vectors::{Shape, Vectors};
+use crate::timing::{Answer, Bench, Case, Family, ints, measure_cases};
+use crate::vectors::Shape;
 use cvl_base::IntMonoid;
 use cvl_base::limits::MOST_ELEMENTS;
 use scan_ops::{
@@ -15,19 +15,16 @@ use std::thread::Threads;
 
 /// Makes the call of a case, first the flat ones. One operator stands for all, since they share their walks. The checked ones add
 /// small numbers, so that none of their sums is outside 32 bits.
-pub fn call<R: Threads + Sync>(
-    bench: &Bench<'_, R>,
-    vectors: &Vectors,
-    number: u32,
-) -> Option<Answer> {
+pub fn call<R: Threads + Sync>(bench: &Bench<'_, R>, case: &Case<'_>) -> Option<Answer> {
     let (rt, alloc, config) = (bench.rt, bench.alloc, bench.config);
+    let vectors = case.vectors;
     let (a, d) = (vectors.numbers.any.as_slice(), &vectors.segments);
     let small = vectors.numbers.shifts.as_slice();
     let add = IntMonoid::Add;
     if small.len() > MOST_ELEMENTS {
         return None;
     }
-    Some(match number {
+    Some(match case.number {
         0 => ints("scan of sums", int_scan(rt, alloc, config, add, a)),
         1 => ("sum", int_reduce(rt, alloc, config, add, a).ok()),
         2 => ints(

@@ -28,6 +28,14 @@ pub enum Family {
     Packs,
 }
 
+/// A call of a family, by its number, and the vectors on which it is made.
+#[derive(Drop)]
+pub struct Case<'a> {
+    pub family: &'a Family,
+    pub number: u32,
+    pub vectors: &'a Vectors,
+}
+
 /// What the line of a case begins with, and a number that depends on the result of its call, so that the compiler leaves out no
 /// call; none if the call was refused.
 pub type Answer = (&'static str, Option<i32>);
@@ -53,17 +61,12 @@ pub fn flags<E: Drop>(name: &'static str, answer: Result<Vec<bool>, E>) -> Answe
 }
 
 /// Makes the call of a case, if there is one of this number.
-fn call<R: Threads + Sync>(
-    bench: &Bench<'_, R>,
-    vectors: &Vectors,
-    family: &Family,
-    number: u32,
-) -> Option<Answer> {
-    match family {
-        Family::Elementwise => element_calls::call(bench, vectors, number),
-        Family::Scans => scan_calls::call(bench, vectors, number),
-        Family::Permutes => permute_calls::call(bench, vectors, number),
-        Family::Packs => pack_calls::call(bench, vectors, number),
+fn call<R: Threads + Sync>(bench: &Bench<'_, R>, case: &Case<'_>) -> Option<Answer> {
+    match case.family {
+        Family::Elementwise => element_calls::call(bench, case),
+        Family::Scans => scan_calls::call(bench, case),
+        Family::Permutes => permute_calls::call(bench, case),
+        Family::Packs => pack_calls::call(bench, case),
     }
 }
 
@@ -84,16 +87,14 @@ pub fn print_time<R: Print>(
 /// Measures a case, and prints its line.
 fn measure_case<R: Print + Clock + Threads + Sync>(
     bench: &Bench<'_, R>,
-    vectors: &Vectors,
+    case: &Case<'_>,
     what: &str,
-    family: &Family,
-    number: u32,
 ) -> io::Result<()> {
     let mut best = Duration::MAX;
     let mut last: Answer = ("", None);
     for _ in 0..ROUNDS {
         let start = Instant::now(bench.rt)?;
-        let Some(answer) = call(bench, vectors, family, number) else {
+        let Some(answer) = call(bench, case) else {
             return Ok(());
         };
         best = best.min(start.elapsed(bench.rt)?);
@@ -119,7 +120,12 @@ pub fn measure_cases<R: Print + Clock + Threads + Sync>(
     let words = shape.words;
     let what = format!(in bench.alloc; "{length} elements, {segments} segments{words}")?;
     for number in first..end {
-        measure_case(bench, &vectors, &what, family, number)?;
+        let case = Case {
+            family,
+            number,
+            vectors: &vectors,
+        };
+        measure_case(bench, &case, &what)?;
     }
     Ok(())
 }
