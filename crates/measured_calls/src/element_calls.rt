@@ -16,15 +16,9 @@ const LENGTHS: [usize; 6] = [4_194_304, 1_048_576, 262_144, 131_072, 65_536, 1_0
 pub fn call<R: Threads + Sync>(bench: &Bench<'_, R>, case: &Case<'_>) -> Option<Answer> {
     let (rt, alloc, config) = (bench.rt, bench.alloc, bench.config);
     let vectors = case.vectors;
-    let (a, b) = (
-        vectors.numbers.any.as_slice(),
-        vectors.numbers.odd.as_slice(),
-    );
-    let (f, g) = (
-        vectors.flags.some.as_slice(),
-        vectors.flags.others.as_slice(),
-    );
-    let shifts = vectors.numbers.shifts.as_slice();
+    let (a, b) = (&vectors.numbers.any, &vectors.numbers.odd);
+    let (f, g) = (&vectors.flags.some, &vectors.flags.others);
+    let shifts = &vectors.numbers.shifts;
     if a.len() > MOST_ELEMENTS {
         return None;
     }

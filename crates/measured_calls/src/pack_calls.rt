@@ -18,11 +18,8 @@ const PARTS: &[(i32, &str)] = &[(1, ", 1 % true"), (50, ", 50 % true"), (99, ", 
 pub fn call<R: Threads + Sync>(bench: &Bench<'_, R>, case: &Case<'_>) -> Option<Answer> {
     let (rt, alloc, config) = (bench.rt, bench.alloc, bench.config);
     let vectors = case.vectors;
-    let (xs, flags) = (
-        vectors.numbers.any.as_slice(),
-        vectors.flags.some.as_slice(),
-    );
-    let (firsts, d) = (vectors.firsts.as_slice(), &vectors.segments);
+    let (xs, flags) = (&vectors.numbers.any, &vectors.flags.some);
+    let (firsts, d) = (&vectors.firsts, &vectors.segments);
     if flags.len().max(d.count()).max(d.total()) > MOST_ELEMENTS {
         return None;
     }

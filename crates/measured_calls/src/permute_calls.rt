@@ -20,11 +20,8 @@ const ORDERS: &[(bool, &str)] = &[(false, ", in order"), (true, ", at random")];
 pub fn call<R: Threads + Sync>(bench: &Bench<'_, R>, case: &Case<'_>) -> Option<Answer> {
     let (rt, alloc, config) = (bench.rt, bench.alloc, bench.config);
     let vectors = case.vectors;
-    let (xs, is) = (vectors.numbers.any.as_slice(), vectors.index.as_slice());
-    let (defaults, chosen) = (
-        vectors.numbers.odd.as_slice(),
-        vectors.flags.chosen.as_slice(),
-    );
+    let (xs, is) = (&vectors.numbers.any, &vectors.index);
+    let (defaults, chosen) = (&vectors.numbers.odd, &vectors.flags.chosen);
     let d = &vectors.segments;
     if is.len() > MOST_ELEMENTS {
         return None;

@@ -18,8 +18,8 @@ use std::thread::Threads;
 pub fn call<R: Threads + Sync>(bench: &Bench<'_, R>, case: &Case<'_>) -> Option<Answer> {
     let (rt, alloc, config) = (bench.rt, bench.alloc, bench.config);
     let vectors = case.vectors;
-    let (a, d) = (vectors.numbers.any.as_slice(), &vectors.segments);
-    let small = vectors.numbers.shifts.as_slice();
+    let (a, d) = (&vectors.numbers.any, &vectors.segments);
+    let small = &vectors.numbers.shifts;
     let add = IntMonoid::Add;
     if small.len() > MOST_ELEMENTS {
         return None;
