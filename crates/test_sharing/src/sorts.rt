@@ -13,11 +13,11 @@ const STEP: u32 = 7_919;
 const BEFORE: i32 = -7;
 
 /// The rank of place k among n keys: the remainder of k steps.
-fn rank_at(k: u32, n: u32) -> i32 {
+fn rank_at(k: u32, n: u32) -> u32 {
     if n == 0 {
         return 0;
     }
-    (k.wrapping_mul(STEP) % n).cast_signed()
+    k.wrapping_mul(STEP) % n
 }
 
 /// How far apart n keys are: as far as they fit, and an odd number, so that they differ in each digit.
@@ -27,55 +27,41 @@ fn apart(n: u32) -> i32 {
 }
 
 /// The key of a rank among n.
-fn key_of(rank: i32, n: u32) -> i32 {
-    rank.wrapping_sub((n / 2).cast_signed())
-        .wrapping_mul(apart(n))
+fn key_of(rank: u32, n: u32) -> i32 {
+    let from_middle = rank.wrapping_sub(n / 2).cast_signed();
+    from_middle.wrapping_mul(apart(n))
 }
 
 /// Whether the ranks of n keys are those that they were made of.
 fn are_ranks(ranks: &[i32], n: u32) -> bool {
-    let mut k = 0u32;
-    for rank in ranks {
-        if *rank != rank_at(k, n) {
-            return false;
-        }
-        k = k.wrapping_add(1);
-    }
-    true
+    ranks
+        .iter()
+        .zip(0..n)
+        .all(|(rank, k)| rank.cast_unsigned() == rank_at(k, n))
 }
 
 /// Whether the order of n keys is the inverse of their ranks.
 fn is_order(order: &[i32], n: u32) -> bool {
-    let mut rank = 0i32;
-    for place in order {
-        if rank_at(place.cast_unsigned(), n) != rank {
-            return false;
-        }
-        rank = rank.wrapping_add(1);
-    }
-    true
+    order
+        .iter()
+        .zip(0..n)
+        .all(|(place, rank)| rank_at(place.cast_unsigned(), n) == rank)
 }
 
-/// Whether each key stands at its rank.
+/// Whether each of n keys stands at its rank.
 fn are_in_order(keys: &[i32], n: u32) -> bool {
-    let mut rank = 0i32;
-    for key in keys {
-        if *key != key_of(rank, n) {
-            return false;
-        }
-        rank = rank.wrapping_add(1);
-    }
-    true
+    keys.iter()
+        .zip(0..n)
+        .all(|(key, rank)| *key == key_of(rank, n))
 }
 
 /// No memory if what was asked for left the room as it was, and else a wrong answer.
 fn refused(room: &[i32]) -> Result<bool, NoResources> {
-    for number in room {
-        if *number != BEFORE {
-            return Ok(false);
-        }
+    if room.iter().all(|number| *number == BEFORE) {
+        Err(NoResources)
+    } else {
+        Ok(false)
     }
-    Err(NoResources)
 }
 
 /// Whether the ranks, the order and the sort of n keys are right, on at most so many threads; false if n is more than a vector
