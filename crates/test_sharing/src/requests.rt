@@ -44,13 +44,15 @@ const ALL: &[(Made, &[u32], u64)] = &[
     (Made::Partition(0), &[1, 2, 3, 4, 5], 1),
     (Made::Partition(3), &[1, 2, 3, 4, 5], 3),
     (Made::Partition(997), &[1, 2, 3, 4, 5, 9], 3),
-    // each length at which a sort goes over from insertion to digits of 8 bits, and to digits of 11, and the one before; and so
-    // many keys that two threads share them; the keys, what is told of them, and what each call works in
+    // each length at which a sort goes over from insertion to digits of 8 bits, and to digits of 11, and the one before; more
+    // keys than digits of 11 bits; and so many that two threads share them; the keys, what is told of them, and what each call
+    // works in
     (Made::Sorts(1), &[1], 4),
     (Made::Sorts(48), &[2], 4),
     (Made::Sorts(49), &[2], 9),
     (Made::Sorts(1_535), &[2], 9),
     (Made::Sorts(1_536), &[2], 9),
+    (Made::Sorts(5_000), &[2], 9),
     (Made::Sorts(262_147), &[3], 14),
 ];
 
