@@ -1,4 +1,4 @@
-//! When short segments are walked many at once. A loop over each of them ends where the processor doesn't expect it if their
+//! When short segments are walked many at once. A loop over each of them ends where the processor does not expect it if their
 //! lengths differ, which takes longer than the elements do. So `short_scans` and `short_reduces` have one loop over the elements
 //! of many segments, which keeps a sum for each of them.
 
