@@ -19,17 +19,19 @@ pub(crate) const LARGEST: usize = 16;
 /// Fewer segments than this are walked one by one, since many at once take some preparation.
 const FEW: usize = 8;
 
-/// Whether one of the lengths is another than this.
-fn differ(lengths: &[i32], length: i32) -> bool {
-    let mut differ = false;
-    for other in lengths {
-        differ |= *other != length;
+/// Whether more than a quarter of the lengths are other than those two before them. So segments of one length vary no more if the
+/// last one is shorter, or if each second one is empty: a processor foresees where these end.
+fn vary(lengths: &[i32]) -> bool {
+    let mut changes: u32 = 0;
+    for place in 2..lengths.len() {
+        let changed = lengths[place] != lengths[place - 2];
+        changes = changes.wrapping_add(changed as u32);
     }
-    differ
+    changes as usize > lengths.len() / 4
 }
 
-/// Whether the segments are walked many at once: they have at most eight elements on average, all or the first ones, and are not
-/// equally long, so that the processor does not foresee where each ends. The first and the last segments show that. More elements
+/// Whether the segments are walked many at once: they have at most eight elements on average, all or the first ones, and their
+/// lengths vary, so that the processor does not foresee where each ends. The first and the last segments show that. More elements
 /// may be counted than the segments have.
 pub(crate) fn groups_pay(lengths: &[i32], elements: usize) -> bool
     requires { AreLengthsWithin most_places lengths.now }
@@ -41,7 +43,7 @@ pub(crate) fn groups_pay(lengths: &[i32], elements: usize) -> bool
     let (first, _) = lengths.split_at(shown);
     let (_, last) = lengths.split_at(lengths.len() - shown);
     let are_short = elements / 8 <= lengths.len() || total_of(first) / 8 <= shown;
-    are_short && (differ(first, lengths[0]) || differ(last, lengths[0]))
+    are_short && (vary(first) || vary(last))
 }
 
 /// How many elements the segments with these lengths have together.
