@@ -51,8 +51,8 @@ ABOUT = (
     "  - the faults of elements, in the order that the function has. A buffer that is too short for a text that is read comes last.",
     "These vectors may be longer: the source of a back permute and of a gather of segments, the defaults of a permute, the result of first senders, and the "
     "vectors of which one element is taken or replaced.",
-    "Each call of a script has its name with the prefix cvl_, such as cvl_add_wuz. If you define CVL_SHORT_NAMES before you include the header, it also has "
-    "the name without it.",
+    "Each call of a script has its name with the prefix cvl_, such as cvl_add_wuz, except input, nested, len_luz, len_lub and len_fos, for which you have "
+    "arrays and lengths at hand. If you define CVL_SHORT_NAMES before you include the header, it also has the name without it.",
 )
 
 # what the header alone says, since its comments leave out what the manual has of each function
@@ -148,7 +148,7 @@ OF_DESCRIPTORS = (
     (
         "cvl_segments_new",
         (
-            "Makes the descriptor of segments with these lengths. After a fault there is none.",
+            "Makes the descriptor of segments with these lengths. After a fault there is none; 102 Overlap leaves it as it was.",
             f"Faults: 13 TooLong if there are more than {MOST_ELEMENTS} lengths; 12 NegativeLength at the first below 0; 13 TooLong if the total is more than "
             f"{MOST_ELEMENTS}; else 101 NoDescriptor if `segments` is null.",
         ),
@@ -158,7 +158,8 @@ OF_DESCRIPTORS = (
         "cvl_segments_from_offsets",
         (
             "Makes the descriptor of segments that start at these offsets, of which the last is the end, as in a matrix of compressed rows. The lengths go into "
-            "your buffer, which the descriptor names. After a fault there is no descriptor, and the buffer is as it was.",
+            "your buffer, which the descriptor names. After a fault the buffer is as it was, and there is no descriptor; 102 Overlap "
+            "leaves both as they were.",
             f"Faults: 13 TooLong if there are more than {MOST_ELEMENTS} segments; 7 LengthMismatch if there is no offset or the first is not 0; 12 NegativeLength at "
             "the first segment that ends before it starts; 7 LengthMismatch if the buffer does not have one place for each segment; else 101 NoDescriptor if "
             "`segments` is null.",

@@ -137,7 +137,9 @@ def over_ranks(folder, written, flags=()):
         made.unlink(missing_ok=True)
         run(*program("AR"), "rcsD", made, whole)
         hardened = ["-Wl,-z,relro", "-Wl,-z,now", "-Wl,-z,noexecstack", f"-Wl,-soname,{MPI_SONAME}"]
-        run(*compiler, "-fno-lto", *words_of("LDFLAGS"), "-shared", *hardened, "-o", folder / MPI_FULL, whole, folder / FULL)
+        # it stands beside that of the calls, wherever both are
+        beside = "-Wl,-rpath,$ORIGIN"
+        run(*compiler, "-fno-lto", *words_of("LDFLAGS"), "-shared", *hardened, beside, "-o", folder / MPI_FULL, whole, folder / FULL)
     return made
 
 

@@ -72,12 +72,12 @@ SECTIONS = (
         (
             Entry(
                 _each(JOINING, "su", OF_FLAGS), "exclusive scan", "At each place all elements before it, joined by the operator; at place 0 the identity.",
-                ("scan", "Each element is added to the sums after it"), ("add scan",),
+                ("scan", "Each sum is the one before it, plus the element there"), ("add scan",),
                 shows="Each scan begins with its identity; the last element of `a` counts nowhere.",
             ),
             Entry(
                 _each(JOINING, "se", OF_FLAGS), "exclusive scan of each segment", "The scan of each segment; it starts from the identity in each.",
-                ("scan_segments", "Each element is added to the sums after it in its segment"), costs=("add scan, segments of 1,000",),
+                ("scan_segments", "Each sum is the one before it in its segment, plus the element there"), costs=("add scan, segments of 1,000",),
             ),
             Entry(
                 _each(JOINING, "ru", OF_FLAGS), "reduce", "All elements, joined by the operator; the identity if there are none.", costs=("add reduce",),
@@ -319,4 +319,5 @@ COSTS = {
     "append_segments_int": ("append of segments",),
     "merge_by_flags_int": ("merge by flags",),
     "first_true": ("first true flag",),
+    "transpose_int": ("transpose",),
 }

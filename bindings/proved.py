@@ -1,6 +1,7 @@
 """The crates of which the program and the library are made: which these are, what stands built of them, and building them."""
 
 import concurrent.futures
+import os
 import pathlib
 import subprocess
 import sys
@@ -12,6 +13,15 @@ PROGRAM, LIBRARY = "cvl", "cvl_c"
 
 def stop(said):
     sys.exit(f"{pathlib.Path(sys.argv[0]).name}: {said}")
+
+
+def show(page):
+    """Prints a page. If its reader needs only its beginning, as `head` does, that is no error."""
+    try:
+        print(page, flush=True)
+    except BrokenPipeError:
+        # what is flushed at the end goes nowhere
+        os.dup2(os.open(os.devnull, os.O_WRONLY), sys.stdout.fileno())
 
 
 def kit():

@@ -1,8 +1,9 @@
-"""Each call for other languages, said once: what C, Python and Rust have of the library is written from these rows by
-`bindings/generate`, which holds them against the proved table of calls and against the exports of `crates/cvl_c` with their types.
+"""The calls for other languages. From these rows `bindings/generate` writes what C, Fortran, Python, Rust and MPI have of each
+call, and compares them with the proved table of calls and with the parameters of the exports of `crates/cvl_c`.
 
-A family is one export, for one kind of elements; a call is a family with its operator, under a name of the table of calls. A call has
-the operands of its family, in the order of a script.
+A family is a function of C that makes one kind of call on one kind of elements, such as all scans of integers. It has an export,
+and more of them if it works in place. A call is a family with one of its operators, under its name in the table of calls, with
+the family's operands in the order of a script.
 """
 
 import pathlib

@@ -59,8 +59,9 @@
  * These vectors may be longer: the source of a back permute and of a gather of segments, the defaults of a permute, the result
  * of first senders, and the vectors of which one element is taken or replaced.
  *
- * Each call of a script has its name with the prefix cvl_, such as cvl_add_wuz. If you define CVL_SHORT_NAMES before you
- * include the header, it also has the name without it.
+ * Each call of a script has its name with the prefix cvl_, such as cvl_add_wuz, except input, nested, len_luz, len_lub and
+ * len_fos, for which you have arrays and lengths at hand. If you define CVL_SHORT_NAMES before you include the header, it also
+ * has the name without it.
  *
  * The comments leave out 13 TooLong and 7 LengthMismatch, which follow from this list. The manual, from cvl(3) on, has them and
  * an example of each function.
@@ -83,16 +84,16 @@ extern "C" {
 #define CVL_VERSION_PATCH 0
 
 /*
- * CVL_CHECKED: the compiler warns if you ignore the status. CVL_NONNULL: a pointer to a single value, which may never be null.
- * CVL_RESTRICT: a buffer that may overlap no argument.
+ * CVL_CHECKED: the compiler warns if you ignore the status. CVL_NONNULL((1, 2)): these arguments are pointers to single values,
+ * which may never be null. CVL_RESTRICT: a buffer that may overlap no argument.
  */
 #if defined(__GNUC__)
 #define CVL_CHECKED __attribute__((warn_unused_result))
-#define CVL_NONNULL(...) __attribute__((nonnull(__VA_ARGS__)))
+#define CVL_NONNULL(places) __attribute__((nonnull places))
 #define CVL_RESTRICT __restrict__
 #else
 #define CVL_CHECKED
-#define CVL_NONNULL(...)
+#define CVL_NONNULL(places)
 #define CVL_RESTRICT
 #endif
 
@@ -121,8 +122,9 @@ enum {
 };
 
 /*
- * The most elements of a vector, and the greatest total of a descriptor: the greatest integer of 32 bits. The most elements whose text
- * one call reads or writes. The most bytes of its stack that a thread needs for a call.
+ * CVL_MOST_ELEMENTS: the most elements of a vector, and the greatest total of a descriptor, which is the greatest integer of 32
+ * bits. CVL_MOST_OF_TEXT: the most numbers, and the most lists, of a nested text that is read; other texts, and all that are
+ * written, may have as many as a vector. CVL_MOST_STACK: the most bytes of its stack that a thread needs for a call.
  */
 enum { CVL_MOST_ELEMENTS = 2147483647, CVL_MOST_OF_TEXT = 4194304, CVL_MOST_STACK = 32768 };
 
@@ -944,61 +946,61 @@ CVL_CHECKED CvlStatus cvl_boo_wuz(const int32_t *a, bool *CVL_RESTRICT out, size
 CVL_CHECKED CvlStatus cvl_add_suz(const int32_t *a, int32_t *out, size_t n);
 
 /* The sum of the n integers, wrapped; 0 if there are none. */
-CVL_CHECKED CvlStatus cvl_add_ruz(const int32_t *a, size_t n, int32_t *out) CVL_NONNULL(3);
+CVL_CHECKED CvlStatus cvl_add_ruz(const int32_t *a, size_t n, int32_t *out) CVL_NONNULL((3));
 
 /* For each integer the product of those before it, wrapped; 1 at place 0. In place: a. */
 CVL_CHECKED CvlStatus cvl_mul_suz(const int32_t *a, int32_t *out, size_t n);
 
 /* The product of the n integers, wrapped; 1 if there are none. */
-CVL_CHECKED CvlStatus cvl_mul_ruz(const int32_t *a, size_t n, int32_t *out) CVL_NONNULL(3);
+CVL_CHECKED CvlStatus cvl_mul_ruz(const int32_t *a, size_t n, int32_t *out) CVL_NONNULL((3));
 
 /* For each integer the least of those before it; 2147483647 at place 0. In place: a. */
 CVL_CHECKED CvlStatus cvl_min_suz(const int32_t *a, int32_t *out, size_t n);
 
 /* The least of the n integers; 2147483647 if there are none. */
-CVL_CHECKED CvlStatus cvl_min_ruz(const int32_t *a, size_t n, int32_t *out) CVL_NONNULL(3);
+CVL_CHECKED CvlStatus cvl_min_ruz(const int32_t *a, size_t n, int32_t *out) CVL_NONNULL((3));
 
 /* For each integer the greatest of those before it; -2147483648 at place 0. In place: a. */
 CVL_CHECKED CvlStatus cvl_max_suz(const int32_t *a, int32_t *out, size_t n);
 
 /* The greatest of the n integers; -2147483648 if there are none. */
-CVL_CHECKED CvlStatus cvl_max_ruz(const int32_t *a, size_t n, int32_t *out) CVL_NONNULL(3);
+CVL_CHECKED CvlStatus cvl_max_ruz(const int32_t *a, size_t n, int32_t *out) CVL_NONNULL((3));
 
 /* For each integer those before it joined by and, bit by bit; -1 at place 0. In place: a. */
 CVL_CHECKED CvlStatus cvl_and_suz(const int32_t *a, int32_t *out, size_t n);
 
 /* The n integers joined by and, bit by bit; -1 if there are none. */
-CVL_CHECKED CvlStatus cvl_and_ruz(const int32_t *a, size_t n, int32_t *out) CVL_NONNULL(3);
+CVL_CHECKED CvlStatus cvl_and_ruz(const int32_t *a, size_t n, int32_t *out) CVL_NONNULL((3));
 
 /* For each integer those before it joined by or, bit by bit; 0 at place 0. In place: a. */
 CVL_CHECKED CvlStatus cvl_ior_suz(const int32_t *a, int32_t *out, size_t n);
 
 /* The n integers joined by or, bit by bit; 0 if there are none. */
-CVL_CHECKED CvlStatus cvl_ior_ruz(const int32_t *a, size_t n, int32_t *out) CVL_NONNULL(3);
+CVL_CHECKED CvlStatus cvl_ior_ruz(const int32_t *a, size_t n, int32_t *out) CVL_NONNULL((3));
 
 /* For each integer those before it joined by exclusive or, bit by bit; 0 at place 0. In place: a. */
 CVL_CHECKED CvlStatus cvl_xor_suz(const int32_t *a, int32_t *out, size_t n);
 
 /* The n integers joined by exclusive or, bit by bit; 0 if there are none. */
-CVL_CHECKED CvlStatus cvl_xor_ruz(const int32_t *a, size_t n, int32_t *out) CVL_NONNULL(3);
+CVL_CHECKED CvlStatus cvl_xor_ruz(const int32_t *a, size_t n, int32_t *out) CVL_NONNULL((3));
 
 /* For each boolean whether all those before it are true; true at place 0. In place: a. */
 CVL_CHECKED CvlStatus cvl_and_sub(const bool *a, bool *out, size_t n);
 
 /* Whether all n booleans are true; true if there are none. */
-CVL_CHECKED CvlStatus cvl_and_rub(const bool *a, size_t n, bool *out) CVL_NONNULL(3);
+CVL_CHECKED CvlStatus cvl_and_rub(const bool *a, size_t n, bool *out) CVL_NONNULL((3));
 
 /* For each boolean whether any of those before it is true; false at place 0. In place: a. */
 CVL_CHECKED CvlStatus cvl_ior_sub(const bool *a, bool *out, size_t n);
 
 /* Whether any of the n booleans is true; false if there are none. */
-CVL_CHECKED CvlStatus cvl_ior_rub(const bool *a, size_t n, bool *out) CVL_NONNULL(3);
+CVL_CHECKED CvlStatus cvl_ior_rub(const bool *a, size_t n, bool *out) CVL_NONNULL((3));
 
 /* For each boolean whether an odd number of those before it is true; false at place 0. In place: a. */
 CVL_CHECKED CvlStatus cvl_xor_sub(const bool *a, bool *out, size_t n);
 
 /* Whether an odd number of the n booleans is true; false if there are none. */
-CVL_CHECKED CvlStatus cvl_xor_rub(const bool *a, size_t n, bool *out) CVL_NONNULL(3);
+CVL_CHECKED CvlStatus cvl_xor_rub(const bool *a, size_t n, bool *out) CVL_NONNULL((3));
 
 /* ---- sums that never wrap: the calls of the table ---- */
 
@@ -1009,16 +1011,16 @@ CVL_CHECKED CvlStatus cvl_xor_rub(const bool *a, size_t n, bool *out) CVL_NONNUL
 CVL_CHECKED CvlStatus cvl_tot_suz(const int32_t *a, int32_t *out, size_t n);
 
 /* The sum of the n integers. Faults: 18 Overflow at 0 if it does not fit 32 bits. */
-CVL_CHECKED CvlStatus cvl_tot_ruz(const int32_t *a, size_t n, int32_t *out) CVL_NONNULL(3);
+CVL_CHECKED CvlStatus cvl_tot_ruz(const int32_t *a, size_t n, int32_t *out) CVL_NONNULL((3));
 
 /* ---- counts, single elements, and vectors of a given length: the calls of the table ---- */
 
 /* The number of true flags, of n. */
-CVL_CHECKED CvlStatus cvl_cnt_lub(const bool *flags, size_t n, int32_t *out) CVL_NONNULL(3);
+CVL_CHECKED CvlStatus cvl_cnt_lub(const bool *flags, size_t n, int32_t *out) CVL_NONNULL((3));
 
 /* The element of n at the index. Faults: 10 IndexOutOfRange at 0 if the index is below 0, or n or more. */
-CVL_CHECKED CvlStatus cvl_ext_vuz(const int32_t *vector, size_t n, int64_t index, int32_t *out) CVL_NONNULL(4);
-CVL_CHECKED CvlStatus cvl_ext_vub(const bool *vector, size_t n, int64_t index, bool *out) CVL_NONNULL(4);
+CVL_CHECKED CvlStatus cvl_ext_vuz(const int32_t *vector, size_t n, int64_t index, int32_t *out) CVL_NONNULL((4));
+CVL_CHECKED CvlStatus cvl_ext_vub(const bool *vector, size_t n, int64_t index, bool *out) CVL_NONNULL((4));
 
 /*
  * The vector with the value at the index. vector and out have n elements. Faults: 10 IndexOutOfRange at 0 if the index is below
@@ -1049,7 +1051,7 @@ CVL_CHECKED CvlStatus cvl_ind_luz(int32_t init, int32_t stride, int64_t count, i
  */
 
 /* Whether the numbers are the lengths of segments, and how many elements these have in all. */
-CVL_CHECKED CvlStatus cvl_mke_fov(CvlLengths lengths, size_t *total) CVL_NONNULL(2);
+CVL_CHECKED CvlStatus cvl_mke_fov(CvlLengths lengths, size_t *total) CVL_NONNULL((2));
 
 /*
  * For each integer the sum of those before it in its segment. Faults: 18 Overflow at the first place whose sum does not fit 32
@@ -1175,9 +1177,9 @@ CVL_CHECKED CvlStatus cvl_xor_reb(const bool *a, size_t n, CvlLengths lengths, b
  * enough. *count is how many they are, also if out is too short.
  */
 CVL_CHECKED CvlStatus cvl_pck_luz(const int32_t *values, const bool *flags, size_t n, int32_t *CVL_RESTRICT out, size_t room,
-    size_t *count) CVL_NONNULL(6);
+    size_t *count) CVL_NONNULL((6));
 CVL_CHECKED CvlStatus cvl_pck_lub(const bool *values, const bool *flags, size_t n, bool *CVL_RESTRICT out, size_t room,
-    size_t *count) CVL_NONNULL(6);
+    size_t *count) CVL_NONNULL((6));
 
 /*
  * The values of each segment whose flag is true, in their order, one segment after another; pck_fov gives the lengths of these
@@ -1185,9 +1187,9 @@ CVL_CHECKED CvlStatus cvl_pck_lub(const bool *values, const bool *flags, size_t 
  * if out is too short.
  */
 CVL_CHECKED CvlStatus cvl_pck_lez(const int32_t *values, const bool *flags, size_t n, CvlLengths lengths,
-    int32_t *CVL_RESTRICT out, size_t room, size_t *count) CVL_NONNULL(7);
+    int32_t *CVL_RESTRICT out, size_t room, size_t *count) CVL_NONNULL((7));
 CVL_CHECKED CvlStatus cvl_pck_leb(const bool *values, const bool *flags, size_t n, CvlLengths lengths, bool *CVL_RESTRICT out,
-    size_t room, size_t *count) CVL_NONNULL(7);
+    size_t room, size_t *count) CVL_NONNULL((7));
 
 /*
  * The lengths of the segments of what a pack keeps, or a select permute, 0 for a segment of which nothing is kept. flags has n
@@ -1313,7 +1315,7 @@ typedef struct CvlSegments {
 CvlStatus cvl_segments_free(CvlSegments *segments);
 
 /*
- * Makes the descriptor of segments with these lengths. After a fault there is none.
+ * Makes the descriptor of segments with these lengths. After a fault there is none; 102 Overlap leaves it as it was.
  * Faults: 13 TooLong if there are more than 2147483647 lengths; 12 NegativeLength at the first below 0; 13 TooLong if the total
  * is more than 2147483647; else 101 NoDescriptor if `segments` is null.
  */
@@ -1321,8 +1323,8 @@ CVL_CHECKED CvlStatus cvl_segments_new(CvlLengths lengths, CvlSegments *segments
 
 /*
  * Makes the descriptor of segments that start at these offsets, of which the last is the end, as in a matrix of compressed
- * rows. The lengths go into your buffer, which the descriptor names. After a fault there is no descriptor, and the buffer is as
- * it was.
+ * rows. The lengths go into your buffer, which the descriptor names. After a fault the buffer is as it was, and there is no
+ * descriptor; 102 Overlap leaves both as they were.
  * Faults: 13 TooLong if there are more than 2147483647 segments; 7 LengthMismatch if there is no offset or the first is not 0;
  * 12 NegativeLength at the first segment that ends before it starts; 7 LengthMismatch if the buffer does not have one place for
  * each segment; else 101 NoDescriptor if `segments` is null.

@@ -7,6 +7,11 @@
 #ifndef CVL_SHORT_NAMES_H
 #define CVL_SHORT_NAMES_H
 
+/* older standards than C++11 warn of macros with any number of arguments, unless a header is the system's */
+#if defined(__GNUC__) && defined(__cplusplus) && __cplusplus < 201103L
+#pragma GCC system_header
+#endif
+
 #define add_wuz(...) cvl_add_wuz(__VA_ARGS__)
 #define mul_wuz(...) cvl_mul_wuz(__VA_ARGS__)
 #define min_wuz(...) cvl_min_wuz(__VA_ARGS__)

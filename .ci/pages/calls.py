@@ -7,10 +7,15 @@ from pages.texts import TOP, held, lines_of, rows_of, text_of
 
 sys.path[:0] = [str(TOP / "bindings/generator"), str(TOP / "crates/script_cases/generator")]
 
+sys.path.append(str(TOP / "bindings"))
+
 import call_table
 import calls as plain_reading
+import rows
 
 PAGE, SCRIPT, GLOSSARY = "docs/user/calls.md", "docs/user/script.md", "docs/user/glossary.md"
+
+IN_PARTS, COSTS, STARTS = "docs/user/parallel.md", "docs/user/performance.md", "tests/process/resources"
 
 FAULTS, LIMITS = "crates/cvl_base/specs/Faults.antt", "crates/cvl_base/src/limits.rt"
 
@@ -51,6 +56,82 @@ def faults_of_page():
     """The number and the name of each fault, as docs/user/script.md has them."""
     rows = (cells for cells in rows_of(lines_of(SCRIPT)) if len(cells) > 1)
     return [f"{cells[0]} {cells[1]}" for cells in rows if cells[0].isdigit() and re.fullmatch(r"[A-Z][A-Za-z]+", cells[1])]
+
+
+def sentence(page, begin, end):
+    """What stands on a page between two texts, on one line."""
+    found = re.search(f"{re.escape(begin)}(.*?){re.escape(end)}", " ".join(text_of(page).split()))
+    return found[1] if found else ""
+
+
+def check_letters():
+    """docs/user/calls.md explains each of the letters that names of calls end in."""
+    shown = re.findall(r"`([a-z])`", sentence(PAGE, "is an operator and three letters:", "So `bck_puz`"))
+    wanted = {letter for name in set(call_table.read(TOP)) - {"input", "nested", "write"} for letter in name[-3:]}
+    yield from held(PAGE, "the names of calls", sorted(set(shown)), sorted(wanted))
+
+
+def check_without_c():
+    """The header for C and docs/dev/embedding.md name the calls of a script that C does not have."""
+    header, page, table = "include/cvl.h", "docs/dev/embedding.md", "bindings/table.py"
+    wanted = sorted(set(call_table.read(TOP)) - {row.name for row in rows.CALLS})
+    in_header = sentence(header, "with the prefix cvl_, such as cvl_add_wuz, except", ", for which").replace(" * ", " ")
+    yield from held(header, table, sorted(re.findall(r"\w+", in_header.replace(" and ", " "))), sorted({*wanted} - {"write"}))
+    on_page = next(line for line in lines_of(page) if "have no form in C" in line).split(" have no")[0]
+    yield from held(page, table, sorted(re.findall(r"`(\w+)`", on_page)), wanted)
+
+
+def check_without_on():
+    """docs/user/parallel.md names the families that have no form on a pool, and those that have one and are not cut."""
+    said = sentence(IN_PARTS, "These run on the calling thread:", " Calls on a descriptor")
+    whole, _, without = said.partition("which have no form `_on`:")
+    ends = tuple(re.findall(r"`(_\w+)`", without))
+    families = rows.FAMILIES.values()
+    uncut = sorted(f"cvl_{row.name}" for row in families if row.family.cut is None)
+    shown = re.findall(r"`(cvl_\w+)`", without) + [name for name in uncut if name.endswith(ends)]
+    yield from held(IN_PARTS, "bindings/table.py", sorted(shown), uncut)
+    not_cut = sorted(f"cvl_{row.name}" for row in families if row.family.cut and row.family.cut[0] == "whole")
+    yield from held(IN_PARTS, "bindings/table.py", sorted(re.findall(r"`(cvl_\w+)`", whole)), not_cut)
+
+
+def check_starts():
+    """The calls that docs/user/performance.md names to start their threads more than once: those of which the test counts that."""
+    alike = {name: heading for heading in headings() for name in heading.split()}
+    calls, others = text_of(STARTS).split("# vectors of other lengths than the result")
+    lines = re.findall(r"^shares ([0-9]) 'r = (\w+) [^\n']*'", calls, re.M)
+    lines += re.findall(r"^shares ([0-9]) '.*\\n(write) r'", others, re.M)
+    for times, begin, end in (("2", "These do so twice:", "."), ("3", "Three times:", ".")):
+        shown = {alike.get(name, name) for name in re.findall(r"`(\w+)`", sentence(COSTS, begin, end))}
+        wanted = {alike.get(name, name) for number, name in lines if number == times}
+        yield from held(COSTS, STARTS, sorted(shown), sorted(wanted))
+
+
+LONG = ("LEAST_SHARED", "LEAST_READ", "LEAST_WRITTEN")
+
+# what pages say of the lengths from which on threads share a call, and of each one's share: a text with numbers, and their constants
+SAID_OF_THREADS = (
+    (IN_PARTS, r"Each has at least (\S+) elements, so all four work from (\S+) on", ("LEAST_EACH", "FOUR")),
+    (IN_PARTS, r"long from (\S+) elements on, from (\S+) bytes of a text that it reads, or from (\S+) elements", LONG),
+    (IN_PARTS, r"below (\S+) elements is one part, and each part has at least (\S+)\.", ("LEAST_SHARED", "LEAST_EACH")),
+    (IN_PARTS, r"Yours takes two from (\S+) on, and four from (\S+)\.", ("LEAST_SHARED", "FOUR")),
+    ("include/cvl.h", r"from (\S+) elements on, from (\S+) bytes of a text that is read, and from (\S+) elements", LONG),
+    (COSTS, r"first fault \| (\S+) elements, and (\S+) for each thread", ("LEAST_SHARED", "LEAST_EACH")),
+    (COSTS, r"reduces \| (\S+) integers, (\S+) booleans", ("INTEGERS_REDUCED", "LEAST_REDUCED")),
+    (COSTS, r"nested or not \| (\S+) bytes, (\S+) for each thread", ("LEAST_READ", "LEAST_READ_EACH")),
+    (COSTS, r"a text \| (\S+) elements, and (\S+) for each thread", ("LEAST_WRITTEN", "LEAST_WRITTEN_EACH")),
+)
+
+
+def check_thresholds():
+    """Pages and the header have the lengths of crates/sharing."""
+    source = "crates/sharing/src/lib.rt"
+    constants = re.findall(r"^pub const (\w+): \w+ = ([0-9_]+);$", text_of(source), re.M)
+    most = {name: int(number.replace("_", "")) for name, number in constants}
+    most |= {"FOUR": 4 * most["LEAST_EACH"], "INTEGERS_REDUCED": most["LEAST_REDUCED"] // 4}
+    for page, said, names in SAID_OF_THREADS:
+        found = re.search(said, " ".join(text_of(page).replace("\n * ", " ").split()))
+        shown = [number.replace(",", "") for number in found.groups()] if found else []
+        yield from held(page, source, shown, [str(most[name]) for name in names])
 
 
 def check_faults():

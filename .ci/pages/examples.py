@@ -7,9 +7,12 @@ from pages.texts import CASES, TOP, blocks_of, held, indented_behind, lines_of, 
 # pages whose examples are the cases of a file
 PAGES_OF_CASES = {"calls": "reference", "segments": "segments", "mistakes": "mistakes", "tutorial": "tutorial"}
 
-PAGES_WITH_RUNS = ("README.md", "docs/user/examples.md")
+PAGES_WITH_RUNS = ("README.md", "docs/user/README.md", "docs/user/examples.md")
 
-PAGES_WITH_CODE = ("README.md", "docs/dev/embedding.md", "docs/dev/look-back.md", "docs/user/programs.md", "docs/user/python.md", "docs/user/segments.md")
+PAGES_WITH_CODE = (
+    "README.md", "docs/dev/embedding.md", "docs/dev/look-back.md", "docs/user/parallel.md", "docs/user/programs.md", "docs/user/python.md",
+    "docs/user/segments.md",
+)  # fmt: skip
 
 EMBEDDING = "crates/embedding"
 
@@ -125,6 +128,15 @@ def check_code():
             if named:
                 yield from stands_in(path, named, block)
             named, last = "", number + len(block) + 2
+
+
+def check_blocks():
+    """Each block of Rust on docs/dev/embedding.md stands below the name of its file, so that `check_code` compares it."""
+    page, last = lines_of("docs/dev/embedding.md"), 0
+    for language, number, block in blocks_of(page):
+        if language == "rust" and not any(re.fullmatch(r"`crates/.*`", line) for line in page[last:number]):
+            yield f"docs/dev/embedding.md:{number + 1} this block is below no name of a file"
+        last = number + len(block) + 2
 
 
 def check_embedding():

@@ -43,6 +43,15 @@ def check_links():
                     yield f"{page}:{number} no heading {link}"
 
 
+def check_tests():
+    """tests/README.md names each program and each module of tests."""
+    named = set(re.findall(r"`([\w./-]+)`", "\n".join(lines_of("tests/README.md"))))
+    files = (path.relative_to(TOP / "tests") for path in TOP.glob("tests/*/*") if path.is_file() and path.suffix != ".h")
+    for path in sorted(files):
+        if path.name != "run" and not {path.name, path.stem, str(path), str(path.with_suffix(""))} & named:
+            yield f"tests/README.md has no row for tests/{path}"
+
+
 def check_named_pages():
     """A page that another names in a word of code is there."""
     for page, lines in pages().items():

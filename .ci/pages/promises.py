@@ -1,5 +1,5 @@
 """docs/user/proved.md: the functions and laws that its table of crates names are theirs; what refuses each wrong body is there, and each
-must-fail edit stands in the table."""
+must-fail edit stands in the table; and the crates of the kit that the proofs trust are listed."""
 
 import re
 import sys
@@ -95,6 +95,21 @@ def check_edits():
     for edit in sorted(str(path.relative_to(TOP)) for path in TOP.glob("crates/*/must-fail/*.edit")):
         if edit not in named:
             yield f"{PAGE} does not name {edit} below {HEADING}"
+
+
+# names of crates.txt that stand for the standard library
+OF_STANDARD = {"core", "std_alloc"}
+
+
+def check_trusted():
+    """The page lists, below what the proofs trust, exactly the crates of the kit that crates of the repository use."""
+    rows = [line.partition(":") for line in lines_of("crates.txt") if line and not line.startswith("#")]
+    own = {crate.split()[0] for crate, _, _ in rows}
+    used = {name for _, _, names in rows for name in names.split()} - own - OF_STANDARD
+    [line] = [line for line in lines_of(PAGE) if line.startswith("- What its standard library and its crates state: ")]
+    listed = set(re.findall("`([^`]+)`", line))
+    yield from (f"{PAGE} does not list {name} of crates.txt among what the proofs trust" for name in sorted(used - listed))
+    yield from (f"{PAGE} lists {name} among what the proofs trust, and crates.txt does not have it" for name in sorted(listed - used))
 
 
 # the pages that say what is proved of the library from other languages; the manual takes the words from the same place

@@ -2,6 +2,7 @@
 
 import os
 import re
+import subprocess
 import sys
 
 from pages.texts import TOP, text_of
@@ -45,6 +46,14 @@ def check_definitions():
     for crate, name in re.findall(r"`(\w+)/(\w+)`", text_of(DEFINITIONS)):
         if not (CRATES / crate / "specs" / f"{name}.antt").is_file():
             yield f"{DEFINITIONS} names {crate}/{name}, which is not there"
+
+
+def check_define():
+    """`docs/dev/define` prints a definition with its sentence, for each word that docs/dev/definitions.md gives it."""
+    for word in dict.fromkeys(re.findall(r"docs/dev/define (\w+)", text_of(DEFINITIONS))):
+        done = subprocess.run([TOP / "docs/dev/define", word], capture_output=True, text=True)
+        if done.returncode != 0 or not re.search(r"^-- .*\n(?:-- .*\n)*pub .*", done.stdout, re.M) or word not in done.stdout:
+            yield f"{DEFINITIONS}: docs/dev/define {word} prints no definition with a sentence"
 
 
 def crates_of(text):

@@ -198,7 +198,7 @@ CvlStatus cvl_told(const CvlRow *row, uint32_t op, const CvlSlot *s) {
     return lengths.agree && cvl_do_agree(row, op, s) ? room_told(row, s) : cvl_status(CVL_LENGTH_MISMATCH, -1);
 }
 
-/* Whether faults that the export checks later may come before this status: no memory, and faults of elements. */
+/* Whether the export may answer this although another fault comes first: it checks rooms after memory and elements. */
 /*@ assigns \nothing;
     ensures \result ==> status.number != CVL_DONE; */
 static bool is_late(CvlStatus status) {

@@ -5,6 +5,27 @@
 
 CvlStatus cvl_alone(const CvlRow *row, uint32_t op, const CvlSlot *s) { return cvl_make_alone(row, op, s); }
 
+/*
+ * On the elements from the place on, so that it is the first one there. Elements before it are copied once the export is done,
+ * since it may be refused memory.
+ */
+CvlStatus cvl_make_far(const CvlRow *row, uint32_t op, const CvlSlot *s) {
+    const size_t before = s[1].number;
+    CvlSlot rest[CVL_MOST_OPERANDS];
+    for (size_t k = 0; k < row->operands; k++) {
+        rest[k] = s[k];
+        if (row->operand[k].like != 0) continue;
+        rest[k].at = (const char *)s[k].at + before * row->operand[k].size;
+        rest[k].number -= before;
+    }
+    rest[1].number = 0;
+    const CvlStatus status = row->make(op, rest);
+    if (status.number != CVL_DONE || row->operand[row->out].like != 0) return status;
+    memcpy((void *)s[row->out].at, s[0].at, before * row->operand[0].size);
+    if (row->is & CVL_OF_BOOLS) cvl_proved_make_flags((bool *)s[row->out].at, before);
+    return status;
+}
+
 /* Copies flags that are neither 0 nor 1 into memory that the caller frees, and answers whether there was memory. */
 static bool copy(CvlSlot *slot, bool **copied) {
     if (cvl_proved_are_flags(slot->at, slot->number)) return 1;
@@ -40,15 +61,15 @@ CvlStatus cvl_make_on_copies(const CvlRow *row, uint32_t op, const CvlSlot *s) {
  * Whether a call has no fault that the driver can see, so that it may be cut. Flags that stand in the room before have to be 0 and 1, since
  * parts write into the room itself.
  */
-/*@ requires is_call(row, s) && ((row->is & CVL_ONE_VALUE) != 0 ==> row->operands > 1);
+/*@ requires is_call(row, s) && ((row->is & CVL_AT_PLACE) != 0 ==> row->operands > 1);
     assigns \nothing;
     ensures \result ==> are_apart(row, s) && do_agree(row, op, s);
     ensures \result ==> is_clean(row, s, row->out);
-    ensures \result && (row->is & CVL_ONE_VALUE) != 0 ==> s[1].number < s[0].number; */
+    ensures \result && (row->is & CVL_AT_PLACE) != 0 ==> s[1].number < s[0].number; */
 static bool may_be_cut(const CvlRow *row, uint32_t op, const CvlSlot *s) {
     if (row->in_parts == NULL || !cvl_are_apart(row, s) || !cvl_do_agree(row, op, s)) return 0;
     if ((row->operand[row->out].is & CVL_COPIED) && !cvl_is_clean(s[row->out])) return 0;
-    return !(row->is & CVL_ONE_VALUE) || s[1].number < s[0].number;
+    return !(row->is & CVL_AT_PLACE) || s[1].number < s[0].number;
 }
 
 /* Rows that come by offsets: the same call by their lengths. */

@@ -218,6 +218,26 @@ CVL_WALKS bool cvl_are_clean(const CvlRow *row, const CvlSlot *s) {
     ensures \result == s[row->operand[row->cut].like].number; */
 CVL_WALKS size_t cvl_count_given(const CvlRow *row, const CvlSlot *s) { return s[row->operand[row->cut].like].number; }
 
+/* The last place that an export can name, since its places have 32 bits. A build for tests has another. */
+#ifndef CVL_LAST_NAMED
+#define CVL_LAST_NAMED INT32_MAX
+#endif
+
+/* Whether a call takes or replaces an element behind the last place that its export can name. */
+/*@ requires is_call(row, s) && ((row->is & CVL_AT_PLACE) != 0 ==> row->operands > 1);
+    assigns \nothing;
+    ensures \result <==> (row->is & CVL_AT_PLACE) != 0 && CVL_LAST_NAMED < s[1].number < s[0].number; */
+CVL_WALKS bool cvl_is_far(const CvlRow *row, const CvlSlot *s) {
+    return (row->is & CVL_AT_PLACE) && s[1].number > CVL_LAST_NAMED && s[1].number < s[0].number;
+}
+
+/* Makes such a call: driver.c. */
+/*@ requires is_call(row, s) && are_apart(row, s) && row->operands > 1 && s[1].number < s[0].number;
+    requires (row->is & CVL_ASKED) != 0 ==> do_agree(row, op, s) && are_clean(row, s);
+    assigns rooms;
+    ensures \result.number != CVL_DONE ==> rooms == \old(rooms); */
+CVL_HIDDEN CvlStatus cvl_make_far(const CvlRow *row, uint32_t op, const CvlSlot *s);
+
 /*
  * Calls the export, or the one in place, with nothing but what the export takes. What an export leaves in its rooms after a fault is proved
  * with it.
@@ -226,7 +246,9 @@ CVL_WALKS size_t cvl_count_given(const CvlRow *row, const CvlSlot *s) { return s
     requires (row->is & CVL_ASKED) != 0 ==> do_agree(row, op, s) && are_clean(row, s);
     assigns rooms;
     ensures \result.number != CVL_DONE ==> rooms == \old(rooms); */
-CVL_WALKS CvlStatus cvl_make(const CvlRow *row, uint32_t op, const CvlSlot *s) { return row->make(op, s); }
+CVL_WALKS CvlStatus cvl_make(const CvlRow *row, uint32_t op, const CvlSlot *s) {
+    return cvl_is_far(row, s) ? cvl_make_far(row, op, s) : row->make(op, s);
+}
 
 /* ---- a call that is not in order: checks.c ---- */
 
@@ -293,7 +315,7 @@ CVL_WALKS CvlStatus cvl_make_alone(const CvlRow *row, uint32_t op, const CvlSlot
 CVL_HIDDEN CvlStatus cvl_alone(const CvlRow *row, uint32_t op, const CvlSlot *s);
 
 /* Makes a call by a pool: driver.c. */
-/*@ requires is_call(row, s) && ((row->is & CVL_ONE_VALUE) != 0 ==> row->operands > 1);
+/*@ requires is_call(row, s) && ((row->is & CVL_AT_PLACE) != 0 ==> row->operands > 1);
     assigns rooms, told;
     ensures \result.number != CVL_DONE ==> rooms == \old(rooms);
     ensures !are_apart(row, s) ==> \result.number == CVL_OVERLAP; */

@@ -40,8 +40,8 @@ enum {
     CVL_IN_PLACE = 4,  /* an array that may be the room */
     CVL_BOUNDED = 8,   /* has no more elements than a vector may have, */
     CVL_TOO_MANY = 16, /* and more are reported */
-    CVL_COPIED = 32,   /* flags that are copied if a byte is neither 0 nor 1, and in a room that holds what stands before copied back */
-    CVL_COPIED_IN_PARTS = 64 /* in parts too */
+    CVL_COPIED = 32,   /* flags that the export takes only as 0 and 1: others are copied, and a room is copied back */
+    CVL_COPIED_IN_PARTS = 64 /* the same in parts */
 };
 
 typedef struct CvlOperand {
@@ -64,7 +64,7 @@ enum {
     CVL_WRITES_TEXT = 32, /* or the text of the elements; */
     CVL_FRONT = 64,       /* and the room may be longer */
     CVL_OF_BOOLS = 128,   /* elements are booleans */
-    CVL_ONE_VALUE = 256,  /* one element of the room is another one */
+    CVL_AT_PLACE = 256,   /* one element of the first operand is taken or replaced, at the place that is the second */
     CVL_TOGETHER = 512,   /* two operands may be the room at once */
     CVL_MERGES = 1024,    /* A has an element for each true flag, and B one for each false one */
     CVL_APPENDS = 2048,   /* the room is as long as A and B together */

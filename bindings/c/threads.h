@@ -1,6 +1,6 @@
 /*
- * threads.h: the threads of the process, which long calls under their own names take. Each checked function of a family that is cut asks
- * for them; the function beneath it, cvl_int2_alone of cvl_int2, never does, and neither does anything that a part calls.
+ * threads.h: the threads of the process. cvl_call in driver.h takes them for a long call of a family that can be cut into
+ * parts. Neither cvl_alone nor cvl_on takes them, and nothing that a part calls does.
  */
 #ifndef CVL_THREADS_H
 #define CVL_THREADS_H

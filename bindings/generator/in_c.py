@@ -56,7 +56,7 @@ def parameters(arguments, alone=False):
 def nonnull(arguments):
     """The places, from 1, of the pointers to single values, which may never be null."""
     single = [k for k, argument in enumerate(arguments, 1) if argument.operand is not None and argument.operand.role in ("single", "told")]
-    return f" CVL_NONNULL({', '.join(map(str, single))})" if single else ""
+    return f" CVL_NONNULL(({', '.join(map(str, single))}))" if single else ""
 
 
 def given(arguments):
@@ -219,6 +219,11 @@ def short_names():
         " */",
         "#ifndef CVL_SHORT_NAMES_H",
         "#define CVL_SHORT_NAMES_H",
+        "",
+        "/* older standards than C++11 warn of macros with any number of arguments, unless a header is the system's */",
+        "#if defined(__GNUC__) && defined(__cplusplus) && __cplusplus < 201103L",
+        "#pragma GCC system_header",
+        "#endif",
         "",
     ]
     for end in ("", "_on"):

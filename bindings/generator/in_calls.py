@@ -7,16 +7,16 @@ import reference
 
 HEAD = """# The calls
 
-Look up a call: what it takes and gives, its faults, and an example. The index has each call by what it gives, and the [glossary](glossary.md) by its name in numpy, Thrust or CVL. C, Fortran, Python and Rust have [more functions](#functions-that-no-script-calls).
+Look up a call: what it takes and gives, its faults, and an example. The index has each call with what it gives, and the [glossary](glossary.md) with its names in numpy, Thrust, NESL and VCODE. C, Fortran, Python and Rust have [more functions](#functions-that-no-script-calls).
 
 The comment after an `input` shows what it holds. In the pictures a box is an element and a frame a segment; arrows lead from an element to where it goes."""
 
 READING = """## Reading an entry
 
-- A name such as `bck_puz` is an operator and three letters: `w` for elementwise, `s` scan, `r` reduce, `p` permute, `v` vectors with single values, or `l` library; `u` for flat or `e` for segmented; and `z` for integers or `b` for booleans. So `bck_puz` is a back permute of a flat vector of integers.
+- A name such as `bck_puz` is an operator and three letters: `w` for elementwise, `s` scan, `r` reduce, `p` permute, `v` vectors with single values, `l` library, or `f` descriptors; `u` for flat, `e` for segmented, or `o` for neither; and `z` for integers or `b` for booleans, or of descriptors `v` for a vector or `s` for segments. So `bck_puz` is a back permute of a flat vector of integers.
 - `Takes` has the arguments in their order. *Integers* and *booleans* are vectors, an *integer* and a *boolean* single values; *elements* are integers or booleans, by the last letter of the name.
 - A descriptor is the lengths of the segments of a vector; its *total* is their sum. A segmented call does in each segment what the flat call does on a whole vector, and its results lie one after another.
-- Lengths that have to be equal and are not are fault 7 LengthMismatch, without a place, before all other faults of the entry. `Faults` has these others; without that line there are none. `script.md` has those of any line, which come first.
+- If lengths that must match differ, the call stops with fault 7 LengthMismatch, without a place, before any fault under `Faults`. No such line means no further faults. `script.md` has those of any line, which come first.
 - Places count from 0, in the whole vector. A fault of an element is reported at the least place that has one."""
 
 # sections that say which lengths are equal, so that no entry does

@@ -436,6 +436,7 @@ def module():
 # ---- the calls as the program has them that tries each on its example ----
 
 TRIED_HEAD = f"""! Each subroutine on the operands of an example, by the name of the call or the family, and `in` where an operand is the room.
+! The elements of arrays are `step` places apart.
 !
 ! {rows.NOTE}
 """
@@ -443,10 +444,10 @@ TRIED_HEAD = f"""! Each subroutine on the operands of an example, by the name of
 
 def _held(operand):
     """Which part of an operand holds it."""
-    if operand.kind in ("text", "flags", "flag", "bytes", "sums"):
+    if operand.kind in ("text", "flag"):
         return operand.kind
     if rows.is_array(operand) or operand.role == "lengths":
-        return "ints"
+        return f"{operand.kind if operand.kind in ('flags', 'bytes', 'sums') else 'ints'}(::step)"
     return {"integer(c_int32_t)": "int", "integer(c_int64_t)": "number", "integer(c_size_t)": "count"}[_type(operand)]
 
 

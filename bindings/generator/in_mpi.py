@@ -10,6 +10,8 @@ from in_c import indented, kept, parameters, wrapped
 
 # How a family goes over ranks, by its name or else by how it is cut into parts: the name of its way, and what a comment says of it.
 BY_NAME = {
+    "distribute": ("places", "each rank makes its own places: count is how many it has, as long as out"),
+    "index": ("places", "each rank makes its own places: count is how many it has, as long as out"),
     "extract": ("extract", "the rank that has the element sends it to all"),
     "replace": ("replace", "the rank that has the place writes it"),
     "back_permute": ("back", "each rank asks for each element that it needs once"),
@@ -26,7 +28,7 @@ BY_NAME = {
     "make_descriptor": ("lengths", "the ranks' totals are added"),
     "combine_permute": ("combine", "elements go to the ranks of their places, and are joined there in their order"),
     "seg_combine_permute": ("combine", "elements go to the ranks of their places, and are joined there in their order"),
-    "counts": ("combine", "places go to the ranks that have them, and are counted there"),
+    "counts": ("counts", "few places are counted by each rank, and the counts added; else places go to the ranks that have them"),
     "seg_counts": ("combine", "places go to the ranks that have them, and are counted there"),
     "order": ("order", "keys go with their places to the ranks of the sorted vector, which is spread as out is"),
     "seg_order": ("order", "keys of segments that cross ranks go with their places to the ranks of the sorted segments"),
@@ -65,7 +67,7 @@ BY_CUT = {
 }
 
 # Families whose places an index or a count of 32 bits names, so that the whole is no longer than a vector may be.
-NAMED_WAYS = {"back", "seg_extract", "seg_replace", "permute", "combine", "count", "lengths", "first_true"}
+NAMED_WAYS = {"back", "seg_extract", "seg_replace", "permute", "combine", "counts", "count", "lengths", "first_true"}
 NAMED_FAMILIES = {"order", "rank"}
 
 # Families whose result may be spread otherwise than what they read, where it is as long.
@@ -94,12 +96,27 @@ def is_held(row):
     return bool(row.cuts) and way(row)[0] != "lengths"
 
 
+def is_counted(row, operand):
+    """Whether a call's count alone says how long a room is. Over ranks its own length stands behind it: a count of the whole is then a fault."""
+    return row.call is not None and rows.is_array(operand) and operand.extent == "count"
+
+
+def measured(row):
+    """Arguments with the length of each room behind it that a count alone measures."""
+    found = []
+    for argument in row.arguments:
+        found.append(argument)
+        if argument.operand is not None and is_counted(row, argument.operand):
+            found.append(rows.Argument(f"{argument.name}_len", "size_t ", argument.operand, argument.operand.extent))
+    return found
+
+
 def arguments(row):
     """Arguments with a descriptor in the place of lengths."""
     if not is_held(row):
-        return row.arguments
+        return measured(row)
     return [
-        argument._replace(type="const CvlRankSegments *") if argument.type == "const CvlSegments *" else argument for argument in in_c.held(row.arguments)
+        argument._replace(type="const CvlRankSegments *") if argument.type == "const CvlSegments *" else argument for argument in in_c.held(measured(row))
     ]
 
 
@@ -204,9 +221,10 @@ def row_of(number, row):
 
 
 def slot(row, operand):
-    """The slot of an operand, of what a function is given."""
+    """What a public function passes on for an operand: its pointer with its number of elements. If the segments are those of a
+    descriptor, an array with an element for each has as many as segments start in this rank."""
     if rows.is_array(operand):
-        if row.call is None:
+        if row.call is None or is_counted(row, operand):
             size = f"{operand.name}_len"
         elif operand.extent == "segments" and is_held(row):
             size = f"cvl_rank_segments_starts({row.cuts[0].name.replace('lengths', 'segments')})"
@@ -262,7 +280,7 @@ def tried_argument(row, argument, over):
 
 def tried_functions(row):
     plain = ", ".join(tried_argument(row, argument, False) for argument in row.arguments)
-    over = ", ".join(tried_argument(row, argument, True) for argument in row.arguments)
+    over = ", ".join(tried_argument(row, argument, True) for argument in arguments(row))
     unused = "" if row.family.operators and not row.call else "(void)op; "
     return (
         f"static CvlStatus plain_{row.name}(uint32_t op, const Slot *s) {{ {unused}return cvl_{row.name}({plain}); }}\n"
@@ -293,7 +311,7 @@ def tried_rows():
     return "\n".join([said, *map(tried_functions, found), "", "static const Tried tried[] = {", *map(tried_row, found), "};", ""])
 
 
-# ---- Python ----
+# ---- Python and Fortran ----
 
 
 def of_python():
@@ -305,30 +323,3 @@ def of_python():
 def takes_operator(row):
     """Whether the caller says by which operator."""
     return bool(row.family.operators) and row.call is None
-
-
-def python_row(row):
-    """A call by its family, of which each array has its own length, so that no other one is read to its end."""
-    operands = tuple((operand.name, "over" if operand.over else operand.role, operand.kind, operand.extent) for operand in row.operands)
-    number = "op" if takes_operator(row) else in_rows.table.NUMBERS[row.operator] if row.operator else None
-    return f'    "{row.name}": ("{row.family.name}", {number!r}, {operands!r}),'.replace("'", '"')
-
-
-def python_rows():
-    """`bindings/python/cvl/over_ranks.py`."""
-    names = "".join(f'    {number}: "{name}",\n' for number, name in in_rows.table.STATUSES)
-    return "\n".join([
-        '"""The calls over ranks: of each its family, its operator if it has one, or "op" if the caller says it, and its operands, each with its role,',
-        "its kind and its extent; and the names of what calls answer.",
-        "",
-        rows.NOTE,
-        '"""',
-        "",
-        "NAMES = {",
-        f"{names}}}",
-        "",
-        "CALLS = {",
-        *map(python_row, of_python()),
-        "}",
-        "",
-    ])

@@ -40,7 +40,7 @@ class Family:
         self.lengths = [k for k, operand in enumerate(self.operands) if operand.role == "lengths"]
 
     def place(self, test):
-        """The place of the first operand of which a test is so, or nothing."""
+        """The place of the first operand for which a test is true, or None."""
         return next((k for k, operand in enumerate(self.operands) if test(operand)), None)
 
     @property
@@ -72,7 +72,7 @@ class Family:
         return self.place(lambda o: o.role == "told") if found is None else found
 
     def like(self, k):
-        """How the number of an operand hangs together with that of another one: the other one, and the relation."""
+        """The place of the operand whose number says what this one's has to be, and their CvlRelation without its prefix."""
         operand = self.operands[k]
         if operand.role == "lengths":
             return self.lengths[0], "SAME"
@@ -89,7 +89,7 @@ class Family:
         return (self.out, "A_BIT_EACH") if operand.extent == "marks" else (k, "SAME")
 
     def first_of(self, extent):
-        """The place of the first operand that is so long."""
+        """The place of the first array of this extent; if it is that of segments, of the first lengths, where there are some."""
         if extent == "segments" and self.lengths:
             return self.lengths[0]
         return self.place(lambda o: rows.is_array(o) and o.extent == extent)
@@ -197,7 +197,7 @@ class Family:
             "ASKED": self.is_asked, "LATE": self.is_late, "READS_TEXT": self.reads_text,
             "COUNTED": any(o.role == "count" for o in self.operands), "BY_TRUES": by_elements and self.room.kind != "text",
             "WRITES_TEXT": by_elements and self.room.kind == "text", "FRONT": by_elements and self.room.extent == "room",
-            "OF_BOOLS": self.of_bools, "ONE_VALUE": self.cut == "replace",
+            "OF_BOOLS": self.of_bools, "AT_PLACE": any(o.role == "place" for o in self.operands),
             "TOGETHER": any(len(names) > 1 for names in self.family.in_place), "MERGES": not self.lengths and any(o.extent == "falses" for o in self.operands),
             "APPENDS": any(o.extent == "both" for o in self.operands), "TURNS": any(o.name == "rows" for o in self.operands),
         }

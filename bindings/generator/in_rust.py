@@ -172,7 +172,7 @@ def _type_taken(operand):
 
 
 def _taken(function, place=None, operands=None):
-    """The parameters, of which one may be the room."""
+    """The parameters of a function in Rust. In the form that works in place, the operand `place` is the room."""
     operands = function.operands if operands is None else operands
     return _operator(function, "operator: Operator") + [f"{name_of(o)}: {ROOMS[o.kind] if o == place else _type_taken(o)}" for o in operands]
 
@@ -300,14 +300,14 @@ def _several(function):
 
 
 def _filled(function):
-    """The lines of a function whose result is as long as is known before."""
+    """The body of a function whose result has a length that is known before the call."""
     yield f"let mut out = zeros({_extent(function)})?;"
     yield f"{function.name}_into({', '.join([*_passed(function), '&mut out'])})?;"
     yield "Segments::new(&out)" if function.gives_segments else "Ok(out)"
 
 
 def _counted(function):
-    """The line of one whose result is told to be so long."""
+    """The body of a function whose call reports the length of its result; the room is as long as the result can be."""
     places = ENOUGH.get(function.family.name) or _extent(function)
     filled = f"counted({places}, |out| {function.name}_into({', '.join([*_passed(function), 'out'])}))"
     yield f"{filled}.map(text_of)" if function.result.kind == "text" else filled

@@ -85,7 +85,7 @@ def _times(entry):
         if entry.said and row[4] in entry.said.costs:
             for length in PERFORMANCE.LENGTHS:
                 times = PERFORMANCE.times_of(row, length)
-                yield row[4], length, times.get("1 worker"), times.get("4 workers"), times.get("loop")
+                yield row[4], length, times.get("1 worker"), times.get("4 workers"), PERFORMANCE.loop_of(times)
     if not entry.said:
         begins = tuple(entries.COSTS.get(entry.name, ()))
         for (subject, case), times in PERFORMANCE.program_tables.ROWS.items():
@@ -103,7 +103,7 @@ def _costs(entry):
     if not lines:
         return []
     shown = PERFORMANCE.table(["Call", "Elements", "1 thread", "4 threads", "Loop", "4 threads / loop"], lines)
-    intro = "Microseconds, beside a plain loop in C++ on one thread; [Performance](../performance.md) has the machine and the other calls."
+    intro = "Microseconds, beside a plain loop in C++ on one thread, without a branch if that is faster; [Performance](../performance.md) has the machine and the other calls."
     return ["## What it costs", intro, shown.rstrip()]
 
 
@@ -258,7 +258,7 @@ def index_page():
     head = in_calls.HEAD.split("\n\n")
     parts = [
         head[0], "Look up any call: how you write it in each language, what it takes and gives, its faults, an example, and its cost beside a loop. "
-        "To find a call by its name in numpy, Thrust or CVL, use the [glossary](glossary.md); the search finds each call by its name.",
+        "The [glossary](glossary.md) has the names of numpy, Thrust, NESL and VCODE beside each; the search finds each call by its name.",
         "## Index", _index(scripts), "## Beside the calls of scripts",
         "C, Fortran, Python and Rust have more functions:", _index(beside),
         "C has in addition [what all calls share](calls/all-calls.md), [threads](calls/threads.md) and [descriptors](calls/descriptors-in-c.md).",

@@ -115,5 +115,5 @@ figure.tight_layout()
 
 # %% [markdown]
 # Short calls cost what it takes to call at all, so there the lines are flat. Long vectors cost what it takes to read and write
-# their memory. From 262,144 elements on a call runs on as many threads as you ask for.
+# their memory. From 262,144 elements on a call runs on threads, at most as many as you ask for: each has 131,072 elements or more.
 # [Performance](performance.md) has these times on a machine of known kind, and says where a loop is faster.

@@ -84,7 +84,7 @@ class Call:
         return list(dict.fromkeys(operand.extent for operand in self.operands if operand.role == "reads"))
 
     def is_bounded(self, extent):
-        """Whether there may be at most 4,194,304, since the call has that limit or lengths add up to as many."""
+        """Whether an array of this extent has at most 2,147,483,647 elements: the call limits it, or lengths add up to it."""
         return extent in ("segments", self.family.limit) or any(operand.extent == extent for operand in self.cuts)
 
     @property
@@ -95,7 +95,7 @@ class Call:
 
     @property
     def limited(self):
-        """The array that may have at most 4,194,304 elements, or nothing."""
+        """The array whose length the call compares with its limit, or None if it has no limit."""
         return rows.limited(self.family)
 
     def measure(self):

@@ -12,7 +12,7 @@ import rows
 LANGUAGES = ("Script", "C", "Python", "Rust", "Fortran")
 
 # what only compilers read
-MARKS = re.compile(r"CVL_CHECKED |CVL_RESTRICT | CVL_NONNULL\([^)]*\)")
+MARKS = re.compile(r"CVL_CHECKED |CVL_RESTRICT | CVL_NONNULL\(\([^)]*\)\)")
 
 # the functions of Python that have no row
 OF_LENGTHS = {name: (operand, "numpy.ndarray" if gives == "LENGTHS" else "int") for name, operand, _, gives, *_ in in_python.LENGTHS}

@@ -61,7 +61,7 @@ def _parser():
 def read(words, page):
     """What the words say, with the places; the page for who asks for help."""
     if not words or "-h" in words or "--help" in words:
-        print(page)
+        proved.show(page)
         sys.exit(0 if words else 2)
     found = _parser().parse_args(words)
     if found.jobs < 1:

@@ -20,7 +20,7 @@ static const CvlRankSegments *held(const CvlCall *c, unsigned char as) {
     return as == CVL_AS_LENGTHS ? c->segments : as == CVL_AS_THIRD_LENGTHS ? c->third : c->other;
 }
 
-/* Puts the lengths of descriptors into their slots. */
+/* Puts the lengths of descriptors into their slots: copies, with which no array of the caller's shares memory. */
 static void hold(CvlCall *c) {
     const CvlRow *const row = &c->family->row;
     for (size_t k = 0; k < row->operands && c->family->held; k++) {
@@ -66,7 +66,6 @@ static void look(CvlCall *c) {
     if (!cvl_are_apart(row, c->s)) cvl_say(c, cvl_overlap());
     hold(c);
     if (c->status.number != CVL_DONE) return;
-    if (!cvl_are_apart(row, c->s)) cvl_say(c, cvl_overlap());
     if (!cvl_is_known(row, c->op)) cvl_say(c, cvl_status(CVL_UNKNOWN_CALL, -1));
     if ((row->is & CVL_COUNTED) && c->in[CVL_AS_COUNT].number > CVL_MOST_ELEMENTS) {
         cvl_say(c, cvl_status(c->in[CVL_AS_COUNT].number > INT64_MAX ? CVL_NEGATIVE_LENGTH : CVL_TOO_LONG, -1));

@@ -42,10 +42,21 @@ static CvlStatus told(const CvlRankSegments *s, CvlStatus status) {
     return status;
 }
 
+/* The descriptor with its own copy of the lengths, or nothing if there is no memory. */
+static CvlRankSegments *kept(const CvlRankSegments *s) {
+    CvlRankSegments *const found = malloc(sizeof *found + s->pieces * sizeof *found->copied);
+    if (found == NULL) return NULL;
+    *found = *s;
+    if (s->pieces > 0) memcpy(found->copied, s->lengths, s->pieces * sizeof *found->copied);
+    found->lengths = found->copied;
+    return found;
+}
+
 CvlStatus cvl_rank_segments_new(CvlRanks *ranks, CvlLengths pieces, bool goes_on, CvlRankSegments **made) {
-    CvlRankSegments s = {0}, *kept;
+    CvlRankSegments s = {0}, *own = NULL;
     bool short_room = 0;
     uint64_t none;
+    if (made != NULL) *made = NULL;
     if (!cvl_are_ranks(ranks)) return cvl_status(CVL_NO_DESCRIPTOR, -1);
     if (!cvl_is_one_call(ranks, CVL_CALL_SEGMENTS)) return cvl_status(CVL_UNKNOWN_CALL, -1);
     CvlStatus status = look(pieces, &s.total);
@@ -53,16 +64,12 @@ CvlStatus cvl_rank_segments_new(CvlRanks *ranks, CvlLengths pieces, bool goes_on
     s.goes_on = goes_on && pieces.segments > 0;
     s.starts = pieces.segments - (s.goes_on ? 1 : 0);
     place_among_ranks(&s);
-    kept = malloc(sizeof *kept);
-    status = told(&s, status);
-    if (status.number == CVL_DONE && kept == NULL) status = cvl_status(CVL_NO_RESOURCES, -1);
+    status = made == NULL ? cvl_status(CVL_NO_DESCRIPTOR, -1) : told(&s, status);
+    if (status.number == CVL_DONE) own = kept(&s);
+    if (status.number == CVL_DONE && own == NULL) status = cvl_status(CVL_NO_RESOURCES, -1);
     status = cvl_agreed(ranks, status, CVL_CALL_SEGMENTS, 0, UINT64_MAX, &short_room, &none);
-    if (status.number != CVL_DONE) {
-        free(kept);
-        return status;
-    }
-    *kept = s;
-    *made = kept;
+    if (status.number == CVL_DONE) *made = own;
+    else free(own);
     return status;
 }
 

@@ -76,8 +76,11 @@ CvlStatus cvl_spread_ints(CvlRanks *ranks, const int32_t *a, size_t a_len, int32
     return spread(ranks, a, a_len, out, out_len, sizeof *a);
 }
 
+/* Bytes are sent as they are, and made 0 and 1 where they arrive. */
 CvlStatus cvl_spread_bools(CvlRanks *ranks, const bool *a, size_t a_len, bool *out, size_t out_len) {
-    return spread(ranks, a, a_len, out, out_len, sizeof *a);
+    const CvlStatus status = spread(ranks, a, a_len, out, out_len, sizeof *a);
+    if (status.number == CVL_DONE) cvl_make_flags(out, out_len);
+    return status;
 }
 
 CvlStatus cvl_even_share(CvlRanks *ranks, uint64_t total, uint64_t *from, size_t *count) {

@@ -170,7 +170,6 @@ static CvlStatus write_nest(CvlRanks *ranks, const void *a, size_t a_len, const 
     w.first = ranks->rank == 0, w.last = ranks->rank + 1 == ranks->size;
     if (s == NULL || s->ranks != ranks) status = cvl_status(CVL_NO_DESCRIPTOR, -1);
     else if (cvl_meet(a, a_len, are_bools ? sizeof(bool) : sizeof(int32_t), text, text_len, 1)) status = cvl_overlap();
-    else if (cvl_meet(s->lengths, s->pieces, sizeof(int32_t), text, text_len, 1)) status = cvl_overlap();
     else status = write_own(a, a_len, s, are_bools, &w);
     if (status.number == CVL_DONE && cvl_length_of(&w) > text_len) {
         status = cvl_status(CVL_LENGTH_MISMATCH, -1);

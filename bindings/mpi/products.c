@@ -147,8 +147,7 @@ static void look(CvlCall *c, const CvlRoute *route) {
         cvl_say(c, cvl_status(CVL_NO_DESCRIPTOR, -1));
         return;
     }
-    const bool meets = cvl_meet(out.at, out.number, size, values.at, values.number, size) || cvl_meet(out.at, out.number, size, x.at, x.number, size) ||
-        cvl_meet(out.at, out.number, size, rows->lengths, rows->pieces, size);
+    const bool meets = cvl_meet(out.at, out.number, size, values.at, values.number, size) || cvl_meet(out.at, out.number, size, x.at, x.number, size);
     if (meets) cvl_say(c, cvl_overlap());
     const bool fits = values.number == route->index_len && values.number == rows->total && x.number == route->source_len && out.number == rows->starts;
     if (!fits) cvl_say(c, cvl_status(CVL_LENGTH_MISMATCH, -1));

@@ -10,11 +10,13 @@ static bool is_communicator(MPI_Comm comm) {
     return MPI_Comm_test_inter(comm, &between) == MPI_SUCCESS && !between;
 }
 
-/* Whether all ranks of a communicator say so. */
-static bool do_all(MPI_Comm comm, bool mine) {
-    int said = mine, all = 0;
+/* What a rank can do about ranks: nothing without a place for them, or without memory. The least of the ranks' is that of all. */
+typedef enum Can { NO_PLACE, NO_MEMORY, ALL } Can;
+
+static Can can_all(MPI_Comm comm, Can mine) {
+    int said = (int)mine, all = 0;
     MPI_Allreduce(&said, &all, 1, MPI_INT, MPI_MIN, comm);
-    return all != 0;
+    return (Can)all;
 }
 
 /* The ranks without what MPI keeps for them, or nothing if there is no memory. */
@@ -48,12 +50,14 @@ static void make(CvlRanks *ranks, MPI_Comm comm) {
 
 CvlStatus cvl_ranks_new(MPI_Comm comm, CvlRanks **made) {
     int size = 0;
+    if (made != NULL) *made = NULL;
     if (!is_communicator(comm)) return cvl_status(CVL_NO_DESCRIPTOR, -1);
     MPI_Comm_size(comm, &size);
     CvlRanks *const ranks = ranks_of(size);
-    if (!do_all(comm, ranks != NULL)) {
+    const Can can = can_all(comm, made == NULL ? NO_PLACE : ranks == NULL ? NO_MEMORY : ALL);
+    if (can != ALL) {
         if (ranks != NULL) free(ranks->offsets), free(ranks->sends), free(ranks);
-        return cvl_status(CVL_NO_RESOURCES, -1);
+        return cvl_status(can == NO_PLACE ? CVL_NO_DESCRIPTOR : CVL_NO_RESOURCES, -1);
     }
     make(ranks, comm);
     *made = ranks;
@@ -62,6 +66,7 @@ CvlStatus cvl_ranks_new(MPI_Comm comm, CvlRanks **made) {
 
 CvlStatus cvl_ranks_of_fortran(MPI_Fint comm, CvlRanks **made) {
     int begun = 0, ended = 0;
+    if (made != NULL) *made = NULL;
     MPI_Initialized(&begun);
     MPI_Finalized(&ended);
     if (!begun || ended) return cvl_status(CVL_NO_DESCRIPTOR, -1);

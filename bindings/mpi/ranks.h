@@ -52,7 +52,7 @@ enum { CVL_CALL_SEGMENTS = 0xf900, CVL_CALL_SHARE = 0xfb00, CVL_CALL_SPREAD = 0x
 
 struct CvlRankSegments {
     CvlRanks *ranks;
-    const int32_t *lengths; /* of the pieces in this rank's range */
+    const int32_t *lengths; /* of the pieces in this rank's range: the copied ones */
     size_t pieces;
     bool goes_on;           /* whether the first piece goes on from a rank before */
     size_t total, starts;   /* elements of the range, and segments that start in it */
@@ -60,6 +60,7 @@ struct CvlRankSegments {
     uint64_t head_before;   /* how many elements of the first piece's segment, where that goes on, stand in ranks before, */
     uint64_t last_after;    /* and of the last piece's segment in ranks behind */
     uint64_t all, segments; /* elements of the whole, and segments */
+    int32_t copied[];       /* since what ranks know of one another's pieces holds for these lengths alone */
 };
 
 /* The pieces of a rank, their lengths behind the one that goes on from a rank before, and the length of that. */
@@ -223,6 +224,7 @@ CVL_HIDDEN CvlStatus cvl_seg_numbers_over_ranks(CvlCall *c);
 CVL_HIDDEN CvlStatus cvl_seg_replace_over_ranks(CvlCall *c);
 CVL_HIDDEN CvlStatus cvl_permute_over_ranks(CvlCall *c);
 CVL_HIDDEN CvlStatus cvl_combine_over_ranks(CvlCall *c);
+CVL_HIDDEN CvlStatus cvl_counts_over_ranks(CvlCall *c);
 CVL_HIDDEN CvlStatus cvl_back_over_ranks(CvlCall *c);
 CVL_HIDDEN CvlStatus cvl_seg_extract_over_ranks(CvlCall *c);
 CVL_HIDDEN CvlStatus cvl_sort_over_ranks(CvlCall *c);

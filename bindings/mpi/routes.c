@@ -262,10 +262,12 @@ static void look_at_permute(CvlCall *c, CvlRoute *route, const int32_t *index) {
 }
 
 CvlStatus cvl_route_new(CvlRanks *ranks, const int32_t *index, size_t index_len, size_t source_len, CvlRoute **made) {
+    if (made != NULL) *made = NULL;
     if (!cvl_are_ranks(ranks)) return cvl_status(CVL_NO_DESCRIPTOR, -1);
     if (!cvl_is_one_call(ranks, CVL_CALL_ROUTE)) return cvl_status(CVL_UNKNOWN_CALL, -1);
     CvlCall c = call_of(ranks);
     const uint64_t total = cvl_offsets(ranks, source_len);
+    if (made == NULL) cvl_say(&c, cvl_status(CVL_NO_DESCRIPTOR, -1));
     if (index_len > CVL_MOST_ELEMENTS || total > CVL_MOST_ELEMENTS) cvl_say(&c, cvl_status(CVL_TOO_LONG, -1));
     CvlRoute *const route = cvl_take(&c, 1, sizeof *route);
     int32_t *slots = c.status.number == CVL_DONE ? cvl_take(&c, index_len, sizeof *slots) : NULL;

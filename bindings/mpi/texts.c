@@ -148,6 +148,7 @@ CvlStatus cvl_rank_text_read(CvlRanks *ranks, const char *path, char **text, siz
     char *own = NULL;
     size_t own_len = 0;
     bool none = 0;
+    *text = NULL;
     if (!cvl_are_ranks(ranks)) return cvl_status(CVL_NO_DESCRIPTOR, -1);
     if (!cvl_is_one_call(ranks, CVL_CALL_TEXT + READ_FILE)) return cvl_status(CVL_UNKNOWN_CALL, -1);
     const bool opened = MPI_File_open(ranks->comm, path, MPI_MODE_RDONLY, MPI_INFO_NULL, &file) == MPI_SUCCESS;

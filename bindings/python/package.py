@@ -92,7 +92,12 @@ def check():
 
 def library(work):
     """The archive of the library: of this checkout, or for a source archive the installed one."""
-    return installed_library() if IS_SOURCE else run(sys.executable, TOP / "bindings/archive", work).strip().split("\n")[-1]
+    if IS_SOURCE:
+        return installed_library()
+    if not os.environ.get("CVL_ARCHIVE"):
+        said = "building the library of this checkout; what `rt ci` has not proved of it is proved first, in up to an hour"
+        print(f"{NAME}: {said}", file=sys.stderr, flush=True)
+    return run(sys.executable, TOP / "bindings/archive", work).strip().split("\n")[-1]
 
 
 def installed_library():

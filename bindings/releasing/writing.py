@@ -19,8 +19,10 @@ SOURCE = re.compile(r"^\| `([\w./]+)` \| `([0-9a-f]{64})` \|$", re.M)
 
 
 def write(folder, jobs, anew=False):
-    """Writes the release into an empty folder, of objects that are compiled anew, or were compiled before."""
+    """Writes the release into a folder that is empty or not there yet, of objects that are compiled anew, or were compiled
+    before. If this checkout may not be released, it stops before it makes the folder."""
     record, time = found_right.read(), found_right.time_of_revision()
+    folder.mkdir(parents=True, exist_ok=True)
     with tempfile.TemporaryDirectory() as work:
         builds = Built(work, time, jobs, anew)
         names = [*trees.write(folder, builds, time), *debian.write(folder, builds)]

@@ -1,5 +1,6 @@
 """How Sphinx makes the site: every file comes from the machine itself, and the same pages give the same bytes."""
 
+import json
 import pathlib
 
 from docutils import nodes
@@ -65,10 +66,29 @@ def scrolled(app, doctree):
         box += found
 
 
+# the lines of each page, by its name
+LINES = {}
+
+
+def kept(app, doctree, page):
+    """Keeps the lines of a page, and of definitions their sentences alone, so that a search shows where its words stand."""
+    kinds = (nodes.paragraph, nodes.title, *(() if page.startswith("definitions/") else (nodes.literal_block,)))
+    found = doctree.findall(lambda node: isinstance(node, kinds))
+    LINES[page] = [" ".join(node.astext().split()) for node in found]
+
+
+def written(app, failure):
+    """Writes the lines for the page of the search, which asks no server for them."""
+    lines = json.dumps(LINES, ensure_ascii=False, sort_keys=True, separators=(",", ":"))
+    (pathlib.Path(app.outdir) / "_static/lines.js").write_text(f"const LINES = {lines};\n")
+
+
 def setup(app):
     app.add_object_type("call", "call", "pair: %s; call")
     app.connect("html-page-context", without_unused)
     app.connect("builder-inited", in_the_dark)
     app.connect("doctree-read", scrolled)
+    app.connect("doctree-resolved", kept)
     app.connect("build-finished", removed)
+    app.connect("build-finished", written)
     app.add_css_file("dark.css")

@@ -128,7 +128,7 @@ static inline bool is_descriptor(Holds holds) { return holds >= DESCRIPTOR && ho
 static inline bool is_read_text(Holds holds) { return holds == TEXT || holds == NESTED_TEXT; }
 static inline bool is_text(Holds holds) { return is_read_text(holds) || holds == ROOM_FOR_TEXT; }
 
-/* The first array of a call that holds this, or that is so; or how many arrays there are. */
+/* The place of the first array of a call that holds this, or that passes a test; or else the number of its arrays. */
 static inline size_t first_with(const Row *row, Holds holds) {
     size_t j = 0;
     while (row->arrays[j] != NO_MORE && row->arrays[j] != holds) j++;

@@ -23,6 +23,17 @@ static atomic_int short_waits, late_waits;
 
 enum { MINUTE = 60000000, SHORT = 1000 };
 
+/* For how many milliseconds a thread has said at most that it waits for work. */
+static atomic_long longest_wait;
+
+static void note_wait(const struct timespec *until) {
+    struct timespec now;
+    clock_gettime(CLOCK_MONOTONIC, &now);
+    const long waits = (long)(until->tv_sec - now.tv_sec) * 1000 + (until->tv_nsec - now.tv_nsec) / 1000000;
+    long longest = longest_wait;
+    while (waits > longest && !atomic_compare_exchange_weak(&longest_wait, &longest, waits)) continue;
+}
+
 /* Whether one of so many is left, which is taken. */
 static bool takes_one(atomic_int *left_of) {
     int left = *left_of;
@@ -33,6 +44,7 @@ static bool takes_one(atomic_int *left_of) {
 int __wrap_pthread_cond_timedwait(pthread_cond_t *condition, pthread_mutex_t *lock, const struct timespec *until) {
     struct timespec end = *until;
     const bool is_late = takes_one(&late_waits);
+    note_wait(until);
     const long waits = takes_one(&short_waits) ? SHORT : patience;
     if (waits >= 0) {
         clock_gettime(CLOCK_MONOTONIC, &end);
@@ -89,6 +101,16 @@ static void counts_of_process(void) {
         starts_left = -1;
         check("a thread stays that was started for a number that could not be set", there_are(beside));
     }
+}
+
+/* A second, as the header says, or less where the system is slow. */
+static void how_long_they_wait(void) {
+    patience = MINUTE;
+    longest_wait = 0;
+    check("a number is not set", cvl_set_threads(THREADS) == 0);
+    for (int k = 0; k < ROUNDS && longest_wait <= 500; k++) check("a call gives another result", scans_by_threads());
+    check("threads wait for half a second at most, or for more than one", longest_wait > 500 && longest_wait <= 1000);
+    check("a number is not set", cvl_set_threads(1) == 0);
 }
 
 static void counts_of_pools(void) {
@@ -210,6 +232,7 @@ int main(void) {
     fill_vectors();
     if (CHILDREN_START) TRY(main_leaves_a_program);
     TRY(counts_of_process);
+    TRY(how_long_they_wait);
     TRY(counts_of_pools);
     TRY(end_and_start);
     TRY(refused_again);

@@ -7,10 +7,8 @@
  * are those of calls.h, and the loops those of plain.h. One of the lengths may be named alone.
  */
 #define _GNU_SOURCE
+#include "far.h"
 #include "plain.h"
-
-#include <sys/mman.h>
-#include <unistd.h>
 
 enum { THREADS = 4, SEGMENT = 400, LEAST_LAST = 8, WAYS = 4 };
 
@@ -203,9 +201,9 @@ static void one_more(const bool *far, size_t count) {
 
 static void most_of_all(void) {
     const size_t most = CVL_MOST_ELEMENTS, bytes = most + 1;
-    bool *flags = (bool *)mmap(NULL, bytes, PROT_READ | PROT_WRITE, MAP_PRIVATE | MAP_ANONYMOUS | MAP_NORESERVE, -1, 0);
+    bool *flags = (bool *)far_zeros(bytes, 1);
     bool *far = (bool *)mmap(NULL, bytes, PROT_NONE, MAP_PRIVATE | MAP_ANONYMOUS | MAP_NORESERVE, -1, 0);
-    if (flags == MAP_FAILED || far == MAP_FAILED) abort();
+    if (far == MAP_FAILED) abort();
     for (size_t threads = 1; threads <= THREADS; threads += THREADS - 1) {
         if (cvl_set_threads(threads) != 0) abort();
         most_booleans(flags, most);
@@ -216,12 +214,6 @@ static void most_of_all(void) {
 }
 
 /* ---- faults in the last places of the longest vectors of integers ---- */
-
-static int32_t *far_zeros(size_t count) {
-    int32_t *found = (int32_t *)mmap(NULL, count * sizeof *found, PROT_READ | PROT_WRITE, MAP_PRIVATE | MAP_ANONYMOUS | MAP_NORESERVE, -1, 0);
-    if (found == MAP_FAILED) abort();
-    return found;
-}
 
 static void last_faults(int32_t *a, int32_t *room, size_t most) {
     const CvlLengths cut = {a, most};
@@ -241,7 +233,7 @@ static void last_faults(int32_t *a, int32_t *room, size_t most) {
 
 static void last_places(void) {
     const size_t most = CVL_MOST_ELEMENTS;
-    int32_t *a = far_zeros(most), *room = far_zeros(most);
+    int32_t *a = (int32_t *)far_zeros(most, sizeof *a), *room = (int32_t *)far_zeros(most, sizeof *room);
     for (size_t threads = 1; threads <= THREADS; threads += THREADS - 1) {
         if (cvl_set_threads(threads) != 0) abort();
         last_faults(a, room, most);
@@ -253,17 +245,11 @@ static void last_places(void) {
 
 /* ---- a text of as many words as a vector has elements ---- */
 
-/* So many bytes of a text whose words are one byte each: one piece of memory, mapped as often as it takes. */
+/* So many bytes of a text whose words are one byte each. */
 static char *far_text(size_t bytes, char word, size_t piece) {
-    const int file = memfd_create("words", 0);
-    char *const found = (char *)mmap(NULL, bytes + piece, PROT_NONE, MAP_PRIVATE | MAP_ANONYMOUS | MAP_NORESERVE, -1, 0);
-    if (file < 0 || found == MAP_FAILED || ftruncate(file, (off_t)piece) != 0) abort();
-    for (size_t from = 0; from < bytes; from += piece) {
-        if (mmap(found + from, piece, PROT_READ | PROT_WRITE, MAP_SHARED | MAP_FIXED, file, 0) == MAP_FAILED) abort();
-    }
+    char *const found = (char *)far_pieces(bytes, piece);
     memset(found, ' ', piece);
     for (size_t k = 0; k < piece; k += 2) found[k] = word;
-    close(file);
     return found;
 }
 

@@ -1,17 +1,16 @@
 /*
  * Calls on nested texts, lists, vectors and counts that are exactly as long as may be, and longer by one: whole and in parts, with
- * memory and without. The first are taken; the others are 13 TooLong, with all rooms as they were. Other texts are taken at both lengths,
- * and tell their last word if it is wrong. It prints what differs, and
- * its status is then 1. `tests/c/run limits` builds and runs it.
+ * memory and without. The first are taken; the others are 13 TooLong, with all rooms as they were. Other texts are taken at both
+ * lengths, and tell their last word if it is wrong. An element behind the last place of 32 bits is taken and replaced as any
+ * other. It prints what differs, and its status is then 1. `tests/c/run limits` builds and runs it.
  */
-#define _DEFAULT_SOURCE
+#define _GNU_SOURCE
 #include "cvl_parallel.h"
+#include "far.h"
 
 #include <stdio.h>
 #include <stdlib.h>
 #include <string.h>
-#include <sys/mman.h>
-#include <unistd.h>
 
 enum { MOST = CVL_MOST_OF_TEXT, MANY = MOST + 1, PARTS = 3, FEW = 10, TEXT = 3 * MANY + 2 * FEW, UNTOUCHED = 77, SECONDS = 300 };
 
@@ -251,9 +250,7 @@ static void numbers(void) {
 
 static void vectors(void) {
     const size_t most = CVL_MOST_ELEMENTS, bytes = (most + 1) * sizeof(int32_t);
-    int32_t *a = (int32_t *)mmap(NULL, bytes, PROT_READ | PROT_WRITE, MAP_PRIVATE | MAP_ANONYMOUS | MAP_NORESERVE, -1, 0);
-    int32_t *room = (int32_t *)mmap(NULL, bytes, PROT_READ, MAP_PRIVATE | MAP_ANONYMOUS | MAP_NORESERVE, -1, 0);
-    if (a == MAP_FAILED || room == MAP_FAILED) abort();
+    int32_t *a = (int32_t *)far_zeros(most + 1, sizeof *a), *room = (int32_t *)far_zeros(most + 1, sizeof *room);
     a[0] = -1;
     for (size_t n = most; n <= most + 1; n++) {
         const CvlStatus status[] = {
@@ -283,6 +280,85 @@ static void vectors(void) {
     munmap(room, bytes);
 }
 
+/* ---- an element behind the last place of 32 bits ---- */
+
+enum { PIECE = 1 << 24, REST = 100 };
+
+/* The places of a long vector: the last one that ends a whole piece, one of the rest behind, and how many there are. */
+static const size_t last_whole = ((size_t)1 << 31) - 1, far_place = ((size_t)1 << 31) + 5, far_count = ((size_t)1 << 31) + REST;
+
+static void told_far(const char *call, CvlStatus status, uint32_t right) {
+    calls++;
+    if (status.number != right) fail(call, "another status", status.number, right);
+    if (status.place != (right == CVL_INDEX_OUT_OF_RANGE ? 0 : -1)) fail(call, "another place", (long long)status.place, 0);
+}
+
+/* Indices that no element has, among them one that has it in 32 bits. */
+static const int64_t no_places[] = {((int64_t)1 << 31) + REST, ((int64_t)1 << 32) + 5, -1, INT64_MIN, INT64_MAX};
+enum { NO_PLACES = sizeof no_places / sizeof *no_places };
+
+static void take_far(const int32_t *ints, const bool *bools) {
+    int32_t number = UNTOUCHED;
+    bool flag = false;
+    told_far("cvl_ext_vuz", cvl_ext_vuz(ints, far_count, (int64_t)far_place, &number), CVL_DONE);
+    if (number != 9) fail("cvl_ext_vuz", "another element", number, 9);
+    told_far("cvl_ext_vub", cvl_ext_vub(bools, far_count, (int64_t)far_place, &flag), CVL_DONE);
+    if (*(const unsigned char *)&flag != 1) fail("cvl_ext_vub", "another element", *(const unsigned char *)&flag, 1);
+    for (size_t k = 0; k < NO_PLACES; k++) {
+        told_far("cvl_ext_vuz", cvl_ext_vuz(ints, far_count, no_places[k], &number), CVL_INDEX_OUT_OF_RANGE);
+        told_far("cvl_ext_vub", cvl_ext_vub(bools, far_count, no_places[k], &flag), CVL_INDEX_OUT_OF_RANGE);
+    }
+    if (number != 9) fail("cvl_ext_vuz", "another element after a fault", number, 9);
+}
+
+/* As many bytes, of which those of the rest are memory of their own. */
+static unsigned char *far_bytes(void) {
+    unsigned char *const found = far_pieces(last_whole + 1, PIECE);
+    if (mprotect(found + last_whole + 1, PIECE, PROT_READ | PROT_WRITE) != 0) abort();
+    return found;
+}
+
+static void replace_far(const bool *bools) {
+    unsigned char *const room = far_bytes(), *const rest = room + last_whole + 1;
+    bool *const out = (bool *)(void *)room;
+    memset(room, UNTOUCHED, PIECE);
+    memset(rest, UNTOUCHED, REST);
+    for (size_t k = 0; k < NO_PLACES; k++) {
+        told_far("cvl_rep_vub", cvl_rep_vub(bools, no_places[k], true, out, far_count), CVL_INDEX_OUT_OF_RANGE);
+    }
+    if (!is_untouched(room, PIECE) || !is_untouched(rest, REST)) fail("cvl_rep_vub", "something was written", 1, 0);
+    told_far("cvl_rep_vub", cvl_rep_vub(bools, (int64_t)far_place, false, out, far_count), CVL_DONE);
+    for (size_t place = last_whole - 9; place < far_count; place++) {
+        const int right = place == last_whole || place == far_place + 1;
+        if (room[place] != right) fail("cvl_rep_vub", "another element", room[place], right);
+    }
+    munmap(room, last_whole + 1 + PIECE);
+}
+
+/* Without memory nothing is written. */
+static void replace_far_without_memory(const int32_t *ints) {
+    int32_t *const out = (int32_t *)far_zeros(far_count, sizeof *out);
+    refusing = true;
+    const CvlStatus status = cvl_rep_vuz(ints, (int64_t)far_place, 7, out, far_count);
+    refusing = false;
+    told_far("cvl_rep_vuz", status, CVL_NO_RESOURCES);
+    if (out[far_place] != 0 || out[last_whole] != 0) fail("cvl_rep_vuz", "something was written", 1, 0);
+    munmap(out, far_count * sizeof *out);
+}
+
+static void far_places(void) {
+    int32_t *const ints = (int32_t *)far_zeros(far_count, sizeof *ints);
+    unsigned char *const bytes = far_bytes();
+    const bool *const bools = (const bool *)(void *)bytes;
+    ints[last_whole] = 4, ints[far_place] = 9;
+    bytes[last_whole] = 200, bytes[far_place] = 3, bytes[far_place + 1] = 255;
+    take_far(ints, bools);
+    replace_far(bools);
+    replace_far_without_memory(ints);
+    munmap(ints, far_count * sizeof *ints);
+    munmap(bytes, last_whole + 1 + PIECE);
+}
+
 int main(void) {
     alarm(SECONDS);
     setvbuf(stdout, NULL, _IONBF, 0);
@@ -291,6 +367,7 @@ int main(void) {
     last_words();
     numbers();
     vectors();
+    far_places();
     printf("%d calls at the limits\n", calls);
     return failed ? EXIT_FAILURE : EXIT_SUCCESS;
 }

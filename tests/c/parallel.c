@@ -1,7 +1,8 @@
 /*
  * Calls each function of cvl_parallel.h on vectors of many lengths, in 1 to 9 parts, on one thread, on 1 to 4 POSIX threads and, where the
  * compiler has it, on OpenMP's, and holds its status, its place and its rooms against those of the plain call: without faults, with one
- * and with several. It prints what differs, and its status is then 1. `tests/c/run parallel` builds and runs it under sanitizers.
+ * and with several. In a region of OpenMP a call starts no more of its threads. It prints what differs, and its status is then 1.
+ * `tests/c/run parallel` builds and runs it under sanitizers; it takes a number of cases.
  */
 #define CVL_SHORT_NAMES
 #include "cvl_parallel.h"
@@ -14,8 +15,10 @@
 #include "cvl_openmp.h"
 #endif
 
-#ifndef CASES
-#define CASES 60
+#ifdef __SANITIZE_THREAD__
+enum { CASES = 20 };
+#else
+enum { CASES = 60 };
 #endif
 enum { MOST_THREADS = 4, MOST_PARTS = 9 };
 
@@ -463,14 +466,35 @@ static void call_all(CvlThreads *const *threads) {
     free(ints), free(bools);
 }
 
-int main(void) {
-    static const size_t lengths[] = {1000, 1000, 1000, 1000, 70000, 70000, 70000, 600000};
+#ifdef _OPENMP
+/* Each thread of a region has a pool of one part, and outside there is a part for each thread. */
+static void within_a_region(void) {
+    size_t parts[MOST_THREADS] = {0};
+    omp_set_dynamic(0);
+    omp_set_num_threads(MOST_THREADS);
+#pragma omp parallel for num_threads(MOST_THREADS) schedule(static, 1)
+    for (int k = 0; k < MOST_THREADS; k++) parts[k] = cvl_pool_openmp().parts;
+    for (size_t k = 0; k < MOST_THREADS; k++) {
+        failed += parts[k] != 1;
+        if (parts[k] != 1) printf("a pool of OpenMP's has %zu parts in a region\n", parts[k]);
+    }
+    failed += cvl_pool_openmp().parts != MOST_THREADS;
+    if (cvl_pool_openmp().parts != MOST_THREADS) printf("a pool of OpenMP's has %zu parts\n", cvl_pool_openmp().parts);
+}
+#else
+static void within_a_region(void) {}
+#endif
+
+int main(int words, char **word) {
+    static const size_t lengths[] = {1000, 300000, 70000, 600000, 1000, 1000, 70000, 70000};
     enum { LONG = sizeof lengths / sizeof *lengths };
+    const size_t cases = words > 1 ? (size_t)atol(word[1]) : CASES;
     CvlThreads *threads[MOST_THREADS];
+    within_a_region();
     for (size_t k = 0; k < MOST_THREADS; k++) {
         if (cvl_threads_start(k + 1, &threads[k]) != 0) abort();
     }
-    for (size_t k = 0; k < CASES; k++) {
+    for (size_t k = 0; k < cases; k++) {
         for (int fault_count = 0; fault_count < 4; fault_count += fault_count + 1) {
             make(k < LONG ? lengths[k] : below(41), fault_count);
             call_all(threads);

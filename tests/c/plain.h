@@ -29,12 +29,15 @@ static bool begins(const char *name, const char *with) { return strncmp(name, wi
 
 static int32_t *held[MOST_ARRAYS], *wanted;
 
+/* The most elements of a short segment. */
+static size_t most_of_short = 200;
+
 /* Segments with a long one among short ones, every fifth of which is empty, or has one element. */
 static void cut(bool is_filled) {
     const size_t long_one = segments / 2 + 1;
     longest = n;
     for (size_t s = 0; s < segments; s++) {
-        lengths[s] = s == long_one ? 0 : s % 5 == 0 ? is_filled : (int32_t)(s * 37 % 200 + 1);
+        lengths[s] = s == long_one ? 0 : s % 5 == 0 ? is_filled : (int32_t)(s * 37 % most_of_short + 1);
         longest -= (size_t)lengths[s];
     }
     lengths[long_one] = (int32_t)longest;

@@ -115,6 +115,31 @@ static void runs_between_instructions(void) {}
 
 /* ---- a pool that is stopped under a call ---- */
 
+/*
+ * The lock that the call at work holds, which no other call waits for, and whether another thread waits for it. The linker puts
+ * these functions in place of those of POSIX (--wrap).
+ */
+static _Atomic(pthread_mutex_t *) lock_of_call;
+static atomic_bool is_waited_for;
+
+int __real_pthread_mutex_trylock(pthread_mutex_t *lock);
+int __wrap_pthread_mutex_trylock(pthread_mutex_t *lock);
+int __real_pthread_mutex_lock(pthread_mutex_t *lock);
+int __wrap_pthread_mutex_lock(pthread_mutex_t *lock);
+
+int __wrap_pthread_mutex_trylock(pthread_mutex_t *lock) {
+    const int told = __real_pthread_mutex_trylock(lock);
+    if (told == 0) lock_of_call = lock;
+    return told;
+}
+
+int __wrap_pthread_mutex_lock(pthread_mutex_t *lock) {
+    const int told = __real_pthread_mutex_trylock(lock);
+    if (told != EBUSY) return told;
+    if (lock == lock_of_call) is_waited_for = true;
+    return __real_pthread_mutex_lock(lock);
+}
+
 static CvlThreads *own;
 static pthread_t caller;
 static atomic_bool is_stopped, may_end;
@@ -146,12 +171,12 @@ static void stopped_under_a_call(void) {
     pthread_t starter, stopper;
     check("a pool can't be started", cvl_threads_start(PARTS, &own) == 0);
     at_work = done = 0;
-    is_stopped = may_end = false;
+    is_stopped = may_end = is_waited_for = false;
     begin(&starter, call, NULL);
     BECOMES(done == PARTS - 1);
     begin(&stopper, stop, own);
-    usleep(50000);
-    check("a pool is stopped under a call", !is_stopped && done == PARTS - 1);
+    BECOMES(is_waited_for || is_stopped);
+    check("a pool is stopped under a call", is_waited_for && !is_stopped && done == PARTS - 1);
     may_end = true;
     pthread_join(starter, NULL);
     pthread_join(stopper, NULL);

@@ -82,7 +82,7 @@ static const CvlLengths cut = {lengths, SEGMENTS}, ones_of_segments = {ones, SEG
 /* What a step of a call does: it reads alone, or it writes, also into memory of its own. */
 typedef enum Step { NO_MORE, READS, WRITES } Step;
 
-enum { MOST_STEPS = 6 };
+enum { MOST_STEPS = 7 };
 
 /* A call of each kind, with its steps. */
 #define KINDS(X)                                                                                                               \
@@ -111,6 +111,9 @@ enum { MOST_STEPS = 6 };
     X(ind_lez, LIST(READS, READS, WRITES), lengths, firsts, cut, rooms.out, MOST)                                              \
     X(ext_vez, LIST(READS, READS, WRITES), a, MOST, firsts, cut, rooms.out)                                                    \
     X(bck_pez, LIST(READS, READS, READS, WRITES), a, MOST, firsts, cut, ones_of_segments, rooms.out, SEGMENTS)                 \
+    X(sort, LIST(READS, READS, WRITES, WRITES), in_order, MOST, rooms.out, MOST)                                               \
+    X(order, LIST(READS, READS, WRITES, WRITES, WRITES, WRITES), in_order, MOST, rooms.out, MOST)                              \
+    X(rank, LIST(READS, READS, WRITES, WRITES, WRITES, WRITES, WRITES), in_order, MOST, rooms.out, MOST)                       \
     X(read_ints, LIST(READS, WRITES, WRITES), spoken, sizeof spoken, rooms.out, MOST, &rooms.count)                            \
     X(write_ints, LIST(READS, WRITES, WRITES), a, MOST, rooms.text, sizeof rooms.text, &rooms.count)                           \
     X(seg_write_ints, LIST(READS, READS, WRITES, WRITES), a, MOST, cut, rooms.text, sizeof rooms.text, &rooms.count)
@@ -192,7 +195,19 @@ static void take_signal(int number) {
     if (!pthread_equal(pthread_self(), main_thread)) taken_elsewhere = 1;
 }
 
-/* Signals to the process while the main thread blocks them wait for it, since the threads of the pool take none. */
+static atomic_int at_work;
+
+/* Each part waits for all, so that each thread has one. */
+static void meet(void *nothing, size_t k) {
+    (void)nothing, (void)k;
+    at_work++;
+    for (int naps = 0; at_work < PARTS && naps < 60000; naps++) usleep(200);
+}
+
+/*
+ * Signals to the process while the main thread blocks them wait for it, since the threads of the pool take none: each of them runs
+ * a part then, before which the system would have it take a signal.
+ */
 static void signals(void) {
     struct sigaction action;
     sigset_t one, before;
@@ -202,11 +217,13 @@ static void signals(void) {
     sigemptyset(&one);
     sigaddset(&one, SIGUSR1);
     main_thread = pthread_self();
+    const CvlPool pool = cvl_pool_posix(threads);
     for (int k = 0; k < 20; k++) {
         pthread_sigmask(SIG_BLOCK, &one, &before);
         kill(getpid(), SIGUSR1);
-        usleep(500);
-        check("a signal was taken before its time", taken == k);
+        at_work = 0;
+        pool.run(pool.state, meet, NULL, PARTS);
+        check("a signal was taken before its time", at_work == PARTS && taken == k);
         pthread_sigmask(SIG_SETMASK, &before, NULL);
     }
     check("a thread of the pool took a signal", taken == 20 && !taken_elsewhere);

@@ -1,7 +1,7 @@
 /*
  * Tries the threads of the process: cvl_set_threads, cvl_threads and the variable CVL_NUM_THREADS; which calls take the threads,
  * and from which length on; calls and numbers at once: no call waits, cvl_threads waits for nobody, and a setter waits for one
- * call; and threads that can't be started. It prints what is not as it should be, and its status is then 1. `examples/c/run
+ * call; and threads that can't be started. It prints what is not as it should be, and its status is then 1. `tests/c/run
  * set_threads` builds and runs it under sanitizers, and once more with the library's own lengths.
  */
 #define _DEFAULT_SOURCE
@@ -17,6 +17,13 @@ enum { LONG = 2 * LEAST + 600, THREADS = 4, ROUNDS = 60 };
 
 #include "calls.h"
 #include "held.h"
+
+/* The linker puts this in place of calloc (--wrap), by which the library asks for the memory of threads. */
+static bool refuses_memory;
+
+void *__real_calloc(size_t count, size_t size);
+void *__wrap_calloc(size_t count, size_t size);
+void *__wrap_calloc(size_t count, size_t size) { return refuses_memory ? NULL : __real_calloc(count, size); }
 
 /* ---- numbers ---- */
 
@@ -83,6 +90,15 @@ static int none_starts(const char *text) {
     return refused && right ? (int)cvl_threads() : 100;
 }
 
+/* A call without memory for its threads runs alone, and leaves them to the next one. */
+static int without_memory(const char *text) {
+    put(text);
+    refuses_memory = true;
+    const bool alone = scans() && takes == 0 && asks == 1;
+    refuses_memory = false;
+    return alone && scans_by_threads() ? (int)cvl_threads() : 100;
+}
+
 /* The number, and a call, while another thread sets the first number. */
 static int asked_meanwhile(const char *text) {
     pthread_t setter;
@@ -108,6 +124,7 @@ static void variable(void) {
     }
     check("the variable is read after a number was set", in_a_child(set_before, "4") == 2);
     check("a thread that can't be started changes the number, or a result", in_a_child(none_starts, "4") == 4);
+    check("a call without memory for its threads keeps them from the next one", in_a_child(without_memory, "4") == 4);
     check("cvl_threads waits for the first cvl_set_threads", in_a_child(asked_meanwhile, "4") == 4);
     check("cvl_threads waits for the first cvl_set_threads", in_a_child(asked_meanwhile, NULL) == 1);
 }
@@ -189,17 +206,23 @@ static void each_function(void) {
 
 /* From which length on a call takes the threads. */
 static void lengths_that_pay(void) {
-    static char text[LEAST_READ + 1], written[12 * LEAST_WRITTEN + 2];
+    static char text[LEAST_READ + 1], written[12 * LEAST_WRITTEN + 4];
     static int32_t out[LONG];
     size_t count;
     check("threads can't be started", cvl_set_threads(3) == 0);
     memset(text, ' ', sizeof text);
     for (size_t less = 0; less < 2; less++) {
         const long before = asks;
-        const CvlStatus one = cvl_add_suz(a, out, LEAST - less), two = cvl_read_ints(text, LEAST_READ - less, out, LONG, &count);
-        const CvlStatus three = cvl_write_ints(a, LEAST_WRITTEN - less, written, sizeof written, &count);
-        check("a call is not done", one.number == CVL_DONE && two.number == CVL_DONE && three.number == CVL_DONE);
-        check("a length pays, or not, as it should not", asks == before + (less == 0 ? 3 : 0));
+        const int32_t all = (int32_t)(LEAST_WRITTEN - less);
+        const CvlStatus told[] = {
+            cvl_add_suz(a, out, LEAST - less),
+            cvl_read_ints(text, LEAST_READ - less, out, LONG, &count),
+            cvl_write_ints(a, LEAST_WRITTEN - less, written, sizeof written, &count),
+            cvl_seg_write_ints(a, LEAST_WRITTEN - less, (CvlLengths){&all, 1}, written, sizeof written, &count),
+        };
+        enum { CALLS = sizeof told / sizeof *told };
+        for (size_t k = 0; k < CALLS; k++) check("a call is not done", told[k].number == CVL_DONE);
+        check("a length pays, or not, as it should not", asks == before + (less == 0 ? CALLS : 0));
     }
 }
 
@@ -228,9 +251,10 @@ static void nobody_waits(void) {
     are_set = 0;
     begin_held(&caller, &right);
     scans_meanwhile("a call waits for another one");
-    check("who says the number that there is waits", cvl_set_threads(THREADS) == 0);
+    check("cvl_set_threads of the number that there is waits", cvl_set_threads(THREADS) == 0);
+    naps_begun = 0;
     begin(&setter, set_two, &set);
-    usleep(20000);
+    BECOMES(naps_begun > 0);
     scans_meanwhile("a call waits for a number that waits for another call");
     check("a number is taken from a call that is at work", are_set == 0 && cvl_threads() == THREADS);
     end_held(caller, &right);

@@ -12,7 +12,8 @@
 #include <sys/mman.h>
 #include <unistd.h>
 
-enum { STACK = 2 * CVL_MOST_STACK, THREADS = 4, MOST_STACKS = 256, PAINT = 0xa5, SECONDS = 300 };
+/* Stacks are longer than they have to be, so that a call that takes too much is told by its name. */
+enum { STACK = 8 * CVL_MOST_STACK, THREADS = 4, MOST_STACKS = 256, PAINT = 0xa5, SECONDS = 300 };
 
 /* ---- memory: the linker puts this in the place of malloc (--wrap) */
 
@@ -125,9 +126,10 @@ static void measure_all(size_t threads) {
     }
 }
 
-/* Vectors of so many elements in so many segments, by one thread and by four. */
-static void of_length(size_t elements, size_t in_segments, CvlThreads *threads) {
-    n = elements, segments = in_segments, trues = trues_in(0, n), text_room = 3 * n;
+/* Vectors of so many elements in so many segments, of which all but one are short, by one thread and by four. */
+static void of_length(size_t elements, size_t in_segments, size_t of_short, CvlThreads *threads) {
+    n = elements, segments = in_segments, most_of_short = of_short, trues = trues_in(0, n);
+    text_room = 3 * (n + segments);
     if (cvl_set_threads(1) != 0) abort();
     pool = cvl_pool_alone(THREADS);
     measure_all(1);
@@ -139,10 +141,12 @@ static void of_length(size_t elements, size_t in_segments, CvlThreads *threads) 
 int main(void) {
     CvlThreads *threads;
     alarm(SECONDS);
-    make_arrays(10000, 100);
+    make_arrays(10000, 500);
     if (cvl_threads_start(THREADS, &threads) != 0) abort();
-    of_length(3000, 10, threads);
-    of_length(10000, 100, threads);
+    of_length(3000, 10, 200, threads);
+    of_length(10000, 100, 200, threads);
+    /* segments of some five elements are scanned and reduced many at once, with a byte of stack for each element */
+    of_length(3000, 500, 9, threads);
     cvl_threads_stop(threads);
     printf("%d functions, bytes of stack: %zu alone (%s), %zu with others (%s), %zu of a thread of the library (%s)\n", (int)ROWS,
            alone.bytes, alone.name, together.bytes, together.name, beside.bytes, beside.name);

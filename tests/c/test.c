@@ -1432,6 +1432,9 @@ static void made_descriptors(void) {
     FAULT(cvl_segments_new(S(widths, 3), &wide), CVL_DONE, -1);
     FAULT(cvl_segments_new(S(fronts, 2), &narrow[0]), CVL_DONE, -1);
     FAULT(cvl_segments_new(S(backs, 2), &narrow[1]), CVL_DONE, -1);
+    /* an overlap leaves a descriptor as it was */
+    FAULT(cvl_segments_new(S((const int32_t *)(const void *)&made, 1), &made), CVL_OVERLAP, -1);
+    FAULT(cvl_segments_from_offsets(I(0, 2), 2, (int32_t *)(void *)&made, 1, &made), CVL_OVERLAP, -1);
     copy = made;
     with_a_descriptor(&made, &wide, narrow);
     with_a_descriptor(&copy, &wide, narrow);

@@ -111,15 +111,17 @@ static void each_entry(void) {
     }
 }
 
-/* ---- who is cancelled while others wait ---- */
+/* ---- threads that are cancelled while they wait: each naps once more, where it could end ---- */
 
 static void in_a_call(void) {
     pthread_t caller;
     bool right = false;
     check("threads can't be started", cvl_set_threads(THREADS) == 0);
     begin_held(&caller, &right);
+    const long before = caller_naps;
     pthread_cancel(caller);
-    usleep(20000);
+    BECOMES(caller_naps > before + 1);
+    check("a call is cancelled in its middle", caller_naps > before + 1);
     end_held(caller, &right);
     check("after a call that was cancelled there are no threads", scans_by_threads() && cvl_set_threads(1) == 0);
 }
@@ -133,12 +135,14 @@ static void in_a_wait(void) {
     naps_begun = 0;
     begin(&setter, set_two, &set);
     BECOMES(naps_begun > 0);
+    const int before = naps_begun;
     pthread_cancel(setter);
-    usleep(20000);
+    BECOMES(naps_begun > before + 1);
+    check("cvl_set_threads is cancelled while it waits", naps_begun > before + 1);
     check("a number is taken from a call", are_set == 0);
     end_held(caller, &right);
     pthread_join(setter, NULL);
-    check("who sets a number is cancelled while it waits", set && cvl_threads() == 2);
+    check("a number is not set by a thread that is cancelled", set && cvl_threads() == 2);
     check("calls have no threads after that", scans_by_threads() && cvl_set_threads(1) == 0);
 }
 

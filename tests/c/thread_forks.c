@@ -49,11 +49,20 @@ static int child_of(const char *with) {
     return none && one && refuses && some ? 0 : 1;
 }
 
+/* A child that asks for as many threads as its parent has gets threads of its own. */
+static int sets_as_many(const char *with) {
+    (void)with;
+    are_held = starts_are_held = false;
+    if (!CHILDREN_START) return 0;
+    return cvl_threads() == 1 && cvl_set_threads(THREADS) == 0 && cvl_threads() == THREADS && scans_by_threads() ? 0 : 1;
+}
+
 static int grandchild_of(const char *with) { return in_a_child(child_of, with) == 0 ? child_of(with) : 2; }
 
 static void children(const char *what) {
     takes = 0;
     check(what, in_a_child(child_of, "") == 0 && in_a_child(child_of, "one") == 0 && in_a_child(grandchild_of, "") == 0);
+    check(what, in_a_child(sets_as_many, "") == 0);
 }
 
 /* ---- when a fork comes ---- */

@@ -50,3 +50,29 @@ message(STATUS "none: ${cvl_FOUND}, ${linked}")
         wanted = [f"-- one: 0, {why.format('nonsense')}, FALSE", f"-- and another at will: 0, {why.format('cvl')}"]
         wanted += ["-- one at will: 1, FALSE", "-- none: 1, -pthread"]
         self.assertEqual(told.split("\n")[: len(wanted)], wanted)
+
+    def test_the_component_of_calls_over_ranks_is_found_if_it_was_installed(self):
+        # an MPI that has nothing but its target
+        target = "if(NOT TARGET MPI::MPI_C)\n  add_library(MPI::MPI_C INTERFACE IMPORTED)\nendif()\n"
+        self.write("modules/FindMPI.cmake", f"set(MPI_FOUND TRUE)\n{target}")
+        self.write("CMakeLists.txt", """cmake_minimum_required(VERSION 3.13)
+project(asked NONE)
+find_package(cvl QUIET COMPONENTS mpi)
+message(STATUS "asked for: ${cvl_FOUND}, ${cvl_NOT_FOUND_MESSAGE}, ${cvl_mpi_FOUND}")
+find_package(cvl REQUIRED OPTIONAL_COMPONENTS mpi)
+message(STATUS "at will: ${cvl_FOUND}, ${cvl_mpi_FOUND}")
+if(TARGET cvl::mpi)
+  get_target_property(library cvl::mpi IMPORTED_LOCATION)
+  file(READ "${library}" text)
+  message(STATUS "a library: ${text}")
+endif()
+""")
+        why = "the package cvl has no component mpi here"
+        without = [f"-- asked for: 0, {why}, FALSE", "-- at will: 1, FALSE"]
+        found = ["-- asked for: 1, , TRUE", "-- at will: 1, TRUE", "-- a library: libcvl_mpi.so.1.0.0"]
+        for options, wanted in (((), without), (("--mpi",), found)):
+            with mock.patch.object(Used, "build", Whole.build):
+                self.install(self.root, "--no-python", *options)
+            asks = 'cmake -S . -B "$TO" -DCMAKE_PREFIX_PATH="$ROOT" -DCMAKE_MODULE_PATH="$PWD/modules" 2>&1'
+            told = self.run_in_shell(asks, ROOT=str(self.root), TO=f"build{len(options)}")
+            self.assertEqual([line for line in told.split("\n") if line.startswith("-- a")], wanted)

@@ -76,6 +76,21 @@ class Installs(Whole):
         folders = {str(pathlib.PurePath(name).parent) for name in wanted if name.startswith("share/") and "man" not in name}
         self.assertEqual({name for name in self.found() if str(pathlib.PurePath(name).parent) in folders} - set(wanted), set())
 
+    def test_the_calls_over_ranks(self):
+        self.install(self.root, "--no-python")
+        without = set(self.found())
+        self.install(self.root, "--no-python", "--mpi")
+        sources = {"include/cvl_mpi.h": "bindings/mpi/cvl_mpi.h", "include/cvl_mpi.f90": "bindings/fortran/cvl_mpi.f90"}
+        texts = {name: (written() / source).read_text() for name, source in sources.items()}
+        texts.update({f"lib/{name}": name for name in ("libcvl_mpi.a", "libcvl_mpi.so.1.0.0")})
+        links = {"lib/libcvl_mpi.so": "libcvl_mpi.so.1", "lib/libcvl_mpi.so.1": "libcvl_mpi.so.1.0.0"}
+        told = {"lib/pkgconfig/cvl-mpi.pc", "lib/cmake/cvl/cvl-mpi.cmake", "share/cvl/installed-mpi"}
+        self.assertEqual(set(self.found()) - without, {*texts, *links, *told})
+        self.assertEqual({name: (self.root / name).read_text() for name in texts}, texts)
+        self.assertEqual({name: os.readlink(self.root / name) for name in links}, links)
+        install.main([str(self.root), "--uninstall"])
+        self.assertEqual(self.found(), [])
+
     def test_what_the_system_refuses_is_told_in_a_line(self):
         full = OSError(errno.ENOSPC, os.strerror(errno.ENOSPC), "some file")
         with mock.patch.object(putting.replacing, "copy", side_effect=full), self.assertRaises(SystemExit) as stopped:
@@ -133,6 +148,22 @@ class Read(Whole):
             self.assertEqual(pathlib.Path(os.path.normpath(folder / "cmake/cvl" / up)), root)
             self.assertNotIn("@", config + (folder / "cmake/cvl/cvl-config-version.cmake").read_text() + "".join(said.values()))
 
+    def test_what_compilers_are_told_of_the_calls_over_ranks_leads_to_the_prefix(self):
+        root = self.top / "opt/vectors"
+        for libdir, options in (("lib", ()), ("lib/x86_64-linux-gnu", ["--rpath"])):
+            self.install("/opt/vectors", "--no-python", "--mpi", "--libdir", libdir, *options, destination=self.top)
+            said, folder = self.of_pkg_config(root / libdir / "pkgconfig/cvl-mpi.pc"), root / libdir
+            rpath = f" -Wl,-rpath,{folder}" if options else ""
+            fields = {"Requires": "cvl = 1.0.0", "Libs": f"-L{folder}{rpath} -lcvl_mpi", "Cflags": f"-I{root}/include"}
+            self.assertEqual({name: said.get(name) for name in fields}, fields)
+            config = (folder / "cmake/cvl/cvl-mpi.cmake").read_text()
+            up = re.search(r'"\$\{_cvl_mpi_folder\}/\.\./([./]+)"', config).group(1)
+            self.assertEqual(pathlib.Path(os.path.normpath(folder / "cmake/cvl" / up)), root)
+            target = self.of_cmake(folder / "cmake/cvl/cvl-mpi.cmake")["cvl::mpi"]
+            self.assertEqual(target["IMPORTED_LOCATION"], f"${{_cvl_mpi_prefix}}/{libdir}/libcvl_mpi.so.1.0.0")
+            self.assertEqual(target["INTERFACE_LINK_LIBRARIES"], "cvl::cvl;MPI::MPI_C")
+            self.assertNotIn("@", config + "".join(said.values()))
+
     def test_the_archive_and_no_other_target_of_cmake_links_threads(self):
         self.install("/opt/vectors", "--no-python", destination=self.top)
         said = self.of_cmake(self.top / "opt/vectors/lib/cmake/cvl/cvl-config.cmake")
@@ -172,7 +203,7 @@ class Stopped(Tree):
         with mock.patch.object(building.Build, "run", run), mock.patch.dict(os.environ, environment), \
                 mock.patch.object(removing, "uninstall", run), mock.patch.object(generated, "below", lambda folder: written()), \
                 mock.patch.object(checks, "command", lambda *given: None), mock.patch("sys.stderr"), \
-                self.assertRaises(SystemExit) as stopped:  # fmt: skip
+                mock.patch.object(pages, "site", lambda folder: {}), self.assertRaises(SystemExit) as stopped:  # fmt: skip
             install.main([str(word) for word in given])
         self.assertFalse(self.root.exists())
         return str(stopped.exception)

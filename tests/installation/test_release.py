@@ -5,8 +5,11 @@ import json
 import os
 import pathlib
 import re
+import shutil
+import subprocess
 import sys
 import tarfile
+import time
 import types
 import unittest
 from unittest import mock
@@ -16,13 +19,20 @@ TOP = pathlib.Path(__file__).resolve().parents[2]
 sys.path.insert(0, str(TOP / "bindings"))
 
 import archive
+import generated
 from installer import files
 from installer.words import Places
 import table
 from releasing import built, crates, debian, found_right, licences, packed, receipt, shown, texts, trees, trying, writing
 from trees import Tree
+from whole import Whole, command, written
 
 RECORD = {"tree": "a tree", "kit": "a kit", "last_line": "5 passed, 0 failed", "not_tried": ""}
+
+
+def at(moment):
+    """A clock that stands, so many seconds after 1970."""
+    return mock.patch.object(time, "time", lambda: float(moment))
 
 
 class FoundRight(Tree):
@@ -50,6 +60,24 @@ class FoundRight(Tree):
         self.refused("differs from its revision:\n M README.md", " M README.md", tree="a tree")
 
 
+class Command(Tree):
+    """The commands as a user calls them."""
+
+    def test_a_checkout_that_may_not_be_released_leaves_no_folder(self):
+        with mock.patch.object(found_right, "RECORD", self.top / "none"), mock.patch.object(found_right, "changes", list), \
+                self.assertRaisesRegex(SystemExit, "has not found this checkout right"):  # fmt: skip
+            command("release").main([str(self.top / "a/release")])
+        self.assertEqual(self.found(self.top), [])
+
+    def test_help_that_nobody_reads_to_its_end(self):
+        for name in ("release", "install"):
+            reads, writes = os.pipe()
+            os.close(reads)
+            told = subprocess.run([TOP / name, "--help"], stdout=writes, stderr=subprocess.PIPE, text=True)
+            os.close(writes)
+            self.assertEqual((told.returncode, told.stderr), (0, ""), name)
+
+
 class Packed(Tree):
     """Archives that are the same bytes whoever makes them."""
 
@@ -59,14 +87,17 @@ class Packed(Tree):
             self.write(f"{name}/{path}", path, time)
         (root / "b/program").chmod(0o700)
         os.symlink("a", root / "link")
-        made = self.top / f"{name}.tar.gz"
-        packed.tar_gz(made, packed.below(root), 1000)
+        made = self.top / f"{name}.tar"
+        with at(time):
+            packed.tar_gz(made.with_suffix(".gz"), packed.below(root), 1000)
+            packed.tar_xz(made.with_suffix(".xz"), packed.below(root), 1000)
         return made
 
     def test_the_same_bytes_at_any_time(self):
         one, other = self.made("one", 5000), self.made("other", 7000)
-        self.assertEqual(one.read_bytes(), other.read_bytes())
-        with tarfile.open(one) as whole:
+        for end in (".gz", ".xz"):
+            self.assertEqual(one.with_suffix(end).read_bytes(), other.with_suffix(end).read_bytes(), end)
+        with tarfile.open(one.with_suffix(".gz")) as whole:
             found = [(entry.name, entry.mode, entry.mtime, entry.uid, entry.linkname) for entry in whole]
         self.assertEqual(found, [("a", 0o644, 1000, 0, ""), ("b", 0o755, 1000, 0, ""), ("b/program", 0o755, 1000, 0, ""), ("link", 0o777, 1000, 0, "a")])
 
@@ -97,6 +128,143 @@ class Packages(unittest.TestCase):
         with mock.patch.object(archive, "run", lambda *words: told[words[-1]]):
             self.assertEqual(built.needed_glibc("one", "other"), "2.34")
             self.assertEqual(built.needed_glibc("other"), "2.9")
+
+
+@unittest.skipUnless(shutil.which("dpkg-deb"), "packages for Debian are made on Debian")
+class Debian(Whole):
+    """Debian's packages, as dpkg reads them, of a small program and a small library."""
+
+    NUMPY = types.SimpleNamespace(stdout="python3-f2py, python3-numpy-abi9, python3-numpy-api14")
+
+    def run_it(self, *words):
+        return subprocess.run([str(word) for word in words], check=True, capture_output=True, text=True, cwd=self.top).stdout
+
+    def build(self, work):
+        self.write("program.c", "#include <stdio.h>\nint main(void) { return puts(\"\") < 0; }\n")
+        self.run_it("cc", "-o", work / "cvl", "program.c")
+        self.run_it("cc", "-shared", "-fPIC", "-Wl,-soname,libcvl.so.1", "-o", work / archive.FULL, "program.c")
+        self.run_it("cc", "-c", "-o", "program.o", "program.c")
+        self.run_it("ar", "rcs", work / "libcvl.a", "program.o")
+
+    def built(self, python, *words):
+        names = super().built(python, *words)
+        if names:
+            (made,) = pathlib.Path(words[-1]).rglob(self.module)
+            self.run_it("cc", "-shared", "-fPIC", "-o", made, "program.c")
+        return names
+
+    def installed(self, name, prefix, cpu, *words):
+        self.python["folders"] = ["/usr/lib/python3/dist-packages"]
+        self.install(prefix, *words, destination=self.top / "staged")
+        return self.top / "staged/usr"
+
+    def written(self, moment):
+        """The packages that are written at a moment, each by its name."""
+        folder, work = self.top / f"written at {moment}", self.top / f"work at {moment}"
+        folder.mkdir()
+        builds = types.SimpleNamespace(installed=self.installed, work=work)
+        asked = types.SimpleNamespace(run=lambda *words, **more: self.NUMPY)
+        with at(moment), mock.patch.object(texts, "copyright_of", lambda: "a licence\n"), \
+                mock.patch.dict(os.environ, {"SOURCE_DATE_EPOCH": "1000"}), \
+                mock.patch.object(debian, "subprocess", asked):  # fmt: skip
+            names = debian.write(folder, builds)
+        return {name.partition("_")[0]: folder / name for name in names}
+
+    def unpacked(self, packages):
+        """The files and links of each package, by their names below its root."""
+        found = {}
+        for name, path in packages.items():
+            self.run_it("dpkg-deb", "-x", path, name)
+            below = {path: path.relative_to(self.top / name) for path in (self.top / name).rglob("*")}
+            found[name] = {str(place): path for path, place in below.items() if path.is_symlink() or path.is_file()}
+        return found
+
+    def needed(self, paths):
+        """The libraries that objects need, and the newest version of glibc of which they need something."""
+        objects = (path for path in paths if not path.is_symlink() and path.read_bytes()[:4] == b"\x7fELF")
+        told = "".join(self.run_it("objdump", "-p", path) for path in objects)
+        versions = [tuple(map(int, found.split("."))) for found in re.findall(r"GLIBC_([\d.]+)", told)]
+        return set(re.findall(r"NEEDED +(\S+)", told)), ".".join(map(str, max(versions, default=())))
+
+    def test_the_packages(self):
+        packages, later = self.written(5000), self.written(7000)
+        for name, path in packages.items():
+            self.assertEqual(path.read_bytes(), later[name].read_bytes(), name)
+        unpacked = self.unpacked(packages)
+        self.check_fields(packages, unpacked)
+        self.check_places(unpacked)
+
+    def check_fields(self, packages, unpacked):
+        """What a package depends on is what its files need."""
+        depends = {name: self.run_it("dpkg-deb", "-f", path, "Depends").strip().split(", ") for name, path in packages.items()}
+        places = {place: name for name, of_package in unpacked.items() for place in of_package}
+        for name, of_package in unpacked.items():
+            libraries, glibc = self.needed(of_package.values())
+            own = [f"{name} (= {debian.REVISION})"]
+            self.assertEqual(libraries, {"libc.so.6"} if name in ("cvl", "libcvl1", "python3-cvl") else set(), name)
+            libc = [word for word in depends[name] if word.startswith("libc6")]
+            self.assertEqual(libc, [f"libc6 (>= {glibc})"] if glibc else [], name)
+            for place, path in of_package.items():
+                if path.is_symlink():
+                    owner = places[os.path.normpath(os.path.join(os.path.dirname(place), os.readlink(path)))]
+                    self.assertIn(f"{owner} (= {debian.REVISION})", [*own, *depends[name]], place)
+        major, minor = map(int, self.run_it(debian.PYTHON, "-c", "import sys; print(*sys.version_info[:2])").split())
+        own = [f"python3 (>= {major}.{minor}~)", f"python3 (<< {major}.{minor + 1})", "python3-numpy", "python3-numpy-abi9"]
+        self.assertEqual([word for word in depends["python3-cvl"] if not word.startswith("libc6")], own)
+
+    def check_places(self, unpacked):
+        """Each file stands where Debian looks for it, in one package."""
+        names = [place.removeprefix("usr/") for of_package in unpacked.values() for place in of_package]
+        self.assertEqual(len(names), len(set(names)))
+        staged = self.top / "staged/usr"
+        made = {str(path.relative_to(staged)) for path in staged.rglob("*") if path.is_symlink() or path.is_file()}
+        # the pages of the manual are packed, the lists of `./install` are not there, and zsh looks into another folder
+        lists = {name for name in made if name.startswith("share/cvl/installed")}
+        packed_ones = {name for name in made if name.startswith("share/man/") and not (staged / name).is_symlink()}
+        zsh = {"share/zsh/site-functions/_cvl"}
+        wanted = made - lists - packed_ones - zsh | {f"{name}.gz" for name in packed_ones} | {"share/zsh/vendor-completions/_cvl"}
+        said = ("copyright", "changelog.gz", "changelog.Debian.gz")
+        described = {f"share/doc/{name}/{file}" for name in unpacked for file in said}
+        self.assertEqual(set(names), wanted | described)
+
+
+class Environment(unittest.TestCase):
+    """What a caller's variables change of a release: nothing."""
+
+    def test_no_variable_reaches_what_is_built(self):
+        names = ("bindings/archive.py", "bindings/python/package.py", "bindings/installer/words.py")
+        sources = "".join((TOP / name).read_text() for name in names)
+        # MPICC makes the calls over ranks, and PKG_CONFIG finds an installed library: a release has neither
+        asked = {*re.findall(r'(?:words_of|environ.get)\("((?!CVL_)\w+)"', sources), *archive.USUAL} - {"MPICC", "PKG_CONFIG"}
+        self.assertLess({"CC", "CFLAGS", "CPPFLAGS", "LDFLAGS", "DESTDIR"}, asked)
+        imports = "import os, sys; sys.path.insert(0, 'bindings'); from releasing.built import Built"
+        words = [sys.executable, "-c", f"{imports}; Built('.', 1000, 1, False); print(*os.environ)"]
+        given = {**os.environ, **dict.fromkeys(asked, "x"), "PYTHONPATH": "x"}
+        said = subprocess.run(words, cwd=TOP, env=given, capture_output=True, text=True, check=True).stdout
+        self.assertEqual(set(said.split()) & {*asked, "PYTHONPATH"}, set())
+        self.assertIn("SOURCE_DATE_EPOCH", said.split())
+
+
+class Crates(Tree):
+    """The crates for Rust, unpacked side by side."""
+
+    def test_the_upper_one_finds_the_lower_one_beside_it(self):
+        builds = types.SimpleNamespace(work=self.top, library=lambda: self.write("libcvl.a", "a library"))
+        with mock.patch.object(generated, "below", lambda folder: written()):
+            names = crates.write(self.top, builds, 1000)
+        beside = self.top / "beside"
+        for name in names:
+            with tarfile.open(self.top / name) as whole:
+                whole.extractall(beside)
+        folders = {name: beside / name.removesuffix(".crate") for name in names}
+        self.assertEqual(sorted(path.name for path in beside.iterdir()), sorted(folder.name for folder in folders.values()))
+        upper, lower = (folders[crates.file_of(name)] for name in ("cvl", "cvl-sys"))
+        described = (upper / "Cargo.toml").read_text()
+        (place,) = re.findall(r'^cvl-sys = \{.*path = "([^"]*)"', described, re.M)
+        self.assertEqual((upper / place).resolve(), lower.resolve())
+        self.assertNotIn("[workspace]", described)
+        self.assertIn('\nname = "cvl-sys"\n', (lower / "Cargo.toml").read_text())
+        self.assertEqual((lower / "native/x86_64-unknown-linux-gnu/libcvl.a").read_text(), "a library")
 
 
 class Parts(unittest.TestCase):

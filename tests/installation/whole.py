@@ -15,8 +15,9 @@ sys.dont_write_bytecode = True
 TOP = pathlib.Path(__file__).resolve().parents[2]
 sys.path.insert(0, str(TOP / "bindings"))
 
+import archive
 import generated
-from installer import building, checks, package, pages, prefixes
+from installer import building, checks, over_ranks, package, pages, prefixes
 from trees import Tree
 
 
@@ -47,11 +48,18 @@ class Whole(Tree):
         for name in ("cvl", "libcvl.a", "libcvl.so.1.0.0"):
             (work / name).write_text(name)
 
+    def build_over_ranks(self, work, written, flags):
+        """The same of the calls over ranks."""
+        for name in ("libcvl_mpi.a", "libcvl_mpi.so.1.0.0"):
+            (work / name).write_text(name)
+
     def install(self, *given, destination=""):
         with mock.patch.object(building.Build, "run", lambda build, work: self.build(work)), \
                 mock.patch.object(generated, "below", lambda folder: written()), \
                 mock.patch.object(checks, "command", lambda *given: None), \
                 mock.patch.object(checks, "compiler", lambda *given: None), mock.patch.object(pages, "site", self.site), \
+                mock.patch.object(over_ranks, "check", lambda *given: None), \
+                mock.patch.object(archive, "over_ranks", self.build_over_ranks), \
                 mock.patch.object(checks, "python", lambda name: self.python), mock.patch.object(package, "_run", self.built), \
                 mock.patch.dict(os.environ, {"DESTDIR": str(destination)}), mock.patch("builtins.print"):  # fmt: skip
             install.main([str(word) for word in given])

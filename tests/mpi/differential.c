@@ -1,7 +1,9 @@
 /*
  * Each family and each call over ranks beside the plain one on the whole vector: the same status on each rank, and the same room, cut. Vectors
  * are cut at any places, also with no elements for a rank; segments cross ranks; indices, divisors and sums are at fault now and then, rooms
- * too short, vectors not equally long, operators of no family; and each request for memory is refused on one rank in turn.
+ * too short, vectors not equally long, operators of no family; and each request for memory is refused on one rank in turn. Most vectors are
+ * short, some longer than the blocks that calls work on, and some have more than 2^18 places. Lengths are gone once their descriptor is made, and
+ * each call gives back the memory that it takes.
  *
  *     differential SECONDS [SEED [NAME]]
  */
@@ -15,7 +17,12 @@
 #include "random.h"
 #include "refused.h"
 
-enum { MOST_RANKS = 16, MOST_OPERANDS = 7 };
+enum { MOST_RANKS = 16, MOST_OPERANDS = 7, MOST_PRINTED = 60 };
+
+/* One case in so many has long vectors. */
+#ifndef LONG_ONES
+#define LONG_ONES 100
+#endif
 
 typedef enum Role { READS, LENGTHS, VALUE, PLACE, COUNT_OF, ROOM_OF, OVER_ROOM, SINGLE, TOLD } Role; /* OVER_ROOM: what stands there is joined */
 typedef enum Kind { INTS, FLAGS, BYTES, TEXT, SIZES, SUMS } Kind;
@@ -46,14 +53,19 @@ typedef struct Tried {
 
 /* ---- numbers at random, the same on each rank ---- */
 
+/* Of a long vector also such that their sums pass 32 bits behind some thousands of them. */
 static int32_t number(int style) {
     static const int32_t few[] = {0, 1, -1, 2, 31, 32, 5, INT32_MAX, INT32_MIN, -7};
     if (style == 0) return few[below(sizeof few / sizeof *few)];
     if (style == 1) return (int32_t)below(9) + 1;
+    if (style == 3) return (int32_t)below(1 << 19);
     return (int32_t)any() - (int32_t)any();
 }
 
 /* ---- a case ---- */
+
+/* How long vectors are: a few elements, some blocks of 4,096, or more than a window of 2^18 places beside short ones. */
+typedef enum Style { SHORT, BLOCKS, WINDOWS } Style;
 
 typedef struct Pieces {
     int32_t *lengths;
@@ -65,6 +77,7 @@ typedef struct Case {
     const Tried *tried;
     uint32_t op;
     int ranks;
+    Style style;
     size_t counts[EXTENTS], cut[EXTENTS][MOST_RANKS + 1];
     Slot whole[MOST_OPERANDS];
     void *before[MOST_OPERANDS];              /* what stands in a room that is joined */
@@ -117,8 +130,11 @@ static void make_lengths(Case *c, int k, size_t segments) {
     int32_t *lengths = malloc((segments + 1) * sizeof *lengths);
     size_t total = 0;
     const int style = (int)below(3), other = k != lengths_of(c->tried, N);
+    /* segments of a long vector are many, or so few that they cross blocks and windows */
+    const size_t each = c->style == SHORT || segments > 1000 ? 0 : (c->style == BLOCKS ? 20000 : 300000) / (segments + 1);
     for (size_t s = 0; s < segments; s++) {
         lengths[s] = style == 0 ? (int32_t)below(3) : style == 1 ? (one_in(3) ? (int32_t)below(12) : 0) : 1 + (int32_t)below(5);
+        lengths[s] += (int32_t)below(2 * each);
         if (other && one_in(2)) lengths[s] += (int32_t)below(4);
         total += (size_t)lengths[s];
     }
@@ -127,7 +143,8 @@ static void make_lengths(Case *c, int k, size_t segments) {
 }
 
 static void add_piece(Pieces *p, int32_t length, int goes_on) {
-    p->lengths = realloc(p->lengths, (p->count + 1) * sizeof *p->lengths);
+    /* room for twice as many, where there is none for one more */
+    if ((p->count & (p->count - 1)) == 0) p->lengths = realloc(p->lengths, (p->count == 0 ? 1 : 2 * p->count) * sizeof *p->lengths);
     p->lengths[p->count++] = length;
     if (goes_on) p->goes_on = 1;
     else p->starts++;
@@ -271,7 +288,7 @@ static void fill_starts(Case *c, int k) {
 
 static void fill(Case *c, int k) {
     const TriedOperand *o = &c->tried->operand[k];
-    const int style = (int)below(3), unclean = one_in(4), narrows = strcmp(c->tried->name, "bytes_from_ints") == 0;
+    const int style = (int)below(c->style == SHORT ? 3 : 4), unclean = one_in(4), narrows = strcmp(c->tried->name, "bytes_from_ints") == 0;
     for (size_t j = 0; j < c->whole[k].number; j++) {
         if (o->kind == INTS) ((int32_t *)c->whole[k].at)[j] = narrows && !one_in(9) ? (int32_t)below(256) : number(style);
         else if (o->kind == BYTES) ((uint8_t *)c->whole[k].at)[j] = (uint8_t)below(256);
@@ -292,16 +309,23 @@ static void make_offsets(Case *c, int k) {
 /* The rows and columns of a matrix, which now and then are none of it. */
 static void make_matrix(Case *c) {
     const int rows = operand_named(c->tried, "rows"), columns = operand_named(c->tried, "columns");
+    const size_t most = c->style == SHORT ? 8 : c->style == BLOCKS ? 200 : 600;
     if (rows < 0 || c->tried->operand[rows].role != VALUE) return;
-    c->whole[rows].value = (int64_t)below(8), c->whole[columns].value = (int64_t)below(8);
+    c->whole[rows].value = (int64_t)below(most), c->whole[columns].value = (int64_t)below(most);
     c->counts[N] = (size_t)(c->whole[rows].value * c->whole[columns].value);
     if (one_in(8)) c->whole[rows].value++;
+}
+
+/* How many elements a vector has: also of a long case some vectors have a few. */
+static size_t length_of(Style style, size_t few) {
+    if (style == SHORT || one_in(3)) return below(few);
+    return style == BLOCKS ? 10000 + below(20000) : (1 << 18) + below(1 << 16);
 }
 
 static void make_counts(Case *c) {
     const Tried *t = c->tried;
     const size_t most = one_in(6) ? 40 : 9;
-    for (int e = 0; e < EXTENTS; e++) c->counts[e] = below(most);
+    for (int e = 0; e < EXTENTS; e++) c->counts[e] = length_of(c->style, most);
     if (one_in(3)) c->counts[M] += c->counts[N];
     for (int k = 0; k < t->operands; k++) {
         if (t->operand[k].role == LENGTHS) make_lengths(c, k, c->counts[SEGMENTS]);
@@ -388,6 +412,7 @@ static Case make_case(const Tried *t, int ranks) {
     Case c;
     memset(&c, 0, sizeof c);
     c.tried = t, c.ranks = ranks, c.negative = -1;
+    c.style = !one_in(LONG_ONES) ? SHORT : one_in(4) ? WINDOWS : BLOCKS;
     make_counts(&c);
     make_arrays(&c);
     do c.op = (uint32_t)below(32);
@@ -501,18 +526,18 @@ static int is_right(const Case *c, const Own *own, CvlStatus expected, CvlStatus
 
 /* ---- running ---- */
 
-static long cases, done, at_fault, refusals, by_number[128];
+static long cases, long_cases, done, at_fault, refusals, by_number[128];
 
 static void print_case(const Case *c) {
     for (int k = 0; k < c->tried->operands; k++) {
         const TriedOperand *o = &c->tried->operand[k];
         fprintf(stderr, "  %s (%zu):", o->name, c->whole[k].number);
-        for (size_t j = 0; j < c->whole[k].number; j++) fprintf(stderr, " %d", o->kind == INTS ? ((int32_t *)c->whole[k].at)[j] : ((uint8_t *)c->whole[k].at)[j]);
+        for (size_t j = 0; j < c->whole[k].number && j < MOST_PRINTED; j++) fprintf(stderr, " %d", o->kind == INTS ? ((int32_t *)c->whole[k].at)[j] : ((uint8_t *)c->whole[k].at)[j]);
         fprintf(stderr, " value %lld; cut", (long long)c->whole[k].value);
         for (int r = 0; r <= c->ranks; r++) fprintf(stderr, " %zu", c->cut[o->extent][r]);
         for (int r = 0; r < c->ranks && o->role == LENGTHS; r++) {
             fprintf(stderr, " |%s", c->pieces[k][r].goes_on ? " .." : "");
-            for (size_t p = 0; p < c->pieces[k][r].count; p++) fprintf(stderr, " %d", c->pieces[k][r].lengths[p]);
+            for (size_t p = 0; p < c->pieces[k][r].count && p < MOST_PRINTED; p++) fprintf(stderr, " %d", c->pieces[k][r].lengths[p]);
         }
         fprintf(stderr, "\n");
     }
@@ -525,7 +550,7 @@ static void fail(const Case *c, const Own *own, CvlStatus expected, CvlStatus st
     for (int k = 0; k < c->tried->operands; k++) {
         if (!is_written(c, k)) continue;
         fprintf(stderr, "  own %s:", c->tried->operand[k].name);
-        for (size_t j = 0; own->slots[k].at != NULL && (j < own->slots[k].number || j < 1); j++) {
+        for (size_t j = 0; own->slots[k].at != NULL && (j < own->slots[k].number || j < 1) && j < MOST_PRINTED; j++) {
             fprintf(stderr, " %d", c->tried->operand[k].kind == INTS ? ((int32_t *)own->slots[k].at)[j] : ((uint8_t *)own->slots[k].at)[j]);
         }
         fprintf(stderr, "\n");
@@ -534,16 +559,35 @@ static void fail(const Case *c, const Own *own, CvlStatus expected, CvlStatus st
     MPI_Abort(MPI_COMM_WORLD, 1);
 }
 
+/* Makes the descriptor of pieces whose lengths are gone then. */
+static CvlStatus make_descriptor(CvlRanks *ranks, const Pieces *p, CvlRankSegments **made) {
+    int32_t *const own = malloc((p->count + 1) * sizeof *own);
+    if (p->count > 0) memcpy(own, p->lengths, p->count * sizeof *own);
+    const CvlStatus status = cvl_rank_segments_new(ranks, (CvlLengths){own, p->count}, p->goes_on, made);
+    for (size_t k = 0; k < p->count; k++) own[k] = 3000000;
+    free(own);
+    return status;
+}
+
 /* Makes the descriptors of a rank's pieces; whether all are made. */
 static int make_descriptors(CvlRanks *ranks, const Case *c, int rank, Own *own, CvlStatus *status) {
     for (int k = 0; k < c->tried->operands; k++) {
         if (c->tried->operand[k].role != LENGTHS || is_descriptor_call(c->tried)) continue;
-        const Pieces *p = &c->pieces[k][rank];
-        const CvlLengths lengths = {p->lengths, p->count};
-        *status = cvl_rank_segments_new(ranks, lengths, p->goes_on, &own->slots[k].segments);
+        *status = make_descriptor(ranks, &c->pieces[k][rank], &own->slots[k].segments);
         if (status->number != CVL_DONE) return 0;
     }
     return 1;
+}
+
+/* Makes the call, which gives back what it takes of memory. */
+static CvlStatus make_call(CvlRanks *ranks, const Case *c, const Own *own) {
+    const long before = blocks;
+    const CvlStatus status = c->tried->over(ranks, c->op, own->slots);
+    if (blocks != before) {
+        fprintf(stderr, "rank %d of %d: %s with operator %u keeps %ld blocks of memory\n", my_rank, c->ranks, c->tried->name, c->op, blocks - before);
+        MPI_Abort(MPI_COMM_WORLD, 1);
+    }
+    return status;
 }
 
 /* Refuses each request for memory of one rank in turn: all ranks tell 100, with the rooms as before, or the fault that comes first. */
@@ -554,7 +598,7 @@ static void refuse_all(CvlRanks *ranks, const Case *c, CvlStatus expected, int r
         CvlStatus status;
         if (!make_descriptors(ranks, c, rank, &own, &status)) fail(c, &own, expected, status, seed);
         asked = 0, refused = 0, refuse_at = rank == unlucky ? k : -1;
-        status = c->tried->over(ranks, c->op, own.slots);
+        status = make_call(ranks, c, &own);
         refuse_at = -1;
         int hit = refused, any_hit = 0;
         MPI_Allreduce(&hit, &any_hit, 1, MPI_INT, MPI_MAX, MPI_COMM_WORLD);
@@ -575,7 +619,7 @@ static void try_one(CvlRanks *ranks, const Tried *t, int rank, int size, uint64_
     const CvlStatus expected = t->plain(c.op, c.whole);
     Own own = take(&c, rank);
     CvlStatus status;
-    cases++;
+    cases++, long_cases += c.style != SHORT;
     if (c.negative >= 0) {
         const CvlStatus negative = {CVL_NEGATIVE_LENGTH, c.negative};
         const int made = make_descriptors(ranks, &c, rank, &own, &status);
@@ -585,13 +629,13 @@ static void try_one(CvlRanks *ranks, const Tried *t, int rank, int size, uint64_
         return;
     }
     if (!make_descriptors(ranks, &c, rank, &own, &status)) fail(&c, &own, expected, status, seed);
-    status = t->over(ranks, c.op, own.slots);
+    status = make_call(ranks, &c, &own);
     if (!is_right(&c, &own, expected, status, rank)) fail(&c, &own, expected, status, seed);
     if (expected.number == CVL_DONE) done++;
     else at_fault++;
     if (expected.number < 128) by_number[expected.number]++;
     free_own(&own);
-    if (one_in(8)) refuse_all(ranks, &c, expected, rank, seed);
+    if (one_in(c.style == SHORT ? 8 : 30)) refuse_all(ranks, &c, expected, rank, seed);
     free_case(&c);
 }
 
@@ -614,7 +658,8 @@ int main(int words, char **word) {
         MPI_Bcast(&more, 1, MPI_INT, 0, MPI_COMM_WORLD);
     }
     if (my_rank == 0) {
-        printf("%d ranks: %ld cases of %zu calls, %ld done, %ld at fault, %ld refusals;", size, cases, count, done, at_fault, refusals);
+        printf("%d ranks: %ld cases of %zu calls, %ld of them long, %ld done, %ld at fault, %ld refusals;", size, cases, count, long_cases, done,
+            at_fault, refusals);
         for (int k = 1; k < 128; k++) {
             if (by_number[k]) printf(" %d: %ld", k, by_number[k]);
         }

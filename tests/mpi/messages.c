@@ -16,8 +16,8 @@
 /* every third flag is true */
 enum { N = 1000, TRUES = (N + 2) / 3 };
 
-typedef enum Kind { ALLREDUCE, EXSCAN, ALLGATHER, ALLTOALL, ALLTOALLV, KINDS } Kind;
-static const char *const kinds[] = {"Allreduce", "Exscan", "Allgather", "Alltoall", "Alltoallv"};
+typedef enum Kind { ALLREDUCE, REDUCE_SCATTER, EXSCAN, ALLGATHER, ALLTOALL, ALLTOALLV, KINDS } Kind;
+static const char *const kinds[] = {"Allreduce", "Reduce_scatter", "Exscan", "Allgather", "Alltoall", "Alltoallv"};
 static long calls[KINDS], bytes[KINDS];
 
 static void count(Kind kind, int number, MPI_Datatype type, int ranks) {
@@ -29,6 +29,14 @@ static void count(Kind kind, int number, MPI_Datatype type, int ranks) {
 int MPI_Allreduce(const void *from, void *to, int number, MPI_Datatype type, MPI_Op op, MPI_Comm comm) {
     count(ALLREDUCE, number, type, 1);
     return PMPI_Allreduce(from, to, number, type, op, comm);
+}
+
+int MPI_Reduce_scatter(const void *from, void *to, const int *numbers, MPI_Datatype type, MPI_Op op, MPI_Comm comm) {
+    int size, all = 0;
+    PMPI_Comm_size(comm, &size);
+    for (int r = 0; r < size; r++) all += numbers[r];
+    count(REDUCE_SCATTER, all, type, 1);
+    return PMPI_Reduce_scatter(from, to, numbers, type, op, comm);
 }
 
 int MPI_Exscan(const void *from, void *to, int number, MPI_Datatype type, MPI_Op op, MPI_Comm comm) {
@@ -98,7 +106,7 @@ static void tell_flat(void) {
     size_t total;
     for (int32_t k = 0; k < N; k += 3) selected[k] = size * TRUES - 1 - (rank * TRUES + k / 3);
     tell("select_int", cvl_sel_wuz_mpi(ranks, flags, a, b, out, N));
-    tell("dis_vuz", cvl_dis_vuz_mpi(ranks, 5, N, out));
+    tell("dis_vuz", cvl_dis_vuz_mpi(ranks, 5, N, out, N));
     tell("mke_fov", cvl_mke_fov_mpi(ranks, pieces, &total));
     tell("sel_puz", cvl_sel_puz_mpi(ranks, a, selected, flags, N, out, TRUES));
     tell("def_puz", cvl_def_puz_mpi(ranks, a, index_of, N, b, out, N));
@@ -180,7 +188,7 @@ int main(int words, char **word) {
     tell("pck_luz", cvl_pck_luz_mpi(ranks, a, flags, N, out, N, &kept));
     tell("ext_vuz", cvl_ext_vuz_mpi(ranks, a, N, 5, &one));
     tell("rep_vuz", cvl_rep_vuz_mpi(ranks, a, 5, 9, out, N));
-    tell("ind_luz", cvl_ind_luz_mpi(ranks, 0, 1, N, out));
+    tell("ind_luz", cvl_ind_luz_mpi(ranks, 0, 1, N, out, N));
     tell("add_sez", cvl_add_sez_mpi(ranks, a, segments, out, N));
     tell("add_rez", cvl_add_rez_mpi(ranks, a, N, segments, out));
     tell("tot_sez", cvl_tot_sez_mpi(ranks, b, segments, out, N));

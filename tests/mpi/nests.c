@@ -118,12 +118,14 @@ static void read_own(const size_t *cut, size_t room, size_t lengths_room, Read *
     memset(got->numbers, 0x5a, sizeof got->numbers), memset(got->lengths, 0x5a, sizeof got->lengths);
     got->count = got->pieces = 77, got->goes_on = 0;
     asked = 0, refused = 0;
+    const long before = blocks;
     const size_t length = cut[rank + 1] - cut[rank];
     char *own = malloc(length + 1);
     memcpy(own, text + cut[rank], length);
     got->status = cvl_seg_read_ints_mpi(
         ranks, own, length, got->numbers, room, &got->count, got->lengths, lengths_room, &got->pieces, &got->goes_on);
     free(own);
+    if (blocks != before) fail("memory is kept", got->status, got->status);
 }
 
 static int is_untouched(const Read *got) {
@@ -227,8 +229,12 @@ static void make_pieces(const int32_t *lengths, size_t segments, const size_t *c
 
 static CvlStatus write_own(const Pieces *own, const int32_t *a, const bool *flags, const CvlRankSegments *segments, char *room, size_t room_len, size_t *count) {
     asked = 0, refused = 0;
-    if (flags != NULL) return cvl_seg_write_bools_mpi(ranks, flags + own->from, own->elements, segments, room, room_len, count);
-    return cvl_seg_write_ints_mpi(ranks, a + own->from, own->elements, segments, room, room_len, count);
+    const long before = blocks;
+    const CvlStatus status = flags != NULL
+        ? cvl_seg_write_bools_mpi(ranks, flags + own->from, own->elements, segments, room, room_len, count)
+        : cvl_seg_write_ints_mpi(ranks, a + own->from, own->elements, segments, room, room_len, count);
+    if (blocks != before) fail("memory is kept", status, status);
+    return status;
 }
 
 static void try_write(void) {
@@ -254,6 +260,8 @@ static void try_write(void) {
     const CvlStatus done = {CVL_DONE, -1};
     CvlStatus status = cvl_rank_segments_new(ranks, pieces, own.goes_on != 0, &held);
     if (!is(status, done)) fail("a descriptor", status, done);
+    /* which has its own lengths */
+    for (size_t p = 0; p < own.count; p++) own.lengths[p] = 3000000;
     status = flags ? cvl_seg_write_bools(marks, total, of_whole, whole, MOST, &count) : cvl_seg_write_ints(a, total, of_whole, whole, MOST, &count);
     if (!is(status, done)) fail("the whole", status, done);
     status = write_own(&own, a, flags, held, own_text, MOST, &own_count);

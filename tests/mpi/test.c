@@ -1,46 +1,27 @@
 /*
  * Calls over ranks that the differential test leaves out: arrays that overlap, ranks that ask for different things, null descriptors and
- * routes, routes beside the calls without them, vectors that are spread otherwise or have fewer elements than there are ranks, texts, also
- * long ones, ranks with threads, communicators that are none, and calls before MPI begins and after it has ended. Every rank checks its status.
- * Values are worked by hand, or those of the plain call on the whole.
+ * routes, places for these that are none, pieces that change, counts of the whole, routes beside the calls without them, vectors that are
+ * spread otherwise or have fewer elements than there are ranks, texts, also long ones, ranks with threads, communicators that are none, and
+ * calls before MPI begins and after it has ended. Every rank checks its status. Values are worked by hand, or those of the plain call on the
+ * whole. Beside it stand blocks.c and given_back.c.
  */
-#include <mpi.h>
-
-#include <stdio.h>
-#include <stdlib.h>
-#include <string.h>
-
-#include "cvl_mpi.h"
 #include "refused.h"
+#include "test.h"
 
-enum { MOST = 64 };
+CvlRanks *ranks;
+int rank, size;
+static int failed;
 
-static CvlRanks *ranks;
-static int rank, size, failed;
-
-static void check(const char *what, int is_so) {
+void check(const char *what, int is_so) {
     if (is_so) return;
     fprintf(stderr, "rank %d of %d: %s\n", rank, size, what);
     failed = 1;
 }
 
-static int is(CvlStatus status, uint32_t number, int64_t place) { return status.number == number && status.place == place; }
-
-static int any_rank(int mine) {
+int any_rank(int mine) {
     int all = 0;
     MPI_Allreduce(&mine, &all, 1, MPI_INT, MPI_MAX, MPI_COMM_WORLD);
     return all;
-}
-
-/* ---- a vector over the ranks: place p has p * 7 % 23 - 5; rank r has r % 3 + 1 elements ---- */
-
-static int32_t of_place(int64_t p) { return (int32_t)(p * 7 % 23) - 5; }
-static size_t own_count(int r) { return (size_t)(r % 3) + 1; }
-
-static int64_t own_from(int r) {
-    int64_t from = 0;
-    for (int q = 0; q < r; q++) from += (int64_t)own_count(q);
-    return from;
 }
 
 static void fill(int32_t *a) {
@@ -75,6 +56,32 @@ static void try_none(void) {
     check("no descriptor has no segments", cvl_rank_segments_starts(NULL) == 0 && cvl_rank_segments_all(NULL) == 0);
 }
 
+/* The last rank has no place for what is made, or an argument at fault: where others have one, what stood there is gone. */
+static void try_no_place(void) {
+    const int last = rank == size - 1;
+    const int32_t a[2] = {1, last ? -1 : 2}, index[2] = {0, 0};
+    const CvlLengths bad = {a, 2}, good = {index, 2};
+    CvlRanks *made = ranks;
+    CvlRankSegments *segments = NULL, *stood;
+    CvlRoute *route = NULL;
+    char *text = (char *)a;
+    size_t text_len;
+    check("no place for ranks", is(cvl_ranks_new(MPI_COMM_WORLD, last ? NULL : &made), CVL_NO_DESCRIPTOR, -1) && (last || made == NULL));
+    const MPI_Fint world = MPI_Comm_c2f(MPI_COMM_WORLD);
+    check("nor for Fortran's", is(cvl_ranks_of_fortran(world, last ? NULL : &made), CVL_NO_DESCRIPTOR, -1));
+    check("a descriptor", is(cvl_rank_segments_new(ranks, good, 0, &segments), CVL_DONE, -1));
+    stood = segments;
+    check("no place for one", is(cvl_rank_segments_new(ranks, good, 0, last ? NULL : &segments), CVL_NO_DESCRIPTOR, -1) && (last || segments == NULL));
+    segments = stood;
+    check("one at fault", is(cvl_rank_segments_new(ranks, bad, 0, &segments), CVL_NEGATIVE_LENGTH, 2 * size - 1) && segments == NULL);
+    check("no place for a route", is(cvl_route_new(ranks, index, 2, 1, last ? NULL : &route), CVL_NO_DESCRIPTOR, -1));
+    check("no memory is lost", is(cvl_route_new(ranks, index, 2, 1, &route), CVL_DONE, -1));
+    cvl_route_free(route);
+    check("a route at fault", is(cvl_route_new(ranks, a, 2, 0, &route), CVL_INDEX_OUT_OF_RANGE, 0) && route == NULL);
+    check("a text at fault", is(cvl_rank_text_read(ranks, "no/such/file", &text, &text_len), CVL_BAD_INPUT, -1) && text == NULL);
+    cvl_rank_segments_free(stood);
+}
+
 /* One rank has no descriptor, or one of other ranks: all ranks get 101. */
 static void try_other_descriptors(void) {
     int32_t a[3] = {1, 2, 3}, out[3] = {9, 9, 9};
@@ -101,6 +108,25 @@ static void try_bad_pieces(void) {
     if (size < 2) return;
     check("a segment that is too long", is(cvl_rank_segments_new(ranks, long_pieces, rank > 0, &segments), CVL_TOO_LONG, -1));
     check("a whole that is longer", is(cvl_rank_segments_new(ranks, long_pieces, 0, &segments), CVL_DONE, -1));
+    cvl_rank_segments_free(segments);
+}
+
+/* The array of the lengths is the caller's again once the descriptor is made. Each rank but the first goes on from the one before it. */
+static void try_changed_pieces(void) {
+    int32_t lengths[] = {2, 3, 1}, a[6], index[6], out[6], sums[3] = {9, 9, 9};
+    const int32_t before = rank > 0, behind = rank + 1 < size ? 2 : 0, last = rank + 1 < size ? 2 : 0;
+    const int32_t turned[6] = {1, 0, 2, 1, 0, last};
+    CvlRankSegments *segments = NULL;
+    check("pieces that go on", is(cvl_rank_segments_new(ranks, (CvlLengths){lengths, 3}, rank > 0, &segments), CVL_DONE, -1));
+    lengths[0] = 3000000, lengths[1] = -7, lengths[2] = INT32_MAX;
+    for (int32_t k = 0; k < 6; k++) a[k] = 10 * rank + k, index[k] = turned[k];
+    check("a permute", is(cvl_smp_pez_mpi(ranks, a, index, segments, out, 6), CVL_DONE, -1));
+    check("of the pieces as they were", out[2] == a[4] && out[3] == a[3] && out[4] == a[2] && (rank == 0 ? out[0] == a[1] : out[0] == a[0] && out[1] == a[0] - 5));
+    check("back", is(cvl_bck_pez_mpi(ranks, a, 6, index, segments, segments, out, 6), CVL_DONE, -1) && out[2] == a[4]);
+    check("a sort", is(cvl_seg_sort_mpi(ranks, a, 6, segments, out, 6), CVL_DONE, -1) && memcmp(a, out, sizeof a) == 0);
+    check("sums", is(cvl_add_rez_mpi(ranks, a, 6, segments, sums), CVL_DONE, -1) && sums[rank > 0 ? 0 : 1] == a[2] + a[3] + a[4]);
+    check("the same sums where the lengths stood", is(cvl_add_rez_mpi(ranks, a, 6, segments, lengths), CVL_DONE, -1));
+    check("as many as start here", memcmp(sums, lengths, (size_t)(3 - before) * sizeof *sums) == 0 && sums[2 - before] == a[5] + (behind > 0 ? 2 * a[5] + 11 : 0));
     cvl_rank_segments_free(segments);
 }
 
@@ -141,13 +167,34 @@ static void try_differences(void) {
 #ifdef CVL_COMPARE_CALLS
     check("other families from the first word on", is(odd ? cvl_tot_suz_mpi(ranks, a, out, n) : cvl_smp_puz_mpi(ranks, a, a, out, n), CVL_UNKNOWN_CALL, -1));
 #endif
-    check("other values", is(cvl_dis_vuz_mpi(ranks, odd ? 4 : 5, (int64_t)n, out), CVL_UNKNOWN_CALL, -1));
-    check("other strides", is(cvl_ind_luz_mpi(ranks, 0, odd ? 2 : 1, (int64_t)n, out), CVL_UNKNOWN_CALL, -1));
+    check("other values", is(cvl_dis_vuz_mpi(ranks, odd ? 4 : 5, (int64_t)n, out, n), CVL_UNKNOWN_CALL, -1));
+    check("other strides", is(cvl_ind_luz_mpi(ranks, 0, odd ? 2 : 1, (int64_t)n, out, n), CVL_UNKNOWN_CALL, -1));
     check("other places", is(cvl_ext_vuz_mpi(ranks, a, n, odd, &one), CVL_UNKNOWN_CALL, -1));
     check("other lengths", is(cvl_int2_mpi(ranks, CVL_ADD, a, n, a, odd ? n - 1 : n, out, n), CVL_LENGTH_MISMATCH, -1));
-    check("a length below 0", is(cvl_dis_vuz_mpi(ranks, 5, odd ? -1 : (int64_t)n, out), CVL_NEGATIVE_LENGTH, -1));
-    check("a whole that is too long", is(cvl_dis_vuz_mpi(ranks, 5, INT32_MAX, out), CVL_TOO_LONG, -1));
+    check("a length below 0", is(cvl_dis_vuz_mpi(ranks, 5, odd ? -1 : (int64_t)n, out, n), CVL_NEGATIVE_LENGTH, -1));
+    check("a whole that is too long", is(cvl_dis_vuz_mpi(ranks, 5, INT32_MAX, out, INT32_MAX), CVL_TOO_LONG, -1));
+    const CvlStatus both = cvl_dis_vuz_mpi(ranks, 5, odd ? INT64_C(1) << 31 : (int64_t)n, out, odd ? n : n - 1);
+    check("a length that is too long before one that does not fit", is(both, CVL_TOO_LONG, -1));
     check("where ranks differ nothing is written", is_filled(out, n, 0) && one == 9);
+}
+
+/* A count is that of the rank's own part. The count of the whole is 7 on all ranks, and nothing is written behind a room. */
+static void try_counts(void) {
+    int32_t out[2 * MOST];
+    bool flags[2 * MOST];
+    memset(out, 0, sizeof out), memset(flags, 0, sizeof flags);
+    const size_t n = own_count(rank);
+    const int64_t whole = own_from(size);
+    const uint32_t number = size > 1 ? CVL_LENGTH_MISMATCH : CVL_DONE;
+    check("copies of the whole", is(cvl_dis_vuz_mpi(ranks, 5, whole, out, n), number, -1));
+    check("flags of the whole", is(cvl_dis_vub_mpi(ranks, 1, whole, flags, n), number, -1));
+    check("numbers of the whole", is(cvl_ind_luz_mpi(ranks, 3, 2, whole, out, n), number, -1));
+    for (size_t k = size > 1 ? 0 : n; k < 2 * MOST; k++) check("nothing is written by them", out[k] == 0 && !flags[k]);
+    check("own copies", is(cvl_dis_vuz_mpi(ranks, 5, (int64_t)n, out, n), CVL_DONE, -1) && is_filled(out, n, 5));
+    check("own flags", is(cvl_dis_vub_mpi(ranks, 1, (int64_t)n, flags, n), CVL_DONE, -1) && flags[n - 1] && !flags[n]);
+    check("own numbers", is(cvl_ind_luz_mpi(ranks, 3, 2, (int64_t)n, out, n), CVL_DONE, -1));
+    for (size_t k = 0; k < n; k++) check("the number of a place", out[k] == 3 + 2 * (int32_t)(own_from(rank) + (int64_t)k));
+    check("nothing behind them", out[n] == 0);
 }
 
 /* Calls that tell one another something before they agree on a status: one rank makes each of them, and the others the one behind it. */
@@ -214,7 +261,8 @@ static void try_route_both_ways(const int32_t *index, size_t n) {
     bool flags[MOST], by_route_flags[MOST], plain_flags[MOST];
     CvlRoute *route = NULL;
     fill(a);
-    for (size_t k = 0; k < n; k++) flags[k] = a[k] > 3;
+    /* a flag is a byte, and true if it is not 0 */
+    for (size_t k = 0; k < n; k++) ((unsigned char *)flags)[k] = a[k] > 3 ? (unsigned char)(2 + k) : 0;
     check("a route", is(cvl_route_new(ranks, index, n, n, &route), CVL_DONE, -1));
     for (int times = 0; times < 2; times++) {
         check("back", is(cvl_route_back_int(route, a, n, by_route, n), CVL_DONE, -1) && is(cvl_bck_puz_mpi(ranks, a, n, index, plain, n), CVL_DONE, -1));
@@ -249,22 +297,21 @@ static void try_bad_routes(int32_t *index, int64_t total, size_t n) {
     check("no permute", is(cvl_route_permute_int(route, a, n, out, n), CVL_INDEX_REPEATED, last) && is_filled(out, n, 0));
     check("but back", is(cvl_route_back_int(route, a, n, out, n), CVL_DONE, -1));
     cvl_route_free(route);
-    route = NULL;
+    if (has_last) index[n - 1] = kept;
+    /* a rank that asks for an element twice asks its owner once */
+    const int twice = size > 1 ? 1 : 0;
+    int32_t *const second = rank == twice && n > 1 ? &index[1] : NULL, other = second == NULL ? 0 : *second;
+    if (second != NULL) *second = index[0];
+    memset(out, 0, sizeof out);
+    if (any_rank(second != NULL)) {
+        check("a route of an index repeated in one rank", is(cvl_route_new(ranks, index, n, n, &route), CVL_DONE, -1));
+        check("no permute by it", is(cvl_route_permute_int(route, a, n, out, n), CVL_INDEX_REPEATED, own_from(twice) + 1) && is_filled(out, n, 0));
+        cvl_route_free(route);
+    }
+    if (second != NULL) *second = other;
     if (has_last) index[n - 1] = (int32_t)total;
     check("no route of an index out of range", is(cvl_route_new(ranks, index, n, n, &route), CVL_INDEX_OUT_OF_RANGE, last) && route == NULL);
     if (has_last) index[n - 1] = kept;
-}
-
-static void try_refused_route(const int32_t *index, size_t n) {
-    for (long k = 0, more = 1; more && k < 60; k++) {
-        CvlRoute *route = NULL;
-        asked = 0, refused = 0, refuse_at = rank == 0 ? k : -1;
-        const CvlStatus status = cvl_route_new(ranks, index, n, n, &route);
-        refuse_at = -1;
-        more = any_rank(refused);
-        check("a route without memory", more ? is(status, CVL_NO_RESOURCES, -1) && route == NULL : is(status, CVL_DONE, -1));
-        cvl_route_free(route);
-    }
 }
 
 /* Sources whose places an index cannot name: of 2^30 booleans in each rank, none of which is read. */
@@ -315,7 +362,6 @@ static void try_routes(void) {
     for (size_t k = 0; k < n; k++) index[k] = goes_to(own_from(rank) + (int64_t)k, total, step);
     try_route_both_ways(index, n);
     try_bad_routes(index, total, n);
-    try_refused_route(index, n);
     try_long_sources(index, n);
     try_products(total, n);
 }
@@ -324,7 +370,7 @@ static void try_routes(void) {
 
 static void try_spreads(void) {
     int32_t a[MOST], even[MOST], back[MOST];
-    bool flags[MOST], even_flags[MOST];
+    unsigned char flags[MOST], even_flags[MOST];
     uint64_t from = 99, first = 99, total = 0;
     size_t count = 99;
     const size_t n = own_count(rank);
@@ -334,8 +380,8 @@ static void try_spreads(void) {
     check("spread evenly", is(cvl_spread_ints(ranks, a, n, even, count), CVL_DONE, -1));
     for (size_t k = 0; k < count; k++) check("the element of its place", even[k] == of_place((int64_t)(from + k)));
     check("and back", is(cvl_spread_ints(ranks, even, count, back, n), CVL_DONE, -1) && memcmp(a, back, n * sizeof *a) == 0);
-    for (size_t k = 0; k < n; k++) flags[k] = a[k] > 2;
-    check("booleans", is(cvl_spread_bools(ranks, flags, n, even_flags, count), CVL_DONE, -1));
+    for (size_t k = 0; k < n; k++) flags[k] = a[k] > 2 ? (unsigned char)(255 - k) : 0;
+    check("booleans of any bytes", is(cvl_spread_bools(ranks, (const bool *)flags, n, (bool *)even_flags, count), CVL_DONE, -1));
     for (size_t k = 0; k < count; k++) check("the boolean of its place", even_flags[k] == (of_place((int64_t)(from + k)) > 2));
     check("not as many", is(cvl_spread_ints(ranks, a, n, back, rank == 0 ? n - 1 : n), CVL_LENGTH_MISMATCH, -1));
     check("into itself", is(cvl_spread_ints(ranks, a, n, rank == size - 1 ? a : back, n), CVL_OVERLAP, -1));
@@ -403,7 +449,10 @@ static void try_texts(void) {
     check("the last bracket", rank < size - 1 || text[count - 1] == ']');
     /* the integers alone, with other white space and an end of line */
     for (size_t k = 0; k < count; k++) text[k] = text[k] == '[' || text[k] == ']' ? '\n' : text[k];
-    check("to a file", is(cvl_rank_text_write(ranks, path, text, count), CVL_DONE, -1));
+    char longer[sizeof text];
+    memset(longer, '7', sizeof longer);
+    check("a long file", is(cvl_rank_text_write(ranks, path, longer, sizeof longer), CVL_DONE, -1));
+    check("a shorter one in its place", is(cvl_rank_text_write(ranks, path, text, count), CVL_DONE, -1));
     check("from a file", is(cvl_rank_text_read(ranks, path, &read, &read_len), CVL_DONE, -1));
     memset(back, 0, sizeof back);
     count = 99;
@@ -447,17 +496,52 @@ static void try_long_texts(void) {
 
 /* ---- ranks ---- */
 
-static void try_refused_ranks(void) {
-    for (long k = 0, more = 1; more && k < 10; k++) {
-        CvlRanks *made = NULL;
-        asked = 0, refused = 0, refuse_at = rank == size - 1 ? k : -1;
+/* What is made and freed, without a place where it stands: whether it was made. */
+static CvlStatus some_ranks(int *made) {
+    CvlRanks *found;
+    const CvlStatus status = cvl_ranks_new(MPI_COMM_WORLD, &found);
+    *made = found != NULL;
+    cvl_ranks_free(found);
+    return status;
+}
+
+static CvlStatus some_segments(int *made) {
+    const int32_t lengths[] = {2, 0, 1};
+    CvlRankSegments *found;
+    const CvlStatus status = cvl_rank_segments_new(ranks, (CvlLengths){lengths, 3}, rank > 0, &found);
+    *made = found != NULL;
+    cvl_rank_segments_free(found);
+    return status;
+}
+
+static CvlStatus some_route(int *made) {
+    const int32_t index[] = {0, size - 1};
+    CvlRoute *found;
+    const CvlStatus status = cvl_route_new(ranks, index, 2, 1, &found);
+    *made = found != NULL;
+    cvl_route_free(found);
+    return status;
+}
+
+/* One rank gets no memory at one of its requests in turn: nothing is made on any, and what was taken is given back. */
+static void try_refused(const char *what, CvlStatus (*make)(int *made)) {
+    for (long k = 0, more = 1; more && k < 60; k++) {
+        const long before = blocks;
+        int made = 9;
         /* what MPI itself asks for is not refused: it is not linked with this program */
-        const CvlStatus status = cvl_ranks_new(MPI_COMM_WORLD, &made);
+        asked = 0, refused = 0, refuse_at = rank == size - 1 ? k : -1;
+        const CvlStatus status = make(&made);
         refuse_at = -1;
         more = any_rank(refused);
-        check("ranks without memory", more ? is(status, CVL_NO_RESOURCES, -1) && made == NULL : is(status, CVL_DONE, -1));
-        cvl_ranks_free(made);
+        check(what, more ? is(status, CVL_NO_RESOURCES, -1) && !made : is(status, CVL_DONE, -1) && made);
+        check("its memory is given back", blocks == before);
     }
+}
+
+static void try_all_refused(void) {
+    try_refused("ranks without memory", some_ranks);
+    try_refused("a descriptor without memory", some_segments);
+    try_refused("a route without memory", some_route);
 }
 
 /* A call of a few of the ranks, whose numbers are others than those of the program. */
@@ -553,18 +637,23 @@ int main(int words, char **word) {
     MPI_Comm_size(MPI_COMM_WORLD, &size);
     check("ranks", is(cvl_ranks_new(MPI_COMM_WORLD, &ranks), CVL_DONE, -1));
     try_none();
+    try_no_place();
     try_other_descriptors();
     try_bad_pieces();
+    try_changed_pieces();
     try_overlaps();
     try_differences();
+    try_counts();
     try_other_calls();
     try_routes();
     try_spreads();
     try_few();
     try_texts();
     try_long_texts();
+    try_long_vectors();
+    try_given_back();
     try_threads(level);
-    try_refused_ranks();
+    try_all_refused();
     try_some_ranks();
     try_two_groups();
     check("segments to the end", is(cvl_rank_segments_new(ranks, (CvlLengths){length, 1}, 0, &segments), CVL_DONE, -1));

@@ -40,6 +40,8 @@ static int sleep_until_done(int begun, MPI_Request *request) {
 COLLECTIVE(Barrier, Ibarrier, (MPI_Comm comm), comm)
 COLLECTIVE(Bcast, Ibcast, (void *buffer, int count, MPI_Datatype type, int root, MPI_Comm comm), buffer, count, type, root, comm)
 COLLECTIVE(Allreduce, Iallreduce, (const void *from, void *to, int count, MPI_Datatype type, MPI_Op op, MPI_Comm comm), from, to, count, type, op, comm)
+COLLECTIVE(Reduce_scatter, Ireduce_scatter, (const void *from, void *to, const int *counts, MPI_Datatype type, MPI_Op op, MPI_Comm comm), from, to, counts,
+    type, op, comm)
 COLLECTIVE(Exscan, Iexscan, (const void *from, void *to, int count, MPI_Datatype type, MPI_Op op, MPI_Comm comm), from, to, count, type, op, comm)
 COLLECTIVE(Allgather, Iallgather, (const void *from, int count, MPI_Datatype type, void *to, int each, MPI_Datatype to_type, MPI_Comm comm), from,
     count, type, to, each, to_type, comm)

@@ -246,6 +246,14 @@ class Browser(unittest.TestCase):
         self.assertIn("examples.html", " ".join(address for _, address in self.found("histogram")))
         self.assertEqual(self.found("qwxyzzy"), [])
 
+    def test_a_search_shows_a_line_with_its_words(self):
+        shown = "return [...document.querySelectorAll('ul.search p.line')].map((line) => line.textContent)"
+        for words in ("histogram", "prefix sum", "argsort"):
+            self.assertNotEqual(self.found(words), [], words)
+            lines = self.browser.execute_script(shown)
+            self.assertTrue(lines and all(any(word in line.lower() for word in words.split()) for line in lines), lines)
+            self.assertTrue(any(words in line.lower() for line in lines), lines)
+
     def test_what_a_search_finds_is_opened(self):
         self.found("max_seb ior_seb")
         self.browser.find_element(By.CSS_SELECTOR, "ul.search li a").click() if self.found("ior_seb") else self.fail("nothing was found")

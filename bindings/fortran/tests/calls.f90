@@ -1,5 +1,5 @@
-! Each subroutine on the example of its call, in place, and through its family: calls FILE, where FILE has the examples that
-! bindings/generate writes for each build. calls.inc has a line for each subroutine.
+! Each subroutine on the example of its call, in place, and through its family, on arrays and on each second element of longer
+! ones: calls FILE, where FILE has the examples that bindings/generate writes for each build. calls.inc has a line for each one.
 module examples
     use cvl
     implicit none
@@ -23,6 +23,9 @@ module examples
     integer(c_int32_t) :: op
     type(operand) :: given(most_operands), before(most_operands)
     integer :: operands = 0, tried = 0, wrong = 0
+
+    ! how many places the elements of arrays are apart
+    integer :: step = 1
 
 contains
 
@@ -94,6 +97,23 @@ contains
         before%count = ieor(one%count, 1_c_size_t)
     end function other
 
+    ! The operand with its elements `step` places apart; between them stand numbers that no call may change.
+    function spaced(one) result(found)
+        type(operand), intent(in) :: one
+        type(operand) :: found
+
+        found = one
+        deallocate (found%ints, found%flags, found%bytes, found%sums)
+        allocate (found%ints(step * size(one%ints)), source=77_c_int32_t)
+        allocate (found%flags(step * size(one%flags)), source=.true._c_bool)
+        allocate (found%bytes(step * size(one%bytes)), source=77_c_int8_t)
+        allocate (found%sums(step * size(one%sums)), source=77_c_int64_t)
+        found%ints(::step) = one%ints
+        found%flags(::step) = one%flags
+        found%bytes(::step) = one%bytes
+        found%sums(::step) = one%sums
+    end function spaced
+
     ! Whether an operand holds what another one does.
     logical function agree(found, wanted)
         type(operand), intent(in) :: found, wanted
@@ -147,27 +167,30 @@ contains
         integer :: k, place
 
         do k = 1, operands
-            o(k) = before(k)
+            o(k) = spaced(before(k))
         end do
         call make(key, o(:operands), status, place, made)
         if (.not. (made .or. asked)) return
         tried = tried + 1
         agrees = made .and. status%number == CVL_DONE
         do k = 1, operands
-            if (is_written(given(k))) agrees = agrees .and. agree(o(merge(place, k, place > 0)), given(k))
+            if (is_written(given(k))) agrees = agrees .and. agree(o(merge(place, k, place > 0)), spaced(given(k)))
         end do
         if (agrees) return
         wrong = wrong + 1
-        print "(4a, i0)", key, " is not as the example of ", trim(name), ", or is not there; with the status ", status%number
+        print "(4a, i0, a, i0)", key, " is not as the example of ", trim(name), ", or is not there; with the status ", &
+            status%number, ", elements apart by ", step
     end subroutine try
 
-    ! Tries the subroutine of the example, and those of its family.
+    ! Tries the subroutine of the example, and those of its family, on elements side by side and on each second one.
     subroutine try_all()
         if (operands == 0) return
-        call try(trim(name), asked=.true.)
-        call try(trim(name) // " in", asked=.false.)
-        if (family /= name) call try(trim(family), asked=.true.)
-        if (family /= name) call try(trim(family) // " in", asked=.false.)
+        do step = 1, 2
+            call try(trim(name), asked=.true.)
+            call try(trim(name) // " in", asked=.false.)
+            if (family /= name) call try(trim(family), asked=.true.)
+            if (family /= name) call try(trim(family) // " in", asked=.false.)
+        end do
         operands = 0
     end subroutine try_all
 end module examples

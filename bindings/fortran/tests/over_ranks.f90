@@ -11,7 +11,7 @@ program over_ranks
     integer(c_int32_t) :: a(2), out(2), sums(1), index(2), total
     integer(c_int32_t), target :: pieces(2)
     integer(c_int64_t) :: wide(2)
-    integer :: rank, number, ierror
+    integer :: again, rank, number, ierror
 
     call MPI_Init(ierror)
     call MPI_Comm_rank(MPI_COMM_WORLD, rank, ierror)
@@ -63,9 +63,15 @@ program over_ranks
     if (rank == number - 1) index(2) = 2 * number
     call cvl_smp_puz_mpi(ranks, a, index, out, status)
     call check("a fault", status%number == CVL_INDEX_OUT_OF_RANGE .and. status%place == 2 * number - 1)
-    call cvl_route_free(route)
-    call cvl_rank_segments_free(rows)
-    call cvl_ranks_free(ranks)
+    ! what is freed twice is freed once
+    do again = 1, 2
+        call cvl_route_free(route)
+        call cvl_rank_segments_free(rows)
+        call cvl_ranks_free(ranks)
+    end do
+    call cvl_add_suz_mpi(ranks, a, out, status)
+    call check("freed ranks", status%number == CVL_NO_DESCRIPTOR)
+    call check("freed segments", cvl_rank_segments_starts(rows) == 0)
     if (rank == 0) print '(a, i0, a)', "calls over ", number, " ranks from Fortran: as they should be"
     call MPI_Finalize(ierror)
 

@@ -1,6 +1,7 @@
 """The vector calls of CVL over numpy: flat and segmented vectors of int32 and bool.
 
-A vector is a numpy array of int32 or bool in one dimension, which is not copied. A result is a new array, or is written into `out`.
+A vector is a numpy array of int32 or bool in one dimension, which is read where it is. A result is a new array, or is written
+into `out`.
 
     >>> import cvl, numpy
     >>> a = numpy.array([3, 1, 4, 1, 5], dtype=numpy.int32)

@@ -1,6 +1,6 @@
 # What the compiled module has beside the calls.
 
-from typing import Any, SupportsIndex, Type, TypeVar
+from typing import Any, List, Optional, SupportsIndex, Tuple, Type, TypeVar
 
 from cvl._kinds import IntArray
 
@@ -20,3 +20,10 @@ class Lengths:
 
 def get_threads() -> int: ...
 def set_threads(count: SupportsIndex) -> int: ...
+
+# a call over ranks: its name, its operands with their kinds and extents, what it gives, and whether a number may stand for an array
+_Row = Tuple[str, Tuple[Tuple[str, str, Optional[str]], ...], str, bool]
+
+def take(row: _Row, *arguments: Any, **named: Any) -> List[Any]: ...
+def said(row: _Row, given: List[Any], number: int, place: int) -> Optional[str]: ...
+def about(row: _Row, number: int) -> Optional[int]: ...

@@ -32,6 +32,11 @@ def _whole_numbers(numbers: Any, name: str) -> Any:
     return given
 
 
+def _numbers(lengths: ArrayLike) -> IntArray:
+    """The lengths as integers of 32 bits, if they are whole numbers and fit."""
+    return as_ints(_whole_numbers(lengths, "lengths"), "lengths")
+
+
 def _frozen(found: IntArray) -> IntArray:
     """A new array, which nobody writes from now on."""
     found.flags.writeable = False
@@ -58,7 +63,7 @@ class Segments(Lengths):
     __slots__ = ()
 
     def __new__(cls, lengths: ArrayLike) -> Segments:
-        return super().__new__(cls, as_ints(_whole_numbers(lengths, "lengths"), "lengths"))
+        return super().__new__(cls, _numbers(lengths))
 
     def __copy__(self) -> Segments:
         return self
@@ -122,3 +127,10 @@ class Segments(Lengths):
             return f"Segments({self.lengths.tolist()})"
         first, last = (", ".join(map(str, part)) for part in (self.lengths[:3], self.lengths[-3:]))
         return f"<{len(self)} Segments of {self.total} elements: {first}, .., {last}>"
+
+
+def own_lengths(lengths: ArrayLike) -> IntArray:
+    """Lengths as `Segments` takes them, in an array of their own that nobody writes; whether they are some is not looked at."""
+    if isinstance(lengths, Segments):
+        return lengths.lengths
+    return _frozen(numpy.array(_numbers(lengths)))

@@ -101,6 +101,7 @@ int cvl_take(PyObject *object, const Operand *operand, int spreads, Given *given
         return cvl_take_array(object, operand, given);
     case KIND_TEXT: return take_text(object, operand, given);
     case KIND_LENGTHS: return take_lengths(object, operand, given);
+    case KIND_RANK_SEGMENTS: return 0;
     case KIND_INT: return take_number(object, name, INT32_MIN, INT32_MAX, "32 bits", given);
     case KIND_FLAG: return take_flag(object, name, given);
     case KIND_OPERATOR: return take_operator(object, name, given);

@@ -27,7 +27,7 @@ static int takes_out(const Family *family) { return family->gives <= GIVES_FRONT
 /* Whether the room holds what stands before. Then the caller has to give one, also by its place. */
 static int is_over(const Family *family) { return family->gives == GIVES_OVER_INTS || family->gives == GIVES_OVER_FLAGS; }
 
-static const Operand *out_of(const Family *family) {
+const Operand *cvl_out_of(const Family *family) {
     switch (family->gives) {
     case GIVES_FLAGS:
     case GIVES_FRONT_FLAGS: return &out_flags;
@@ -106,18 +106,24 @@ static int take_one(PyObject *object, const Operand *operand, int spreads, Given
     return 0;
 }
 
-/* Takes all arguments, and the caller's room, before an array is read. */
-static int take(Frame *frame, PyObject **bound, PyObject *out) {
-    const Family *family = frame->row->family;
+int cvl_begin(Frame *frame, const Row *row, PyObject *const *arguments, Py_ssize_t count, PyObject *keywords, PyObject **bound) {
+    const Family *family = row->family;
+    PyObject **const out = &bound[family->count];
+    frame->row = row;
+    frame->out = cvl_out_of(family);
+    frame->room = frame->second = (Given){.at = NULL};
+    frame->no_memory = frame->over_ranks = 0;
     for (int k = 0; k < family->count; k++) frame->given[k] = (Given){.at = NULL};
+    if (bind(row, arguments, count, keywords, bound) < 0) return -1;
+    if (*out == Py_None && !is_over(family)) *out = NULL;
     for (int k = 0; k < family->count; k++) {
         if (take_one(bound[k], &family->operands[k], family->spreads, &frame->given[k]) < 0) return -1;
     }
-    if (out != NULL && take_one(out, frame->out, 0, &frame->room) < 0) return -1;
+    if (*out != NULL && take_one(*out, frame->out, 0, &frame->room) < 0) return -1;
     return family->spreads ? spread(frame) : 0;
 }
 
-static void let_go(Frame *frame) {
+void cvl_let_go(Frame *frame) {
     for (int k = 0; k < frame->row->family->count; k++) Py_XDECREF(frame->given[k].held);
     Py_XDECREF(frame->room.held);
     Py_XDECREF(frame->second.held);
@@ -303,13 +309,7 @@ static PyObject *result(Frame *frame, PyObject **bound, PyObject *out) {
 PyObject *cvl_call(const Row *row, PyObject *const *arguments, Py_ssize_t count, PyObject *keywords) {
     PyObject *bound[MOST_OPERANDS + 1], *found = NULL;
     Frame frame;
-    if (bind(row, arguments, count, keywords, bound) < 0) return NULL;
-    frame.row = row;
-    frame.out = out_of(row->family);
-    frame.room = frame.second = (Given){.at = NULL};
-    frame.no_memory = 0;
-    PyObject *out = bound[row->family->count] == Py_None && !is_over(row->family) ? NULL : bound[row->family->count];
-    if (take(&frame, bound, out) == 0) found = result(&frame, bound, out);
-    let_go(&frame);
+    if (cvl_begin(&frame, row, arguments, count, keywords, bound) == 0) found = result(&frame, bound, bound[row->family->count]);
+    cvl_let_go(&frame);
     return found;
 }

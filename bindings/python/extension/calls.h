@@ -43,6 +43,7 @@ typedef enum Kind {
     KIND_BYTES, /* numbers from 0 to 255 */
     KIND_TEXT,
     KIND_LENGTHS,
+    KIND_RANK_SEGMENTS, /* segments over ranks, which are taken as they are */
     KIND_INT, /* one value: of 32 bits, a boolean, an operator, a place or a count, of 64 bits, and one that is not below 0 */
     KIND_FLAG,
     KIND_OPERATOR,
@@ -164,7 +165,8 @@ struct Frame {
         uint8_t flag;
         int64_t sum;
     } single;
-    int no_memory; /* whether there was no memory for the room or an argument, or the room is known to be too long */
+    int no_memory;  /* whether there was no memory for the room or an argument, or the room is known to be too long */
+    int over_ranks; /* whether the arguments are a rank's part of longer vectors */
 };
 
 /* ---- arrays.c ---- */
@@ -206,6 +208,12 @@ PyObject *cvl_front(const Given *room, PyObject *out, size_t count);
 /* Raises the exception of a status. */
 void cvl_tell(Frame *frame, CvlStatus status, int has_room);
 
+/* The details of a fault, None if there are none, or nothing with an exception. */
+PyObject *cvl_said(Frame *frame, CvlStatus status, int has_room);
+
+/* Whether a fault may be about an operand: a divisor or a shift, an index or a start, or lengths and a count. */
+int cvl_is_about(uint32_t number, const Operand *operand);
+
 /* How long the room of a call has to be, and whether that is known. */
 int cvl_measure(const Frame *frame, size_t *needed);
 
@@ -227,6 +235,20 @@ CvlLengths cvl_cut_of(PyObject *segments);
 
 PyObject *cvl_call(const Row *row, PyObject *const *arguments, Py_ssize_t count, PyObject *keywords);
 int cvl_keywords_ready(void);
+
+/*
+ * Begins a call: binds the arguments by place and by name, with the caller's room behind them or nothing, and takes them before
+ * an array is read; -1 with an exception. In both cases the frame is let go of at the end.
+ */
+int cvl_begin(Frame *frame, const Row *row, PyObject *const *arguments, Py_ssize_t count, PyObject *keywords, PyObject **bound);
+void cvl_let_go(Frame *frame);
+
+/* What the caller's room is taken for. */
+const Operand *cvl_out_of(const Family *family);
+
+/* ---- over_ranks.c ---- */
+
+extern PyMethodDef cvl_rank_methods[];
 
 /* ---- threads.c ---- */
 

@@ -1,4 +1,4 @@
-/* The module cvl._calls: a function for each call, the type of lengths, the version of the library, and its threads. */
+/* The module cvl._calls: each call, the type of lengths, the version of the library, its threads, and what cvl.mpi needs of calls. */
 #define CVL_ASKS_NUMPY
 #include "calls.h"
 
@@ -17,7 +17,7 @@ PyMODINIT_FUNC PyInit__calls(void) {
     if (module == NULL) return NULL;
     Py_INCREF(&cvl_lengths_type);
     if (PyModule_AddObject(module, "Lengths", (PyObject *)&cvl_lengths_type) < 0 ||
-        PyModule_AddFunctions(module, cvl_thread_methods) < 0 ||
+        PyModule_AddFunctions(module, cvl_thread_methods) < 0 || PyModule_AddFunctions(module, cvl_rank_methods) < 0 ||
         PyModule_AddIntConstant(module, "MOST_ELEMENTS", CVL_MOST_ELEMENTS) < 0 ||
         PyModule_AddIntConstant(module, "MOST_OF_TEXT", CVL_MOST_OF_TEXT) < 0 ||
         PyModule_AddStringConstant(module, "version", cvl_version()) < 0) {

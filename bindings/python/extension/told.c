@@ -5,16 +5,20 @@ static int is_array(const Operand *operand) { return operand->kind == KIND_INTS 
 
 /* ---- how long arguments are ---- */
 
-/* What lengths add up to. Whether they are lengths of segments. */
-static int total(const Given *given, size_t *found) {
+static int is_cut(const Operand *operand) { return operand->kind == KIND_LENGTHS || operand->kind == KIND_RANK_SEGMENTS; }
+
+/* What lengths add up to. Whether they are lengths of segments. Segments over ranks say it themselves. */
+static int total(const Given *given, const Operand *operand, size_t *found) {
     const CvlLengths lengths = {given->at, given->count};
-    return cvl_make_descriptor(lengths, found).number == CVL_DONE;
+    if (operand->kind != KIND_RANK_SEGMENTS) return cvl_make_descriptor(lengths, found).number == CVL_DONE;
+    *found = (size_t)given->number;
+    return 1;
 }
 
-static int measure_by(const Given *given, Extent extent, size_t most, size_t *needed) {
+static int measure_by(const Given *given, const Operand *operand, Extent extent, size_t most, size_t *needed) {
     int32_t trues;
     switch (extent) {
-    case EXTENT_TOTAL: return total(given, needed);
+    case EXTENT_TOTAL: return total(given, operand, needed);
     case EXTENT_TRUES:
         if (cvl_count(given->at, given->count, &trues).number != CVL_DONE) return 0;
         *needed = (size_t)trues;
@@ -34,7 +38,7 @@ int cvl_measure(const Frame *frame, size_t *needed) {
         *needed = frame->given[0].count + frame->given[1].count;
         return 1;
     }
-    return measure_by(&frame->given[family->by], family->extent, family->most, needed);
+    return measure_by(&frame->given[family->by], &family->operands[family->by], family->extent, family->most, needed);
 }
 
 CvlStatus cvl_sized(const Frame *frame, int k) {
@@ -53,7 +57,7 @@ static PyObject *differ(const char *form, const char *name, size_t number, const
 static int alike(const Family *family, int k, Extent extent) {
     for (int j = 0; j < k; j++) {
         const Operand *operand = &family->operands[j];
-        if (is_array(operand) ? operand->extent == extent : extent == EXTENT_SEGMENTS && operand->kind == KIND_LENGTHS) return j;
+        if (is_array(operand) ? operand->extent == extent : extent == EXTENT_SEGMENTS && is_cut(operand)) return j;
     }
     return -1;
 }
@@ -65,7 +69,7 @@ static PyObject *total_differs(const Frame *frame, int k) {
     size_t found;
     for (int j = 0; j < family->count; j++) {
         const Operand *other = &family->operands[j];
-        if (!is_array(other) || other->extent != operand->extent || !total(&frame->given[k], &found)) continue;
+        if (!is_array(other) || other->extent != operand->extent || !total(&frame->given[k], operand, &found)) continue;
         return differ("%s add up to %zd, and len(%s) is %zd", operand->name, found, other->name, frame->given[j].count);
     }
     return NULL;
@@ -89,7 +93,7 @@ static PyObject *arguments_differ(const Frame *frame) {
     PyObject *said = NULL;
     for (int k = 0; said == NULL && !PyErr_Occurred() && k < family->count; k++) {
         const Operand *operand = &family->operands[k];
-        const int cuts = operand->kind == KIND_LENGTHS;
+        const int cuts = is_cut(operand);
         if (!cuts && !is_array(operand)) continue;
         const int j = alike(family, k, cuts ? EXTENT_SEGMENTS : operand->extent);
         if (j >= 0) said = differ(form, operand->name, frame->given[k].count, family->operands[j].name, frame->given[j].count);
@@ -117,8 +121,7 @@ static PyObject *room_differs(const Frame *frame) {
 
 /* ---- which value is at fault ---- */
 
-/* Whether a fault may be about an operand: a divisor or a shift, an index or a start, or lengths and a count. */
-static int is_about(uint32_t number, const Operand *operand) {
+int cvl_is_about(uint32_t number, const Operand *operand) {
     const char *const name = operand->name;
     switch (number) {
     case CVL_DIVIDE_BY_ZERO:
@@ -173,11 +176,11 @@ static PyObject *value_said(const Given *given, const Operand *operand, int64_t 
     return PyUnicode_FromFormat("%s[%lld] is %lld", operand->name, (long long)place, (long long)value);
 }
 
-/* The same of an index, with what it leads into. */
+/* The same of an index, with what it leads into, unless other ranks have a part of that. */
 static PyObject *index_said(const Frame *frame, int k, int64_t place, int64_t value) {
     const Operand *index = &frame->row->family->operands[k];
     PyObject *said = value_said(&frame->given[k], index, place, value);
-    if (said == NULL || counts_elsewhere(frame->row->family, index)) return said;
+    if (said == NULL || frame->over_ranks || counts_elsewhere(frame->row->family, index)) return said;
     PyObject *bound = bound_said(frame, index), *both = bound == NULL ? NULL : PyUnicode_FromFormat("%U, and %U", said, bound);
     Py_XDECREF(bound);
     Py_DECREF(said);
@@ -190,7 +193,7 @@ static PyObject *value_at_fault(const Frame *frame, CvlStatus status) {
     int64_t value;
     for (int k = 0; k < family->count; k++) {
         const Operand *operand = &family->operands[k];
-        if (!is_about(status.number, operand) || !value_at(&frame->given[k], operand, status.place, &value)) continue;
+        if (!cvl_is_about(status.number, operand) || !value_at(&frame->given[k], operand, status.place, &value)) continue;
         if (status.number == CVL_INDEX_OUT_OF_RANGE) return index_said(frame, k, status.place, value);
         if (status.number != CVL_NEGATIVE_LENGTH || value < 0) return value_said(&frame->given[k], operand, status.place, value);
     }
@@ -237,8 +240,7 @@ static PyObject *lengths_said(const Frame *frame, int has_room) {
     return said == NULL && !PyErr_Occurred() && has_room ? room_differs(frame) : said;
 }
 
-/* The details of a fault, or None. */
-static PyObject *said_of(Frame *frame, CvlStatus status, int has_room) {
+PyObject *cvl_said(Frame *frame, CvlStatus status, int has_room) {
     PyObject *said;
     if (cvl_look(frame) < 0) {
         if (status.number == CVL_LENGTH_MISMATCH) return NULL;
@@ -270,7 +272,7 @@ void cvl_tell(Frame *frame, CvlStatus status, int has_room) {
         PyErr_SetString(PyExc_MemoryError, "the call is out of memory");
         return;
     }
-    PyObject *type = fault_type(), *said = type == NULL ? NULL : said_of(frame, status, has_room);
+    PyObject *type = fault_type(), *said = type == NULL ? NULL : cvl_said(frame, status, has_room);
     if (said == NULL) return;
     PyObject *place = status.place < 0 ? Py_NewRef(Py_None) : PyLong_FromLongLong(status.place);
     if (place != NULL) {

@@ -1,9 +1,11 @@
-"""Whether pip builds the package whole, into a virtual environment of its own, and what the wheel needs. It takes a Python with
-numpy, its headers and those of Python, and half a minute.
+"""Whether pip builds the package whole, into a virtual environment of its own; what its wheel needs, and says that it needs; and
+what a build says before it proves the library. It takes a Python with numpy, its headers and those of Python, and half a minute.
 
-    python3 -m unittest test_package      CVL_ARCHIVE names a built archive of the exports
+    python3 -m unittest test_package      CVL_ARCHIVE names a built archive of the exports, and CVL_LIBRARY one of the library
 """
 
+import contextlib
+import io
 import os
 import pathlib
 import re
@@ -12,9 +14,14 @@ import sys
 import tempfile
 import unittest
 import zipfile
+from unittest import mock
 
+sys.dont_write_bytecode = True
 HERE = pathlib.Path(__file__).resolve().parent
-TESTS = ("test_cvl", "test_changes", "test_memory", "test_threads")
+TOP = HERE.parents[2]
+sys.path.append(str(HERE.parent))
+
+import package
 
 
 def run(*words, **more):
@@ -24,54 +31,111 @@ def run(*words, **more):
     return told.stdout
 
 
-class Package(unittest.TestCase):
-    def setUp(self):
-        folder = tempfile.TemporaryDirectory()
-        self.addCleanup(folder.cleanup)
-        self.work = pathlib.Path(folder.name) / "a folder"
-        self.work.mkdir()
-        self.place = {name: value for name, value in os.environ.items() if name != "PYTHONPATH"}
+class Built(unittest.TestCase):
+    """The package in an environment of its own, with the system's numpy."""
 
-    def environment(self, name):
-        """A Python of its own, with the system's numpy."""
-        run(sys.executable, "-m", "venv", "--system-site-packages", self.work / name)
-        return self.work / name / "bin/python"
+    @classmethod
+    def setUpClass(cls):
+        folder = tempfile.TemporaryDirectory()
+        cls.addClassCleanup(folder.cleanup)
+        cls.work = pathlib.Path(folder.name) / "a folder"
+        cls.work.mkdir()
+        cls.python = cls.work / "own/bin/python"
+        # what is compiled here is not kept, so that it is compiled fast
+        cls.place = {**{name: value for name, value in os.environ.items() if name != "PYTHONPATH"}, "CFLAGS": "-O0"}
+        run(sys.executable, "-m", "venv", "--system-site-packages", cls.work / "own")
+
+    def in_own(self, *words):
+        return run(self.python, *words, env=self.place, cwd=self.work)
+
+    def check_works(self):
+        """An example runs over the package, which then can be removed."""
+        self.assertIn("y = 5 0 18\n", self.in_own(TOP / "examples/python/sparse_product.py"))
+        self.in_own("-m", "pip", "uninstall", "-y", "cvl")
+        gone = subprocess.run([self.python, "-c", "import cvl"], capture_output=True, env=self.place, cwd=self.work)
+        self.assertNotEqual(gone.returncode, 0)
 
     def test_pip_builds_it_whole(self):
-        python = self.environment("builds")
-        run(python, "-m", "pip", "install", HERE.parent, env=self.place)
-        for name in TESTS:
-            run(python, "-m", "unittest", "-q", name, cwd=HERE, env=self.place)
-        shown = run(python, "-m", "pip", "show", "-f", "cvl", env=self.place)
+        self.in_own("-m", "pip", "install", "--no-index", HERE.parent)
+        shown = self.in_own("-m", "pip", "show", "-f", "cvl")
         self.assertRegex(shown, r"Version: \d+\.\d+\.\d+\n(.*\n)*License: MIT\n(.*\n)*Requires: numpy\n")
-        run(python, "-m", "pip", "uninstall", "-y", "cvl", env=self.place)
-        self.assertNotEqual(subprocess.run([python, "-c", "import cvl"], capture_output=True, env=self.place).returncode, 0)
+        self.check_works()
 
     def test_a_wheel_is_installed_elsewhere(self):
-        run(sys.executable, HERE.parent / "package", "--wheel", self.work, env=self.place)
-        (wheel,) = self.work.glob("*.whl")
-        again = self.work / "again"
-        again.mkdir()
-        run(sys.executable, HERE.parent / "package", "--wheel", again, env=self.place)
-        self.assertEqual((again / wheel.name).read_bytes(), wheel.read_bytes())
-        self.look_at(wheel)
-        python = self.environment("takes")
-        run(python, "-m", "pip", "install", "--no-index", wheel, env=self.place)
-        run(python, "-m", "unittest", "-q", "test_cvl", cwd=HERE, env=self.place)
+        library = os.environ.get("CVL_LIBRARY") or run(TOP / "bindings/archive", self.work).split("\n")[-2]
+        wheels = []
+        for name in ("once", "again"):
+            (self.work / name).mkdir()
+            run(sys.executable, HERE.parent / "package", f"--library={library}", "--wheel", self.work / name, env=self.place)
+            wheels += (self.work / name).glob("*.whl")
+        once, again = wheels
+        self.assertEqual((once.name, once.read_bytes()), (again.name, again.read_bytes()))
+        self.check_needs(once)
+        self.in_own("-m", "pip", "install", "--no-index", once)
+        self.check_works()
 
-    def look_at(self, wheel):
-        """What the module needs of a system is in the wheel's name, and nothing else is needed. It defines one name."""
+    def check_needs(self, wheel):
+        """What the module needs of a system is in the wheel's name, and nothing else is needed but the numpy that it was compiled
+        over. It defines one name."""
         with zipfile.ZipFile(wheel) as file:
             (module,) = (name for name in file.namelist() if ".so" in name)
             for name in ("cvl/__init__.py", "cvl/calls.pyi", "cvl/py.typed"):
                 self.assertIn(name, file.namelist())
-            path = file.extract(module, self.work)
+            (described,) = (file.read(name).decode() for name in file.namelist() if name.endswith("/METADATA"))
+            path = file.extract(module, self.work / "module")
         needed = re.findall(r"\(NEEDED\).*\[(.*)\]", run("readelf", "-d", path))
         self.assertEqual(set(needed) - {"libc.so.6", "libm.so.6", "libpthread.so.0", "ld-linux-x86-64.so.2"}, set())
         newest = max(tuple(map(int, found.split("."))) for found in re.findall(r"GLIBC_(\d+\.\d+)", run("readelf", "-V", path)))
         self.assertIn("-manylinux_{}_{}_".format(*newest), wheel.name)
+        self.assertRegex(described, r"(?m)^Requires-Dist: numpy>=1\.")
         defined = [line.split()[-1] for line in run("nm", "-D", "--defined-only", path).splitlines()]
         self.assertEqual(defined, ["PyInit__calls"])
+
+
+class Said(unittest.TestCase):
+    """What the package says that it needs, and what a build of it says."""
+
+    def test_the_numpy_that_is_needed(self):
+        wanted = {"1.23.5": "numpy>=1.23,<2", "1.24.2": "numpy>=1.24,<2", "2.0.1": "numpy>=1.23", "2.3.0": "numpy>=1.23"}
+        for version, said in wanted.items():
+            with mock.patch.object(package, "numpy_found", lambda: (version, "a folder")):
+                found = re.findall(r"^Requires-Dist: (.*)$", package.metadata(), re.M)
+            self.assertEqual(found, [said], version)
+
+    def platform(self, needed, versions):
+        """The platform of a module that needs these libraries, and symbols of these versions."""
+        told = {
+            "-d": "".join(f" 0x01 (NEEDED)  Shared library: [{name}]\n" for name in needed),
+            "-V": "".join(f"  Name: {name}  Flags: none\n" for name in versions),
+        }  # fmt: skip
+        with mock.patch.object(package, "run", lambda program, word, module: told[word]), \
+                mock.patch.object(package.sysconfig, "get_platform", lambda: "linux-x86_64"):  # fmt: skip
+            return package.platform("a module")
+
+    def test_the_platform_has_the_newest_glibc_that_is_needed(self):
+        of_glibc = ("libc.so.6", "libm.so.6", "libpthread.so.0", "ld-linux-x86-64.so.2")
+        for versions, wanted in (
+            (("GLIBC_2.2.5", "GLIBC_2.34", "GLIBC_2.4"), "manylinux_2_34_x86_64"),
+            (("GLIBC_2.9", "GLIBC_2.17"), "manylinux_2_17_x86_64"),
+            (("GLIBC_2.9",), "manylinux_2_9_x86_64"), ((), "linux_x86_64"),
+        ):  # fmt: skip
+            self.assertEqual(self.platform(of_glibc, versions), wanted)
+        # what needs another library runs on systems like this one alone
+        self.assertEqual(self.platform((*of_glibc, "libcvl.so.1"), ("GLIBC_2.34",)), "linux_x86_64")
+
+    def test_a_checkout_says_what_is_proved_before_that_begins(self):
+        line = r"^cvl: building the library of this checkout; .* proved first, .*\n$"
+        for given, said in (("", line), ("/some/libcvl_c.a", "^$")):
+            told = io.StringIO()
+
+            def built(*words):
+                self.assertRegex(told.getvalue(), said)
+                return "/some/libcvl.a\n"
+
+            with mock.patch.object(package, "run", built), mock.patch.dict(os.environ, {"CVL_ARCHIVE": given}), \
+                    contextlib.redirect_stderr(told):  # fmt: skip
+                self.assertEqual(package.library("a folder"), "/some/libcvl.a")
+            self.assertRegex(told.getvalue(), said)
 
 
 if __name__ == "__main__":

@@ -10,13 +10,16 @@ use crate::segments::Segments;
 /// The integers of the lists of a nested text, and the segments that the lists are: `[`, any number of lists, `]`,
 /// where a list is `[`, integers as in [`read_ints`](crate::read_ints), `]`.
 ///
-/// Faults: 13 TooLong, without a place, where there are more words or lists than a vector may have elements; else 15
-/// BadInput at the first word or bracket that cannot stand where it does, or, where the text ends too early, at the
-/// number of its words and brackets.
+/// Faults: 13 TooLong, without a place, if there are more than [`MOST_OF_TEXT`](crate::MOST_OF_TEXT) words other than
+/// brackets, or more lists than that; else 15 BadInput at the first word or bracket that cannot stand where it does, or,
+/// if the text ends too early, at the number of its words and brackets.
 ///
 /// ```
 /// let (numbers, rows) = cvl::seg_read_ints("[[1 2] [] [3]]")?;
 /// assert_eq!((numbers.as_slice(), rows.lengths()), (&[1, 2, 3][..], &[2, 0, 1][..]));
+///
+/// let many = "0 ".repeat(cvl::MOST_OF_TEXT + 1);
+/// assert_eq!(cvl::seg_read_ints(format!("[[{many}]]")).unwrap_err().number(), cvl::faults::TOO_LONG);
 /// # Ok::<(), cvl::Fault>(())
 /// ```
 pub fn seg_read_ints(text: impl AsRef<[u8]>) -> Result<(Vec<i32>, Segments), Fault> {

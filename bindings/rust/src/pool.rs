@@ -37,10 +37,10 @@ pub(crate) mod in_use {
 
     /// Who runs the parts of long calls: threads of the program's own.
     ///
-    /// A call takes one to five steps, and each step has parts, which write different places and never wait for one
-    /// another. Nothing here can go wrong: a part that is run twice does its work once. Where `run` leaves a part
-    /// out, or panics, the call is fault 100 NoResources with its room as it was, or the calling thread runs the part
-    /// itself. The panic then goes on.
+    /// A call takes some steps, and each step has parts, which write different places and never wait for one another.
+    /// A pool can do no harm: a part that runs twice does its work once. If `run` leaves a part out or panics, the call
+    /// is fault 100 NoResources with its room as it was, or the calling thread runs the part itself. After a panic the
+    /// call then panics with the same payload, which is the only panic of a call.
     ///
     /// ```
     /// struct InTurn;

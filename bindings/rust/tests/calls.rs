@@ -191,6 +191,11 @@ fn a_nested_text_may_have_so_many_elements_and_others_more() {
     assert_eq!(told(wrong), (15, Some(cvl::MOST_OF_TEXT as u64 + 1)));
     let nested = cvl::seg_read_ints(format!("[[{words}]]")).unwrap_err();
     assert_eq!(told(nested), (13, None));
+    let lists = "[]".repeat(cvl::MOST_OF_TEXT);
+    let (none, rows) = cvl::seg_read_ints(format!("[{lists}]")).unwrap();
+    assert!(none.is_empty() && rows.len() == cvl::MOST_OF_TEXT);
+    let nested = cvl::seg_read_ints(format!("[{lists}[]]")).unwrap_err();
+    assert_eq!(told(nested), (13, None));
     assert_eq!(
         cvl::write_bools(&flags).unwrap().len(),
         2 * flags.len() + 1

@@ -24,7 +24,7 @@ pub use Rattle.std.specs.List.{AllByRecursion, AllPass, enumerate_from, fold, jo
 pub use Rattle.std.specs.Option.{ok_or}
 pub use Rattle.std.specs.Prelude.{◌↔◌, sum}
 pub use Rattle.call_laws.specs.Carried.{each_after, seg_reduce_after, seg_scan_after}
-pub use Rattle.call_laws.specs.InParts.{descriptor_in_two, in_two, replaced_in_two, scans_after}
+pub use Rattle.call_laws.specs.InParts.{descriptor_in_two, in_turn, in_two, replaced_in_two, scans_after}
 pub use Rattle.call_laws.specs.Permuted.{AreOnce, AreOnceFlagged, AreWithin, AreWithinFlagged, IsBackPermute, IsDefaultPermute, IsGoodBefore, IsSelectPermute, IsSimplePermute}
 pub use Rattle.cvl_base.proofs.Distributes.{as_length-fits, length_within-fits}
 pub use Rattle.cvl_base.proofs.Elementwise.{if_as_long-fits, if_as_long-misfits}

@@ -1,5 +1,5 @@
 -- Combining permutes and counts by ranges of their room.
-use Rattle.call_laws.proofs.Cited.{◌≡◌, ◌∙◌, ◌↔◌, ◌+◌, ◌++◌, ◌∷◌, ℕ, Bool, ℤ, pos, true, List, [], length, map, map-append, count_by, cond, refl, sym, ap, arith, Some, None, Option, is_some}
+use Rattle.call_laws.proofs.Cited.{◌≡◌, ◌∙◌, ◌↔◌, ◌+◌, ◌++◌, ◌∷◌, ℕ, Bool, ℤ, pos, List, [], length, map, map-append, count_by, cond, refl, sym, ap, arith, Some, None, Option, is_some}
 use Rattle.call_laws.proofs.Cited.{count_destinations, enumerate_from, first_fault, is_between, range_both, range_with_len, sum_by-cons}
 use Rattle.call_laws.proofs.FirstSent.{named-all, named-parts}
 use Rattle.combining_permutes.specs.CombiningPermutes.{combined, named_between, names, place_counts, sent_there}

@@ -1,7 +1,7 @@
 -- What two parts give together, and the results on segments and on more segments behind them.
 use Rattle.call_laws.proofs.Cited.{rules, ◌≡◌, ◌+◌, ◌<◌, ◌∷◌, ◌++◌, ◌∙◌, ◌>>=◌, ℕ, List, [], length, map, append_assoc, length-append, refl, sym, ap, arith, option_map, zip, Option, Some, None, Ok}
 use Rattle.call_laws.proofs.Cited.{Err, Result, ok_or, length-zip, values_from, fault_at, joined, at_segment, beside, end_to_end, moved, one_each, results_from, Fault, FaultNo, after, beside-fits}
-use Rattle.call_laws.proofs.Cited.{in_two}
+use Rattle.call_laws.proofs.Cited.{in_turn, in_two}
 use Rattle.std.proofs.lemmas.Grind.{flat_map-append}
 use Rattle.cvl_base.proofs.Gives.{after-none}
 
@@ -43,6 +43,14 @@ in_two-assoc m n (Ok xs) (Err e) c = refl
 in_two-assoc m n (Ok xs) (Ok ys) (Ok zs) = ap Ok (append_assoc xs ys zs)
 in_two-assoc {X = X} m n (Ok xs) (Ok ys) (Err e) =
     ap (after xs) (moved-moved {X = List X} (λ p. (m + n) + p) (λ p. n + p) (λ p. m + p) (λ p. omega arith) (Err e))
+
+-- what two parts give together, at places of a text that both are a part of
+pub moved-two : {X : Type 0} (before n : ℕ) (a b : Result (List X) Fault)
+    → moved (λ p. before + p) (in_two n a b) ≡ in_turn (moved (λ p. before + p) a) (moved (λ p. (before + n) + p) b)
+moved-two before n (Err e) b = refl
+moved-two before n (Ok xs) (Ok ys) = refl
+moved-two {X = X} before n (Ok xs) (Err e) =
+    ap (after xs) (sym (moved-moved {X = List X} (λ p. (before + n) + p) (λ p. n + p) (λ p. before + p) (λ p. omega arith) (Err e)))
 
 pub joined-append : {X : Type 0} (xs ys : List (List X)) → joined (xs ++ ys) ≡ joined xs ++ joined ys
 joined-append xs ys = flat_map-append (λ zs. zs) xs ys

@@ -18,6 +18,10 @@ scans_after join befores parts = map (λ p. scan_of join p.0 p.1) (zip befores p
 abbrev pub in_two : {X : Type 0} → ℕ → Result (List X) Fault → Result (List X) Fault → Result (List X) Fault
 in_two start first second = first >>= λ done. after done (moved (λ place. start + place) second)
 
+-- the same of two parts whose places are those of the whole already
+abbrev pub in_turn : {X : Type 0} → Result (List X) Fault → Result (List X) Fault → Result (List X) Fault
+in_turn first second = first >>= λ done. after done second
+
 -- the fault of an answer, if it has a place
 abbrev pub placed_fault : {X : Type 0} → Result X Fault → Option Fault
 placed_fault (Ok x) = None

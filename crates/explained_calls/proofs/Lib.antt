@@ -3,3 +3,5 @@ pub mod LineTexts
 pub mod Lists
 mod PlacedWalk
 pub mod Puts
+pub mod ShownWalk
+mod TextRead

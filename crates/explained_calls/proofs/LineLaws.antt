@@ -143,7 +143,7 @@ module _ (A : Type 0) where
 
   binding_hint : (first : Placed) (others : List Placed)
       → ends_with is_bad_line (binding {A = A} (map (λ (t : Placed). t.bytes) (first ∷ others)))
-      ≡ is_some (if is_name first.bytes then hint_after_first first.bytes (behind first) others else Some (hint_at first.start wanted.Name))
+      ≡ is_some (if is_name first.bytes then hint_after_first first.bytes (behind first) others else Some (hint_at first wanted.Name))
   binding_hint first [] = if_some (is_name first.bytes) _ _
   binding_hint first (second ∷ tokens) =
       let rest = map (λ (t : Placed). t.bytes) tokens in

@@ -21,7 +21,7 @@ use Rattle.line_reader.specs.Lines as lines
 use Rattle.line_reader.specs.Numbers.{is_empty}
 use Rattle.explained_calls.specs.declared.wanted.Hint.{Hint}
 use Rattle.explained_calls.specs.LineFaultNumbers.{ends_with, is_bad_line}
-use Rattle.explained_calls.specs.LineFaults.{Parts, binding_parts, hint_line, is_bad_number, line_fault_words, number_line, parts_of}
+use Rattle.explained_calls.specs.LineFaults.{Parts, bad_line_words, binding_parts, is_bad_number, line_fault_words, name_pair, number_line, parts_of}
 use Rattle.explained_calls.specs.Misplaced.{hint_of, is_equals, is_write_line}
 use Rattle.explained_calls.specs.PlacedTokens.{Placed, placed_tokens}
 use Rattle.explained_calls.proofs.LineLaws.{begins_bytes, hint_exactly, placed_bytes}
@@ -205,9 +205,10 @@ module _ (A : Type 0) where
 
   -- ---- the text
 
-  hint_told : (hint : Option Hint) → is_some hint ≡ true → is_empty (hint_line hint) ≡ false
-  hint_told None h = absurd (false≢true h)
-  hint_told (Some hint) h = refl
+  hint_told : (pair : Option (List ℕ × List ℕ)) (hint : Option Hint) → is_some hint ≡ true → is_empty (bad_line_words pair hint) ≡ false
+  hint_told (Some pair) hint h = refl
+  hint_told None None h = absurd (false≢true h)
+  hint_told None (Some hint) h = refl
 
   number_told : (token : Option Placed) → is_some token ≡ true → is_empty (number_line token) ≡ false
   number_told None h = absurd (false≢true h)
@@ -218,7 +219,7 @@ module _ (A : Type 0) where
 
   told : (line : List ℕ) (n : FaultNo) → ends_with is_bad_line (call_of {A = A} line) ≡ is_bad_line n → ends_with is_number_fault (call_of {A = A} line) ≡ is_number_fault n
       → is_other n ≡ false → is_empty (line_fault_words line n) ≡ false
-  told line BadLine bad number own = hint_told (hint_of (placed_tokens line)) (sym (hint_exactly A line) ∙ bad)
+  told line BadLine bad number own = hint_told (name_pair (placed_tokens line)) (hint_of (placed_tokens line)) (sym (hint_exactly A line) ∙ bad)
   told line UnknownCall bad number own = refl
   told line WrongArgumentCount bad number own = refl
   told line BadNumber bad number own =

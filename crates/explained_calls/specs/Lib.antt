@@ -4,4 +4,6 @@ pub mod LineFaults
 pub mod Misplaced
 pub mod Nearest
 pub mod PlacedTokens
+pub mod Reasons
 pub mod Sentences
+pub mod Shown

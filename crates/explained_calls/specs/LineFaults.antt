@@ -1,6 +1,6 @@
 -- What is wrong with a line, in words.
 -- Source: this library's script format.
-use Rattle.std.specs.Prelude.{ℕ, ◌+◌, Bool, not, List, [], ◌∷◌, ◌++◌, codes}
+use Rattle.std.specs.Prelude.{ℕ, ◌+◌, ◌==◌, ◌&&◌, Bool, not, List, [], ◌∷◌, ◌++◌, codes}
 use Rattle.std.specs.Prelude.{find, length, nat_eq, Option, Some, None, is_some, unwrap_or, if◌then◌else◌}
 use Rattle.std.specs.Cmp.Lexicographic.{pointwise}
 use Rattle.std.specs.Fmt.{decimal}
@@ -11,13 +11,16 @@ use Rattle.cvl_base.specs.declared.fault.FaultNo.{FaultNo}
 use Rattle.cvl_base.specs.declared.fault.FaultNo.TheVariants.{BadLine, UnknownCall, WrongArgumentCount, BadNumber}
 use Rattle.cvl_base.specs.declared.operation.Op.{Op}
 use Rattle.cvl_base.specs.declared.operation.Op.TheVariants.{Write}
+use Rattle.cvl_base.specs.Words.{is_name}
 use Rattle.line_reader.specs.Lines.{arg_of}
 use Rattle.explained_calls.specs.declared.wanted.Hint.{Hint}
+use Rattle.explained_calls.specs.declared.wanted.Reason.{Reason}
+use Rattle.explained_calls.specs.declared.wanted.Reason.TheVariants as reason
 use Rattle.explained_calls.specs.declared.wanted.Wanted.{Wanted}
 use Rattle.explained_calls.specs.declared.wanted.Wanted.TheVariants as wanted
 use Rattle.explained_calls.specs.CallWords.{call_words}
 use Rattle.explained_calls.specs.Misplaced.{hint_of, is_equals, is_write_line}
-use Rattle.explained_calls.specs.Nearest.{call_names, nearest}
+use Rattle.explained_calls.specs.Nearest.{call_names, near}
 use Rattle.explained_calls.specs.PlacedTokens.{Placed, placed_tokens}
 use Rattle.explained_calls.specs.Sentences.{counted, indented, shortened}
 
@@ -36,15 +39,54 @@ wanted_words wanted.Argument = codes "a name, a number, T or F"
 abbrev pub end_words : Bool → List ℕ
 end_words ends = if ends then codes ", but the line ends" else []
 
+-- the words to add for the reason why a token may not stand where it stands, up to its length
+abbrev pub reason_text : Reason → List ℕ
+reason_text reason.Other = []
+reason_text reason.Reserved = codes "; write, T and F cannot be names"
+reason_text (reason.TooLong bytes) = codes "; a name has at most 32 bytes, and this one has "
+reason_text reason.NoName = codes "; a name is a letter, and then letters, digits and underscores"
+reason_text reason.Parenthesis = codes "; a line makes one call, without parentheses or commas"
+reason_text reason.ByteOrderMark = codes "; the line begins with a byte order mark, which has to go"
+
+-- the length of a token that is too long
+abbrev pub reason_length : Reason → List ℕ
+reason_length (reason.TooLong bytes) = decimal bytes
+reason_length _ = []
+
 -- columns are bytes, counted from 1
 abbrev pub hint_words : Hint → List ℕ
 hint_words hint =
     codes "column " ++ decimal (hint.place + 1) ++ codes ": expected " ++ wanted_words hint.wanted ++ end_words hint.ends
+    ++ reason_text hint.reason ++ reason_length hint.reason
 
 -- a line of the explanation for a hint; nothing without one
 abbrev pub hint_line : Option Hint → List ℕ
 hint_line None = []
 hint_line (Some hint) = indented (hint_words hint)
+
+-- the two names that a line has, if it has nothing else
+abbrev pub name_pair : List Placed → Option (List ℕ × List ℕ)
+name_pair (first ∷ second ∷ []) = if is_name first.bytes && is_name second.bytes then Some (first.bytes, second.bytes) else None
+name_pair _ = None
+
+-- the words for a call with an argument alone
+abbrev pub alone_words : List ℕ → List ℕ → List ℕ
+alone_words call argument =
+    codes "`" ++ call ++ codes " " ++ argument ++ codes "` binds no name: a call stands behind a name and ="
+
+-- the words for another word before a name, as `print`
+abbrev pub shows_words : List ℕ → List ℕ → List ℕ
+shows_words word name =
+    codes "`" ++ word ++ codes " " ++ name ++ codes "` is no binding; `write " ++ name ++ codes "` shows a value"
+
+-- what a line of two names lacks: a binding, if the first is a call, and else the word `write`
+abbrev pub pair_words : List ℕ → List ℕ → List ℕ
+pair_words first second = if is_some (op_of first) then alone_words first second else shows_words first second
+
+-- the line of the explanation for two names alone, or else for a hint
+abbrev pub bad_line_words : Option (List ℕ × List ℕ) → Option Hint → List ℕ
+bad_line_words None hint = hint_line hint
+bad_line_words (Some pair) hint = indented (pair_words pair.0 pair.1)
 
 -- ---- a line with the form of a line: the names before `=`, the call after it, and its arguments
 
@@ -71,20 +113,30 @@ parts_of (first ∷ others) = if is_write_line first.bytes others then call_part
 
 -- ---- a call that is unknown
 
--- the words that propose the nearest call, if one is near
-abbrev pub nearest_words : Option (List ℕ) → List ℕ
-nearest_words None = []
-nearest_words (Some name) = codes "; the nearest call is " ++ name
+-- the words that propose a call that is near, or else say where all stand
+abbrev pub near_words : Option (List ℕ) → List ℕ
+near_words None = codes "; docs/user/calls.md lists all calls"
+near_words (Some name) = codes "; the nearest call is " ++ name
 
--- the words for a word that is no call, with the nearest call
+-- the words for a word that is no call
 abbrev pub no_call_words : List ℕ → List ℕ
-no_call_words word = word ++ codes " is no call" ++ nearest_words (nearest word call_names)
+no_call_words word = word ++ codes " is no call" ++ near_words (near word call_names)
 
--- the same, where `write` in the place of a call has words of its own
-abbrev pub unknown_call_words : List ℕ → List ℕ
-unknown_call_words word =
+-- the words for a name without arguments in the place of a call: what copies what it holds
+abbrev pub copy_words : List ℕ → List ℕ
+copy_words name =
+    name ++ codes " is no call; if it is a vector, `cpy_wuz " ++ name ++ codes "` copies its integers, and `cpy_wub " ++ name
+    ++ codes "` its booleans"
+
+-- the words for another word than `write` in the place of a call: a name without arguments may be one that should be copied
+abbrev pub other_word_words : List ℕ → ℕ → List ℕ
+other_word_words word arguments = if is_name word && arguments == 0 then copy_words word else no_call_words word
+
+-- the words for a word in the place of a call with so many arguments
+abbrev pub unknown_call_words : List ℕ → ℕ → List ℕ
+unknown_call_words word arguments =
     if pointwise nat_eq word (codes "write") then codes "write is no call: it begins a line of its own, and binds no name"
-    else no_call_words word
+    else other_word_words word arguments
 
 -- ---- a call with too many or too few arguments or names
 
@@ -123,12 +175,12 @@ number_line (Some token) = indented (shortened token.bytes ++ codes " is no inte
 
 -- the lines of the explanation for a fault of a line that has its parts
 abbrev pub parts_fault_words : Parts → FaultNo → List ℕ
-parts_fault_words parts UnknownCall = indented (unknown_call_words parts.call)
+parts_fault_words parts UnknownCall = indented (unknown_call_words parts.call (length parts.arguments))
 parts_fault_words parts WrongArgumentCount = count_lines (op_or_write parts.call) parts.names (length parts.arguments)
 parts_fault_words parts BadNumber = number_line (find (λ token. is_bad_number token.bytes) parts.arguments)
 parts_fault_words parts _ = []
 
 -- the line of the explanation for a fault that the line alone shows; nothing for other faults
 abbrev pub line_fault_words : List ℕ → FaultNo → List ℕ
-line_fault_words line BadLine = hint_line (hint_of (placed_tokens line))
+line_fault_words line BadLine = bad_line_words (name_pair (placed_tokens line)) (hint_of (placed_tokens line))
 line_fault_words line number = parts_fault_words (parts_of (placed_tokens line)) number

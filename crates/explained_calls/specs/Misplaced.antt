@@ -6,7 +6,9 @@ use Rattle.std.specs.Cmp.Lexicographic.{pointwise}
 use Rattle.cvl_base.specs.Words.{is_name, is_word}
 use Rattle.line_reader.specs.Lines.{is_arg}
 use Rattle.explained_calls.specs.PlacedTokens.{Placed, behind}
+use Rattle.explained_calls.specs.Reasons.{reason_of}
 use Rattle.explained_calls.specs.declared.wanted.Hint.{Hint}
+use Rattle.explained_calls.specs.declared.wanted.Reason.TheVariants.{Other}
 use Rattle.explained_calls.specs.declared.wanted.Wanted.{Wanted}
 use Rattle.explained_calls.specs.declared.wanted.Wanted.TheVariants.{Name, EqualsOrName, OtherName, Equals, Call, Argument}
 
@@ -23,25 +25,25 @@ is_wanted Equals token = is_equals token
 is_wanted Call token = is_word token
 is_wanted Argument token = is_arg token
 
--- the token that begins at this place, or the line's end there
-abbrev pub hint_at : ℕ → Wanted → Hint
-hint_at place wanted = record { place = place; ends = false; wanted = wanted }
+-- a token that is not what is wanted there
+abbrev pub hint_at : Placed → Wanted → Hint
+hint_at token wanted = record { place = token.start; ends = false; wanted = wanted; reason = reason_of wanted token }
 
 -- a hint behind the last token, where the line should go on with this
 abbrev pub hint_at_end : ℕ → Wanted → Hint
-hint_at_end place wanted = record { place = place; ends = true; wanted = wanted }
+hint_at_end place wanted = record { place = place; ends = true; wanted = wanted; reason = Other }
 
 -- the next token, after this place, must be what is wanted; then the rest is checked
 abbrev pub wanting : Wanted → ℕ → List Placed → (Placed → List Placed → Option Hint) → Option Hint
 wanting wanted place [] rest = Some (hint_at_end place wanted)
 wanting wanted place (token ∷ tokens) rest =
-    if is_wanted wanted token.bytes then rest token tokens else Some (hint_at token.start wanted)
+    if is_wanted wanted token.bytes then rest token tokens else Some (hint_at token wanted)
 
 -- each token must be what is wanted
 abbrev pub wanting_each : Wanted → List Placed → Option Hint
 wanting_each wanted [] = None
 wanting_each wanted (token ∷ tokens) =
-    if is_wanted wanted token.bytes then wanting_each wanted tokens else Some (hint_at token.start wanted)
+    if is_wanted wanted token.bytes then wanting_each wanted tokens else Some (hint_at token wanted)
 
 -- `CALL ARG ..`
 abbrev pub hint_after_equals : ℕ → List Placed → Option Hint
@@ -55,7 +57,7 @@ hint_after_names place tokens = wanting Equals place tokens (λ equals others. h
 abbrev pub hint_after_second : List ℕ → Placed → List Placed → Option Hint
 hint_after_second first second tokens =
     if is_equals second.bytes then hint_after_equals (behind second) tokens
-    else (if pointwise nat_eq first second.bytes then Some (hint_at second.start OtherName)
+    else (if pointwise nat_eq first second.bytes then Some (hint_at second OtherName)
     else hint_after_names (behind second) tokens)
 
 -- `= CALL ARG ..` or `NAME = CALL ARG ..`
@@ -76,4 +78,4 @@ abbrev pub hint_of : List Placed → Option Hint
 hint_of [] = None
 hint_of (first ∷ others) =
     if is_write_line first.bytes others then wanting_each Name others
-    else (if is_name first.bytes then hint_after_first first.bytes (behind first) others else Some (hint_at first.start Name))
+    else (if is_name first.bytes then hint_after_first first.bytes (behind first) others else Some (hint_at first Name))

@@ -1,15 +1,16 @@
 -- How the sentences of an explanation are made.
 -- Source: this library's program.
-use Rattle.std.specs.Prelude.{ℕ, ◌==◌, nat_le, List, [], ◌++◌, codes, length, take, if◌then◌else◌}
+use Rattle.std.specs.Prelude.{ℕ, ◌==◌, List, [], ◌++◌, codes, if◌then◌else◌}
 use Rattle.std.specs.Fmt.{decimal}
+use Rattle.explained_calls.specs.Shown.{shown_front}
 
 -- a line of an explanation
 abbrev pub indented : List ℕ → List ℕ
 indented words = codes "  " ++ words ++ codes "\n"
 
--- a token as it stands; a long one as its first 40 bytes
+-- a token as it is shown; a long one as the characters of its first 40 bytes
 abbrev pub shortened : List ℕ → List ℕ
-shortened token = if nat_le (length token) 40 then token else (take 40 token ++ codes "..")
+shortened token = shown_front 40 token
 
 -- `1 name`, `2 names`
 abbrev pub ending : ℕ → List ℕ

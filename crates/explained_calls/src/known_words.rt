@@ -1,7 +1,7 @@
 //! The nearest of some known words.
 
 ghost use Rattle.std.specs.Prelude.{◌≡◌, map, option_map, IfOk};
-ghost use Rattle.explained_calls.specs.Nearest.{distance, nearest};
+ghost use Rattle.explained_calls.specs.Nearest.{distance, if_near, near, nearest};
 
 use cvl_base::{Memory, NoResources};
 use strsim::generic_levenshtein;
@@ -35,4 +35,37 @@ pub fn nearest<'k, A: Memory>(
         }
     }
     Ok(Some(best))
+}
+
+/// How many bytes may set a word apart from the one that is proposed for it.
+const MOST_APART: usize = 2;
+
+/// A known word, if it is near.
+fn if_near<'k, A: Memory>(
+    alloc: A,
+    word: &[u8],
+    known: &'k [u8],
+) -> Result<Option<&'k [u8]>, NoResources>
+    ensures { IfOk result (λ best. option_map (λ name. name.now) best ≡ if_near word.now known.now) }
+{
+    if distance(alloc, word, known)? <= MOST_APART {
+        Ok(Some(known))
+    } else {
+        Ok(None)
+    }
+}
+
+/// The nearest known word, as `nearest` finds it, if at most two bytes set it apart.
+pub fn near<'k, A: Memory>(
+    alloc: A,
+    word: &[u8],
+    known: &[&'k [u8]],
+) -> Result<Option<&'k [u8]>, NoResources>
+    ensures { IfOk result (λ best. option_map (λ name. name.now) best
+        ≡ near word.now (map (λ name. name.now) known.now)) }
+{
+    match nearest(alloc, word, known)? {
+        None => Ok(None),
+        Some(name) => if_near(alloc, word, name),
+    }
 }

@@ -9,10 +9,13 @@ mod misplaced;
 mod nearest_calls;
 pub mod pieces;
 pub mod placed_tokens;
+mod reasons;
+pub mod shown;
 pub mod wanted;
 
 pub use call_words::{kind_words, put_call_words, put_spelling};
-pub use known_words::nearest;
+pub use known_words::{near, nearest};
 pub use line_faults::put_line_fault;
-pub use pieces::{ending, put_pieces, put_shortened};
+pub use pieces::{ending, put_pieces};
 pub use placed_tokens::{Token, next_token};
+pub use shown::{put_front, put_shortened, put_shown};

@@ -8,7 +8,8 @@ ghost use Rattle.explained_calls.specs.Misplaced.{hint_at, hint_of, is_equals, i
 ghost use Rattle.explained_calls.specs.PlacedTokens.{Placed, placed, placed_by};
 
 use crate::placed_tokens::{Token, next_token};
-use crate::wanted::{Hint, Wanted};
+use crate::reasons::reason_of;
+use crate::wanted::{Hint, Reason, Wanted};
 use cvl_base::name::{is_name_text, is_word_text};
 use line_reader::line_tokens::{LineClasses, is_argument};
 
@@ -32,14 +33,15 @@ fn is_wanted(wanted: Wanted, token: &[u8]) -> bool
     }
 }
 
-/// The token that begins at this place is not what is wanted there.
-fn hint_at(place: usize, wanted: Wanted) -> Hint
-    ensures { result ≡ hint_at place wanted }
+/// The token is not what is wanted at its place.
+fn hint_at(token: Token<'_>, wanted: Wanted) -> Hint
+    ensures { result ≡ hint_at (placed token.entry.start token.entry.bytes.now) wanted }
 {
     Hint {
-        place,
+        place: token.start,
         ends: false,
         wanted,
+        reason: reason_of(wanted, token),
     }
 }
 
@@ -57,12 +59,13 @@ fn wanting(line: &[u8], from: usize, wanted: Wanted) -> Result<(Token<'_>, usize
             place: from,
             ends: true,
             wanted,
+            reason: Reason::Other,
         }),
         Some((token, behind)) => {
             if is_wanted(wanted, token.bytes) {
                 Ok((token, behind))
             } else {
-                Err(hint_at(token.start, wanted))
+                Err(hint_at(token, wanted))
             }
         }
     }
@@ -76,7 +79,7 @@ fn wanting_each(line: &[u8], from: usize, wanted: Wanted) -> Option<Hint>
     let mut place = from;
     while let Some((token, behind)) = next_token::<LineClasses>(line, place) {
         if !is_wanted(wanted, token.bytes) {
-            return Some(hint_at(token.start, wanted));
+            return Some(hint_at(token, wanted));
         }
         place = behind;
     }
@@ -104,7 +107,7 @@ fn hint_after_first(line: &[u8], first: &[u8], from: usize) -> Option<Hint>
             if is_equals(second.bytes) {
                 hint_after_equals(line, behind)
             } else if first == second.bytes {
-                Some(hint_at(second.start, Wanted::OtherName))
+                Some(hint_at(second, Wanted::OtherName))
             } else {
                 hint_after_names(line, behind)
             }
@@ -152,7 +155,7 @@ pub(crate) fn hint_of(line: &[u8]) -> Option<Hint>
         return wanting_each(line, behind, Wanted::Name);
     }
     if !is_name_text(first.bytes) {
-        return Some(hint_at(first.start, Wanted::Name));
+        return Some(hint_at(first, Wanted::Name));
     }
     hint_after_first(line, first.bytes, behind)
 }

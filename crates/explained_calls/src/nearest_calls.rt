@@ -1,20 +1,20 @@
-//! The call whose name is nearest to a word.
+//! The call whose name is near to a word.
 
 ghost use Rattle.std.specs.Prelude.{◌≡◌, option_map, IfOk};
-ghost use Rattle.explained_calls.specs.Nearest.{call_names, nearest};
+ghost use Rattle.explained_calls.specs.Nearest.{call_names, near};
 
-use crate::known_words::nearest;
+use crate::known_words::near;
 use cvl_base::{Memory, NoResources};
 
-/// The name of the call nearest to a word. Names are compared family by family: first the elementwise calls, then those on whole
-/// vectors, then those by segments, and then the others.
+/// The name of the call nearest to a word, if it is near. Names are compared family by family: first the elementwise calls, then
+/// those on whole vectors, then those by segments, and then the others.
 #[rattlefmt::skip]
 #[tactic(auto, unfolding(call_table::specs::Operators::int_binaries, call_table::specs::Operators::int_monoids, call_table::specs::Operators::unaries, call_table::specs::Operators::comparisons, call_table::specs::Operators::bool_binaries, call_table::specs::Spellings::elements, call_table::specs::Spellings::forms))]
-pub(crate) fn nearest_call<A: Memory>(
+pub(crate) fn near_call<A: Memory>(
     alloc: A,
     word: &[u8],
 ) -> Result<Option<&'static [u8]>, NoResources>
-    ensures { IfOk result (λ best. option_map (λ name. name.now) best ≡ nearest word.now call_names) }
+    ensures { IfOk result (λ best. option_map (λ name. name.now) best ≡ near word.now call_names) }
 {
     let names: [&'static [u8]; 116] = [
         b"add_wuz", b"mul_wuz", b"min_wuz", b"max_wuz", b"and_wuz", b"ior_wuz", b"xor_wuz",
@@ -36,5 +36,5 @@ pub(crate) fn nearest_call<A: Memory>(
         b"tot_sez", b"tot_rez", b"cnt_leb", b"ind_lez",
         b"len_luz", b"len_lub", b"input", b"nested", b"pck_fov", b"mke_fov", b"len_fos",
     ];
-    nearest(alloc, word, &names)
+    near(alloc, word, &names)
 }

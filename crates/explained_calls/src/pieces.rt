@@ -2,7 +2,7 @@
 
 ghost use Rattle.std.specs.Prelude.{◌≡◌, ◌++◌, [], ◌∷◌, map, OnOk};
 ghost use Rattle.std.specs.List.{concat};
-ghost use Rattle.explained_calls.specs.Sentences.{ending, shortened};
+ghost use Rattle.explained_calls.specs.Sentences.{ending};
 
 use cvl_base::{Memory, NoResources};
 
@@ -19,18 +19,6 @@ pub fn put_pieces<A: Memory>(text: &mut Vec<u8, A>, pieces: &[&[u8]]) -> Result<
         text.extend_from_slice(piece)?;
     }
     Ok(())
-}
-
-/// Appends a token as it stands; a long one as its first 40 bytes and `..`.
-pub fn put_shortened<A: Memory>(text: &mut Vec<u8, A>, token: &[u8]) -> Result<(), NoResources>
-    ensures { OnOk result (text.new.items ≡ text.old.items ++ shortened token.now) }
-{
-    if token.len() <= 40 {
-        put_pieces(text, &[token])
-    } else {
-        let (front, _others) = token.split_at(40);
-        put_pieces(text, &[front, b".."])
-    }
 }
 
 /// The ending of the word for things that are counted: `s`, unless there is one.

@@ -1,28 +1,23 @@
 -- Sentences that are written part by part.
-use Rattle.std.proofs.Common.{◌≡◌, List, ℕ, [], ◌∷◌, ◌++◌, true, false, append_assoc, refl, codes}
+use Rattle.std.proofs.Common.{◌≡◌, List, ℕ, [], ◌∷◌, ◌++◌, append-nil, append_assoc, refl, codes}
 use Rattle.std.specs.List.{concat}
 use Rattle.explained_calls.specs.Sentences.{indented}
-use Rattle.explained_inputs.specs.InputFaults.{quoted, too_long_words, vector_words}
 
-pub long_nested : (file : List ℕ)
-    → concat (codes "  " ∷ file ∷ codes " has more than 4194304 numbers or inner lists\n" ∷ []) ≡ too_long_words true file
-long_nested file = simp append_assoc refl
+pub position_joined : (file line column at_line at_column : List ℕ) → at_line ≡ line → at_column ≡ column
+    → file ++ concat (codes ":" ∷ at_line ∷ codes ":" ∷ at_column ∷ codes ": " ∷ []) ≡ file ++ codes ":" ++ line ++ codes ":" ++ column ++ codes ": "
+position_joined file line column at_line at_column e1 e2 = rw (e1, e2) (simp append_assoc refl)
 
-pub long_flat : (file : List ℕ) → concat (codes "  " ∷ file ∷ codes " has more than 4194304 numbers\n" ∷ []) ≡ too_long_words false file
-long_flat file = simp append_assoc refl
+pub integer_joined : (token nested more : List ℕ) → more ≡ nested
+    → token ++ concat (codes " is no integer from -2147483648 to 2147483647" ∷ more ∷ []) ≡ token ++ codes " is no integer from -2147483648 to 2147483647" ++ nested
+integer_joined token nested more e = rw (e, append-nil nested) (simp append_assoc refl)
 
-pub nested_vector : (file : List ℕ) → concat (codes "  " ∷ file ∷ codes " is a vector, and nested reads a text\n" ∷ []) ≡ vector_words true file
-nested_vector file = simp append_assoc refl
+-- a line of a position and what is said of it
+pub line_joined : (position words : List ℕ) → codes "  " ++ position ++ words ++ codes "\n" ≡ indented (position ++ words)
+line_joined position words = simp append_assoc refl
 
-pub flat_joined : (position token : List ℕ)
-    → codes "  " ++ position ++ quoted token ++ codes " is no integer from -2147483648 to 2147483647\n"
-    ≡ indented (position ++ quoted token ++ codes " is no integer from -2147483648 to 2147483647")
-flat_joined position token = regrouped position (quoted token)
-  where
-    regrouped : (position words : List ℕ)
-        → codes "  " ++ position ++ words ++ codes " is no integer from -2147483648 to 2147483647\n"
-        ≡ indented (position ++ words ++ codes " is no integer from -2147483648 to 2147483647")
-    regrouped position words = simp append_assoc refl
+-- a line of a file's name and what is said of it
+pub file_joined : (file words told : List ℕ) → told ≡ words → codes "  " ++ file ++ concat (told ∷ codes "\n" ∷ []) ≡ indented (file ++ words)
+file_joined file words told e = rw e (simp append_assoc refl)
 
 pub end_joined : (position expected : List ℕ)
     → codes "  " ++ position ++ concat (codes "the text ends where " ∷ expected ∷ codes " is expected\n" ∷ [])

@@ -1,27 +1,35 @@
 -- What is wrong with an input, in words: where the bad token stands, and what was expected there.
 -- Source: this library's input formats.
-use Rattle.std.specs.Prelude.{ℕ, ◌-◌, ◌==◌, ◌++◌, Bool, true, false, List, [], codes, count_by, drop, length, slice_get, take}
+use Rattle.std.specs.Prelude.{ℕ, ◌-◌, ◌==◌, ◌++◌, Bool, true, false, List, [], ◌∷◌, codes, count_by, drop, length, slice_get, take}
 use Rattle.std.specs.Prelude.{Option, Some, None, if◌then◌else◌}
 use Rattle.std.specs.Fmt.{decimal}
 use Rattle.call_reader.specs.Inputs.{input_class}
 use Rattle.call_reader.specs.NestedTexts.{nested_class}
 use Rattle.explained_calls.specs.Sentences.{indented, shortened}
+use Rattle.explained_calls.specs.Shown.{shown}
 use Rattle.explained_inputs.specs.TokenPlaces.{column_at, first_of, line_at, token_starts}
 
 -- `numbers:3:7: `, with the line and the column of a place
 abbrev pub position_words : List ℕ → List ℕ → ℕ → List ℕ
 position_words file bytes place =
-    file ++ codes ":" ++ decimal (line_at bytes place) ++ codes ":" ++ decimal (column_at bytes place) ++ codes ": "
+    shown file ++ codes ":" ++ decimal (line_at bytes place) ++ codes ":" ++ decimal (column_at bytes place) ++ codes ": "
 
 -- a token in quotation marks
 abbrev pub quoted : List ℕ → List ℕ
 quoted token = codes "\"" ++ shortened token ++ codes "\""
 
+-- what reads a token that begins with `[` (91), as the first of a list of lists does
+abbrev pub nested_words : List ℕ → List ℕ
+nested_words [] = []
+nested_words (b ∷ bs) = if b == 91 then codes "; nested reads lists of lists" else []
+
+-- `"12x" is no integer from -2147483648 to 2147483647`
+abbrev pub no_integer_words : List ℕ → List ℕ
+no_integer_words token = quoted token ++ codes " is no integer from -2147483648 to 2147483647" ++ nested_words token
+
 -- `numbers:3:7: "12x" is no integer from -2147483648 to 2147483647`
 abbrev pub flat_words : List ℕ → List ℕ → ℕ → List ℕ
-flat_words file bytes start =
-    position_words file bytes start
-    ++ quoted (first_of input_class (drop start bytes)) ++ codes " is no integer from -2147483648 to 2147483647"
+flat_words file bytes start = position_words file bytes start ++ no_integer_words (first_of input_class (drop start bytes))
 
 -- the words for the token of a flat input that begins at this place, if it is known
 abbrev pub flat_words_at : List ℕ → List ℕ → Option ℕ → List ℕ
@@ -66,14 +74,18 @@ abbrev pub bytes_words : Bool → List ℕ → List ℕ → ℕ → List ℕ
 bytes_words true file bytes token = nested_words_at file bytes token (slice_get (token_starts nested_class bytes) token)
 bytes_words false file bytes token = flat_words_at file bytes (slice_get (token_starts input_class bytes) token)
 
+-- what a nested text or an input of only numbers has too many of
+abbrev pub many_words : Bool → List ℕ
+many_words true = codes " has more than 4194304 numbers or inner lists"
+many_words false = codes " has more than 4194304 numbers"
+
 -- the words about an input that is too long
 abbrev pub too_long_words : Bool → List ℕ → List ℕ
-too_long_words true file = indented (file ++ codes " has more than 4194304 numbers or inner lists")
-too_long_words false file = indented (file ++ codes " has more than 4194304 numbers")
+too_long_words is_nested file = indented (shown file ++ many_words is_nested)
 
 -- the words about an input that is a vector
 abbrev pub vector_words : Bool → List ℕ → List ℕ
-vector_words true file = indented (file ++ codes " is a vector, and nested reads a text")
+vector_words true file = indented (shown file ++ codes " is a vector, and nested reads a text")
 vector_words false file = []
 
 -- the line about an input, which has bytes or is a vector: a fault with a place is at the token there, and one without means that it is too

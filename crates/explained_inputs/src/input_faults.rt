@@ -3,13 +3,14 @@
 ghost use Rattle.std.specs.Prelude.{◌≡◌, ◌++◌, false, true, OnOk, option_copied};
 ghost use Rattle.explained_calls.specs.Sentences.{indented};
 ghost use Rattle.explained_inputs.specs.InputFaults.{bytes_words, end_words, expected_words};
-ghost use Rattle.explained_inputs.specs.InputFaults.{flat_words, input_fault_words, position_words};
-ghost use Rattle.explained_inputs.specs.InputFaults.{quoted, stray_words, too_long_words, vector_words};
+ghost use Rattle.explained_inputs.specs.InputFaults.{flat_words, input_fault_words, nested_words, no_integer_words};
+ghost use Rattle.explained_inputs.specs.InputFaults.{position_words};
+ghost use Rattle.explained_inputs.specs.InputFaults.{many_words, quoted, stray_words, too_long_words, vector_words};
 
 use crate::token_places::{column_at, count_of, first_of, from_place, line_at, token_start};
 use call_reader::{InputBytes, NestedBytes};
 use cvl_base::{Memory, NoResources};
-use explained_calls::{put_pieces, put_shortened};
+use explained_calls::{put_pieces, put_shortened, put_shown};
 use itoa::Buffer;
 
 /// Writes the file's name with the line and the column of a place: `numbers:3:7: `.
@@ -25,7 +26,8 @@ fn put_position<B: Memory>(
     let mut column = Buffer::new();
     let line = line.format(line_at(bytes, place)).as_bytes();
     let column = column.format(column_at(bytes, place)).as_bytes();
-    put_pieces(text, &[file, b":", line, b":", column, b": "])
+    put_shown(text, file)?;
+    put_pieces(text, &[b":", line, b":", column, b": "])
 }
 
 /// Writes a token in quotation marks; a long one as its first 40 bytes.
@@ -35,6 +37,31 @@ fn put_quoted<B: Memory>(token: &[u8], text: &mut Vec<u8, B>) -> Result<(), NoRe
     put_pieces(text, &[b"\""])?;
     put_shortened(text, token)?;
     put_pieces(text, &[b"\""])
+}
+
+/// What reads a token that begins as a list of lists does.
+fn nested_words(token: &[u8]) -> &'static [u8]
+    ensures { result.now ≡ nested_words token.now }
+{
+    match token.split_first() {
+        None => b"",
+        Some((first, _)) => {
+            if *first == b'[' {
+                b"; nested reads lists of lists"
+            } else {
+                b""
+            }
+        }
+    }
+}
+
+/// Writes that a token is no integer.
+fn put_no_integer<B: Memory>(token: &[u8], text: &mut Vec<u8, B>) -> Result<(), NoResources>
+    ensures { OnOk result (text.new.items ≡ text.old.items ++ no_integer_words token.now) }
+{
+    put_quoted(token, text)?;
+    let middle = b" is no integer from -2147483648 to 2147483647";
+    put_pieces(text, &[middle, nested_words(token)])
 }
 
 /// Writes the line about the token of an input of only numbers that begins at a place.
@@ -48,8 +75,8 @@ fn put_flat<B: Memory>(
 {
     put_pieces(text, &[b"  "])?;
     put_position(file, bytes, start, text)?;
-    put_quoted(first_of::<InputBytes>(from_place(bytes, start)), text)?;
-    put_pieces(text, &[b" is no integer from -2147483648 to 2147483647\n"])
+    put_no_integer(first_of::<InputBytes>(from_place(bytes, start)), text)?;
+    put_pieces(text, &[b"\n"])
 }
 
 /// Writes the line about a token, by its number, of an input of only numbers.
@@ -159,10 +186,22 @@ fn put_vector<B: Memory>(
     ensures { OnOk result (text.new.items ≡ text.old.items ++ vector_words is_nested file.now) }
 {
     if is_nested {
-        let end = b" is a vector, and nested reads a text\n";
-        put_pieces(text, &[b"  ", file, end])
+        put_pieces(text, &[b"  "])?;
+        put_shown(text, file)?;
+        put_pieces(text, &[b" is a vector, and nested reads a text", b"\n"])
     } else {
         Ok(())
+    }
+}
+
+/// Of what an input that is too long has too many.
+fn many_words(is_nested: bool) -> &'static [u8]
+    ensures { result.now ≡ many_words is_nested }
+{
+    if is_nested {
+        b" has more than 4194304 numbers or inner lists"
+    } else {
+        b" has more than 4194304 numbers"
     }
 }
 
@@ -174,12 +213,9 @@ fn put_too_long<B: Memory>(
 ) -> Result<(), NoResources>
     ensures { OnOk result (text.new.items ≡ text.old.items ++ too_long_words is_nested file.now) }
 {
-    if is_nested {
-        let end = b" has more than 4194304 numbers or inner lists\n";
-        put_pieces(text, &[b"  ", file, end])
-    } else {
-        put_pieces(text, &[b"  ", file, b" has more than 4194304 numbers\n"])
-    }
+    put_pieces(text, &[b"  "])?;
+    put_shown(text, file)?;
+    put_pieces(text, &[many_words(is_nested), b"\n"])
 }
 
 /// Writes the line about an input at fault: the bytes of a file of this name, or none if it is a vector. The line has two spaces

@@ -1,6 +1,7 @@
 -- Sentences that are written part by part.
 use Rattle.std.proofs.Common.{◌≡◌, ℕ, ℤ, List, [], ◌∷◌, ◌++◌, length, map, sum, append_assoc, append-nil, ap, sym, refl, codes, Option, Some, None, Result, OnOk, option_map}
 use Rattle.std.specs.Prelude.{unsigned_abs}
+use Rattle.std.specs.Fmt.{decimal}
 use Rattle.std.specs.List.{concat}
 use Rattle.std.specs.Option.{option_map_or}
 use Rattle.std.proofs.lemmas.List.{length-map}
@@ -35,6 +36,31 @@ some_words r words o x old new some put = rw some put
 pub unbound_joined : (word nearest words : List ℕ) → nearest ≡ words
     → concat (codes "  " ∷ word ∷ codes " is not bound" ∷ []) ++ nearest ++ codes "\n" ≡ indented (word ++ codes " is not bound" ++ words)
 unbound_joined word nearest words e = rw e refl
+
+pub inside_joined : (word name : List ℕ)
+    → concat (codes "  " ∷ word ∷ codes " is a call, and " ∷ []) ++ name ++ codes " takes names of values and not calls: bind its result first\n"
+    ≡ indented (word ++ codes " is a call, and " ++ name ++ codes " takes names of values and not calls: bind its result first")
+inside_joined word name = simp append_assoc refl
+
+names_joined : (names binds : List ℕ)
+    → codes "  the lines before bind " ++ names ++ concat (codes ", and this line binds " ∷ binds ∷ codes ": at most 4096 may be bound\n" ∷ [])
+    ≡ indented (codes "the lines before bind " ++ names ++ codes ", and this line binds " ++ binds ++ codes ": at most 4096 may be bound")
+names_joined names binds = simp append_assoc refl
+
+pub too_many_joined : (names binds : ℕ) (digits : List ℕ) → digits ≡ decimal binds
+    → codes "  the lines before bind " ++ counted names (codes "name") ++ concat (codes ", and this line binds " ∷ digits ∷ codes ": at most 4096 may be bound\n" ∷ [])
+    ≡ indented (codes "the lines before bind " ++ counted names (codes "name") ++ codes ", and this line binds " ++ decimal binds ++ codes ": at most 4096 may be bound")
+too_many_joined names binds digits e = rw e (names_joined (counted names (codes "name")) (decimal binds))
+
+argument_joined : (number holds name wanted repeat : List ℕ)
+    → concat (codes "  argument " ∷ number ∷ []) ++ holds ++ codes ", and " ++ name ++ concat (codes " takes a " ∷ wanted ∷ []) ++ repeat ++ codes "\n"
+    ≡ indented (codes "argument " ++ number ++ holds ++ codes ", and " ++ name ++ codes " takes a " ++ wanted ++ repeat)
+argument_joined number holds name wanted repeat = simp append_assoc refl
+
+pub holding_joined : (number holds name wanted repeat digits noun : List ℕ) → digits ≡ number → noun ≡ wanted
+    → concat (codes "  argument " ∷ digits ∷ []) ++ holds ++ codes ", and " ++ name ++ concat (codes " takes a " ∷ noun ∷ []) ++ repeat ++ codes "\n"
+    ≡ indented (codes "argument " ++ number ++ holds ++ codes ", and " ++ name ++ codes " takes a " ++ wanted ++ repeat)
+holding_joined number holds name wanted repeat digits noun e1 e2 = rw (e1, e2) (argument_joined number holds name wanted repeat)
 
 pub sum_joined : (part end : List ℕ)
     → codes "  the sum of " ++ part ++ end ++ codes " does not fit 32 bits\n" ≡ indented (codes "the sum of " ++ part ++ end ++ codes " does not fit 32 bits")

@@ -1,6 +1,8 @@
 pub mod Arguments
 pub mod Extents
 pub mod IndexWords
+pub mod KindFaults
+pub mod NameFaults
 pub mod NumberWords
 pub mod Segments
 pub mod SumWords

@@ -37,9 +37,9 @@ meaning_of no.IndexOutOfRange = codes "the index"
 meaning_of no.NoSuchInput = codes "the input's number"
 meaning_of _ = codes "the length"
 
--- `, and the run has 2 inputs`
+-- `, and the run has 2 inputs; inputs count from 1`
 abbrev pub inputs_words : ℕ → List ℕ
-inputs_words inputs = codes ", and the run has " ++ counted inputs (codes "input")
+inputs_words inputs = codes ", and the run has " ++ counted inputs (codes "input") ++ codes "; inputs count from 1"
 
 module _ {A : Type 0} where
   -- `v[3]`; for a single number its name, or what it means to the call if the line itself has it

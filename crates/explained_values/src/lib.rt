@@ -4,6 +4,8 @@
 pub mod arguments;
 pub mod extents;
 pub mod index_words;
+mod kind_faults;
+mod name_faults;
 mod number_words;
 pub mod segments;
 mod sentences;

@@ -72,12 +72,13 @@ fn put_number_name<A: Memory, B: Memory>(
     }
 }
 
-/// Writes how many inputs there are.
+/// Writes how many inputs there are, and from where they count.
 fn put_inputs<B: Memory>(inputs: usize, text: &mut Vec<u8, B>) -> Result<(), NoResources>
     ensures { OnOk result (text.new.items ≡ text.old.items ++ inputs_words inputs) }
 {
     put_pieces(text, &[b", and the run has "])?;
-    put_counted(inputs, b"input", text)
+    put_counted(inputs, b"input", text)?;
+    put_pieces(text, &[b"; inputs count from 1"])
 }
 
 /// Writes why a call has no value for a number.

@@ -1,15 +1,14 @@
 -- One step of the walks over the lines of a script and over the arguments of a call.
-use Rattle.std.proofs.Common.{◌≡◌, ◌∙◌, ℕ, ◌+◌, ◌-◌, ◌<◌, suc, List, [], ◌∷◌, ◌++◌, length, map, take, slice_get, Option, ap, ap₂, sym, append_assoc, arith}
-use Rattle.std.specs.List.{concat, slice_index_or}
-use Rattle.std.proofs.lemmas.List.{append-nil, get_or-map, length-map, map_more}
-use Rattle.std.proofs.lemmas.List.Folds.{concat-append}
+use Rattle.std.proofs.Common.{◌≡◌, ◌∙◌, ℕ, ◌+◌, ◌-◌, ◌<◌, suc, List, [], ◌∷◌, ◌++◌, length, map, take, drop, slice_get, Option, ap, ap₂, sym, append_assoc, arith}
+use Rattle.std.specs.List.{slice_index_or}
+use Rattle.std.proofs.lemmas.List.{drop_more, get_or-map, length-map, map_more, take_more}
 use Rattle.cvl_base.specs.declared.call.Arg.{Arg}
 use Rattle.cvl_base.specs.declared.value.Value.{Value}
 use Rattle.bound_names.specs.Arguments.{arg_value}
 use Rattle.bound_names.specs.Names.{Entries}
 use Rattle.line_reader.specs.Lines.{call_of}
 use Rattle.explained_values.specs.Arguments.{Spelled}
-use Rattle.explanations.specs.ArgumentLines.{spelled, word_of}
+use Rattle.explanations.specs.ArgumentLines.{argument_lines_after, new_line, spelled, word_of}
 use Rattle.explanations.specs.Bindings.{bound_by_call, bound_from}
 use Rattle.explanations.specs.declared.bindings.Binding.{Binding}
 
@@ -35,16 +34,19 @@ line_passed number line text others wanted is below = rw (one_less number line b
 
 -- ---- arguments
 
--- the texts of one argument more
-pub text_more : (f : Arg → List ℕ) (old new before : List ℕ) (args : List Arg) (i : ℕ) (x : Arg) → i < length args
-    → before ≡ old ++ concat (map f (take i args)) → x ≡ slice_index_or args i x → new ≡ before ++ f x
-    → new ≡ old ++ concat (map f (take (i + 1) args))
-text_more f old new before args i x lt is item step =
-    let done = concat (map f (take i args)) in
-    let whole : concat (map f (take (i + 1) args)) ≡ done ++ f (slice_index_or args i x) =
-    ap concat (map_more f args i x lt) ∙ concat-append (map f (take i args)) (f (slice_index_or args i x) ∷ [])
-    ∙ ap (λ ys. done ++ ys) (append-nil (f (slice_index_or args i x))) in
-    step ∙ ap (λ xs. xs ++ f x) is ∙ append_assoc old done (f x) ∙ ap (λ (y : Arg). old ++ (done ++ f y)) item ∙ ap (λ ys. old ++ ys) (sym whole)
+-- the line of one argument more
+pub line_more : {A : Type 0} (names : Entries A) (files : List (List ℕ)) (bindings : List Binding) (args : List Arg) (i : ℕ) (x : Arg) (text new whole : List ℕ)
+    → i < length args → x ≡ slice_index_or args i x
+    → text ++ argument_lines_after (take i args) names files bindings (drop i args) ≡ whole
+    → new ≡ text ++ new_line (take i args) names files bindings x
+    → new ++ argument_lines_after (take (i + 1) args) names files bindings (drop (i + 1) args) ≡ whole
+line_more names files bindings args i x text new whole lt item is step =
+    let rest : drop i args ≡ x ∷ drop (i + 1) args = drop_more args i x lt ∙ ap (λ z. z ∷ drop (i + 1) args) (sym item) in
+    let before : take (i + 1) args ≡ take i args ++ x ∷ [] = take_more args i x lt ∙ ap (λ z. take i args ++ z ∷ []) (sym item) in
+    let others = argument_lines_after (take (i + 1) args) names files bindings (drop (i + 1) args) in
+    ap (λ t. t ++ others) step ∙ append_assoc text (new_line (take i args) names files bindings x) others
+    ∙ ap (λ bs. text ++ (new_line (take i args) names files bindings x ++ argument_lines_after bs names files bindings (drop (i + 1) args))) before
+    ∙ ap (λ xs. text ++ argument_lines_after (take i args) names files bindings xs) (sym rest) ∙ is
 
 -- one argument more is spelled, by the word at its place
 pub spelled_more : {A W : Type 0} (names : Entries A) (args : List Arg) (words : List W) (items : W → List ℕ) (i : ℕ) (arg : Arg) (word : W)

@@ -1,15 +1,16 @@
 //! The arguments of a call in an explanation: what each name holds, and the line that bound it.
 
-ghost use Rattle.std.specs.Prelude.{◌≡◌, ◌++◌, OnOk, map, option_copied};
-ghost use Rattle.std.specs.List.{concat};
+ghost use Rattle.std.specs.Prelude.{◌≡◌, ◌++◌, OnOk, option_copied};
+ghost use Rattle.std.specs.List.{list_any};
 ghost use Rattle.bound_names.specs.Arguments.{arg_value};
 ghost use Rattle.explained_values.specs.Arguments.{value_held};
-ghost use Rattle.explanations.specs.ArgumentLines.{argument_line, binding_words, input_words};
+ghost use Rattle.explanations.specs.ArgumentLines.{argument_line, argument_lines, binding_words, input_words};
+ghost use Rattle.explanations.specs.ArgumentLines.{is_named, is_told, names_in, new_line};
 
 use crate::bindings::{Binding, last_binding};
-use crate::input_files::{InputFile, input_at};
+use crate::input_files::file_at;
 use cvl_base::{Arg, Memory, Name, NoResources};
-use explained_calls::put_pieces;
+use explained_calls::{put_pieces, put_shown};
 use explained_values::arguments::Holding;
 use explained_values::{Argument, put_argument};
 use itoa::Buffer;
@@ -31,11 +32,11 @@ pub(crate) fn holding_of<'a, A: Memory>(session: &'a Session<A>, arg: &Arg) -> H
 
 /// Appends which input a line binds a name to.
 fn put_input<A: Memory>(
-    inputs: &[InputFile<'_>],
+    files: &[&str],
     number: Option<i32>,
     text: &mut Vec<u8, A>,
 ) -> Result<(), NoResources>
-    ensures { OnOk result (text.new.items ≡ text.old.items ++ input_words inputs.now number) }
+    ensures { OnOk result (text.new.items ≡ text.old.items ++ input_words (names_in files.now) number) }
 {
     let Some(number) = number else {
         return Ok(());
@@ -44,19 +45,23 @@ fn put_input<A: Memory>(
         text,
         &[b" by input ", Buffer::new().format(number).as_bytes()],
     )?;
-    match input_at(inputs, number) {
+    match file_at(files, number) {
         None => Ok(()),
-        Some(input) => put_pieces(text, &[b" (", input.name(), b")"]),
+        Some(file) => {
+            put_pieces(text, &[b" ("])?;
+            put_shown(text, file.as_bytes())?;
+            put_pieces(text, &[b")"])
+        }
     }
 }
 
 /// Appends what bound a name.
 fn put_binding<A: Memory>(
-    inputs: &[InputFile<'_>],
+    files: &[&str],
     binding: Option<&Binding>,
     text: &mut Vec<u8, A>,
 ) -> Result<(), NoResources>
-    ensures { OnOk result (text.new.items ≡ text.old.items ++ binding_words inputs.now (option_copied binding.entry)) }
+    ensures { OnOk result (text.new.items ≡ text.old.items ++ binding_words (names_in files.now) (option_copied binding.entry)) }
 {
     match binding {
         None => put_pieces(text, &[b", bound before the script"]),
@@ -68,7 +73,7 @@ fn put_binding<A: Memory>(
                     Buffer::new().format(binding.line).as_bytes(),
                 ],
             )?;
-            put_input(inputs, binding.input, text)
+            put_input(files, binding.input, text)
         }
     }
 }
@@ -76,13 +81,13 @@ fn put_binding<A: Memory>(
 /// Appends the line of a name among the arguments of a call.
 fn put_name<A: Memory>(
     session: &Session<A>,
-    inputs: &[InputFile<'_>],
+    files: &[&str],
     bindings: &[Binding],
     name: &Name,
     text: &mut Vec<u8, A>,
 ) -> Result<(), NoResources>
     ensures { OnOk result (text.new.items ≡ text.old.items
-        ++ argument_line session.now.names inputs.now bindings.now (Arg.Name name.now)) }
+        ++ argument_line session.now.names (names_in files.now) bindings.now (Arg.Name name.now)) }
 {
     let value = session.get(name);
     let holding = match value {
@@ -92,7 +97,7 @@ fn put_name<A: Memory>(
     put_pieces(text, &[b"  "])?;
     put_argument(&Argument::new(name.as_bytes(), holding), text)?;
     if value.is_some() {
-        put_binding(inputs, last_binding(bindings, name), text)?;
+        put_binding(files, last_binding(bindings, name), text)?;
     }
     put_pieces(text, &[b"\n"])
 }
@@ -100,34 +105,80 @@ fn put_name<A: Memory>(
 /// Appends the line about an argument of a call; a number, `T` or `F` has none.
 fn put_line_of_argument<A: Memory>(
     session: &Session<A>,
-    inputs: &[InputFile<'_>],
+    files: &[&str],
     bindings: &[Binding],
     arg: &Arg,
     text: &mut Vec<u8, A>,
 ) -> Result<(), NoResources>
     ensures { OnOk result (text.new.items ≡ text.old.items
-        ++ argument_line session.now.names inputs.now bindings.now arg.now) }
+        ++ argument_line session.now.names (names_in files.now) bindings.now arg.now) }
 {
     match arg {
-        Arg::Name(name) => put_name(session, inputs, bindings, name, text),
+        Arg::Name(name) => put_name(session, files, bindings, name, text),
         Arg::Integer(_) => Ok(()),
         Arg::Boolean(_) => Ok(()),
     }
 }
 
-/// Appends the lines of the arguments of a call.
+/// Whether an argument is this name.
+fn is_named(arg: &Arg, name: &Name) -> bool
+    ensures { result ≡ is_named name.now arg.now }
+{
+    match arg {
+        Arg::Name(other) => other == name,
+        _ => false,
+    }
+}
+
+/// Whether a name is among arguments.
+fn is_among(args: &[Arg], name: &Name) -> bool
+    ensures { result ≡ list_any (is_named name.now) args.now }
+{
+    args.iter().any(|arg| is_named(arg, name))
+}
+
+/// Whether an argument is a name that is among others.
+fn is_told(others: &[Arg], arg: &Arg) -> bool
+    ensures { result ≡ is_told others.now arg.now }
+{
+    match arg {
+        Arg::Name(name) => is_among(others, name),
+        _ => false,
+    }
+}
+
+/// Appends the line of an argument behind others, unless it is a name among them.
+fn put_new_line<A: Memory>(
+    session: &Session<A>,
+    files: &[&str],
+    bindings: &[Binding],
+    before: &[Arg],
+    arg: &Arg,
+    text: &mut Vec<u8, A>,
+) -> Result<(), NoResources>
+    ensures { OnOk result (text.new.items ≡ text.old.items
+        ++ new_line before.now session.now.names (names_in files.now) bindings.now arg.now) }
+{
+    if is_told(before, arg) {
+        Ok(())
+    } else {
+        put_line_of_argument(session, files, bindings, arg, text)
+    }
+}
+
+/// Appends the lines of the arguments of a call, one for each name, at the first of its places.
 pub(crate) fn put_arguments<A: Memory>(
     session: &Session<A>,
-    inputs: &[InputFile<'_>],
+    files: &[&str],
     bindings: &[Binding],
     args: &[Arg],
     text: &mut Vec<u8, A>,
 ) -> Result<(), NoResources>
     ensures { OnOk result (text.new.items ≡ text.old.items
-        ++ concat (map (argument_line session.now.names inputs.now bindings.now) args.now)) }
+        ++ argument_lines session.now.names (names_in files.now) bindings.now args.now) }
 {
-    for arg in args {
-        put_line_of_argument(session, inputs, bindings, arg, text)?;
+    for (place, arg) in args.iter().enumerate() {
+        put_new_line(session, files, bindings, &args[..place], arg, text)?;
     }
     Ok(())
 }

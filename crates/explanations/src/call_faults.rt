@@ -1,17 +1,21 @@
 //! What is wrong with a call.
 
-ghost use Rattle.std.specs.Prelude.{◌≡◌, ◌++◌, IfOk, OnOk, map, option_copied};
+ghost use Rattle.std.specs.Prelude.{◌≡◌, ◌++◌, IfOk, OnOk, length, map, option_map};
 ghost use Rattle.bound_names.specs.Arguments.{arg_value, argument_at, integer_in};
-ghost use Rattle.explanations.specs.ArgumentLines.{input_at, spelled, word_of};
-ghost use Rattle.explanations.specs.Explained.{call_fault_words, is_nested, is_of_text, reads_input, text_fault_words};
+ghost use Rattle.explanations.specs.ArgumentLines.{names_in, spelled, word_of};
+ghost use Rattle.explained_values.specs.ValueFaults.{value_fault_words};
+ghost use Rattle.explanations.specs.Explained.{call_fault_words, is_nested, is_of_text, numbers_words, reads_input};
+ghost use Rattle.explanations.specs.Explained.{text_fault_words, text_words};
 
 use crate::argument_lines::holding_of;
 use crate::bindings::Binding;
-use crate::input_files::{InputFile, input_at};
-use cvl_base::{Arg, Fault, FaultNo, Memory, NoResources, Op, Value};
+use crate::input_files::file_at;
+use cvl_base::{Arg, Call, Fault, FaultNo, Memory, NoResources, Op, Value};
+use explained_calls::{put_pieces, put_shown};
 use explained_inputs::put_input_fault;
 use explained_values::{Argument, put_value_fault};
 use itoa::Buffer;
+use std::thread::Threads;
 use vector_handles::Session;
 
 /// An argument as a line writes it.
@@ -111,70 +115,121 @@ fn number_of<A: Memory>(session: &Session<A>, arg: &Arg) -> i32
     }
 }
 
-/// The input that a call with these arguments reads.
-fn input_read<'i, 'a, A: Memory>(
-    session: &Session<A>,
-    inputs: &'i [InputFile<'a>],
-    args: &[Arg],
-) -> Option<&'i InputFile<'a>>
-    ensures { option_copied result ≡ input_at inputs.now (integer_in (argument_at session.now.names args.now 0)) }
+/// The number of the input that a call with these arguments reads.
+fn number_asked<A: Memory>(session: &Session<A>, args: &[Arg]) -> i32
+    ensures { result ≡ integer_in (argument_at session.now.names args.now 0) }
 {
     match args.first() {
-        Some(arg) => input_at(inputs, number_of(session, arg)),
-        None => None,
+        Some(arg) => number_of(session, arg),
+        None => 0,
     }
 }
 
-/// Appends what is wrong with the text of an input.
-fn put_text_fault<A: Memory>(
-    op: Op,
-    input: Option<&InputFile<'_>>,
-    fault: Fault,
+/// Appends what is wrong with an input that is a list of numbers: a nested text is another one.
+fn put_numbers<A: Memory>(
+    is_nested: bool,
+    file: &[u8],
     text: &mut Vec<u8, A>,
 ) -> Result<(), NoResources>
-    ensures { OnOk result (text.new.items ≡ text.old.items ++ text_fault_words op (option_copied input.entry) fault) }
+    ensures { OnOk result (text.new.items ≡ text.old.items ++ numbers_words is_nested file.now) }
 {
-    match input {
-        None => Ok(()),
-        Some(input) => {
-            put_input_fault(
-                is_nested(op),
-                input.name(),
-                input.bytes(),
-                fault.place,
-                text,
-            )
-        }
+    if !is_nested {
+        return Ok(());
     }
+    put_pieces(text, &[b"  "])?;
+    put_shown(text, file)?;
+    put_pieces(
+        text,
+        &[
+            b" is a list of numbers, which input reads; nested reads a list of lists, as [[1 2] []]\n",
+        ],
+    )
 }
 
-/// Appends what is at fault in a call: an input's text, or the arguments.
-pub(crate) fn put_call_fault<A: Memory>(
-    alloc: A,
-    session: &Session<A>,
-    inputs: &[InputFile<'_>],
-    bindings: &[Binding],
+/// Appends what is wrong with an input, by its text if that is no list of numbers.
+fn put_text_words<A: Memory>(
     op: Op,
-    args: &[Arg],
+    file: Option<&str>,
+    input: Option<&[u8]>,
     fault: Fault,
     text: &mut Vec<u8, A>,
 ) -> Result<(), NoResources>
     ensures { OnOk result (text.new.items ≡ text.old.items
-        ++ call_fault_words session.now.names inputs.now bindings.now op args.now fault) }
+        ++ text_words op (option_map (λ file. file.now) file.entry) (option_map (λ input. input.now) input.entry) fault) }
 {
-    if reads_input(op) && is_of_text(fault.number) {
-        return put_text_fault(op, input_read(session, inputs, args), fault, text);
+    let Some(file) = file else {
+        return Ok(());
+    };
+    let (is_nested, file) = (is_nested(op), file.as_bytes());
+    match input {
+        None => put_numbers(is_nested, file, text),
+        Some(input) => put_input_fault(is_nested, file, Some(input), fault.place, text),
     }
+}
+
+/// Appends what is wrong with the input with this number, counted from 1.
+fn put_text_fault<R: Threads + Sync, A: Memory>(
+    rt: &R,
+    session: &Session<A>,
+    files: &[&str],
+    op: Op,
+    number: i32,
+    fault: Fault,
+    text: &mut Vec<u8, A>,
+) -> Result<(), NoResources>
+    ensures { OnOk result (text.new.items ≡ text.old.items
+        ++ text_fault_words (names_in files.now) session.now.inputs op number fault) }
+{
+    let input = session.other_text(rt, number)?;
+    put_text_words(op, file_at(files, number), input, fault, text)
+}
+
+/// Appends what is wrong with the arguments of a call.
+fn put_argument_fault<A: Memory>(
+    alloc: A,
+    session: &Session<A>,
+    files: &[&str],
+    bindings: &[Binding],
+    call: &Call<A>,
+    fault: Fault,
+    text: &mut Vec<u8, A>,
+) -> Result<(), NoResources>
+    ensures { OnOk result (text.new.items ≡ text.old.items ++ value_fault_words
+        (map (λ binding. binding.name) bindings.now) (length (names_in files.now)) call.now.op
+        (map (spelled session.now.names) call.now.args) fault) }
+{
+    let args = call.args.as_slice();
     let words = words_of(alloc, args)?;
     let arguments = spelled(alloc, session, args, words.as_slice())?;
     let names = names_bound(alloc, bindings)?;
     put_value_fault(
         alloc,
         names.as_slice(),
-        inputs.len(),
-        op,
+        files.len(),
+        call.op,
         arguments.as_slice(),
         fault,
         text,
     )
+}
+
+/// Appends what is at fault in a call: an input's text, or the arguments.
+pub(crate) fn put_call_fault<R: Threads + Sync, A: Memory>(
+    rt: &R,
+    alloc: A,
+    session: &Session<A>,
+    files: &[&str],
+    bindings: &[Binding],
+    call: &Call<A>,
+    fault: Fault,
+    text: &mut Vec<u8, A>,
+) -> Result<(), NoResources>
+    ensures { OnOk result (text.new.items ≡ text.old.items ++ call_fault_words
+        session.now.names (names_in files.now) session.now.inputs bindings.now call.now.op call.now.args fault) }
+{
+    if reads_input(call.op) && is_of_text(fault.number) {
+        let number = number_asked(session, call.args.as_slice());
+        return put_text_fault(rt, session, files, call.op, number, fault, text);
+    }
+    put_argument_fault(alloc, session, files, bindings, call, fault, text)
 }

@@ -5,8 +5,7 @@
 mod argument_lines;
 pub mod bindings;
 mod call_faults;
-pub mod input_files;
+mod input_files;
 pub mod stops;
 
-pub use input_files::InputFile;
-pub use stops::explain;
+pub use stops::{MEMORY, WRITE, explain, explain_too_long};

@@ -2,51 +2,42 @@
 
 ghost use Rattle.std.specs.Prelude.{◌≡◌, ◌++◌, IfOk, OnOk};
 ghost use Rattle.explained_calls.specs.Sentences.{indented};
+ghost use Rattle.explanations.specs.ArgumentLines.{names_in};
 ghost use Rattle.explanations.specs.Explained.{explained, explained_call, explained_fault};
-ghost use Rattle.explanations.specs.Explained.{explained_line, quoted, shortened_line, too_long_words};
+ghost use Rattle.explanations.specs.Explained.{explained_line, quoted, too_long_words};
 ghost use Rattle.line_reader.specs.Lines.{call_of};
 
 use crate::argument_lines::put_arguments;
 use crate::bindings::{Binding, stopped_at};
 use crate::call_faults::put_call_fault;
-use crate::input_files::InputFile;
 use cvl_base::{Call, Fault, Memory, NoResources, Refused};
-use explained_calls::{put_call_words, put_line_fault, put_pieces};
+use explained_calls::{put_call_words, put_front, put_line_fault, put_pieces};
 use itoa::Buffer;
 use line_reader::read_line;
 use script_runs::Stop;
+use std::thread::Threads;
 use vector_handles::Session;
 
-/// What to try if memory ran out.
-const MEMORY: &[u8] =
+/// The explanation if memory ran out: what to try.
+pub const MEMORY: &[u8] =
     b"  memory ran out: try shorter vectors, bind fewer names, or allow the process more memory\n";
 
-/// What to try if a write failed.
-const WRITE: &[u8] =
+/// The explanation if a write failed: what to try.
+pub const WRITE: &[u8] =
     b"  standard output took no more: is the disk full, or did the reader of a pipe close it?\n";
 
 /// How many bytes of a line to quote.
 const MOST_TOLD: usize = 200;
 
-/// A line as it stands, in two pieces; a long one as its first 200 bytes and `..`.
-fn shortened_line<'l>(line: &'l [u8]) -> (&'l [u8], &'l [u8])
-    ensures { result.0.now ++ result.1.now ≡ shortened_line line.now }
-{
-    if line.len() <= MOST_TOLD {
-        return (line, b"");
-    }
-    let (front, _) = line.split_at(MOST_TOLD);
-    (front, b"..")
-}
-
-/// Appends a line of the script, with its number.
+/// Appends a line of the script, with its number; of a long line the first 200 bytes.
 fn put_quoted<A: Memory>(number: u32, line: &[u8], text: &mut Vec<u8, A>) -> Result<(), NoResources>
     ensures { OnOk result (text.new.items ≡ text.old.items ++ quoted number line.now) }
 {
-    let (front, more) = shortened_line(line);
     let mut digits = Buffer::new();
     let number = digits.format(number).as_bytes();
-    put_pieces(text, &[b"  ", number, b" | ", front, more, b"\n"])
+    put_pieces(text, &[b"  ", number, b" | "])?;
+    put_front(text, MOST_TOLD, line)?;
+    put_pieces(text, &[b"\n"])
 }
 
 /// Appends how long a script is, if it is too long.
@@ -66,57 +57,60 @@ fn put_too_long<A: Memory>(script: &[u8], text: &mut Vec<u8, A>) -> Result<(), N
 }
 
 /// Appends what a call takes, its arguments, and what is wrong.
-fn put_call<A: Memory>(
+fn put_call<R: Threads + Sync, A: Memory>(
+    rt: &R,
     alloc: A,
     session: &Session<A>,
-    inputs: &[InputFile<'_>],
+    files: &[&str],
     bindings: &[Binding],
     call: &Call<A>,
     fault: Fault,
     text: &mut Vec<u8, A>,
 ) -> Result<(), NoResources>
     ensures { OnOk result (text.new.items ≡ text.old.items
-        ++ explained_call session.now.names inputs.now bindings.now call.now fault) }
+        ++ explained_call session.now.names (names_in files.now) session.now.inputs bindings.now call.now fault) }
 {
-    let args = call.args.as_slice();
     put_call_words(call.op, text)?;
-    put_arguments(session, inputs, bindings, args, text)?;
-    put_call_fault(alloc, session, inputs, bindings, call.op, args, fault, text)
+    put_arguments(session, files, bindings, call.args.as_slice(), text)?;
+    put_call_fault(rt, alloc, session, files, bindings, call, fault, text)
 }
 
 /// Appends what is at fault in a line: in its form, or in its call.
-fn put_line<A: Memory>(
+fn put_line<R: Threads + Sync, A: Memory>(
+    rt: &R,
     alloc: A,
     session: &Session<A>,
-    inputs: &[InputFile<'_>],
+    files: &[&str],
     bindings: &[Binding],
     line: &[u8],
     fault: Fault,
     text: &mut Vec<u8, A>,
 ) -> Result<(), NoResources>
     ensures { OnOk result (text.new.items ≡ text.old.items
-        ++ explained_line session.now.names inputs.now bindings.now line.now (call_of line.now) fault) }
+        ++ explained_line session.now.names (names_in files.now) session.now.inputs bindings.now
+        line.now (call_of line.now) fault) }
 {
     match read_line(alloc, line) {
         Err(Refused::NoResources) => Err(NoResources),
         Err(Refused::Fault(_)) => put_line_fault(alloc, line, fault.number, text),
         Ok(None) => Ok(()),
-        Ok(Some(call)) => put_call(alloc, session, inputs, bindings, &call, fault, text),
+        Ok(Some(call)) => put_call(rt, alloc, session, files, bindings, &call, fault, text),
     }
 }
 
 /// Appends the explanation of a fault of the script at a line.
-fn put_fault<A: Memory>(
+fn put_fault<R: Threads + Sync, A: Memory>(
+    rt: &R,
     alloc: A,
     session: &Session<A>,
-    inputs: &[InputFile<'_>],
+    files: &[&str],
     script: &[u8],
     line: u32,
     fault: Fault,
     text: &mut Vec<u8, A>,
 ) -> Result<(), NoResources>
     ensures { OnOk result (text.new.items ≡ text.old.items
-        ++ explained_fault session.now.names inputs.now script.now line fault) }
+        ++ explained_fault session.now.names (names_in files.now) session.now.inputs script.now line fault) }
 {
     if line == 0 {
         return put_too_long(script, text);
@@ -124,28 +118,51 @@ fn put_fault<A: Memory>(
     let stopped = stopped_at(alloc, script, line)?;
     put_quoted(line, stopped.line, text)?;
     let bindings = stopped.bindings.as_slice();
-    put_line(alloc, session, inputs, bindings, stopped.line, fault, text)
+    put_line(
+        rt,
+        alloc,
+        session,
+        files,
+        bindings,
+        stopped.line,
+        fault,
+        text,
+    )
+}
+
+/// Explains that a script is too long: how long it is, and how long it may be.
+pub fn explain_too_long<A: Memory>(alloc: A, script: &[u8]) -> Result<Vec<u8, A>, NoResources>
+    ensures { IfOk result (λ text. text.items ≡ indented (too_long_words script.now)) }
+{
+    let mut text = Vec::new(alloc);
+    put_too_long(script, &mut text)?;
+    Ok(text)
 }
 
 /// Explains why a script stopped, in lines of text that each begin with two spaces and end with a line feed.
 ///
-/// `session` is that of the run, as it is at the stop, and `inputs` are its inputs in order. For a fault of the script it shows
-/// the script's line, which kinds of values the call takes and gives, what each name among the arguments holds and which line
-/// bound it, and what is wrong; for a script that is too long, how long it is. If memory ran out or a write failed, it says what
-/// to try. `NoResources` if memory for the text is refused.
-pub fn explain<A: Memory>(
+/// `session` is that of the run, as it is at the stop, and `files` are the names of its inputs' files, in order. For a fault
+/// of the script it shows the script's line, which kinds of values the call takes and gives, what each name among the
+/// arguments holds and which line bound it, and what is wrong; for a script that is too long, how long it is. If memory ran
+/// out or a write failed, it says what to try: [`MEMORY`] or [`WRITE`].
+///
+/// An input at fault is read once more, by `rt`, to see whether it is a list of numbers. `NoResources` if memory for that or for
+/// the text is refused.
+pub fn explain<R: Threads + Sync, A: Memory>(
+    rt: &R,
     alloc: A,
     session: &Session<A>,
-    inputs: &[InputFile<'_>],
+    files: &[&str],
     script: &[u8],
     stop: &Stop,
 ) -> Result<Vec<u8, A>, NoResources>
-    ensures { IfOk result (λ text. text.items ≡ explained session.now.names inputs.now script.now stop.now) }
+    ensures { IfOk result (λ text. text.items
+        ≡ explained session.now.names (names_in files.now) session.now.inputs script.now stop.now) }
 {
     let mut text = Vec::new(alloc);
     match stop {
         Stop::Script { line, fault } => {
-            put_fault(alloc, session, inputs, script, *line, *fault, &mut text)?;
+            put_fault(rt, alloc, session, files, script, *line, *fault, &mut text)?;
         }
         Stop::NoResources { .. } => put_pieces(&mut text, &[MEMORY])?,
         Stop::WriteFailed { .. } => put_pieces(&mut text, &[WRITE])?,

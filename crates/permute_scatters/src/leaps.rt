@@ -1,4 +1,5 @@
-//! Whether an index jumps from place to place, or runs along. No result depends on it.
+//! Whether an index jumps from place to place, or runs along. No result depends on it: a wrong answer costs time alone, so no
+//! clause says which it is.
 
 ghost use Rattle.std.specs.Prelude.{◌≤◌, length};
 ghost use Rattle.cvl_base.specs.Limits.{most_places};
@@ -12,7 +13,8 @@ const LOOKS: usize = 64;
 /// Indices that name places of one block of this size run along.
 const BLOCK: u32 = 1024;
 
-/// Whether most indices of a long permute name a place far from that of the index before them. It samples a few of them, evenly.
+/// Whether most indices of a long permute name a place far from that of the index before them. It samples a few of them, evenly,
+/// and may be wrong: it chooses between two ways to the same result.
 pub fn jumps(index: &[i32]) -> bool
     requires { length index.now ≤ most_places }
 {

@@ -54,8 +54,8 @@ fn are_apart(index: &[i32], places: usize, marks: &mut [u32]) -> bool
 }
 
 /// Whether the index of a long permute jumps from place to place, and each index names one of `places` places, no two the same,
-/// so that a scatter makes the permute. Places are marked only if the index jumps. `NoResources` if there is no memory for a bit
-/// a place.
+/// so that a scatter makes the permute. Places are marked only if the index jumps. `false` promises nothing: the caller then goes
+/// a slower way to the same result. `NoResources` if there is no memory for a bit a place.
 pub fn is_scattered<A: Memory>(alloc: A, index: &[i32], places: usize) -> Result<bool, NoResources>
     requires in_limit { length index.now ≤ most_places }
     ensures { IfOk result (λ is. IsTrue is

@@ -4,6 +4,7 @@ It shares nothing with the library: the values at the stop are those of `scripts
 of the file `N.txt`.
 """
 
+import itertools
 import re
 
 import rows
@@ -12,14 +13,30 @@ from calls import CALLS, FAULTS, MOST_ELEMENTS, Fault
 from cases import number_lines, refused, tiles
 
 KIND_WORDS = {"z": "integers", "b": "booleans", "d": "a descriptor", "i": "an integer", "t": "a boolean"}
+WHOLE_KINDS = {"z": "vector of integers", "b": "vector of booleans", "d": "descriptor", "i": "single integer", "t": "single boolean"}
+
+# the calls that read an input, which the rows of calls leave out, with what they take and give
+READING = {"input": ("i", "z"), "nested": ("i", "zd")}
 
 
 def counted(count, thing):
     return f"{count} {thing}{'' if count == 1 else 's'}"
 
 
-def shortened(token, most=40):
-    return token if len(token) <= most else token[:most] + ".."
+def shown(text):
+    """A text, each of whose letters is a byte, with control bytes and what is no UTF-8 as the escapes of a literal."""
+    characters = text.encode("latin-1").decode("utf-8", "backslashreplace")
+    return re.sub("[\0-\x1f\x7f]", lambda byte: f"\\x{ord(byte[0]):02x}", characters).encode("utf-8").decode("latin-1")
+
+
+def shortened(text, most=40):
+    """A text as it is shown; of a long one the whole characters that end within so many bytes."""
+    if len(text) <= most:
+        return shown(text)
+    ends = itertools.accumulate(
+        len(character.encode("utf-8", "surrogateescape")) for character in text.encode("latin-1").decode("utf-8", "surrogateescape")
+    )
+    return shown(text[:max((end for end in ends if end <= most), default=0)]) + ".."
 
 
 def listed(kinds):
@@ -30,7 +47,7 @@ def listed(kinds):
 def call_words(name):
     if name == "write":
         return "write takes a value, or a vector and its descriptor, and shows it"
-    takes, gives = {"input": ("i", "z"), "nested": ("i", "zd")}.get(name) or CALLS[name][:2]
+    takes, gives = READING.get(name) or CALLS[name][:2]
     return f"{name} takes {listed(takes)}, and gives {listed(gives)}"
 
 
@@ -44,9 +61,9 @@ def distance(a, b):
     return row[-1]
 
 
-def nearest(word, known):
-    """The first of the known words at the least distance."""
-    return min(known, key=lambda one: distance(word, one)) if known else None
+def near(word, known):
+    """The first of the known words at the least distance, if that is 1 or 2."""
+    return min((one for one in known if distance(word, one) <= 2), key=lambda one: distance(word, one), default=None)
 
 
 # arguments
@@ -188,18 +205,40 @@ def length_at(name):
     return {"dis": 1, "ind": 2, "mke": 0}[name[:3]]
 
 
+def not_bound(names, name, arg):
+    """What to say of an argument that is no bound name."""
+    if arg in CALLS or arg in READING:
+        return f"{arg} is a call, and {name} takes names of values and not calls: bind its result first"
+    if not names:
+        return f"{arg} is not bound, and no name is bound"
+    close = near(arg, names)
+    return f"{arg} is not bound" + ("" if close is None else f"; the nearest name is {close}")
+
+
+def other_kind(name, args, kinds):
+    """What to say of the first argument whose kind is not the one that the call takes."""
+    if name == "write":
+        at = 0 if kinds[0] not in "zb" else 1
+        wanted, takes = None, ["vector", "descriptor"][at]
+    else:
+        takes_kinds = READING[name][0] if name in READING else CALLS[name][0]
+        at = next(at for at, pair in enumerate(zip(kinds, takes_kinds)) if pair[0] != pair[1])
+        wanted, takes = takes_kinds[at], WHOLE_KINDS[takes_kinds[at]]
+    one, kind = word(args[at]), WHOLE_KINDS[kinds[at]]
+    holds = f", {one}, holds a {kind}" if scripts.is_name(one) else f" is the {kind} {one}"
+    repeated_by = {("i", "z"): "dis_vuz", ("t", "b"): "dis_vub"}.get((kinds[at], wanted))
+    repeats = f"; `{repeated_by} {one} N` makes N copies" if repeated_by else ""
+    return f"argument {at + 1}{holds}, and {name} takes a {takes}{repeats}"
+
+
 def call_fault(names, inputs, name, args, fault):
     """What is wrong with the arguments of a call."""
     values = [held(names, arg) for arg in args]
     place = fault.place or 0
     if fault.number == 4:
-        arg = next(arg for arg, value in zip(args, values) if value is None)
-        return f"{arg} is not bound" + (f"; the nearest name is {nearest(arg, list(names))}" if names else ", and no name is bound")
+        return not_bound(names, name, next(arg for arg, value in zip(args, values) if value is None))
     if fault.number == 5:
-        wanted = [("zbdit" if len(args) == 1 else "zb"), "d"] if name == "write" else list("i" if name in ("input", "nested") else CALLS[name][0])
-        at = next(at for at, value in enumerate(values) if value[0] not in wanted[at])
-        takes = ["a vector", "a descriptor"][at] if name == "write" else KIND_WORDS[wanted[at]]
-        return f"{word(args[at])} holds {KIND_WORDS[values[at][0]]}, and {name} takes {takes} there"
+        return other_kind(name, args, [kind for kind, _ in values])
     if fault.number == 7:
         return mismatch(name, args, values)
     if fault.number == 8:
@@ -217,9 +256,10 @@ def call_fault(names, inputs, name, args, fault):
     if fault.number == 13:
         return number(name, args, values, length_at(name), place, "the length") + f", and a vector has at most {MOST_ELEMENTS} elements"
     if fault.number == 14:
-        return number(name, args, values, 0, place, "the input's number") + ", and the run has " + counted(len(inputs), "input")
+        return number(name, args, values, 0, place, "the input's number") + f", and the run has {counted(len(inputs), 'input')}; inputs count from 1"
     if fault.number == 16:
-        return "4096 names are bound, the most there may be"
+        binds = 2 if name == "nested" else 1
+        return f"the lines before bind {counted(len(names), 'name')}, and this line binds {binds}: at most {scripts.MOST_NAMES} may be bound"
     if fault.number == 18:
         segment, _ = cut_of(name, values, place)
         part = args[0] if segment is None else f"segment {segment} of {args[0]}"
@@ -230,17 +270,27 @@ def call_fault(names, inputs, name, args, fault):
 
 # what is at fault in an input
 
+def is_list_of_numbers(text):
+    """Whether `input` reads a text."""
+    words = text.split()
+    return len(words) <= MOST_ELEMENTS and all(re.fullmatch(r"-?[0-9]+", word) and -(2**31) <= int(word) < 2**31 for word in words)
+
+
 def input_fault(text, name, file, fault):
     """Where a token of an input stands that is none, and what may stand there."""
+    file = shown(file)
     if fault.number == 13:
         return f"{file} has more than {MOST_ELEMENTS} numbers" + (" or inner lists" if name == "nested" else "")
+    if name == "nested" and is_list_of_numbers(text):
+        return f"{file} is a list of numbers, which input reads; nested reads a list of lists, as [[1 2] []]"
     parts = r"[\[\]]|[^\s\[\]]+" if name == "nested" else r"\S+"
     found = [(match.start(), match[0]) for match in re.finditer(parts, text, re.ASCII)]
     start, token = found[fault.place] if fault.place < len(found) else (len(text), None)
     before = text[:start]
     at = f"{file}:{before.count(chr(10)) + 1}:{len(before) - before.rfind(chr(10))}: "
     if name == "input":
-        return f'{at}"{shortened(token)}" is no integer from -2147483648 to 2147483647'
+        lists = "; nested reads lists of lists" if token.startswith("[") else ""
+        return f'{at}"{shortened(token)}" is no integer from -2147483648 to 2147483647{lists}'
     open_lists = max(before.count("[") - before.count("]"), 0)
     expected = '"["' if fault.place == 0 else ["the end", '"[" or "]"', 'an integer from -2147483648 to 2147483647 or "]"'][min(open_lists, 2)]
     return f"{at}the text ends where {expected} is expected" if token is None else f'{at}"{shortened(token)}" stands where {expected} is expected'
@@ -270,7 +320,7 @@ def explanation(script, inputs, call_names):
             given = dict(zip(bound, scripts.bindings(names, inputs, bound, name, args)))
         except Fault as fault:
             lines = [call_words(name)]
-            for arg in args:
+            for arg in dict.fromkeys(args):
                 if scripts.is_name(arg):
                     lines.append(f"{arg}: {value_words(names.get(arg))}" + (binding_words(bound_at[arg], inputs) if arg in names else ""))
             if name in ("input", "nested") and fault.number in (13, 15):
@@ -286,15 +336,78 @@ def explanation(script, inputs, call_names):
     return ""
 
 
+def no_call(word, args, call_names):
+    """What to say of a word that stands in the place of a call and is none."""
+    if word == "write":
+        return "write is no call: it begins a line of its own, and binds no name"
+    if not args and scripts.is_name(word):
+        return f"{word} is no call; if it is a vector, `cpy_wuz {word}` copies its integers, and `cpy_wub {word}` its booleans"
+    close = near(word, call_names)
+    return f"{word} is no call; " + ("docs/user/calls.md lists all calls" if close is None else f"the nearest call is {close}")
+
+
+# what may stand at a place of a line, with the tokens that may
+PLACES = {
+    "a name": scripts.is_name,
+    "= or a name": lambda token: token == "=" or scripts.is_name(token),
+    "=": lambda token: token == "=",
+    "a call": scripts.is_word,
+    "a name, a number, T or F": lambda token: scripts.is_name(token) or token in "TF" or scripts.is_number_token(token),
+}
+
+
+def why_not(wanted, token, begins):
+    """Why a token may not stand where something else is wanted."""
+    if "name" in wanted and token in ("write", "T", "F"):
+        return "; write, T and F cannot be names"
+    if "name" in wanted and re.fullmatch("[A-Za-z][A-Za-z0-9_]*", token):
+        return f"; a name has at most 32 bytes, and this one has {len(token)}"
+    if wanted == "a name" and begins and token.startswith("\xef\xbb\xbf"):
+        return "; the line begins with a byte order mark, which has to go"
+    if set(token) & set("(),") and wanted not in ("=", "= or a name"):
+        return "; a line makes one call, without parentheses or commas"
+    return "; a name is a letter, and then letters, digits and underscores" if wanted == "a name" else ""
+
+
+def places_of(tokens):
+    """What is wanted at each place of a line, as far as its tokens tell, and at the place behind them if the line may not end there."""
+    if tokens[0] == "write" and tokens[1:2] != ["="]:
+        return ["a name"] * len(tokens[1:])
+    names = ["a name", "= or a name"] if tokens[1:2] == ["="] else ["a name", "= or a name", "="]
+    return names + ["a call"] + ["a name, a number, T or F"] * len(tokens[len(names) + 1:])
+
+
+def bad_line(line, tokens, call_names):
+    """Where a line has none of the forms of a line, and what it lacks."""
+    if len(tokens) == 2 and all(map(scripts.is_name, tokens)):
+        lacks = "binds no name: a call stands behind a name and =" if tokens[0] in call_names else f"is no binding; `write {tokens[1]}` shows a value"
+        return f"`{' '.join(tokens)}` {lacks}"
+    starts = [match.start() for match in re.finditer("=|[^ \t=]+", line.split("#")[0])]
+    ends = starts[-1] + len(tokens[-1])
+    wanted = places_of(tokens)
+    skip = len(tokens) - len(wanted) if tokens[0] == "write" and tokens[1:2] != ["="] else 0
+    for place, one in enumerate(wanted, skip):
+        if place == len(tokens):
+            return f"column {ends + 1}: expected {one}, but the line ends"
+        token = tokens[place]
+        if not PLACES[one](token):
+            return f"column {starts[place] + 1}: expected {one}{why_not(one, token, starts[place] == 0)}"
+        if place == 1 and token == tokens[0]:
+            return f"column {starts[place] + 1}: expected another name than the first"
+    raise AssertionError(line)
+
+
 def line_fault(line, fault, call_names):
-    """What is wrong with a line: with its call, the number of its arguments or a number. Cases by hand tell of its form."""
+    """What is wrong with a line: with its form, its call, the number of its arguments or a number."""
     tokens = scripts.tokens_of(line)
+    if fault.number == 1:
+        return bad_line(line, tokens, call_names)
     at = tokens.index("=") + 1 if "=" in tokens else 0
     name, args = tokens[at] if at < len(tokens) else "", tokens[at + 1:]
     if fault.number == 2:
-        return f"{name} is no call; the nearest call is {nearest(name, call_names)}"
+        return no_call(name, args, call_names)
     if fault.number == 3:
-        takes = 1 if name in ("input", "nested") else len(CALLS[name][0]) if name in CALLS else None
+        takes = 1 if name in READING else len(CALLS[name][0]) if name in CALLS else None
         head = f"{call_words(name)}\n  {name} "
         if name == "write":
             return head + f"takes 1 or 2 names, and the line has {len(args)}"
@@ -307,12 +420,15 @@ def line_fault(line, fault, call_names):
     raise AssertionError(fault)
 
 
+CALL_NAMES = [*CALLS, *READING]
+
+
 def explained(name, settings, script, inputs):
     """A case of one run that stops, with what explains it."""
     text, stop = scripts.run(script, inputs)
     lines = [f"== case {name}\n", settings, *(f"== input\n{one}\n" for one in inputs), "== script\n", script]
     lines += ["== text\n", text] if text else []
-    return "".join([*lines, "== stop\n", stop, "== explained\n", explanation(script, [one + "\n" for one in inputs], [])])
+    return "".join([*lines, "== stop\n", stop, "== explained\n", explanation(script, [one + "\n" for one in inputs], CALL_NAMES)])
 
 
 def at_fault(rng, name):
@@ -344,9 +460,36 @@ def of_kinds(rng, name):
     yield "an argument that is not bound", f"{lines}r = {name} {' '.join(args)}\n"
 
 
+# tokens of lines, good ones and others
+TOKENS = """= = = a b x write T F 7 -1 +2 99999999999 my-vec 5x a, (a a) add_wuz(a, add_wuz mul_wuz add_ruz cpy_wuz nested input mke_fov print
+    sort cumsum ad_wuz sub_suz Add_ruz plus_wuz""".split() + ["n" * 32, "n" * 33]
+
+
+def is_unsure(line):
+    """Whether several calls are equally near to the word in the place of a call: which comes first, no reading of the pages tells."""
+    called = re.search("= *([A-Za-z0-9_]+)", line)
+    apart = sorted(distance(called[1], name) for name in CALL_NAMES) if called else [0, 1]
+    return apart[0] == apart[1] <= 2
+
+
+def bad_lines(rng):
+    """Lines of random tokens that are at fault by themselves, each after a vector is bound."""
+    text, lines = "", set()
+    while len(lines) < 80:
+        line = " ".join(rng.choice(TOKENS) for _ in range(rng.randint(1, 5)))
+        if rng.random() < 0.5:
+            line = f"x = {line}"
+        script = f"a = input 1\n{line}\n"
+        _, stop = scripts.run(script, ["3 1 7"])
+        if stop and line not in lines and not is_unsure(line):
+            lines.add(line)
+            text += explained(f"the line {line}", "", script, ["3 1 7"])
+    return text
+
+
 def cases(rng):
-    """Each fault of each call on random arguments, explained, some on several tiles, and some where memory is refused."""
-    text = ""
+    """Each fault of each call on random arguments, explained, some on several tiles, and some where memory is refused; and of lines."""
+    text = bad_lines(rng)
     for name in sorted(CALLS):
         for fault, args in sorted(at_fault(rng, name).items()):
             settings = tiles(("2", "3")) if fault != 7 else tiles(("1 4096", "1 3"))

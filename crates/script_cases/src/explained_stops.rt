@@ -3,7 +3,7 @@
 use case_files::SingleRun;
 use cvl_base::limits::MOST_SCRIPT_BYTES;
 use cvl_base::{Memory, NoResources};
-use explanations::{InputFile, explain};
+use explanations::explain;
 use script_runs::{MemSink, OpenGate, Stop, run_lines};
 use std::alloc::Global;
 use std::thread::Threads;
@@ -46,9 +46,6 @@ pub fn explanation_of<R: Threads + Sync, A: Memory>(
         }
     }
     let names = file_names(ample, single.inputs.len())?;
-    let mut files = Vec::with_capacity(ample, names.len())?;
-    for (name, bytes) in names.iter().zip(&single.inputs) {
-        files.push(InputFile::new(name.as_bytes(), Some(bytes)))?;
-    }
-    explain(heap, &session, &files, script, stop)
+    let files: Vec<&str> = names.iter().map(String::as_str).collect(ample)?;
+    explain(rt, heap, &session, &files, script, stop)
 }

@@ -1,14 +1,13 @@
 -- How the parts of the program come together.
 use Rattle.std.proofs.Common.{◌≡◌, ◌∙◌, ℕ, List, [], ◌∷◌, Option, Some, Result, Err, refl, ap, subst, inl, inr}
-use Rattle.clap.specs.Words.{IsAmong, Text, fault_of}
-use Rattle.clap.specs.declared.error.kind.ErrorKind.{ErrorKind}
+use Rattle.clap.specs.Words.{Text, fault_of}
 use Rattle.command_line.specs.Command.{cvl}
 use Rattle.command_line.specs.Reads.{inputs_given, script_given}
 use Rattle.script_runs.specs.Ends.{EndsAs, with_answer}
 use Rattle.script_runs.specs.Hosts.{Read, Seen, Shows, Tells, read_of, with_flush, with_reads}
 use Rattle.script_runs.proofs.Shown.{nothing_answered, reads_both, shows_answer, shows_flush, shows_nothing_read, shows_on, tells_after}
-use Rattle.shell.specs.ProgramParts.{Closes, EndsBy, Finishes, PutsShown, ReadsInputs, RunsOrMisses}
-use Rattle.shell.specs.Programs.{IsAsked, Performs, RunsFiles, Says, StopsAt, Works, end_of, ended, status_of, unreadable, unreadable_line}
+use Rattle.shell.specs.ProgramParts.{Closes, EndsBy, Finishes, ReadsInputs, RunsOrMisses}
+use Rattle.shell.specs.Programs.{Performs, RunsFiles, Says, StopsAt, Works, end_of, ended, status_of, unreadable, unreadable_line}
 use Rattle.script_runs.specs.Meaning.{meaning}
 use Rattle.vector_handles.specs.declared.input.Input.{Input}
 use Rattle.script_runs.specs.declared.stop.Stop.{Stop}
@@ -26,7 +25,7 @@ finishes_by answer before after status end h is = record {
 }
 
 -- the end of work, where the host shows at least as much before it
-finishes_after : (answer : Result (Unit {0}) Stop) (before middle after : Seen) (status : ℕ) → Shows before middle → Finishes answer middle after status → Finishes answer before after status
+pub finishes_after : (answer : Result (Unit {0}) Stop) (before middle after : Seen) (status : ℕ) → Shows before middle → Finishes answer middle after status → Finishes answer before after status
 finishes_after answer before middle after status first h = record {
   flushed = h.flushed;
   told = h.told;
@@ -86,19 +85,10 @@ performs_none A words before middle after status written answer works shown ends
     (shows_on _ _ _ (shows_answer written answer (with_reads [] before) before (shows_nothing_read before)) shown) ends)
 
 -- there is no memory before the first read
-pub performs_starved : (A : Type 0) (words : List Text) (before after : Seen) (status : ℕ) → Finishes (Err (stop.NoResources 0)) before after status
+performs_starved : (A : Type 0) (words : List Text) (before after : Seen) (status : ℕ) → Finishes (Err (stop.NoResources 0)) before after status
     → Performs A words before after status
 performs_starved A words before after status ends =
     performs_none A words before before after status [] (Err (stop.NoResources 0)) (inl (refl, (refl, refl))) (nothing_answered (Err (stop.NoResources 0)) before refl) ends
-
--- the help or the version is asked for
-pub performs_shown : (A : Type 0) (words : List Text) (before middle after : Seen) (status : ℕ) (answer : Result (Unit {0}) Stop) (kind : ErrorKind)
-    → IsAsked kind → IsAmong kind (fault_of cvl words) → PutsShown before middle answer → Finishes answer middle after status
-    → Performs A words before after status
-performs_shown A words before middle after status answer kind asked among (written, inl none, shown) ends =
-    performs_none A words before middle after status written answer (inl (refl, none)) shown ends
-performs_shown A words before middle after status answer kind asked among (written, inr text, shown) ends =
-    performs_none A words before middle after status written answer (inr (inl (refl, kind, asked, among, text))) shown ends
 
 -- the files are read, and the script is run, or one of them cannot be read
 pub performs_files : (A : Type 0) (words : List Text) (script : Text) (inputs : List Text) (before after : Seen) (status : ℕ)

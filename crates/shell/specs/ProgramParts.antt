@@ -1,16 +1,17 @@
 -- What the parts of the program do on its host.
 -- Source: this library's program.
-use Rattle.std.specs.Prelude.{◌≡◌, ◌⊎◌, ℕ, ◌≤◌, Bool, List, ◌∷◌, map, zip, Option, Some, None, Result, Err, length}
+use Rattle.std.specs.Prelude.{◌≡◌, ◌⊎◌, ℕ, ◌≤◌, Bool, List, ◌∷◌, Option, Some, None, Result, Ok, Err, Vec, length}
 use Rattle.std.proofs.Common.{inl, inr}
 use Rattle.std.specs.List.{All}
 use Rattle.clap.specs.Words.{Text}
 use Rattle.vector_handles.specs.declared.input.Input.{Input}
-use Rattle.vector_handles.specs.declared.input.Input.TheVariants as input
 use Rattle.script_runs.specs.Ends.{EndsAs, with_answer}
-use Rattle.script_runs.specs.Hosts.{Read, Seen, Shows, Tells, read_of, with_flush, with_reads}
+use Rattle.script_runs.specs.Hosts.{Read, Seen, Shows, Tells, with_flush, with_reads}
 use Rattle.script_runs.specs.Meaning.{meaning}
-use Rattle.shell.specs.Programs.{ExplainsStop, GaveInputs, IsShown, RunsFiles, Says, Starves, StopsAt}
-use Rattle.shell.specs.Programs.{end_of, ended, status_of, unreadable_line}
+use Rattle.explained_calls.specs.Sentences.{indented}
+use Rattle.explanations.specs.Explained.{memory_words}
+use Rattle.shell.specs.Programs.{ExplainsStop, GaveInputs, IsShown, SaysWhy, RunsFiles, Says, Starves, StopsAt}
+use Rattle.shell.specs.Programs.{end_of, ended, no_memory_line, status_of, unreadable_line}
 use Rattle.script_runs.specs.declared.stop.Stop.{Stop}
 use Rattle.script_runs.specs.declared.stop.Stop.TheVariants as stop
 
@@ -70,40 +71,37 @@ RunsOrMisses A script inputs before after status =
     ⊎ ((status ≡ 3) × (name : Text) × (reads : List Read) × StopsAt (script ∷ inputs) reads name
     × Tells (Some (unreadable_line name)) (with_reads reads before) after))
 
--- the bytes of an input; a vector has none
-abbrev pub bytes_in : {A : Type 0} → Input A → Option (List ℕ)
-bytes_in (input.Bytes bytes) = Some bytes.items
-bytes_in (input.Vector numbers) = None
+-- an explanation, or the line in its place if memory for it is refused
+abbrev pub text_or_line : {A E : Type 0} → Result (Vec ℕ A) E → List ℕ
+text_or_line (Ok text) = text.items
+text_or_line (Err refused) = no_memory_line
 
--- files of these names, with these bytes
-abbrev pub reads_of : List Text → List (Option (List ℕ)) → List Read
-reads_of names bytes = map (λ p. read_of p.0 p.1) (zip names bytes)
+-- standard error gets what is told of a stop with this explanation
+abbrev pub TellsStop : Stop → List ℕ → Seen → Seen → Type 0
+TellsStop why explanation before after =
+    (told : Option (List ℕ)) × SaysWhy why explanation told × Tells told before after
 
--- the inputs as they were read from the files of these names
-abbrev pub reads_in : {A : Type 0} → List Text → List (Input A) → List Read
-reads_in names inputs = reads_of names (map bytes_in inputs)
-
--- standard error gets this text, or nothing if memory for it is refused
-abbrev pub TellsExplained : List ℕ → Seen → Seen → Type 0
-TellsExplained text before after =
-    (told : Option (List ℕ)) × ((told ≡ None) ⊎ (told ≡ Some text)) × Tells told before after
+-- there is no memory before the first file is read, which is reported and explained
+abbrev pub StarvesAndExplains : Seen → Seen → ℕ → Type 0
+StarvesAndExplains before after status =
+    (mid : Seen) × Finishes (Err (stop.NoResources 0)) before mid status × Tells (Some (indented memory_words)) mid after
 
 -- the script is run over its inputs, and then why it stopped is explained
 pub record ClosesAndExplains
-    (A : Type 0) (script : List ℕ) (reads : List Read) (inputs : List (Input A)) (before after : Seen) (status : ℕ) : Type 0 where
+    (A : Type 0) (files : List Text) (script : List ℕ) (inputs : List (Input A)) (before after : Seen) (status : ℕ) : Type 0 where
   pub mid : Seen
   pub closes : Closes (EndsAs (meaning script inputs)) before mid status
   pub told : Option (List ℕ)
-  pub explains : ExplainsStop script inputs reads (end_of closes.answer closes.finishes.flushed) told
+  pub explains : ExplainsStop files script inputs (end_of closes.answer closes.finishes.flushed) told
   pub tells : Tells told mid after
 
--- about the very script and inputs that were read and run; if none was run, nothing is explained
+-- about the very script and inputs that were read and run
 abbrev pub ExplainsFiles : (A : Type 0) (script : Text) (inputs : List Text) (before after : Seen) (status : ℕ)
     → RunsOrMisses A script inputs before after status → Option (List ℕ) → Type 0
-ExplainsFiles A script inputs before after status (inl starved) told = told ≡ None
+ExplainsFiles A script inputs before after status (inl starved) told = told ≡ Some (indented memory_words)
 ExplainsFiles A script inputs before after status (inr (inl (reads, closes))) told =
     let run = closes.works in
-    ExplainsStop run.script run.inputs run.input_reads (end_of closes.answer closes.finishes.flushed) told
+    ExplainsStop inputs run.script run.inputs (end_of closes.answer closes.finishes.flushed) told
 ExplainsFiles A script inputs before after status (inr (inr missed)) told = told ≡ None
 
 -- the same as without explanations, and then the explanation

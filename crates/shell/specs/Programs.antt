@@ -9,7 +9,8 @@ use Rattle.clap.specs.declared.error.kind.ErrorKind.{ErrorKind}
 use Rattle.clap.specs.declared.error.kind.ErrorKind.TheVariants.{DisplayHelp, DisplayVersion}
 use Rattle.command_line.specs.Command.{cvl}
 use Rattle.command_line.specs.Reads.{explain_given, inputs_given, script_given}
-use Rattle.explanations.specs.Explained.{explained, names_of_script}
+use Rattle.explained_calls.specs.Sentences.{indented}
+use Rattle.explanations.specs.Explained.{explained, memory_words, names_of_script}
 use Rattle.vector_handles.specs.declared.input.Input.{Input}
 use Rattle.vector_handles.specs.declared.input.Input.TheVariants.{Bytes, Vector}
 use Rattle.script_runs.specs.Ends.{EndsAs, with_answer}
@@ -136,19 +137,34 @@ pub record Performs (A : Type 0) (words : List Text) (before after : Seen) (stat
 
 -- ---- how it comes to its end if the words ask for explanations
 
--- why a script stopped is explained, or memory for that is refused and nothing is written; if it did not stop, nothing is
-abbrev pub ExplainsStop : {A : Type 0} → List ℕ → List (Input A) → List Read → Option Stop → Option (List ℕ) → Type 0
-ExplainsStop script inputs reads None told = told ≡ None
-ExplainsStop script inputs reads (Some why) told =
-    (told ≡ None) ⊎ (told ≡ Some (explained (names_of_script script inputs) reads script why))
+-- the line in the place of an explanation for which there is no memory
+abbrev pub no_memory_line : List ℕ
+no_memory_line = codes "cvl: no memory to explain this\n"
 
--- about the very script and inputs that were read and run; if none was run, nothing is explained
+-- what is told of a stop is its explanation; only the explanation of a script's fault takes memory, and if that is refused the line says so
+abbrev pub SaysWhy : Stop → List ℕ → Option (List ℕ) → Type 0
+SaysWhy (stop.Script line f) explanation told = (told ≡ Some no_memory_line) ⊎ (told ≡ Some explanation)
+SaysWhy (stop.NoResources line) explanation told = told ≡ Some explanation
+SaysWhy (stop.WriteFailed line) explanation told = told ≡ Some explanation
+
+-- why a script stopped is explained, by the names of its inputs' files; if it did not stop, nothing is
+abbrev pub ExplainsStop : {A : Type 0} → List Text → List ℕ → List (Input A) → Option Stop → Option (List ℕ) → Type 0
+ExplainsStop files script inputs None told = told ≡ None
+ExplainsStop files script inputs (Some why) told =
+    SaysWhy why (explained (names_of_script script inputs) files inputs script why) told
+
+-- that there was no memory before the first file was read is explained where it is known that this was asked for: not while the words
+-- are read, for which there may be no memory either
+abbrev pub ExplainsStarved : Option (List ℕ) → Type 0
+ExplainsStarved told = (told ≡ None) ⊎ (told ≡ Some (indented memory_words))
+
+-- about the very script and inputs that were read and run; help and the version are no scripts, and nothing is explained
 abbrev pub ExplainsWork : (A : Type 0) (words : List Text) (reads : List Read) (written : List ℕ) (answer : Result (Unit {0}) Stop)
     → Works A words reads written answer → Option Stop → Option (List ℕ) → Type 0
-ExplainsWork A words reads written answer (inl starved) end told = told ≡ None
+ExplainsWork A words reads written answer (inl starved) end told = ExplainsStarved told
 ExplainsWork A words reads written answer (inr (inl shown)) end told = told ≡ None
 ExplainsWork A words reads written answer (inr (inr (taken, name, named, run))) end told =
-    ExplainsStop run.script run.inputs run.input_reads end told
+    ExplainsStop (inputs_given words) run.script run.inputs end told
 
 -- what the program adds on standard error to an end that it came to, if it was asked to explain
 abbrev pub ExplainsEnd : (A : Type 0) (words : List Text) (before : Seen) (first : Option (List ℕ)) (after : Seen) (end : End)

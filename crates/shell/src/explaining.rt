@@ -1,112 +1,89 @@
 //! Runs that explain why they stopped.
 
-ghost use Rattle.std.specs.Prelude.{◌≡◌, ◌^◌, ◌<◌, ◌-◌, [], IfOk, Some, map, option_map};
+ghost use Rattle.std.specs.Prelude.{◌≡◌, ◌^◌, ◌<◌, ◌-◌, ◌≤◌, [], List, Some, Err, length, true, false};
 ghost use Rattle.clap.specs.Walk.{texts};
-ghost use Rattle.script_runs.specs.Ends.{AtEnd, Runs};
-ghost use Rattle.script_runs.specs.Hosts.{Tells, read_of};
-ghost use Rattle.script_runs.specs.Meaning.{meaning};
-ghost use Rattle.explanations.specs.Explained.{explained, names_of_script};
-ghost use Rattle.shell.specs.ProgramParts.{ClosesAndExplains, TellsExplained, bytes_in, reads_in, reads_of};
+ghost use Rattle.clap.specs.Words.{Text};
+ghost use Rattle.cvl_base.specs.Limits.{most_script_bytes};
+ghost use Rattle.vector_handles.specs.declared.input.Input.{Input};
+ghost use Rattle.script_runs.specs.Hosts.{Tells};
+ghost use Rattle.script_runs.specs.declared.stop.Stop.TheVariants as stop;
+ghost use Rattle.explanations.specs.Explained.{explained};
+ghost use Rattle.shell.specs.ProgramParts.{ClosesAndExplains, Finishes, StarvesAndExplains, TellsStop, text_or_line};
 
 use crate::endings::{FINE, close, finish, status_of};
 use crate::host::Host;
-use crate::programs::{STARVED, run_script};
+use crate::programs::STARVED;
 use command_line::Words;
 use crew::Gate;
 use cvl_base::limits::MOST_SCRIPT_BYTES;
 use cvl_base::{Fault, FaultNo, Memory, NoResources};
-use explanations::{InputFile, explain};
-use script_runs::{Sink, Stop, run_lines};
+use explanations::{MEMORY, WRITE, explain, explain_too_long};
+use script_runs::{Stop, run_lines};
 use std::thread::Threads;
 use vector_handles::{Input, Session};
 
-/// A copy of the bytes of each input, since a run takes its inputs.
-fn copied_bytes<A: Memory>(
-    alloc: A,
-    inputs: &[Input<A>],
-) -> Result<Vec<Option<Vec<u8, A>>, A>, NoResources>
-    ensures { IfOk result (λ copies. map (option_map (λ bytes. bytes.items)) copies.items ≡ map bytes_in inputs.now) }
-{
-    let mut copies = Vec::with_capacity(alloc, inputs.len())?;
-    for input in inputs {
-        let copy = match input {
-            Input::Bytes(bytes) => Some(Vec::from_slice(alloc, bytes.as_slice())?),
-            Input::Vector(_) => None,
-        };
-        copies.push(copy)?;
-    }
-    Ok(copies)
-}
+/// The line in the place of an explanation for which there is no memory.
+const NO_MEMORY: &[u8] = b"cvl: no memory to explain this\n";
 
-/// An input with the name of its file.
-fn input_file<'a, A: Memory>(name: &'a str, copy: &'a Option<Vec<u8, A>>) -> InputFile<'a>
-    ensures { result ≡ read_of name.now (option_map (λ bytes. bytes.items) copy.now) }
+/// Writes an explanation to standard error, or the line in its place.
+fn put_explanation<A: Memory, H: Host>(text: Result<Vec<u8, A>, NoResources>, host: &mut H)
+    ensures { Tells (Some (text_or_line text)) (H.seen host.old) (H.seen host.new) }
 {
-    match copy {
-        Some(bytes) => InputFile::new(name.as_bytes(), Some(bytes.as_slice())),
-        None => InputFile::new(name.as_bytes(), None),
+    match text {
+        Ok(text) => host.put_error(text.as_slice()),
+        Err(_) => host.put_error(NO_MEMORY),
     }
 }
 
-/// The inputs with the names of their files.
-fn input_files<'a, A: Memory>(
-    alloc: A,
-    names: &[&'a str],
-    copies: &'a [Option<Vec<u8, A>>],
-) -> Result<Vec<InputFile<'a>, A>, NoResources>
-    ensures { IfOk result (λ files. files.items
-        ≡ reads_of (texts names.now) (map (option_map (λ bytes. bytes.items)) copies.now)) }
-{
-    let mut files = Vec::with_capacity(alloc, names.len())?;
-    let mut rest = copies;
-    for name in names {
-        let Some((copy, others)) = rest.split_first() else {
-            break;
-        };
-        files.push(input_file(name, copy))?;
-        rest = others;
-    }
-    Ok(files)
-}
-
-/// Runs a script on a session that binds no name.
-fn run_on<R: Threads + Sync, A: Memory, S: Sink, G: Gate>(
+/// Writes to standard error why a script stopped. Only the explanation of its fault takes memory.
+fn tell_explained<R: Threads + Sync, A: Memory, H: Host>(
     rt: &R,
     alloc: A,
-    session: &mut Session<A>,
-    script: &[u8],
-    sink: &mut S,
-    gate: &G,
-) -> Result<(), Stop>
-    requires failures { (S.seen sink.old).failed_puts < 2 ^ 64 - 1 }
-    requires unbound { session.old.names ≡ [] }
-    ensures runs { Runs (meaning script.now session.old.inputs) (S.seen sink.old) (S.seen sink.new) result }
-    ensures names { AtEnd result (session.new.names ≡ names_of_script script.now session.old.inputs) }
-{
-    if script.len() > MOST_SCRIPT_BYTES {
-        return Err(Stop::Script {
-            line: 0,
-            fault: Fault::new(FaultNo::ScriptTooLong),
-        });
-    }
-    run_lines(rt, alloc, session, script, sink, gate)
-}
-
-/// Writes to standard error why a script stopped, if there is memory for it.
-fn tell_explained<A: Memory, H: Host>(
-    alloc: A,
     session: &Session<A>,
-    files: &[InputFile<'_>],
+    files: &[&str],
     script: &[u8],
     stop: &Stop,
     host: &mut H,
 )
-    ensures { TellsExplained (explained session.now.names files.now script.now stop.now) (H.seen host.old) (H.seen host.new) }
+    ensures { TellsStop stop.now (explained session.now.names (texts files.now) session.now.inputs script.now stop.now)
+        (H.seen host.old) (H.seen host.new) }
 {
-    match explain(alloc, session, files, script, stop) {
-        Ok(text) => host.put_error(text.as_slice()),
-        Err(_) => {}
+    match stop {
+        Stop::Script { .. } => {
+            put_explanation(explain(rt, alloc, session, files, script, stop), host);
+        }
+        Stop::NoResources { .. } => host.put_error(MEMORY),
+        Stop::WriteFailed { .. } => host.put_error(WRITE),
     }
+}
+
+/// Reports that there was no memory before the first line, explains that if it is asked for, and returns the status.
+pub(crate) fn starve<H: Host>(explain: bool, host: &mut H) -> u8
+    requires { (H.seen host.old).failed_flushes < 2 ^ 64 - 1 }
+    ensures plain { explain ≡ false → Finishes (Err (stop.NoResources 0)) (H.seen host.old) (H.seen host.new) result }
+    ensures explaining { explain ≡ true → StarvesAndExplains (H.seen host.old) (H.seen host.new) result }
+{
+    let status = finish(Err(STARVED), host);
+    if explain {
+        host.put_error(MEMORY);
+    }
+    status
+}
+
+/// Reports and explains that the script is too long, and returns the status.
+fn refuse_script<A: Memory, H: Host>(alloc: A, script: &[u8], host: &mut H) -> u8
+    requires flushes { (H.seen host.old).failed_flushes < 2 ^ 64 - 1 }
+    requires long { most_script_bytes < length script.now }
+    ensures { (files : List Text) (inputs : List (Input A)) →
+        ClosesAndExplains A files script.now inputs (H.seen host.old) (H.seen host.new) result }
+{
+    let stop = Stop::Script {
+        line: 0,
+        fault: Fault::new(FaultNo::ScriptTooLong),
+    };
+    let status = finish(Err(stop), host);
+    put_explanation(explain_too_long(alloc, script), host);
+    status
 }
 
 /// Runs the script on a session over its inputs, reports and explains why it stopped, and returns the status.
@@ -114,7 +91,7 @@ fn run_session<R: Threads + Sync, A: Memory, H: Host, G: Gate>(
     rt: &R,
     alloc: A,
     session: Session<A>,
-    files: &[InputFile<'_>],
+    files: &[&str],
     script: &[u8],
     host: &mut H,
     gate: &G,
@@ -122,21 +99,22 @@ fn run_session<R: Threads + Sync, A: Memory, H: Host, G: Gate>(
     requires failures { (H.seen host.old).failed_puts < 2 ^ 64 - 1 }
     requires flushes { (H.seen host.old).failed_flushes < 2 ^ 64 - 1 }
     requires unbound { session.names ≡ [] }
-    ensures { ClosesAndExplains A script.now files.now session.inputs (H.seen host.old) (H.seen host.new) result }
+    requires short { length script.now ≤ most_script_bytes }
+    ensures { ClosesAndExplains A (texts files.now) script.now session.inputs (H.seen host.old) (H.seen host.new) result }
 {
     let mut session = session;
-    let answer = run_on(rt, alloc, &mut session, script, host, gate);
+    let answer = run_lines(rt, alloc, &mut session, script, host, gate);
     match close(answer, host) {
         None => FINE,
         Some(stop) => {
-            tell_explained(alloc, &session, files, script, &stop, host);
+            tell_explained(rt, alloc, &session, files, script, &stop, host);
             status_of(&stop)
         }
     }
 }
 
-/// Runs the script over its inputs, reports and explains why the run stopped, and returns the status. Without memory for what an
-/// explanation needs, nothing is explained.
+/// Runs the script over its inputs, reports and explains why the run stopped, and returns the status. The run is that of
+/// [`run_gated`](script_runs::run_gated), on a session that is still there when it has stopped.
 pub(crate) fn run_explained<R: Threads + Sync, A: Memory, H: Host, G: Gate>(
     rt: &R,
     alloc: A,
@@ -148,17 +126,22 @@ pub(crate) fn run_explained<R: Threads + Sync, A: Memory, H: Host, G: Gate>(
 ) -> u8
     requires failures { (H.seen host.old).failed_puts < 2 ^ 64 - 1 }
     requires flushes { (H.seen host.old).failed_flushes < 2 ^ 64 - 1 }
-    ensures { ClosesAndExplains A script.now (reads_in (texts words.now.inputs.items) inputs.items) inputs.items
+    ensures { ClosesAndExplains A (texts words.now.inputs.items) script.now inputs.items
         (H.seen host.old) (H.seen host.new) result }
 {
-    let Ok(copies) = copied_bytes(alloc, inputs.as_slice()) else {
-        return run_script(rt, alloc, words.config, script, inputs, host, gate);
-    };
-    let Ok(files) = input_files(alloc, words.inputs.as_slice(), copies.as_slice()) else {
-        return run_script(rt, alloc, words.config, script, inputs, host, gate);
-    };
+    if script.len() > MOST_SCRIPT_BYTES {
+        return refuse_script(alloc, script, host);
+    }
     match Session::new(alloc, words.config, inputs) {
-        Err(_) => finish(Err(STARVED), host),
-        Ok(session) => run_session(rt, alloc, session, files.as_slice(), script, host, gate),
+        Err(_) => starve(true, host),
+        Ok(session) => run_session(
+            rt,
+            alloc,
+            session,
+            words.inputs.as_slice(),
+            script,
+            host,
+            gate,
+        ),
     }
 }

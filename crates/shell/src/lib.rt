@@ -12,7 +12,7 @@ pub mod stream_host;
 pub mod whole_files;
 
 pub use command_line::{Words, WordsFault, read_words};
-pub use explanations::{InputFile, explain};
+pub use explanations::explain;
 pub use host::Host;
 pub use process::{SystemFiles, run_process, run_words};
 pub use programs::{program, program_gated};

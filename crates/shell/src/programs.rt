@@ -5,11 +5,11 @@ ghost use Rattle.clap.specs.Walk.{texts};
 ghost use Rattle.script_runs.specs.Ends.{EndsAs};
 ghost use Rattle.script_runs.specs.Meaning.{meaning};
 ghost use Rattle.shell.specs.ProgramParts.{Closes, ClosesAndExplains, PutsShown};
-ghost use Rattle.shell.specs.ProgramParts.{RunsAndExplains, RunsOrMisses, TellsSome, reads_in};
+ghost use Rattle.shell.specs.ProgramParts.{RunsAndExplains, RunsOrMisses, TellsSome};
 ghost use Rattle.shell.specs.Programs.{PerformsAsAsked};
 
 use crate::endings::{COMMAND_LINE, FAILED, finish, tell_stop, tell_unreadable};
-use crate::explaining::run_explained;
+use crate::explaining::{run_explained, starve};
 use crate::files::{read_inputs, room_for};
 use crate::host::Host;
 use crate::whole_files::FileRoom;
@@ -49,7 +49,7 @@ fn tell_refused<A: Memory, H: Host>(alloc: A, error: &clap::Error, host: &mut H)
 }
 
 /// Runs the script, flushes its text, reports why the run stopped, and returns the status.
-pub(crate) fn run_script<R: Threads + Sync, A: Memory, H: Host, G: Gate>(
+fn run_script<R: Threads + Sync, A: Memory, H: Host, G: Gate>(
     rt: &R,
     alloc: A,
     config: Config,
@@ -81,8 +81,7 @@ fn run_inputs<R: Threads + Sync, A: Memory, H: Host, G: Gate>(
     ensures plain { words.now.explain ≡ false →
         Closes (EndsAs (meaning script.now inputs.items)) (H.seen host.old) (H.seen host.new) result }
     ensures explaining { words.now.explain ≡ true →
-        ClosesAndExplains A script.now (reads_in (texts words.now.inputs.items) inputs.items) inputs.items
-        (H.seen host.old) (H.seen host.new) result }
+        ClosesAndExplains A (texts words.now.inputs.items) script.now inputs.items (H.seen host.old) (H.seen host.new) result }
 {
     if words.explain {
         run_explained(rt, alloc, words, script, inputs, host, gate)
@@ -107,7 +106,7 @@ fn run_files<R: Threads + Sync, A: Memory, H: Host, G: Gate>(
         RunsAndExplains A words.now.script.now (texts words.now.inputs.items) (H.seen host.old) (H.seen host.new) result }
 {
     let Ok(room) = room_for(alloc, words) else {
-        return finish(Err(STARVED), host);
+        return starve(words.explain, host);
     };
     match host.read_file(words.script, FileRoom::new(rt, alloc, words.config)) {
         None => {
@@ -143,7 +142,9 @@ fn run_files<R: Threads + Sync, A: Memory, H: Host, G: Gate>(
 /// but a run that stopped by itself keeps its own line and status.
 ///
 /// With `--explain`, an explanation of the stop follows on standard error, as [`explain`](crate::explain) gives it; nothing else
-/// changes. If memory for the explanation is refused, none of it is written.
+/// changes, and a run that does not stop takes no more memory. If memory for the explanation is refused, the line
+/// `cvl: no memory to explain this` stands in its place: only that of a script's fault takes memory. Nothing is explained of help
+/// and the version, nor if there is no memory for the words, since then it is not known that they ask for it.
 ///
 /// There is always a message: a stop's line takes no memory, and that of a file has its room before the first read. Without
 /// memory for clap's text of a refused command line, it is `line 0: no resources`.

@@ -3,7 +3,7 @@
 use cvl_base::{BoolBinary, Cut, Element, FaultNo, Form, IntMonoid, Op};
 
 /// Lines of scripts, the fault of each, and the words that explain it.
-pub(crate) const LINES: [(&str, FaultNo, &str); 29] = [
+pub(crate) const LINES: [(&str, FaultNo, &str); 36] = [
     (
         "x",
         FaultNo::BadLine,
@@ -18,12 +18,12 @@ pub(crate) const LINES: [(&str, FaultNo, &str); 29] = [
     (
         "x y",
         FaultNo::BadLine,
-        "  column 4: expected =, but the line ends\n",
+        "  `x y` is no binding; `write y` shows a value\n",
     ),
     (
         "5x = add_wuz v w",
         FaultNo::BadLine,
-        "  column 1: expected a name\n",
+        "  column 1: expected a name; a name is a letter, and then letters, digits and underscores\n",
     ),
     (
         "x x = nested 1",
@@ -48,7 +48,7 @@ pub(crate) const LINES: [(&str, FaultNo, &str); 29] = [
     (
         "x = add_wuz v, w",
         FaultNo::BadLine,
-        "  column 13: expected a name, a number, T or F\n",
+        "  column 13: expected a name, a number, T or F; a line makes one call, without parentheses or commas\n",
     ),
     (
         "x=add_wuz v = w",
@@ -58,12 +58,12 @@ pub(crate) const LINES: [(&str, FaultNo, &str); 29] = [
     (
         "write v 5",
         FaultNo::BadLine,
-        "  column 9: expected a name\n",
+        "  column 9: expected a name; a name is a letter, and then letters, digits and underscores\n",
     ),
     (
         "write = v",
         FaultNo::BadLine,
-        "  column 1: expected a name\n",
+        "  column 1: expected a name; write, T and F cannot be names\n",
     ),
     (
         "x = ad_wuz v w",
@@ -78,7 +78,7 @@ pub(crate) const LINES: [(&str, FaultNo, &str); 29] = [
     (
         "x = scan v",
         FaultNo::UnknownCall,
-        "  scan is no call; the nearest call is input\n",
+        "  scan is no call; docs/user/calls.md lists all calls\n",
     ),
     (
         "x = write v",
@@ -141,6 +141,41 @@ pub(crate) const LINES: [(&str, FaultNo, &str); 29] = [
         "  1234567890123456789012345678901234567890.. is no integer from -2147483648 to 2147483647\n",
     ),
     ("x = div_wuz v w", FaultNo::DivideByZero, ""),
+    (
+        "add_ruz v",
+        FaultNo::BadLine,
+        "  `add_ruz v` binds no name: a call stands behind a name and =\n",
+    ),
+    (
+        "x = add_wuz(v, w)",
+        FaultNo::BadLine,
+        "  column 5: expected a call; a line makes one call, without parentheses or commas\n",
+    ),
+    (
+        "abcdefghijklmnopqrstuvwxyz0123456789 = add_wuz v w",
+        FaultNo::BadLine,
+        "  column 1: expected a name; a name has at most 32 bytes, and this one has 36\n",
+    ),
+    (
+        "\u{feff}x = add_wuz v w",
+        FaultNo::BadLine,
+        "  column 1: expected a name; the line begins with a byte order mark, which has to go\n",
+    ),
+    (
+        "x = v",
+        FaultNo::UnknownCall,
+        "  v is no call; if it is a vector, `cpy_wuz v` copies its integers, and `cpy_wub v` its booleans\n",
+    ),
+    (
+        "v = dis_vuz 7 1\u{1b}\u{7f}",
+        FaultNo::BadNumber,
+        "  1\\x1b\\x7f is no integer from -2147483648 to 2147483647\n",
+    ),
+    (
+        "v = dis_vuz 12345678901234567890123456789012345678\u{20ac} 1",
+        FaultNo::BadNumber,
+        "  12345678901234567890123456789012345678.. is no integer from -2147483648 to 2147483647\n",
+    ),
 ];
 
 /// Calls, and the words for what each takes.

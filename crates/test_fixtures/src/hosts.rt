@@ -122,10 +122,10 @@ pub fn host_with<'a>(alloc: Global, files: Files<'a>, failing: Failing) -> Host<
         Failing::Room(bytes) => (0, bytes),
         _ => (0, u64::MAX),
     };
-    // a message is one write, so that the messages of two programs don't mix
+    // a message is one write, so that the messages of two programs don't mix: the line of a stop, and its explanation
     let (more_told, messages) = match failing {
         Failing::Errors(writes) => (0, writes),
-        _ => (usize::MAX, 1),
+        _ => (usize::MAX, 2),
     };
     let output = NarrowWriter::new(alloc, more, writes, failing);
     let errors = NarrowWriter::new(alloc, more_told, messages, Failing::Nothing);

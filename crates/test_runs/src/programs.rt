@@ -25,6 +25,13 @@ pub const FILES: Files = &[
     ("last", "a = input 198\nb = add_suz a\nwrite b\n"),
     ("late", "a = input 1\nwrite a\nb = xyz_wuz a\n"),
     ("numbers", "3 1 7 0 4\n"),
+    (
+        "gather",
+        "v = input 1\nindex = input 2\nr = bck_puz v index\n",
+    ),
+    ("index", "2 5 0\n"),
+    ("nest", "v d = nested 1\n"),
+    ("read_nest", "a = input 1\nv d = nested 1\n"),
     ("sparse_matvec", SPARSE_MATVEC),
     ("lengths", "2 0 2\n"),
     ("columns", "0 2 1 2\n"),
@@ -94,6 +101,29 @@ const SIGHT: &str = "cvl --tile 2 --workers 3 line_of_sight hill";
 
 const NO_HILL: &str = "line 3: fault 10 IndexOutOfRange at 0\n";
 
+/// The message about an index, and its explanation.
+pub const OUT_OF_RANGE: &str = "line 3: fault 10 IndexOutOfRange at 1
+  3 | r = bck_puz v index
+  bck_puz takes integers and integers, and gives integers
+  v: integers, 5 elements, bound at line 1 by input 1 (numbers)
+  index: integers, 3 elements, bound at line 2 by input 2 (index)
+  index[1] is 5, and v has 5 elements
+";
+
+/// The messages about a list of numbers that should be a nested text, as the first line reads it and the second, and their
+/// explanations.
+pub const NO_NEST: &str = "line 1: fault 15 BadInput at 0
+  1 | v d = nested 1
+  nested takes an integer, and gives integers and a descriptor
+  numbers is a list of numbers, which input reads; nested reads a list of lists, as [[1 2] []]
+";
+
+const READ_NO_NEST: &str = "line 2: fault 15 BadInput at 0
+  2 | v d = nested 1
+  nested takes an integer, and gives integers and a descriptor
+  numbers is a list of numbers, which input reads; nested reads a list of lists, as [[1 2] []]
+";
+
 const ROWS: &[Row] = &[
     ("cvl empty", "", "", 0),
     ("cvl scan numbers", SCANNED, "", 0),
@@ -109,6 +139,11 @@ const ROWS: &[Row] = &[
     (PRODUCT, "y = [5 0 18]\n", "", 0),
     (SIGHT, "v = [T T F T F]\n", "", 0),
     ("cvl line_of_sight empty", "", NO_HILL, 1),
+    // with an explanation, if the script stops
+    ("cvl --explain gather numbers index", "", OUT_OF_RANGE, 1),
+    ("cvl nest --explain numbers", "", NO_NEST, 1),
+    ("cvl --explain read_nest numbers", "", READ_NO_NEST, 1),
+    ("cvl --explain scan numbers", SCANNED, "", 0),
     // help, the version, and command lines that are refused
     ("cvl -h", HELP, "", 0),
     ("cvl --help", HELP, "", 0),

@@ -1,6 +1,6 @@
 //! What is made on ample memory, and with each of its requests refused in turn: runs of the program, calls, recipes and texts.
 
-use crate::programs::{FILES, GIVEN, LATE, NO_FILE, SCANNED};
+use crate::programs::{FILES, GIVEN, LATE, NO_FILE, NO_NEST, OUT_OF_RANGE, SCANNED};
 use cvl_base::{Memory, Refused};
 use refusing_memory::{Flaw, withstands_refusals};
 use shell::{MemSink, OpenGate, Sink};
@@ -32,11 +32,18 @@ const STOPPED: Row = ("cvl --tile 2 --workers 3 late numbers", GIVEN, LATE, 1);
 
 const UNREAD: Row = ("cvl late numbers nofile", "", NO_FILE, 3);
 
+/// Runs whose stop is explained: at an index out of range, and at an input that is a list of numbers and is read to see that.
+const EXPLAINED: Row = ("cvl --explain gather numbers index", "", OUT_OF_RANGE, 1);
+
+const UNNESTED: Row = ("cvl --explain nest numbers", "", NO_NEST, 1);
+
 /// What is made, and how many requests it makes at least.
 const ALL: &[(Made, u64)] = &[
     (Made::Run(FILES, SCAN), 5),
     (Made::Run(FILES, STOPPED), 5),
     (Made::Run(FILES, UNREAD), 3),
+    (Made::Run(FILES, EXPLAINED), 10),
+    (Made::Run(FILES, UNNESTED), 6),
     (Made::Call(Call::Scan, &[0, 3, 4, 11, 11]), 4),
     (Made::Call(Call::Reduce, &[15]), 4),
     (Made::Call(Call::SegScan, &[0, 3, 0, 7, 7]), 4),

@@ -1,4 +1,5 @@
 pub mod BoundNames
 pub mod NestedInputs
+pub mod ReadInputs
 pub mod ResultKinds
 pub mod Texts

@@ -1,10 +1,11 @@
 -- How the answers of a session's calls relate to their definitions.
 -- Source: this library.
-use Rattle.std.specs.Prelude.{ℕ, ℤ, List, Option, Result}
+use Rattle.std.specs.Prelude.{◌≡◌, ℕ, ℤ, List, Option, Result, Ok, Err}
 use Rattle.cvl_base.specs.declared.call.Call.{Call}
 use Rattle.cvl_base.specs.declared.fault.Fault.{Fault}
 use Rattle.cvl_base.specs.declared.operation.Op.{Op}
 use Rattle.cvl_base.specs.declared.refused.Refused.{Refused}
+use Rattle.cvl_base.specs.declared.refused.Refused.TheVariants as refused
 use Rattle.cvl_base.specs.declared.value.Value.{Value}
 use Rattle.cvl_base.specs.Gives.{Gives}
 use Rattle.call_reader.specs.Texts.{after_bytes}
@@ -22,6 +23,12 @@ use Rattle.vector_handles.specs.Steps.{Stepped, step}
 abbrev pub Appends : {U : Type 0} →
     List ℕ → List ℕ → Result U Refused → Result (List ℕ) Fault → Type 0
 Appends before after answer text = Gives (λ _. after) answer (after_bytes before text)
+
+-- a fault that is reported is that of the definition
+abbrev pub RefusesAs : {U Y : Type 0} → Result U Refused → Result Y Fault → Type 0
+RefusesAs (Ok done) meaning = Unit {0}
+RefusesAs (Err (refused.Fault f)) meaning = meaning ≡ Err f
+RefusesAs (Err refused.NoResources) meaning = Unit {0}
 
 module _ {A : Type 0} where
   -- the answer is the value that the table gives the call

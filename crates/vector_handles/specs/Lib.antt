@@ -3,6 +3,7 @@ pub use Rattle.bound_names.specs.Arguments
 pub mod CallValues
 pub mod ElementTypes
 pub mod Families
+pub mod InputTexts
 pub mod KeptInputs
 pub mod LongWrites
 pub use Rattle.bound_names.specs.Names

@@ -1,9 +1,12 @@
 //! The inputs of a session.
 
 ghost use Rattle.std.specs.Prelude.{◌≡◌, IfOk};
-ghost use Rattle.bound_names.specs.Operands.{AreTaken};
+ghost use Rattle.bound_names.specs.Operands.{AreTaken, held_at};
+ghost use Rattle.vector_handles.specs.Answers.{RefusesAs};
+ghost use Rattle.vector_handles.specs.CallValues.{integers_of, table_value};
 
 use crate::input::Input;
+use crate::numbered::place_of;
 use crate::read_bytes::ReadBytes;
 use bound_names::{Operands, SharedInts};
 use call_reader::read_vector;
@@ -51,25 +54,21 @@ impl<A: Memory> KeptInput<A> {
         }
     }
 
-    /// Reads bytes that are a list of numbers, and then keeps these instead. The input stays the same.
+    /// Reads bytes that are a list of numbers, and then keeps these instead. The input stays the same. Reports the fault of the
+    /// reading.
     pub(crate) fn read<R: Threads + Sync>(
         &mut self,
         rt: &R,
         alloc: A,
         config: Config,
-    ) -> Result<(), NoResources>
-        ensures { self.new ≡ self.old }
+    ) -> Result<(), Refused>
+        ensures same { self.new ≡ self.old }
+        ensures fault { RefusesAs result (integers_of self.old) }
     {
         if let Content::Bytes(bytes) = &self.content {
-            match read_vector(rt, alloc, config, bytes.as_slice()) {
-                Ok(numbers) => {
-                    let read = ReadBytes::new(alloc, bytes, numbers)?;
-                    self.content = Content::Read(read);
-                }
-                Err(Refused::NoResources) => return Err(NoResources),
-                // The call reports it.
-                Err(Refused::Fault(_)) => (),
-            }
+            let numbers = read_vector(rt, alloc, config, bytes.as_slice())?;
+            let read = ReadBytes::new(alloc, bytes, numbers)?;
+            self.content = Content::Read(read);
         }
         Ok(())
     }
@@ -89,8 +88,8 @@ pub(crate) fn kept_inputs<A: Memory>(
     Ok(kept)
 }
 
-/// Reads the input that a call of `input` names by its number, counted from 1, and keeps its numbers instead of its bytes. Text
-/// with a fault stays as it is; the call reports it. Another call reads nothing here.
+/// Reads the input that a call of `input` names by its number, counted from 1, and keeps its numbers instead of its bytes.
+/// Reports the call's fault if they are no list of numbers. Another call reads nothing here.
 pub(crate) fn read_asked_for<R: Threads + Sync, A: Memory>(
     rt: &R,
     alloc: A,
@@ -98,15 +97,17 @@ pub(crate) fn read_asked_for<R: Threads + Sync, A: Memory>(
     inputs: &mut Vec<KeptInput<A>, A>,
     op: Op,
     operands: &Operands<'_, A>,
-) -> Result<(), NoResources>
+) -> Result<(), Refused>
     requires kinds { AreTaken op operands.now }
-    ensures { inputs.new.items ≡ inputs.old.items }
+    ensures same { inputs.new.items ≡ inputs.old.items }
+    ensures fault { RefusesAs result (table_value inputs.old.items op (held_at operands.now)) }
 {
     let Op::Input = op else {
         return Ok(());
     };
-    let number = operands.first.integer();
-    let place = usize::try_from(number).unwrap_or(0).wrapping_sub(1);
+    let Some(place) = place_of(operands.first.integer()) else {
+        return Ok(());
+    };
     match inputs.get_mut(place) {
         Some(input) => input.read(rt, alloc, config),
         None => Ok(()),

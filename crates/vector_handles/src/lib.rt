@@ -7,6 +7,7 @@ mod bound_answers;
 mod calls;
 mod elementwise_calls;
 pub mod input;
+mod input_texts;
 mod kept;
 pub mod long_writes;
 mod numbered;

@@ -10,6 +10,7 @@ ghost use Rattle.bound_names.specs.Operands.{held, kind_held};
 ghost use Rattle.vector_handles.specs.CallValues.{integers_of, nest_of, numbered};
 ghost use Rattle.vector_handles.specs.ElementTypes.{integer};
 ghost use Rattle.vector_handles.specs.Families.{vector};
+ghost use Rattle.vector_handles.specs.InputTexts.{place_of};
 
 use crate::answers::{Answer, bound_integers};
 use crate::asked::Asked;
@@ -20,15 +21,28 @@ use cvl_base::{Fault, FaultNo, Memory, Refused};
 use segdes::SegDes;
 use std::thread::Threads;
 
+/// The place of an input by its number, which counts from 1.
+pub(crate) fn place_of(number: i32) -> Option<usize>
+    ensures { result ≡ place_of number }
+{
+    let number = usize::try_from(number).ok()?;
+    number.checked_sub(1)
+}
+
+/// The input with this number, counted from 1.
+pub(crate) fn numbered<A: Memory>(inputs: &[KeptInput<A>], number: i32) -> Option<&KeptInput<A>>
+    ensures { option_copied result ≡ numbered inputs.now number }
+{
+    inputs.get(place_of(number)?)
+}
+
 impl<'a, R: Threads + Sync, A: Memory> Asked<'a, '_, R, A> {
     /// The input whose number, counted from 1, is the first argument.
     pub(crate) fn input_asked_for(&self) -> Option<&'a KeptInput<A>>
         requires { kind_held self.now.operands.first ≡ Some kind.Integer }
         ensures { option_copied result ≡ numbered self.now.inputs.now (integer_in (held self.now.operands.first)) }
     {
-        let number = usize::try_from(self.operands.first.integer()).ok()?;
-        let place = number.checked_sub(1)?;
-        self.inputs.get(place)
+        numbered(self.inputs, self.operands.first.integer())
     }
 
     /// The integers of an input: of bytes, read now if they were not before, or of a vector, which is shared.

@@ -1,6 +1,7 @@
 /*
  * The time of some calls beside the same loops in C, for 1,000 and for 4,194,304 elements: the best of many rounds, in
- * microseconds. `docs/dev/performance/in_c calls` builds it over the library, by -O3, and runs it on a machine that should be idle.
+ * microseconds. `docs/dev/performance/in_c calls` builds it over the library, by -O3, and runs it on a machine that should be
+ * idle; `docs/dev/performance/in_c calls short` makes each call on 1,000 elements alone, a few times.
  */
 #define CVL_SHORT_NAMES
 #include "cvl.h"
@@ -99,6 +100,17 @@ LOOP loop_segmented_reduce(size_t n) {
     for (size_t s = 0, k = 0; k < n; s++) {
         uint32_t sum = 0;
         for (size_t end = k + (size_t)lengths[s]; k < end; k++) sum += (uint32_t)a[k];
+        out[s] = (int32_t)sum;
+    }
+}
+
+LOOP loop_sparse_product(size_t n) {
+    for (size_t s = 0, k = 0; k < n; s++) {
+        uint32_t sum = 0;
+        for (size_t end = k + (size_t)lengths[s]; k < end; k++) {
+            if ((uint32_t)shuffled[k] >= n) return;
+            sum += (uint32_t)a[k] * (uint32_t)b[shuffled[k]];
+        }
         out[s] = (int32_t)sum;
     }
 }
@@ -202,6 +214,12 @@ static void call_checked_scan(size_t n) { must(tot_suz(small, out, n)); }
 static void call_checked_reduce(size_t n) { must(tot_ruz(small, n, out)); }
 static void call_segmented_scan(size_t n) { must(add_sez(a, (CvlLengths){lengths, segments_of(n)}, out, n)); }
 static void call_segmented_reduce(size_t n) { must(add_rez(a, n, (CvlLengths){lengths, segments_of(n)}, out)); }
+
+static void call_sparse_product(size_t n) {
+    const CvlLengths rows = {lengths, segments_of(n)};
+    must(cvl_sparse_product(rows, shuffled, n, a, n, b, n, out, rows.segments));
+}
+
 static void call_gather(size_t n) { must(bck_puz(a, n, in_order, out, n)); }
 static void call_gather_shuffled(size_t n) { must(bck_puz(a, n, shuffled, out, n)); }
 static void call_scatter(size_t n) { must(smp_puz(a, in_order, out, n)); }
@@ -237,18 +255,23 @@ static double best(void (*work)(size_t), size_t n, int rounds) {
     return least;
 }
 
+/* How long the longer vectors are, and how often each is measured. */
+static size_t most = MOST;
+static int short_rounds = SHORT_ROUNDS, long_rounds = LONG_ROUNDS;
+
 static void measure(const char *name, void (*call)(size_t), void (*loop)(size_t)) {
     shuffle(SHORT);
     segments_of(SHORT);
-    double short_call = best(call, SHORT, SHORT_ROUNDS), short_loop = best(loop, SHORT, SHORT_ROUNDS);
-    shuffle(MOST);
-    segments_of(MOST);
-    double long_call = best(call, MOST, LONG_ROUNDS), long_loop = best(loop, MOST, LONG_ROUNDS);
+    double short_call = best(call, SHORT, short_rounds), short_loop = best(loop, SHORT, short_rounds);
+    shuffle(most);
+    segments_of(most);
+    double long_call = best(call, most, long_rounds), long_loop = best(loop, most, long_rounds);
     printf("%-24s %8.2f %8.2f %10.0f %10.0f %6.2f\n", name, short_call, short_loop, long_call, long_loop, long_call / long_loop);
 }
 
-int main(void) {
+int main(int words, char **word) {
     uint32_t state = 1;
+    if (words > 1 && strcmp(word[1], "short") == 0) most = SHORT, short_rounds = 3, long_rounds = 3;
     for (size_t k = 0; k < MOST; k++) {
         state = state * 1664525u + 1013904223u;
         a[k] = (int32_t)state;
@@ -259,7 +282,7 @@ int main(void) {
         others[k] = state >> 14 != 0;
         in_order[k] = (int32_t)k;
     }
-    printf("%-24s %8s %8s %10s %10s %6s\n", "", "1000", "loop", "4194304", "loop", "ratio");
+    printf("%-24s %8d %8s %10zu %10s %6s\n", "", SHORT, "loop", most, "loop", "ratio");
     measure("add_wuz", call_add, loop_add);
     measure("les_wuz", call_less, loop_less);
     measure("sel_wuz", call_select, loop_select);
@@ -285,5 +308,6 @@ int main(void) {
     measure("rep_vub", call_replace, loop_replace);
     measure("dis_vuz", call_distribute, loop_distribute);
     measure("ind_luz", call_index, loop_index);
+    measure("cvl_sparse_product", call_sparse_product, loop_sparse_product);
     return EXIT_SUCCESS;
 }

@@ -1,10 +1,9 @@
-"""The tables of calls that only programs make, and of the programs of the examples, from program_calls.txt, which `measure_program_calls`
-writes; each is empty while there is no such file."""
+"""The tables of calls that only programs make, and of the programs of the examples, as `measure_program_calls` measures them."""
 
-import pathlib
 import re
 
-FILE = pathlib.Path(__file__).resolve().parent / "program_calls.txt"
+from measurements import ROWS, table
+
 COLUMNS = ("1 thread", "4 threads", "loop", "Thrust", "numpy", "pandas")
 CASE = re.compile(r"(.+), (\d+) elements")
 
@@ -18,36 +17,9 @@ LENGTHS = (
 )
 
 
-def read():
-    """The columns of each case by subject, and the comments on top."""
-    rows, comments, subject = {}, [], ""
-    for line in FILE.read_text().splitlines() if FILE.exists() else ():
-        if re.match(r"# (machine|compiler|Thrust|numpy|pandas|scipy)", line):
-            comments.append(line[2:])
-        elif line.startswith("# "):
-            subject = line[2:].split(", in ")[0]
-        elif not line.endswith("differ"):
-            case, columns = line.split(": ")
-            found = (column.rsplit(" ", 1) for column in columns.split(", "))
-            rows[subject, case] = {name: float(time) for name, time in found}
-    return rows, comments
-
-
-ROWS, COMMENTS = read()
-
-
 def digits(number):
     """Three digits or so."""
     return f"{number:,.0f}" if number >= 100 else f"{number:.1f}" if number >= 10 else f"{number:.2f}"
-
-
-def table(heads, lines):
-    cells = [heads, ["---"] + ["---:"] * (len(heads) - 1), *lines]
-    return "".join("| " + " | ".join(line) + " |\n" for line in cells)
-
-
-def machine():
-    return "".join(f"- {line}\n" for line in COMMENTS)
 
 
 def of_length(length, shown):
@@ -83,14 +55,18 @@ def calls():
 
 
 def programs(subject, heads):
-    """A row for each program: the time by one thread and by four, and of each other way, which it names."""
-    lines = []
+    """A row for each program: its time by one thread, by four, and in other ways, which it names; and in how many four threads lose."""
+    lines, to_one, to_others = [], 0, 0
     for (found, case), columns in ROWS.items():
         if found == subject:
             name, _, rest = case.partition(",")
-            others = [f"{column} {digits(time)}" for column, time in columns.items() if "thread" not in column]
+            times = {column: time for column, time in columns.items() if "thread" not in column}
+            others = [f"{column} {digits(time)}" for column, time in times.items()]
+            to_one += columns["4 threads"] > columns["1 thread"]
+            to_others += columns["4 threads"] > min(times.values())
             lines.append([f"`{name}`{rest and ','}{rest}", digits(columns["1 thread"]), digits(columns["4 threads"]), "; ".join(others)])
-    return table(heads, lines) if lines else ""
+    lose = f"slower than one in {to_one} of these {len(lines)}, and slower than the best of the last column in {to_others}"
+    return f"{table(heads, lines)}\nFour threads are {lose}.\n"
 
 
 def in_c():
@@ -101,4 +77,4 @@ def in_python():
     return programs("programs in Python", ["Program", "1 thread", "4 threads", "Others"])
 
 
-TABLES = {"program_machine": machine, "program_calls": calls, "programs_in_c": in_c, "programs_in_python": in_python}
+TABLES = {"program_calls": calls, "programs_in_c": in_c, "programs_in_python": in_python}

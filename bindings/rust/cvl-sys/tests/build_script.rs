@@ -11,15 +11,23 @@ use library::{Found, Library, Lookup};
 const HERE: &str = "x86_64-unknown-linux-gnu";
 const THERE: &str = "aarch64-unknown-linux-gnu";
 
-/// A prefix with a library and its header, in a folder with a blank in its name.
-fn prefix(name: &str) -> PathBuf {
+/// A prefix with a library in a folder and its header, below a folder with a blank in its name.
+fn prefix_with(name: &str, libdir: &str) -> PathBuf {
     let root = Path::new(env!("CARGO_TARGET_TMPDIR")).join(format!("{name} of its own"));
-    for file in ["lib/libcvl.a", "lib/libcvl.so", "include/cvl.h"] {
-        let file = root.join(file);
-        fs::create_dir_all(file.parent().unwrap()).unwrap();
-        fs::write(file, "").unwrap();
+    for file in ["libcvl.a", "libcvl.so"].map(|file| format!("{libdir}/{file}")) {
+        write(&root.join(file));
     }
+    write(&root.join("include/cvl.h"));
     root
+}
+
+fn write(file: &Path) {
+    fs::create_dir_all(file.parent().unwrap()).unwrap();
+    fs::write(file, "").unwrap();
+}
+
+fn prefix(name: &str) -> PathBuf {
+    prefix_with(name, "lib")
 }
 
 /// What is found where these variables are set, and pkg-config says this of its variables.
@@ -96,6 +104,38 @@ fn the_folder_that_a_variable_names() {
     );
     let wrong = found(&[("CVL_LIB_DIR", "lib")], &package).unwrap_err();
     assert!(wrong.contains("CVL_LIB_DIR is lib"), "{wrong}");
+}
+
+/// The headers stand beside the folder of the library, or beside the folder above that, as in Debian. Headers further up are
+/// those of something else.
+#[test]
+fn the_headers_of_a_library() {
+    for (libdir, has_headers) in [
+        ("lib", true),
+        ("lib64", true),
+        ("lib/x86_64-linux-gnu", true),
+        ("deep/lib/x86_64-linux-gnu", false),
+    ] {
+        let root = prefix_with(&format!("with {}", libdir.replace('/', " ")), libdir);
+        let folder = root.join(libdir);
+        let said = folder.to_str().unwrap();
+        let wanted = has_headers.then(|| root.join("include"));
+        let named = library(found(&[("CVL_LIB_DIR", said)], &[]));
+        assert_eq!(named.include, wanted, "{libdir}");
+        let lines = named.lines();
+        let roots: Vec<_> = lines
+            .iter()
+            .filter_map(|line| line.strip_prefix("cargo:root="))
+            .collect();
+        assert_eq!(
+            roots.first().map(Path::new),
+            has_headers.then_some(&*root),
+            "{libdir}"
+        );
+        // and where pkg-config leads, which may say no folder of headers
+        let packaged = library(found(&[], &[("libdir", said)]));
+        assert_eq!(packaged.include, wanted, "{libdir}");
+    }
 }
 
 /// A variable that leads to no library is an error, whatever pkg-config finds.

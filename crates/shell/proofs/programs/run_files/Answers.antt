@@ -3,7 +3,7 @@ use Rattle.clap.specs.Walk.{texts}
 use Rattle.script_runs.proofs.Shown.{reads_both, tells_after}
 use Rattle.shell.specs.Programs.{unreadable_line}
 use Rattle.shell.proofs.NamedFiles.{missed_fits, stops_first, stops_later}
-use Rattle.shell.proofs.Explained.{files_explained, files_unexplained}
+use Rattle.shell.proofs.Explained.{files_explained, missed_explained, starved_explained}
 use Rattle.shell.proofs.Performed.{misses, runs_files}
 use Rattle.shell.proofs.programs.run_files.Goals as goal
 
@@ -19,18 +19,18 @@ pub returns-in-None : goal.returns-in-None
 returns-in-None g c =
     let script = c.args.words.now.script.now in
     let names = texts c.args.words.now.inputs.items in
-    let missed = misses g.row.A.Denot script names _ _ _ _ (stops_first script names)
-    (tells_after (Some (unreadable_line script)) _ _ _ c.in-None.ensures c.tell_unreadable.ensures) in
-    record { plain = λ no. missed; explaining = λ yes. files_unexplained script names _ _ 3 missed }
+    let stops = stops_first script names in
+    let tells = tells_after (Some (unreadable_line script)) _ _ _ c.in-None.ensures c.tell_unreadable.ensures in
+    record { plain = λ no. misses g.row.A.Denot script names _ _ _ _ stops tells; explaining = λ yes. missed_explained script names _ _ _ _ stops tells }
 
 pub returns-in-Err : goal.returns-in-Err
 returns-in-Err g c =
     let missed = rw c.as_slice.ensures.value at c.in-Err.ensures.missed in
     let script = c.args.words.now.script.now in
     let names = texts c.args.words.now.inputs.items in
-    let none = misses g.row.A.Denot script names _ _ _ _ (stops_later script c.in-Some.text.items names missed.0 c.in-Err.name.now missed.1)
-    (tells_after (Some (unreadable_line c.in-Err.name.now)) _ _ _ (reads_both _ missed.0 _ _ _ c.in-Some.ensures missed.2) c.tell_unreadable-in-Err.ensures) in
-    record { plain = λ no. none; explaining = λ yes. files_unexplained script names _ _ 3 none }
+    let stops = stops_later script c.in-Some.text.items names missed.0 c.in-Err.name.now missed.1 in
+    let tells = tells_after (Some (unreadable_line c.in-Err.name.now)) _ _ _ (reads_both _ missed.0 _ _ _ c.in-Some.ensures missed.2) c.tell_unreadable-in-Err.ensures in
+    record { plain = λ no. misses g.row.A.Denot script names _ _ _ _ stops tells; explaining = λ yes. missed_explained script names _ _ _ _ stops tells }
 
 pub returns-in-Ok-read_inputs : goal.returns-in-Ok-read_inputs
 returns-in-Ok-read_inputs g c =
@@ -46,4 +46,4 @@ returns-in-Ok-read_inputs g c =
 
 pub returns-in_default-clause-explaining : goal.returns-in_default-clause-explaining
 returns-in_default-clause-explaining g c = λ yes.
-    files_unexplained c.args.words.now.script.now (texts c.args.words.now.inputs.items) _ _ c.finish.result (inl c.finish.ensures)
+    starved_explained c.args.words.now.script.now (texts c.args.words.now.inputs.items) _ _ c.starve.result (c.starve.ensures.explaining yes)

@@ -1,1 +1,0 @@
-"""What `.ci/compare-clauses` reads and compares."""

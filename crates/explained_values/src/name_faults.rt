@@ -1,0 +1,153 @@
+//! A name that is not bound, and names that are too many, in words.
+
+ghost use Rattle.std.specs.Prelude.{◌≡◌, ◌++◌, Some, find, is_none, map, option_copied, option_map, OnOk};
+ghost use Rattle.explained_calls.specs.Sentences.{indented};
+ghost use Rattle.explained_values.specs.Arguments.{line_of};
+ghost use Rattle.explained_values.specs.NameFaults.{call_inside_words, different, far_words, is_among, near_words};
+ghost use Rattle.explained_values.specs.NameFaults.{new_word, not_bound_words, room_words, unbound_name_words, unbound_words};
+
+use crate::arguments::Argument;
+use crate::sentences::put_counted;
+use cvl_base::{Memory, NoResources, Op, op_of};
+use explained_calls::{near, put_pieces, put_spelling};
+use itoa::Buffer;
+
+/// The words to add if no name is near.
+fn far_words(names: &[&[u8]]) -> &'static [u8]
+    ensures { result.now ≡ far_words (map (λ name. name.now) names.now) }
+{
+    match names.split_first() {
+        None => b", and no name is bound",
+        Some(_) => b"",
+    }
+}
+
+/// Writes the bound name that is near, if one is.
+fn put_near<B: Memory>(
+    names: &[&[u8]],
+    name: Option<&[u8]>,
+    text: &mut Vec<u8, B>,
+) -> Result<(), NoResources>
+    ensures { OnOk result (text.new.items ≡ text.old.items
+        ++ near_words (map (λ name. name.now) names.now) (option_map (λ name. name.now) name.entry)) }
+{
+    match name {
+        None => put_pieces(text, &[far_words(names)]),
+        Some(name) => put_pieces(text, &[b"; the nearest name is ", name]),
+    }
+}
+
+/// Writes the line about a name that is not bound, with a bound one that is near.
+fn put_not_bound<B: Memory>(
+    alloc: B,
+    names: &[&[u8]],
+    word: &[u8],
+    text: &mut Vec<u8, B>,
+) -> Result<(), NoResources>
+    ensures { OnOk result (text.new.items
+        ≡ text.old.items ++ indented (not_bound_words (map (λ name. name.now) names.now) word.now)) }
+{
+    put_pieces(text, &[b"  ", word, b" is not bound"])?;
+    put_near(names, near(alloc, word, names)?, text)?;
+    put_pieces(text, &[b"\n"])
+}
+
+/// Writes the line about a call among the arguments of a call.
+fn put_call_inside<B: Memory>(op: Op, word: &[u8], text: &mut Vec<u8, B>) -> Result<(), NoResources>
+    ensures { OnOk result (text.new.items ≡ text.old.items ++ indented (call_inside_words op word.now)) }
+{
+    put_pieces(text, &[b"  ", word, b" is a call, and "])?;
+    put_spelling(op, text)?;
+    let end = b" takes names of values and not calls: bind its result first\n";
+    put_pieces(text, &[end])
+}
+
+/// Writes the line about a name that is not bound.
+fn put_unbound_name<B: Memory>(
+    alloc: B,
+    names: &[&[u8]],
+    op: Op,
+    word: &[u8],
+    text: &mut Vec<u8, B>,
+) -> Result<(), NoResources>
+    ensures { OnOk result (text.new.items
+        ≡ text.old.items ++ indented (unbound_name_words (map (λ name. name.now) names.now) op word.now)) }
+{
+    if op_of(word).is_some() {
+        put_call_inside(op, word, text)
+    } else {
+        put_not_bound(alloc, names, word, text)
+    }
+}
+
+/// The first argument without a value.
+fn unbound<'s, 'a, A: Memory>(arguments: &'s [Argument<'a, A>]) -> Option<&'s Argument<'a, A>>
+    ensures { option_copied result ≡ find (λ argument. is_none argument.value) arguments.now }
+{
+    arguments.iter().find(|argument| argument.kind().is_none())
+}
+
+/// Writes the line about the first argument whose name is not bound.
+pub(crate) fn put_unbound<A: Memory, B: Memory>(
+    alloc: B,
+    names: &[&[u8]],
+    op: Op,
+    arguments: &[Argument<'_, A>],
+    text: &mut Vec<u8, B>,
+) -> Result<(), NoResources>
+    ensures { OnOk result (text.new.items
+        ≡ text.old.items ++ line_of (unbound_words (map (λ name. name.now) names.now) op arguments.now)) }
+{
+    match unbound(arguments) {
+        None => Ok(()),
+        Some(argument) => put_unbound_name(alloc, names, op, argument.word(), text),
+    }
+}
+
+/// Whether a word is among others.
+fn is_among(word: &[u8], words: &[&[u8]]) -> bool
+    ensures { result ≡ is_among word.now (map (λ word. word.now) words.now) }
+{
+    for other in words {
+        if *other == word {
+            return true;
+        }
+    }
+    false
+}
+
+/// What a word adds to the number of different ones: nothing, if it is among those behind it.
+fn new_word(word: &[u8], behind: &[&[u8]]) -> usize
+    ensures { result ≡ new_word word.now (map (λ word. word.now) behind.now) }
+{
+    if is_among(word, behind) { 0 } else { 1 }
+}
+
+/// How many different words there are.
+fn different(words: &[&[u8]]) -> usize
+    ensures { result ≡ different (map (λ word. word.now) words.now) }
+{
+    let mut count = 0;
+    for place in 0..words.len() {
+        let (_before, behind) = words.split_at(place + 1);
+        count += new_word(words[place], behind);
+    }
+    count
+}
+
+/// Writes the line about names that are too many.
+pub(crate) fn put_too_many<B: Memory>(
+    names: &[&[u8]],
+    op: Op,
+    text: &mut Vec<u8, B>,
+) -> Result<(), NoResources>
+    ensures { OnOk result (text.new.items
+        ≡ text.old.items ++ line_of (Some (room_words (map (λ name. name.now) names.now) op))) }
+{
+    put_pieces(text, &[b"  the lines before bind "])?;
+    put_counted(different(names), b"name", text)?;
+    let mut digits = Buffer::new();
+    let binds = digits.format(op.binds()).as_bytes();
+    let end = b": at most 4096 may be bound\n";
+    put_pieces(text, &[b", and this line binds ", binds, end])
+}
