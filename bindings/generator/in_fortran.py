@@ -218,182 +218,6 @@ def _generics():
     return {name: names for name, names in found.items() if names != [name]}
 
 
-HEAD = f"""! cvl: the vector calls of CVL, over arrays of integer(c_int32_t) and of logical(c_bool).
-!
-! {rows.NOTE}
-!
-! Compile it with the program, and link with the library: gfortran cvl.f90 program.f90 -lcvl. Fortran 2008.
-!
-! Each call is a subroutine, such as cvl_add_wuz(a, b, out, status). The arrays come in the order of the call's operands. The
-! lengths of segments are an array of integers, one for each segment, which may be 0. out is your array for the result, as long
-! as that. Places, indices and the places of faults count from 0, as in all other languages.
-!
-! After a call status%number is CVL_DONE, or the number of a fault, and status%place its place or -1. After a fault your arrays
-! are as they were. A call without a status stops the program at a fault, and names it on standard error.
-!
-! Families take the number of an operator, such as cvl_scan(CVL_ADD, a, out) and, by segments, cvl_scan(CVL_ADD, a, lengths,
-! out), on integers or booleans. out may not be another argument too: a call that can be made in place has a subroutine for that,
-! such as cvl_add_suz_in(a). A place and a count may have 32 bits or 64.
-module cvl
-    use, intrinsic :: iso_c_binding, only: &
-        c_bool, c_char, c_f_pointer, c_int, c_int8_t, c_int32_t, c_int64_t, c_loc, c_null_ptr, c_ptr, c_size_t
-    use, intrinsic :: iso_fortran_env, only: error_unit
-    implicit none
-    private
-
-    ! the kinds of what calls take
-    public :: c_bool, c_int8_t, c_int32_t, c_int64_t, c_size_t
-"""
-
-KINDS = """
-    ! How a call ended.
-    type, public, bind(c) :: cvl_status
-        integer(c_int32_t) :: number = 0 ! CVL_DONE, the number of a fault, or 100 or more
-        integer(c_int64_t) :: place = -1 ! the place of the fault, counted from 0, or -1
-    end type cvl_status
-
-    ! Lengths of segments, as C takes them.
-    type, bind(c) :: lengths_of
-        type(c_ptr) :: lengths
-        integer(c_size_t) :: segments
-    end type lengths_of
-
-    ! The address of an array.
-    interface at
-        module procedure at_ints, at_flags, at_bytes, at_sums
-    end interface at
-"""
-
-WITHOUT_ROWS = """
-        function c_version() result(text) bind(c, name="cvl_version")
-            import :: c_ptr
-            type(c_ptr) :: text
-        end function c_version
-
-        function c_fault_name(number) result(text) bind(c, name="cvl_fault_name")
-            import :: c_int32_t, c_ptr
-            integer(c_int32_t), value :: number
-            type(c_ptr) :: text
-        end function c_fault_name
-
-        function c_set_threads(threads) result(error) bind(c, name="cvl_set_threads")
-            import :: c_int, c_size_t
-            integer(c_size_t), value :: threads
-            integer(c_int) :: error
-        end function c_set_threads
-
-        function c_threads() result(threads) bind(c, name="cvl_threads")
-            import :: c_size_t
-            integer(c_size_t) :: threads
-        end function c_threads
-
-        function c_strlen(text) result(length) bind(c, name="strlen")
-            import :: c_ptr, c_size_t
-            type(c_ptr), value :: text
-            integer(c_size_t) :: length
-        end function c_strlen
-    end interface
-"""
-
-TAIL = """
-    ! The version of the library, as "1.0.0".
-    function cvl_version() result(version)
-        character(:), allocatable :: version
-
-        version = text_of(c_version())
-    end function cvl_version
-
-    ! The name of the number of a status, as "DivideByZero"; "Unknown" if no status has that number.
-    function cvl_fault_name(number) result(name)
-        integer(c_int32_t), intent(in) :: number
-        character(:), allocatable :: name
-
-        name = text_of(c_fault_name(number))
-    end function cvl_fault_name
-
-    ! Sets how many threads long calls have, 1 to 64, with the one that calls. error is 0, or an error of POSIX, after which there
-    ! are as many as before; without it an error ends the program.
-    subroutine cvl_set_threads(threads, error)
-        integer, intent(in) :: threads
-        integer, intent(out), optional :: error
-        integer :: found
-
-        found = c_set_threads(int(threads, c_size_t))
-        if (present(error)) then
-            error = found
-        else if (found /= 0) then
-            write (error_unit, "(a, i0, a, i0)") "cvl: cvl_set_threads: no ", threads, " threads, error ", found
-            error stop 1
-        end if
-    end subroutine cvl_set_threads
-
-    ! How many threads there are for long calls.
-    integer function cvl_threads()
-        cvl_threads = int(c_threads())
-    end function cvl_threads
-
-    ! A text of C's.
-    function text_of(from) result(text)
-        type(c_ptr), intent(in) :: from
-        character(:), allocatable :: text
-        character(kind=c_char), pointer :: letters(:)
-        integer :: k
-
-        call c_f_pointer(from, letters, [c_strlen(from)])
-        allocate (character(size(letters)) :: text)
-        do k = 1, size(letters)
-            text(k:k) = letters(k)
-        end do
-    end function text_of
-
-    function cut(lengths) result(found)
-        integer(c_int32_t), intent(in), target, contiguous :: lengths(:)
-        type(lengths_of) :: found
-
-        found = lengths_of(at(lengths), size(lengths, kind=c_size_t))
-    end function cut
-"""
-
-
-def _address(kind, element):
-    return f"""
-    function at_{kind}(array) result(address)
-        {element}, intent(in), target, contiguous :: array(:)
-        type(c_ptr) :: address
-
-        address = c_null_ptr
-        if (size(array) > 0) address = c_loc(array)
-    end function at_{kind}
-"""
-
-
-# what both modules have: the addresses of arrays, and what becomes of a status
-IN_BOTH = (
-    _address("ints", "integer(c_int32_t)")
-    + _address("flags", "logical(c_bool)")
-    + _address("bytes", "integer(c_int8_t)")
-    + _address("sums", "integer(c_int64_t)")
-    + """
-    ! Gives the status to the caller; without a variable for it a fault ends the program.
-    subroutine tell(name, answer, status)
-        character(*), intent(in) :: name
-        type(cvl_status), intent(in) :: answer
-        type(cvl_status), intent(out), optional :: status
-
-        if (present(status)) then
-            status = answer
-        else if (answer%number /= CVL_DONE) then
-            write (error_unit, "(3a, i0, 2a)", advance="no") &
-                "cvl: ", name, ": fault ", answer%number, " ", cvl_fault_name(answer%number)
-            if (answer%place >= 0) write (error_unit, "(a, i0)", advance="no") " at ", answer%place
-            write (error_unit, "(a)") ""
-            error stop 1
-        end if
-    end subroutine tell
-"""
-)
-
-
 def _constant(name, value, kind="integer(c_int32_t)"):
     return f"    {kind}, parameter, public :: CVL_{name} = {value}"
 
@@ -408,7 +232,6 @@ def _constants():
     yield from (_constant(in_c.constant(name), number) for number, name in table.STATUSES)
     yield from ("", "    ! The numbers of operators.")
     yield from (f"{_constant(found.name, found.number)} ! {found.sentence}" for found in table.OPERATORS)
-    yield ""
 
 
 def _publics():
@@ -422,15 +245,22 @@ def _publics():
         yield f"    end interface {name}"
 
 
-def module():
+def _text(parts):
+    """Several parts, each of which is some lines and an empty one."""
+    return "\n".join(line for part in parts for line in part).rstrip("\n")
+
+
+def module(template, both):
     """`bindings/fortran/cvl.f90`."""
-    lines = [*HEAD.split("\n"), *_constants(), *_publics(), *KINDS.split("\n")[:-1], "", "    interface"]
-    for row in rows.FAMILIES.values():
-        lines += [*_interface(row.family), ""]
-    lines = lines[:-1] + WITHOUT_ROWS.split("\n")[:-1] + ["", "contains", ""]
-    for procedure in procedures():
-        lines += procedure.lines()
-    return "\n".join(lines[:-1]) + TAIL + IN_BOTH + "end module cvl\n"
+    parts = {
+        "note": f"! {rows.NOTE}",
+        "constants": "\n".join(_constants()),
+        "publics": "\n".join(_publics()),
+        "families": _text([*_interface(row.family), ""] for row in rows.FAMILIES.values()),
+        "procedures": _text(procedure.lines() for procedure in procedures()),
+        "in_both": both.rstrip(),
+    }
+    return in_c.filled(template, parts)
 
 
 # ---- the calls as the program has them that tries each on its example ----
