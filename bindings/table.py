@@ -26,7 +26,25 @@ import call_table
 #           segments
 #   copied  whether flags that are neither 0 nor 1 are copied, since the export takes no others
 #   over    whether a room holds what stands before, which the call joins with what it reads; its example has that under `before(name)`
-Operand = namedtuple("Operand", "name role kind extent copied over", defaults=(False,))
+#   use     what it is to its call, one of USES
+Operand = namedtuple("Operand", "name role kind extent copied over use", defaults=(False, "elements"))
+
+# What an operand is to its call. No program asks for a name: the same operand may have another one in another family.
+USES = {
+    "elements": "what the call works on, or a number for it",
+    "index": "places that it names",
+    "columns": "the places of the vector that the entries of a sparse matrix are multiplied with",
+    "starts": "the places where slices start",
+    "mask": "flags that choose among elements",
+    "offsets": "where rows start, and the last one ends",
+    "init": "the first number of a progression",
+    "stride": "its steps",
+    "lowest": "the first place of a range",
+    "row_count": "how many rows a matrix has",
+    "column_count": "how many columns",
+    "true_lengths": "lengths of what goes where a mask is true",
+    "false_lengths": "where it is false",
+}
 
 # A fault: its numbers, and what is said of it. One of the room is C's alone.
 Fault = namedtuple("Fault", "numbers said of_room")
@@ -43,49 +61,104 @@ Operator = namedtuple("Operator", "name number sentence fault")
 #   faults     beside that of the operator and those of lengths, in their order
 #   asks       whether the export asks for memory
 #   cut        how it is cut into parts, a name of CUTS, and the extent that is cut; or nothing
+#   over_ranks how it goes over ranks, where its cut does not say it
+#   by_lengths of rows that come by their offsets: the family that takes their lengths
 #   sentence   what it does; `shape` how long its arrays are; `told` what C alone is told
 #   example    where no call has one; with operators it says of which it is, as op
 Family = namedtuple(
-    "Family", "name exported section operators operands limit in_place faults asks cut sentence shape told example"
+    "Family", "name exported section operators operands limit in_place faults asks cut over_ranks by_lengths sentence shape told example"
 )
 
 # A call of the table: its family, its operator if the family has some, what it does, and its example, where each operand and the
 # room have their words.
 Call = namedtuple("Call", "name section family operator sentence example")
 
-# How the calls of a family are cut, and what a page says of it.
+# How a family goes over ranks of MPI.
+#
+#   way     the function that makes it, cvl_NAME_over_ranks; nothing if it has none
+#   said    what a header says of it, or why there is no way
+#   named   whether places that 32 bits name, or counts of them, limit the whole vector
+#   spread  whether the result may be spread otherwise than what is read, where it is as long
+OverRanks = namedtuple("OverRanks", "way said named spread", defaults=(False, False))
+
+OWN_PLACES = OverRanks("places", "each rank makes its own places")
+COUNTED_PLACES = OverRanks("places", "each rank makes its own places: count is how many it has, as long as out")
+ASKED_ELEMENTS = OverRanks("back", "each rank asks for each element that it needs once", named=True)
+SENT_ELEMENTS = OverRanks("permute", "elements go to the ranks of their places", named=True)
+SENT_ANYWHERE = SENT_ELEMENTS._replace(spread=True)
+SENT_SENDERS = OverRanks("permute", "senders go to the ranks of the places that they name", named=True)
+JOINED_ELEMENTS = OverRanks("combine", "elements go to the ranks of their places, and are joined there in their order", named=True)
+COUNTED_THERE = OverRanks("combine", "places go to the ranks that have them, and are counted there", named=True)
+SPREAD_SIDES = OverRanks("merge", "when_true and when_false may be spread otherwise than the flags")
+ASKED_COLUMNS = OverRanks("product", "each rank asks once for each element of x that its columns name; a row may cross ranks")
+KEPT_ELEMENTS = OverRanks("pack", "what a rank keeps stays with it, and *count is how many they are on this rank")
+NO_TEXTS = OverRanks(None, "bindings/mpi/cvl_mpi.h.in has functions of its own for texts")
+NO_PARTS = OverRanks(None, "a part of a call: a rank makes it alone")
+
+# How the calls of a family are cut.
+#
+#   said        what a page says of it
+#   over_ranks  how such a family goes over ranks, where it does not say it itself
+#   runs        the function that runs the parts, cvl_NAME_in_parts; nothing if it is not cut, or its rows come by offsets
+#   least       the prefix of the least lengths that pay
+#   any_bytes   whether what the parts call takes any bytes as flags, so that only those of a mask are copied
+Cut = namedtuple("Cut", "said over_ranks runs least any_bytes", defaults=(None, None, "LEAST_SHARED", False))
+
+DIGITS = "cut at places; each part sorts its own keys by a digit, and gathers a range of the result"
+IN_SEGMENTS = "cut inside segments; each part goes on from what stands before it in its segment"
+PIECES = "cut inside segments; the pieces of a cut segment are joined"
+BEFORE = "each rank goes on from what stands before it in its segment"
+JOINED_AT_START = "the pieces of a segment are joined where it starts"
 CUTS = {
-    "places": "cut at places",
-    "reduce": "cut at places; the parts' reduces are joined",
-    "scan": "cut at places; each part goes on from the reduces before it",
-    "checked_reduce": "cut at places; the parts' exact sums are added",
-    "checked_scan": "cut at places; each part goes on from the exact sums before it",
-    "count": "cut at places; the parts' counts are added",
-    "pack": "cut at places; each part's elements go behind those of the parts before",
-    "seg_pack": "cut at places; each part's elements go behind those of the parts before",
-    "whole": "not cut",
-    "ranges": "the result is cut; each part reads all indices",
-    "senders": "the result is cut; each part reads all indices",
-    "combine": "cut at places, and each part joins in a room of its own; with many places the room is cut, and each part reads all indices",
-    "turns": "the result is cut; each part reads its elements of the whole matrix",
-    "order": "cut at places; each part sorts its own keys by a digit, and gathers a range of the result",
-    "rank": "cut at places; each part sorts its own keys by a digit, and gathers a range of the result",
-    "sort": "cut at places; each part sorts its own keys by a digit, and gathers a range of the result",
-    "merge": "cut at places; each part goes on in both vectors behind those that the flags before it take",
-    "replace": "the copy is cut at places",
-    "lengths": "the lengths are cut; the parts' totals are added",
-    "seg_scan": "cut inside segments; each part goes on from what stands before it in its segment",
-    "seg_checked_scan": "cut inside segments; each part goes on from what stands before it in its segment",
-    "seg_reduce": "cut inside segments; the pieces of a cut segment are joined",
-    "seg_checked_reduce": "cut inside segments; the pieces of a cut segment are joined",
-    "seg_count": "cut inside segments; the pieces of a cut segment are joined",
-    "seg_copies": "cut inside segments",
-    "seg_numbers": "cut inside segments",
-    "segments": "cut between segments",
-    "rows": "cut between rows, whose lengths are kept meanwhile",
-    "write": "cut at places; the parts' texts are put one after another",
-    "seg_write": "cut between segments; the parts' texts are put one after another",
-    "read": "cut at white space",
+    "places": Cut("cut at places", OWN_PLACES, "places"),
+    "reduce": Cut("cut at places; the parts' reduces are joined", OverRanks("reduce", "the ranks' reduces are joined"), "reduce"),
+    "scan": Cut(
+        "cut at places; each part goes on from the reduces before it", OverRanks("scan", "each rank goes on from the reduces before it"), "scan",
+    ),
+    "checked_reduce": Cut(
+        "cut at places; the parts' exact sums are added", OverRanks("checked_reduce", "the ranks' exact sums are added"), "checked_reduce",
+    ),
+    "checked_scan": Cut(
+        "cut at places; each part goes on from the exact sums before it",
+        OverRanks("checked_scan", "each rank goes on from the exact sums before it"), "checked_scan",
+    ),
+    "count": Cut("cut at places; the parts' counts are added", OverRanks("count", "the ranks' counts are added", named=True), "count"),
+    "pack": Cut("cut at places; each part's elements go behind those of the parts before", KEPT_ELEMENTS, "pack"),
+    "whole": Cut("not cut"),
+    "ranges": Cut("the result is cut; each part reads all indices", SENT_ELEMENTS, "ranges", any_bytes=True),
+    "senders": Cut("the result is cut; each part reads all indices", SENT_SENDERS, "senders"),
+    "combine": Cut(
+        "cut at places, and each part joins in a room of its own; with many places the room is cut, and each part reads all indices", JOINED_ELEMENTS,
+        "combine",
+    ),
+    "turns": Cut(
+        "the result is cut; each part reads its elements of the whole matrix",
+        OverRanks("transpose", "each element moves once; out may be spread otherwise", spread=True), "turns",
+    ),
+    "order": Cut(
+        DIGITS,
+        OverRanks("order", "keys go with their places to the ranks of the sorted vector, which is spread as out is", named=True, spread=True), "order",
+    ),
+    "rank": Cut(DIGITS, OverRanks("rank", "keys go to the ranks of the sorted vector, and their ranks back", named=True), "rank"),
+    "sort": Cut(DIGITS, OverRanks("sort", "keys go to the ranks of the sorted vector, which is spread as out is", spread=True), "sort"),
+    "merge": Cut("cut at places; each part goes on in both vectors behind those that the flags before it take", SPREAD_SIDES, "merge"),
+    "replace": Cut("the copy is cut at places", OverRanks("replace", "the rank that has the place writes it"), "replace"),
+    "lengths": Cut("the lengths are cut; the parts' totals are added", OverRanks("lengths", "the ranks' totals are added", named=True), "lengths"),
+    "seg_scan": Cut(IN_SEGMENTS, OverRanks("seg_scan", BEFORE), "seg_scan"),
+    "seg_checked_scan": Cut(IN_SEGMENTS, OverRanks("seg_checked_scan", BEFORE), "seg_checked_scan"),
+    "seg_reduce": Cut(PIECES, OverRanks("seg_reduce", JOINED_AT_START), "seg_reduce"),
+    "seg_checked_reduce": Cut(PIECES, OverRanks("seg_checked_reduce", JOINED_AT_START), "seg_checked_reduce"),
+    "seg_count": Cut(PIECES, OverRanks("seg_count", "the pieces of a segment are added where it starts"), "seg_count"),
+    "seg_copies": Cut("cut inside segments", OverRanks("seg_copies", "a segment's value goes on to the ranks behind its start"), "seg_copies"),
+    "seg_numbers": Cut("cut inside segments", OverRanks("seg_numbers", "a segment's numbers go on in the ranks behind its start"), "seg_numbers"),
+    # the way over ranks differs from family to family
+    "segments": Cut("cut between segments", None, "segments"),
+    "rows": Cut(
+        "cut between rows, whose lengths are kept meanwhile", OverRanks("rows", "the offsets of a rank's rows begin with 0, and no row crosses ranks"),
+    ),
+    "write": Cut("cut at places; the parts' texts are put one after another", NO_TEXTS, "write", "LEAST_WRITTEN"),
+    "seg_write": Cut("cut between segments; the parts' texts are put one after another", NO_TEXTS, "write", "LEAST_WRITTEN"),
+    "read": Cut("cut at white space", NO_TEXTS, "read", "LEAST_READ"),
 }
 
 # The most elements of a vector; and of one with segments whose text is read at once, and the most of its segments.
@@ -233,8 +306,8 @@ OF_CALLS = {
 }
 
 
-def ints(name, extent="n"):
-    return Operand(name, "reads", "ints", extent, False)
+def ints(name, extent="n", use="elements"):
+    return Operand(name, "reads", "ints", extent, False, use=use)
 
 
 def flags(name, extent="n"):
@@ -256,16 +329,40 @@ def text(name, extent="n"):
     return Operand(name, "reads", "text", extent, False)
 
 
-def lengths(name="lengths", extent="n"):
-    return Operand(name, "lengths", "ints", extent, False)
+def lengths(name="lengths", extent="n", use="elements"):
+    return Operand(name, "lengths", "ints", extent, False, use=use)
 
 
 def offsets(name="offsets"):
-    return Operand(name, "reads", "ints", "offsets", False)
+    return Operand(name, "reads", "ints", "offsets", False, use="offsets")
 
 
-def value(name, kind="int"):
-    return Operand(name, "value", kind, None, False)
+def indices(extent="n"):
+    return ints("index", extent, "index")
+
+
+def mask():
+    """Flags that choose, as any bytes."""
+    return flags("flags")._replace(use="mask")
+
+
+def copied_mask():
+    """Flags that choose, which are copied where a byte is neither 0 nor 1."""
+    return copied("flags")._replace(use="mask")
+
+
+def value(name, kind="int", use="elements"):
+    return Operand(name, "value", kind, None, False, use=use)
+
+
+def lowest():
+    """The first place of a range of the result."""
+    return value("lowest", "size", "lowest")
+
+
+def shape():
+    """The shape of a matrix: how many rows it has, and how many columns."""
+    return value("rows", "size", "row_count"), value("columns", "size", "column_count")
 
 
 def place(name="index"):
@@ -299,10 +396,14 @@ def told(name="count"):
 
 
 def family(
-    name, section, operands, sentence, operators=(), limit="n", in_place=(), faults=(TOO_LONG,), asks=False, cut=None, shape="", told="", example=None,
-    exported=None,
+    name, section, operands, sentence, operators=(), limit="n", in_place=(), faults=(TOO_LONG,), asks=False, cut=None, over_ranks=None, by_lengths=None,
+    shape="", told="", example=None, exported=None,
 ):
-    return Family(name, exported or name, section, operators, operands, limit, in_place, faults, asks, cut, sentence, shape, told, example)
+    found = over_ranks or (CUTS[cut[0]].over_ranks if cut else None)
+    if found is None:
+        sys.exit(f"{name}: say in bindings/table.py by `over_ranks` how the family goes over ranks, or why it does not")
+    return Family(
+        name, exported or name, section, operators, operands, limit, in_place, faults, asks, cut, found, by_lengths, sentence, shape, told, example)
 
 
 def twins(names, section, operands_of, sentence, **said):
@@ -441,7 +542,7 @@ FAMILIES = (
     family("bool_from_int", "place by place", (ints("a"), room("flags")), "False for 0 and true for all else.", cut=("places", "n"), shape=SHAPE_ONE),
     *twins(
         ("select_int", "select_bool"), "place by place",
-        lambda kind: (flags("flags"), any_items(kind, "a"), any_items(kind, "b"), room(kind)),
+        lambda kind: (mask(), any_items(kind, "a"), any_items(kind, "b"), room(kind)),
         "At each place the element of a if the flag is true, else that of b.", in_place=(("a",), ("b",)), cut=("places", "n"),
         shape="flags, a, b and out have n elements.",
     ),
@@ -475,12 +576,12 @@ FAMILIES = (
     ),
     # ---- counts, single elements, and vectors of a given length ----
     family(
-        "count", "counts, single elements, and vectors of a given length", (flags("flags"), single("int")), "The number of true flags.", cut=("count", "n"),
+        "count", "counts, single elements, and vectors of a given length", (mask(), single("int")), "The number of true flags.", cut=("count", "n"),
     ),
     *twins(
         ("extract_int", "extract_bool"), "counts, single elements, and vectors of a given length",
         lambda kind: (any_items(kind, "vector"), place(), single(one(kind))), "The element at an index. Vectors of any length.",
-        limit=None, faults=(BAD_PLACE,), cut=("whole", None),
+        limit=None, faults=(BAD_PLACE,), cut=("whole", None), over_ranks=OverRanks("extract", "the rank that has the element sends it to all"),
     ),
     *twins(
         ("replace_int", "replace_bool"), "counts, single elements, and vectors of a given length",
@@ -491,11 +592,11 @@ FAMILIES = (
     *twins(
         ("distribute_int", "distribute_bool"), "counts, single elements, and vectors of a given length",
         lambda kind: (value("value", one(kind)), count(), room(kind, "count")), "Copies of a value, count of them.",
-        limit=None, faults=BAD_COUNT, cut=("places", "count"),
+        limit=None, faults=BAD_COUNT, cut=("places", "count"), over_ranks=COUNTED_PLACES,
     ),
     family(
-        "index", "counts, single elements, and vectors of a given length", (value("init"), value("stride"), count(), room("ints", "count")),
-        "The numbers init + k * stride, each wrapped to 32 bits, count of them.", limit=None, faults=BAD_COUNT, cut=("places", "count"),
+        "index", "counts, single elements, and vectors of a given length", (value("init", use="init"), value("stride", use="stride"), count(), room("ints", "count")),
+        "The numbers init + k * stride, each wrapped to 32 bits, count of them.", limit=None, faults=BAD_COUNT, cut=("places", "count"), over_ranks=COUNTED_PLACES,
     ),
     # ---- segments, which come as their lengths ----
     family(
@@ -504,15 +605,15 @@ FAMILIES = (
     ),
     *twins(
         ("seg_extract_int", "seg_extract_bool"), "segments, which come as their lengths",
-        lambda kind: (any_items(kind, "vector"), ints("index", "segments"), lengths(), room(kind, "segments")), "The element of each segment at its index.",
-        limit=None, faults=(SUM_OF_N, BAD_PLACES), asks=True, cut=("segments", "n"),
+        lambda kind: (any_items(kind, "vector"), indices("segments"), lengths(), room(kind, "segments")), "The element of each segment at its index.",
+        limit=None, faults=(SUM_OF_N, BAD_PLACES), asks=True, cut=("segments", "n"), over_ranks=OverRanks("seg_extract", "the rank of a segment's start, which has its index, asks for the element", named=True),
         shape="The vector has n elements, index and out one for each segment.",
     ),
     *twins(
         ("seg_replace_int", "seg_replace_bool"), "segments, which come as their lengths",
-        lambda kind: (items(kind, "vector"), ints("index", "segments"), items(kind, "values", "segments"), lengths(), room(kind)),
+        lambda kind: (items(kind, "vector"), indices("segments"), items(kind, "values", "segments"), lengths(), room(kind)),
         "The vector with another element in each segment, at its index.",
-        limit=None, faults=(SUM_OF_N, BAD_PLACES), asks=True, cut=("segments", "n"),
+        limit=None, faults=(SUM_OF_N, BAD_PLACES), asks=True, cut=("segments", "n"), over_ranks=OverRanks("seg_replace", "a segment's value goes to the rank of its place", named=True),
         shape="vector and out have n elements, index and values one for each segment.",
     ),
     *twins(
@@ -543,109 +644,109 @@ FAMILIES = (
     # ---- packs and counts of segments ----
     *twins(
         ("pack_int", "pack_bool"), "packs and counts of segments",
-        lambda kind: (items(kind, "values"), copied("flags"), room(kind, "room"), told()),
+        lambda kind: (items(kind, "values"), copied_mask(), room(kind, "room"), told()),
         lambda kind: f"The {word(kind)}s whose flag is true, in order, and how many they are.",
         faults=(TOO_LONG, NO_ROOM), cut=("pack", "n"), shape="values and flags have n elements.", told=PACKED,
     ),
     *twins(
         ("seg_pack_int", "seg_pack_bool"), "packs and counts of segments",
-        lambda kind: (items(kind, "values"), copied("flags"), lengths(), room(kind, "room"), told()),
+        lambda kind: (items(kind, "values"), copied_mask(), lengths(), room(kind, "room"), told()),
         lambda kind: f"The {word(kind)}s of each segment whose flag is true, in order, one segment after another, and how many they are.",
-        limit=None, faults=(SUM_OR_NO_ROOM,), cut=("seg_pack", "n"), shape="values and flags have n elements.", told=PACKED,
+        limit=None, faults=(SUM_OR_NO_ROOM,), cut=("pack", "n"), shape="values and flags have n elements.", told=PACKED,
     ),
     family(
-        "seg_packed_lengths", "packs and counts of segments", (flags("flags"), lengths(), room("ints", "segments")),
+        "seg_packed_lengths", "packs and counts of segments", (mask(), lengths(), room("ints", "segments")),
         "The lengths of the segments of what a pack of segments keeps.", limit=None, faults=(SUM_OF_N,), cut=("seg_count", "n"),
         shape="flags has n elements, out one for each segment.", exported="packed_lengths",
     ),
     family(
-        "seg_count", "packs and counts of segments", (flags("flags"), lengths(), room("ints", "segments")), "The number of true flags of each segment.",
+        "seg_count", "packs and counts of segments", (mask(), lengths(), room("ints", "segments")), "The number of true flags of each segment.",
         limit=None, faults=(SUM_OF_N,), cut=("seg_count", "n"), shape="flags has n elements, out one for each segment.",
     ),
     # ---- permutes ----
     *twins(
-        ("permute_int", "permute_bool"), "permutes", lambda kind: (items(kind, "source"), ints("index"), room(kind)),
-        "Each element of the source at its index.", faults=(TOO_LONG, BAD_INDEX), asks=True, cut=("ranges", "n"),
+        ("permute_int", "permute_bool"), "permutes", lambda kind: (items(kind, "source"), indices(), room(kind)),
+        "Each element of the source at its index.", faults=(TOO_LONG, BAD_INDEX), asks=True, cut=("ranges", "n"), over_ranks=SENT_ANYWHERE,
         shape="source, index and out have n elements.",
     ),
     *twins(
         ("select_permute_int", "select_permute_bool"), "permutes",
-        lambda kind: (items(kind, "source"), ints("index"), copied("flags"), room(kind, "trues")),
+        lambda kind: (items(kind, "source"), indices(), copied_mask(), room(kind, "trues")),
         "Each element of the source whose flag is true at its index.", faults=(TOO_LONG, BAD_SELECTED), asks=True, cut=("ranges", "trues"),
         shape="source, index and flags have n elements; out has m, the number of true flags, else 7 LengthMismatch. An index whose flag is "
         "false is ignored.",
     ),
     *twins(
         ("default_permute_int", "default_permute_bool"), "permutes",
-        lambda kind: (items(kind, "source"), ints("index"), items(kind, "defaults", "m"), room(kind, "m")),
+        lambda kind: (items(kind, "source"), indices(), items(kind, "defaults", "m"), room(kind, "m")),
         "Each element of the source at its index, and at a place to which none goes its default.", faults=(TOO_LONG, BAD_DEFAULTED), asks=True,
         cut=("ranges", "m"), shape="source and index have n elements, defaults and out m, which may be any number.",
     ),
     *twins(
-        ("back_permute_int", "back_permute_bool"), "permutes", lambda kind: (items(kind, "source"), ints("index", "m"), room(kind, "m")),
-        "At each place the element of the source at the place's index.", limit="m", faults=(TOO_LONG, BAD_BACK), cut=("places", "m"),
+        ("back_permute_int", "back_permute_bool"), "permutes", lambda kind: (items(kind, "source"), indices("m"), room(kind, "m")),
+        "At each place the element of the source at the place's index.", limit="m", faults=(TOO_LONG, BAD_BACK), cut=("places", "m"), over_ranks=ASKED_ELEMENTS,
         shape="The source has n elements, which may be any number; index and out have m.",
     ),
     # ---- permutes of segments ----
     *twins(
-        ("seg_permute_int", "seg_permute_bool"), "permutes of segments", lambda kind: (items(kind, "source"), ints("index"), lengths(), room(kind)),
-        "Each element of the source at its index in its segment.", faults=(TOO_LONG, SUM_OF_N, BAD_IN_SEGMENT), asks=True, cut=("segments", "n"),
+        ("seg_permute_int", "seg_permute_bool"), "permutes of segments", lambda kind: (items(kind, "source"), indices(), lengths(), room(kind)),
+        "Each element of the source at its index in its segment.", faults=(TOO_LONG, SUM_OF_N, BAD_IN_SEGMENT), asks=True, cut=("segments", "n"), over_ranks=SENT_ANYWHERE,
         shape="source, index and out have n elements.",
     ),
     *twins(
         ("seg_select_permute_int", "seg_select_permute_bool"), "permutes of segments",
-        lambda kind: (items(kind, "source"), ints("index"), copied("flags"), lengths(), room(kind, "trues")),
+        lambda kind: (items(kind, "source"), indices(), copied_mask(), lengths(), room(kind, "trues")),
         "Each element of the source whose flag is true at its index in its segment of the result.", faults=(TOO_LONG, SUM_OF_N, BAD_IN_RESULT),
-        asks=True, cut=("segments", "n"),
+        asks=True, cut=("segments", "n"), over_ranks=SENT_ELEMENTS,
         shape="source, index and flags have n elements; out has m, the number of true flags, else 7 LengthMismatch. An index whose flag is "
         "false is ignored.",
     ),
     *twins(
         ("seg_default_permute_int", "seg_default_permute_bool"), "permutes of segments",
-        lambda kind: (items(kind, "source"), ints("index"), items(kind, "defaults", "m"), lengths(), lengths("default_lengths", "m"), room(kind, "m")),
+        lambda kind: (items(kind, "source"), indices(), items(kind, "defaults", "m"), lengths(), lengths("default_lengths", "m"), room(kind, "m")),
         "Each element of the source at its index in its segment of the defaults, and at a place to which none goes its default.",
-        faults=(TOO_LONG, SUMS_OF_DEFAULTS, BAD_IN_DEFAULTS), asks=True, cut=("segments", "n"),
+        faults=(TOO_LONG, SUMS_OF_DEFAULTS, BAD_IN_DEFAULTS), asks=True, cut=("segments", "n"), over_ranks=SENT_ELEMENTS,
         shape="source and index have n elements in segments with the lengths; defaults and out have m, in as many segments with the default lengths.",
     ),
     *twins(
         ("seg_back_permute_int", "seg_back_permute_bool"), "permutes of segments",
-        lambda kind: (items(kind, "source"), ints("index", "m"), lengths(), lengths("index_lengths", "m"), room(kind, "m")),
+        lambda kind: (items(kind, "source"), indices("m"), lengths(), lengths("index_lengths", "m"), room(kind, "m")),
         "At each place the element at the place's index in the same segment of the source.",
-        limit="m", faults=(TOO_LONG, SUMS_OF_INDEX, BAD_IN_SOURCE), cut=("segments", "m"),
+        limit="m", faults=(TOO_LONG, SUMS_OF_INDEX, BAD_IN_SOURCE), cut=("segments", "m"), over_ranks=ASKED_ELEMENTS,
         shape="The source has n elements in segments with the lengths; index and out have m, in as many segments with the index lengths.",
     ),
     # ---- first senders ----
     family(
-        "first_senders", "first senders", (ints("index"), room("ints", "m")),
+        "first_senders", "first senders", (indices(), room("ints", "m")),
         "For each place of the result the least place whose index names it, or -1 if none does. The result may have any number of places.",
         faults=(TOO_LONG, BAD_NAMED), cut=("senders", "m"), example={"index": "2 0 2 3", "out": "1 -1 0 3"},
     ),
     family(
-        "select_first_senders", "first senders", (ints("index"), copied("flags"), room("ints", "m")),
+        "select_first_senders", "first senders", (indices(), copied_mask(), room("ints", "m")),
         "For each place of the result the least place whose flag is true and whose index names it, or -1 if none does. An index whose flag is false is "
         "ignored. The result may have any number of places.",
         faults=(TOO_LONG, FLAGS_DIFFER, BAD_NAMED), cut=("senders", "m"),
         example={"index": "2 0 2 9", "flags": "false true true false", "out": "1 -1 2"},
     ),
     family(
-        "seg_first_senders", "first senders", (ints("index"), lengths(), lengths("result_lengths", "m"), room("ints", "m")),
+        "seg_first_senders", "first senders", (indices(), lengths(), lengths("result_lengths", "m"), room("ints", "m")),
         "For each place of each segment of the result the least place of the same segment of the index that names it, or -1 if none does.",
-        faults=(TOO_LONG, SUMS_OF_RESULT, BAD_NAMED_IN_SEGMENT), cut=("segments", "n"),
+        faults=(TOO_LONG, SUMS_OF_RESULT, BAD_NAMED_IN_SEGMENT), cut=("segments", "n"), over_ranks=SENT_SENDERS,
         example={"index": "1 1 0 3 0", "lengths": "2 0 3", "result_lengths": "2 1 4", "out": "-1 0 -1 0 -1 -1 1"},
     ),
     family(
         "seg_select_first_senders", "first senders",
-        (ints("index"), copied("flags"), lengths(), lengths("result_lengths", "m"), room("ints", "m")),
+        (indices(), copied_mask(), lengths(), lengths("result_lengths", "m"), room("ints", "m")),
         "For each place of each segment of the result the least place of the same segment of the index whose flag is true and whose index names it, or -1 "
         "if none does. An index whose flag is false is ignored.",
-        faults=(TOO_LONG, FLAGS_DIFFER, SUMS_OF_RESULT, BAD_NAMED_IN_SEGMENT), cut=("segments", "n"),
+        faults=(TOO_LONG, FLAGS_DIFFER, SUMS_OF_RESULT, BAD_NAMED_IN_SEGMENT), cut=("segments", "n"), over_ranks=SENT_SENDERS,
         example={
             "index": "1 1 9 3 0", "flags": "false true false true true", "lengths": "2 0 3", "result_lengths": "2 1 4", "out": "-1 1 -1 2 -1 -1 1",
         },
     ),
     # ---- combining permutes ----
     *twins(
-        ("combine_permute_int", "combine_permute_bool"), "combining permutes", lambda kind: (items(kind, "source"), ints("index"), over(kind)),
+        ("combine_permute_int", "combine_permute_bool"), "combining permutes", lambda kind: (items(kind, "source"), indices(), over(kind)),
         lambda kind: f"At each place of out what stands there, joined by the operator, of {first_to_last(joining(kind))}, with each {word(kind)} whose index "
         "names the place. out may have any number of places.",
         operators=joining, faults=(LONG_ROOM, NOT_AS_MANY, BAD_NAMED), cut=("combine", "n"),
@@ -655,16 +756,16 @@ FAMILIES = (
         }[kind],
     ),
     family(
-        "counts", "combining permutes", (ints("index"), room("ints", "m")),
+        "counts", "combining permutes", (indices(), room("ints", "m")),
         "For each place of the result how many indices name it. The result may have any number of places.",
-        faults=(LONG_ROOM, BAD_NAMED), cut=("combine", "n"), example={"index": "2 0 2 3", "out": "1 0 2 1"},
+        faults=(LONG_ROOM, BAD_NAMED), cut=("combine", "n"), over_ranks=OverRanks("counts", "few places are counted by each rank, and the counts added; else places go to the ranks that have them", named=True), example={"index": "2 0 2 3", "out": "1 0 2 1"},
     ),
     *twins(
         ("seg_combine_permute_int", "seg_combine_permute_bool"), "combining permutes",
-        lambda kind: (items(kind, "source"), ints("index"), lengths(), lengths("result_lengths", "m"), over(kind)),
+        lambda kind: (items(kind, "source"), indices(), lengths(), lengths("result_lengths", "m"), over(kind)),
         lambda kind: f"At each place of each segment of out what stands there, joined by the operator, of {first_to_last(joining(kind))}, with each "
         f"{word(kind)} of the same segment whose index names the place.",
-        operators=joining, limit=None, faults=(SUMS_OF_SENT, BAD_NAMED_IN_SEGMENT), cut=("segments", "n"),
+        operators=joining, limit=None, faults=(SUMS_OF_SENT, BAD_NAMED_IN_SEGMENT), cut=("segments", "n"), over_ranks=JOINED_ELEMENTS,
         example=lambda kind: {
             "ints": {
                 "op": "MAX", "source": "5 6 7 8 9", "index": "1 1 0 3 0", "lengths": "2 0 3", "result_lengths": "2 1 4",
@@ -677,9 +778,9 @@ FAMILIES = (
         }[kind],
     ),
     family(
-        "seg_counts", "combining permutes", (ints("index"), lengths(), lengths("result_lengths", "m"), room("ints", "m")),
+        "seg_counts", "combining permutes", (indices(), lengths(), lengths("result_lengths", "m"), room("ints", "m")),
         "For each place of each segment of the result how many indices of the same segment name it.",
-        limit=None, faults=(SUMS_OF_RESULT, BAD_NAMED_IN_SEGMENT), cut=("segments", "n"),
+        limit=None, faults=(SUMS_OF_RESULT, BAD_NAMED_IN_SEGMENT), cut=("segments", "n"), over_ranks=COUNTED_THERE,
         example={"index": "1 1 0 3 0", "lengths": "2 0 3", "result_lengths": "2 1 4", "out": "0 2 0 2 0 0 1"},
     ),
     # ---- orders, ranks and sorts ----
@@ -701,27 +802,27 @@ FAMILIES = (
     family(
         "seg_order", "orders, ranks and sorts", (ints("keys"), lengths(), room("ints")),
         "The order of the keys of each segment, whose places count from the start of the segment.",
-        faults=(TOO_LONG, SUM_OF_N), asks=True, cut=("segments", "n"), shape="keys and out have n elements.",
+        faults=(TOO_LONG, SUM_OF_N), asks=True, cut=("segments", "n"), over_ranks=OverRanks("order", "keys of segments that cross ranks go with their places to the ranks of the sorted segments"), shape="keys and out have n elements.",
         example={"keys": "3 1 9 2 7", "lengths": "2 0 3", "out": "1 0 1 2 0"},
     ),
     family(
         "seg_rank", "orders, ranks and sorts", (ints("keys"), lengths(), room("ints")),
         "The rank of each key in its segment.",
-        faults=(TOO_LONG, SUM_OF_N), asks=True, cut=("segments", "n"), shape="keys and out have n elements.",
+        faults=(TOO_LONG, SUM_OF_N), asks=True, cut=("segments", "n"), over_ranks=OverRanks("rank", "keys of segments that cross ranks go to the ranks of the sorted segments, and their ranks back"), shape="keys and out have n elements.",
         example={"keys": "3 1 9 2 7", "lengths": "2 0 3", "out": "1 0 2 0 1"},
     ),
     family(
         "seg_sort", "orders, ranks and sorts", (ints("keys"), lengths(), room("ints")), "The keys of each segment in ascending order.",
-        in_place=(("keys",),), faults=(TOO_LONG, SUM_OF_N), asks=True, cut=("segments", "n"), shape="keys and out have n elements.",
+        in_place=(("keys",),), faults=(TOO_LONG, SUM_OF_N), asks=True, cut=("segments", "n"), over_ranks=OverRanks("sort", "keys of segments that cross ranks go to the ranks of the sorted segments"), shape="keys and out have n elements.",
         example={"keys": "3 1 9 2 7", "lengths": "2 0 3", "out": "1 3 2 7 9"},
     ),
     # ---- slices and merges ----
     *twins(
         ("gather_segments_int", "gather_segments_bool"), "slices and merges",
-        lambda kind: (items(kind, "source"), ints("starts", "segments"), lengths(extent="total"), room(kind, "total")),
+        lambda kind: (items(kind, "source"), ints("starts", "segments", "starts"), lengths(extent="total"), room(kind, "total")),
         "For each segment the elements of the source from the place `starts` on, as many as the segment is long. Slices may overlap, come in any order and be "
         "empty; an empty one may start where the source ends.",
-        limit="segments", faults=(BAD_SLICE,), cut=("segments", "total"), shape="There is one start for each segment; out has the total of the lengths.",
+        limit="segments", faults=(BAD_SLICE,), cut=("segments", "total"), over_ranks=OverRanks("gather", "each rank asks the owners of the source for the runs of its slices; a start stands where its segment starts"), shape="There is one start for each segment; out has the total of the lengths.",
         example=lambda kind: {
             "ints": {"source": "10 20 30 40", "starts": "2 4 1", "lengths": "2 0 3", "out": "30 40 20 30 40"},
             "flags": {"source": "true false false", "starts": "1 0", "lengths": "1 2", "out": "false true false"},
@@ -731,7 +832,7 @@ FAMILIES = (
         ("append_segments_int", "append_segments_bool"), "slices and merges",
         lambda kind: (items(kind, "a"), items(kind, "b", "m"), lengths(), lengths("other_lengths", "m"), room(kind, "both")),
         "The segments of a, each followed by the segment of b that has its number.",
-        limit=None, faults=(SUMS_OF_BOTH,), cut=("segments", "n"), shape="a has n elements in segments with the lengths, b has m in as many segments with the other lengths, and out "
+        limit=None, faults=(SUMS_OF_BOTH,), cut=("segments", "n"), over_ranks=OverRanks("append", "pieces go to the ranks of their places; out may be spread in any way"), shape="a has n elements in segments with the lengths, b has m in as many segments with the other lengths, and out "
         "n + m.",
         example=lambda kind: {
             "ints": {"a": "1 2 3", "b": "7 8 9", "lengths": "2 0 1", "other_lengths": "1 2 0", "out": "1 2 7 8 9 3"},
@@ -740,7 +841,7 @@ FAMILIES = (
     ),
     *twins(
         ("merge_by_flags_int", "merge_by_flags_bool"), "slices and merges",
-        lambda kind: (copied("flags"), items(kind, "when_true", "trues"), items(kind, "when_false", "falses"), room(kind)),
+        lambda kind: (copied_mask(), items(kind, "when_true", "trues"), items(kind, "when_false", "falses"), room(kind)),
         "At each place the next element of when_true if the flag is true, and of when_false if it is false: the inverse of two packs.",
         faults=(TOO_LONG, NO_SIDES), cut=("merge", "n"), shape="flags and out have n elements, when_true as many as there are true flags, and when_false the others.",
         example=lambda kind: {
@@ -751,12 +852,12 @@ FAMILIES = (
     *twins(
         ("seg_merge_by_flags_int", "seg_merge_by_flags_bool"), "slices and merges",
         lambda kind: (
-            copied("flags"), items(kind, "when_true", "trues"), items(kind, "when_false", "falses"), lengths(), lengths("true_lengths", "trues"),
-            lengths("false_lengths", "falses"), room(kind),
+            copied_mask(), items(kind, "when_true", "trues"), items(kind, "when_false", "falses"), lengths(), lengths("true_lengths", "trues", "true_lengths"),
+            lengths("false_lengths", "falses", "false_lengths"), room(kind),
         ),
         "At each place the next element of the same segment of when_true if the flag is true, and of when_false if it is false: the inverse of two packs of "
         "segments.",
-        limit=None, faults=(SUMS_OF_SIDES, MISCOUNT), cut=("segments", "n"),
+        limit=None, faults=(SUMS_OF_SIDES, MISCOUNT), cut=("segments", "n"), over_ranks=SPREAD_SIDES._replace(way="seg_merge"),
         shape="flags and out have n elements in segments with the lengths; when_true and when_false are in as many segments with the true lengths and the "
         "false lengths.",
         example=lambda kind: {
@@ -771,24 +872,24 @@ FAMILIES = (
         }[kind],
     ),
     family(
-        "first_true", "slices and merges", (flags("flags"), single("int")), "The place of the first true flag, or -1 if none is true.",
-        example={"flags": "false false true true", "out": "2"},
+        "first_true", "slices and merges", (mask(), single("int")), "The place of the first true flag, or -1 if none is true.",
+        over_ranks=OverRanks("first_true", "the first of the ranks' places", named=True), example={"flags": "false false true true", "out": "2"},
     ),
     family(
-        "seg_first_true", "slices and merges", (flags("flags"), lengths(), room("ints", "segments")),
+        "seg_first_true", "slices and merges", (mask(), lengths(), room("ints", "segments")),
         "For each segment the place of its first true flag, counted from its start, or -1 if none is true.",
-        limit=None, faults=(SUM_OF_N,), cut=("segments", "n"), shape="flags has n elements, out one for each segment.",
+        limit=None, faults=(SUM_OF_N,), cut=("segments", "n"), over_ranks=OverRanks("seg_first_true", JOINED_AT_START), shape="flags has n elements, out one for each segment.",
         example={"flags": "false true false false true", "lengths": "2 1 0 2", "out": "1 -1 -1 1"},
     ),
     family(
         "seg_exact_sums", "slices and merges", (ints("a"), lengths(), room("sums", "segments")),
-        "The sum of each segment in 64 bits, which always fits.", limit=None, faults=(SUM_OF_N,), cut=("segments", "n"),
+        "The sum of each segment in 64 bits, which always fits.", limit=None, faults=(SUM_OF_N,), cut=("segments", "n"), over_ranks=OverRanks("seg_exact_sums", "the pieces of a segment are added where it starts"),
         shape="a has n elements, out one for each segment.", example={"a": "2147483647 1 5", "lengths": "2 0 1", "out": "2147483648 0 5"},
     ),
     # ---- transposes, and integers of a byte ----
     *twins(
         ("transpose_int", "transpose_bool"), "transposes, and integers of a byte",
-        lambda kind: (items(kind, "source"), value("rows", "size"), value("columns", "size"), room(kind)),
+        lambda kind: (items(kind, "source"), *shape(), room(kind)),
         "The transpose of a matrix whose rows lie one behind another: element r of row c of the result is element c of row r.",
         faults=(TOO_LONG, NO_MATRIX), cut=("turns", "n"), shape="source and out have n elements.",
         example=lambda kind: {
@@ -842,7 +943,7 @@ FAMILIES = (
                 (15,), "else 15 BadInput at the first word or bracket that cannot stand there, or, if the text ends too early, at the number of "
                 "its words and brackets", False),
         ),
-        asks=True, cut=("whole", None),
+        asks=True, cut=("whole", None), over_ranks=NO_TEXTS,
         example={"text": '"[[1 2] [] [3]]"', "out": "1 2 3", "count": "3", "lengths": "2 0 1", "segments": "3"},
     ),
     family(
@@ -863,45 +964,45 @@ FAMILIES = (
         ("int_scan_after", "bool_scan_after"), "scans in parts, by threads of the caller's",
         lambda kind: (value("before", one(kind)), items(kind, "a"), room(kind)),
         lambda kind: f"For each {word(kind)} `before`, joined by the operator, of {first_to_last(joining(kind))}, with those in front of it.",
-        operators=joining, in_place=(("a",),), shape=SHAPE_ONE,
+        over_ranks=NO_PARTS, operators=joining, in_place=(("a",),), shape=SHAPE_ONE,
     ),
     # ---- calls in parts ----
     family(
         "exact_sum", "calls in parts", (ints("a"), single("sum")),
         "The sum of the integers in 64 bits, which always fits.",
-        example={"a": "2147483647 1", "out": "2147483648"},
+        over_ranks=NO_PARTS, example={"a": "2147483647 1", "out": "2147483648"},
     ),
     family(
         "checked_scan_after", "calls in parts", (value("before", "sum"), ints("a"), room("ints")),
         "A part of cvl_checked_scan after the exact sum `before` of the parts in front of it. The place of a fault counts from the start of the part.",
-        faults=(TOO_LONG, OVERFLOW_AT_PLACE), example={"before": "10", "a": "3 1 4", "out": "10 13 14"},
+        over_ranks=NO_PARTS, faults=(TOO_LONG, OVERFLOW_AT_PLACE), example={"before": "10", "a": "3 1 4", "out": "10 13 14"},
     ),
     family(
         "permute_int_range", "calls in parts",
-        (ints("source"), ints("index"), value("lowest", "size"), room("ints", "range"), room("marks", "marks", "marks"), told("written")),
+        (ints("source"), indices(), lowest(), room("ints", "range"), room("marks", "marks", "marks"), told("written")),
         "One range of the result of smp_puz, its out_len places from place `lowest` on: each element whose index is one of them is written there, the last "
         "if there are several. marks are (out_len + 31) / 32 words, whatever they hold before: bit b of word w, of the value 1 << b, is set if place 32 * w + b "
         "of the range is written, and written is how many bits are set. Each part has another range, its own marks, and all of source and index. If all parts "
         "together wrote index_len places, the ranges are the permute; else an index is out of range or repeated: cvl_permute_int reports which. Other places "
         "stay as they were, so over ranges that hold the defaults the parts are def_puz.",
-        faults=RANGE_FAULTS, example={"source": "5 6 7", "index": "2 0 1", "lowest": "1", "out_len": "2", "out": "7 5", "marks": "3", "written": "2"},
+        over_ranks=NO_PARTS, faults=RANGE_FAULTS, example={"source": "5 6 7", "index": "2 0 1", "lowest": "1", "out_len": "2", "out": "7 5", "marks": "3", "written": "2"},
     ),
     family(
         "permute_bool_range", "calls in parts",
-        (copied("source"), ints("index"), value("lowest", "size"), room("flags", "range"), room("marks", "marks", "marks"), told("written")),
+        (copied("source"), indices(), lowest(), room("flags", "range"), room("marks", "marks", "marks"), told("written")),
         "The same of booleans: smp_pub, and def_pub over ranges that hold the defaults before, each 0 or 1.",
-        faults=(),
+        over_ranks=NO_PARTS, faults=(),
         example={"source": "true false true", "index": "2 0 1", "lowest": "1", "out_len": "2", "out": "true true", "marks": "3", "written": "2"},
     ),
     family(
         "select_permute_int_range", "calls in parts",
         (
-            ints("source"), ints("index"), copied("flags"), value("lowest", "size"), room("ints", "range"), room("marks", "marks", "marks"),
+            ints("source"), indices(), copied_mask(), lowest(), room("ints", "range"), room("marks", "marks", "marks"),
             told("written"),
         ),
         "One range of the result of sel_puz, the same way, of the elements whose flag is true. If the result has as many places as there are true flags, and all "
         "parts together wrote as many, the ranges are the permute.",
-        faults=(Fault((13, 7), "those of cvl_permute_int_range; 7 LengthMismatch also if index and flags differ in length", False),),
+        over_ranks=NO_PARTS, faults=(Fault((13, 7), "those of cvl_permute_int_range; 7 LengthMismatch also if index and flags differ in length", False),),
         example={
             "source": "5 6 7", "index": "1 9 0", "flags": "true false true", "lowest": "0", "out_len": "1", "out": "7", "marks": "1", "written": "1",
         },
@@ -909,38 +1010,38 @@ FAMILIES = (
     family(
         "select_permute_bool_range", "calls in parts",
         (
-            copied("source"), ints("index"), copied("flags"), value("lowest", "size"), room("flags", "range"), room("marks", "marks", "marks"),
+            copied("source"), indices(), copied_mask(), lowest(), room("flags", "range"), room("marks", "marks", "marks"),
             told("written"),
         ),
-        "The same of booleans: sel_pub.", faults=(),
+        "The same of booleans: sel_pub.", over_ranks=NO_PARTS, faults=(),
         example={
             "source": "true false false", "index": "1 9 0", "flags": "true false true", "lowest": "0", "out_len": "1", "out": "false", "marks": "1",
             "written": "1",
         },
     ),
     family(
-        "first_senders_range", "calls in parts", (ints("index"), value("lowest", "size"), room("ints", "range"), told("named")),
+        "first_senders_range", "calls in parts", (indices(), lowest(), room("ints", "range"), told("named")),
         "One range of the first senders, its out_len places from place `lowest` on: for each the least place whose index names it, or -1. named is how "
         "many indices name a place of the range. Each part has another range and all of index. If all parts together named index_len, the ranges are the first "
         "senders; else an index is out of range: cvl_first_senders reports which.",
-        faults=(Fault((13,), f"13 TooLong, by the index, and if the range ends behind place {MOST_ELEMENTS}", False),),
+        over_ranks=NO_PARTS, faults=(Fault((13,), f"13 TooLong, by the index, and if the range ends behind place {MOST_ELEMENTS}", False),),
         example={"index": "2 0 2 3", "lowest": "1", "out_len": "2", "out": "-1 0", "named": "2"},
     ),
     family(
         "select_first_senders_range", "calls in parts",
-        (ints("index"), copied("flags"), value("lowest", "size"), room("ints", "range"), told("named")),
+        (indices(), copied_mask(), lowest(), room("ints", "range"), told("named")),
         "The same among the places whose flag is true: if all parts together named as many as flags are true, the ranges are the first senders.",
-        faults=(Fault((13, 7), "those of cvl_first_senders_range; 7 LengthMismatch if index and flags differ in length", False),),
+        over_ranks=NO_PARTS, faults=(Fault((13, 7), "those of cvl_first_senders_range; 7 LengthMismatch if index and flags differ in length", False),),
         example={"index": "2 0 2 9", "flags": "false true true false", "lowest": "1", "out_len": "2", "out": "-1 2", "named": "1"},
     ),
     *twins(
         ("combine_permute_int_range", "combine_permute_bool_range"), "calls in parts",
-        lambda kind: (items(kind, "source"), ints("index"), value("lowest", "size"), over(kind, "range"), told("named")),
+        lambda kind: (items(kind, "source"), indices(), lowest(), over(kind, "range"), told("named")),
         lambda kind: f"One range of a combining permute of {word(kind)}s, by the operator, of {first_to_last(joining(kind))}: the out_len places from place "
         "`lowest` on, each joined with the elements whose index names it. named is how many indices name a place of the range. Each part has another range, and "
         "all of source and index. If all parts together named index_len, the ranges are the combining permute; else an index is out of range: "
         f"cvl_combine_permute_{one(kind).replace('flag', 'bool')} reports which.",
-        operators=joining, faults=COMBINE_RANGE_FAULTS,
+        over_ranks=NO_PARTS, operators=joining, faults=COMBINE_RANGE_FAULTS,
         example=lambda kind: {
             "ints": {"op": "ADD", "source": "5 6 7 8", "index": "2 0 2 1", "lowest": "1", "out_len": "2", "out_before": "200 300", "out": "208 312", "named": "3"},
             "flags": {
@@ -949,16 +1050,16 @@ FAMILIES = (
         }[kind],
     ),
     family(
-        "counts_range", "calls in parts", (ints("index"), value("lowest", "size"), room("ints", "range"), told("named")),
+        "counts_range", "calls in parts", (indices(), lowest(), room("ints", "range"), told("named")),
         "One range of the counts by place: how many indices name each of the out_len places from place `lowest` on, and as named how many name one of them.",
-        faults=(COMBINE_RANGE_FAULTS[0],), example={"index": "2 0 2 3", "lowest": "1", "out_len": "2", "out": "0 2", "named": "2"},
+        over_ranks=NO_PARTS, faults=(COMBINE_RANGE_FAULTS[0],), example={"index": "2 0 2 3", "lowest": "1", "out_len": "2", "out": "0 2", "named": "2"},
     ),
     *twins(
         ("transpose_int_range", "transpose_bool_range"), "calls in parts",
-        lambda kind: (items(kind, "source"), value("rows", "size"), value("columns", "size"), value("lowest", "size"), room(kind, "m")),
+        lambda kind: (items(kind, "source"), *shape(), lowest(), room(kind, "m")),
         "One range of a transpose: its places from place `lowest` on, as many as out has. Each part has another range, and all of source. The ranges, one "
         "after another, are the transpose.",
-        faults=RANGE_OF_MATRIX_FAULTS,
+        over_ranks=NO_PARTS, faults=RANGE_OF_MATRIX_FAULTS,
         example=lambda kind: {
             "ints": {"source": "1 2 3 4 5 6", "rows": "2", "columns": "3", "lowest": "1", "out": "4 2 5"},
             "flags": {"source": "true false false true true true", "rows": "3", "columns": "2", "lowest": "2", "out": "true false"},
@@ -969,7 +1070,7 @@ FAMILIES = (
         "The integers of one piece of a text that is cut at white space, as cvl_read_ints reads them. `before` is how many words the pieces before it have; a "
         "fault's place is that in the whole text.",
         limit=None,
-        faults=(
+        over_ranks=NO_PARTS, faults=(
             Fault((13,), f"13 TooLong, without a place, if `before` is more than {MOST_ELEMENTS}, or the piece itself has more words than that", False),
             Fault(
                 (15,), "else 15 BadInput at the first word of the piece that is no integer. You must check that all pieces together have at most "
@@ -979,32 +1080,32 @@ FAMILIES = (
     ),
     # ---- sparse products ----
     family(
-        "sparse_product", "sparse products", (lengths(), ints("columns"), ints("values"), ints("x", "m"), room("ints", "segments")),
+        "sparse_product", "sparse products", (lengths(), ints("columns", use="columns"), ints("values"), ints("x", "m"), room("ints", "segments")),
         "The product of a sparse matrix with the vector x: for each row the sum of its values, each times the element of x at its column, wrapped to 32 bits; 0 "
         "for a row without entries.",
-        faults=(TOO_LONG, SUM_OF_ENTRIES, BAD_COLUMN), asks=True, cut=("segments", "n"),
+        faults=(TOO_LONG, SUM_OF_ENTRIES, BAD_COLUMN), asks=True, cut=("segments", "n"), over_ranks=ASKED_COLUMNS,
         shape="lengths are those of the rows, columns and values have n elements, one for each entry, row after row; x has m, which may be any number; out has "
         "one for each row.",
         example={"lengths": "2 0 2", "columns": "0 2 1 2", "values": "2 1 3 4", "x": "1 2 3", "out": "5 0 18"},
     ),
     family(
-        "checked_sparse_product", "sparse products", (lengths(), ints("columns"), ints("values"), ints("x", "m"), room("ints", "segments")),
+        "checked_sparse_product", "sparse products", (lengths(), ints("columns", use="columns"), ints("values"), ints("x", "m"), room("ints", "segments")),
         "The same product, in which nothing wraps: each row is added up in whole numbers.",
-        faults=(TOO_LONG, SUM_OF_ENTRIES, BAD_COLUMN, OVERFLOW_AT_ROW), asks=True, cut=("segments", "n"),
+        faults=(TOO_LONG, SUM_OF_ENTRIES, BAD_COLUMN, OVERFLOW_AT_ROW), asks=True, cut=("segments", "n"), over_ranks=ASKED_COLUMNS,
         shape="lengths, columns, values, x and out are those of cvl_sparse_product.",
         example={"lengths": "2 1", "columns": "0 1 0", "values": "2147483647 -1 3", "x": "2 2147483647", "out": "2147483647 6"},
     ),
     family(
-        "sparse_product_by_offsets", "sparse products", (offsets(), ints("columns"), ints("values"), ints("x", "m"), room("ints", "segments")),
+        "sparse_product_by_offsets", "sparse products", (offsets(), ints("columns", use="columns"), ints("values"), ints("x", "m"), room("ints", "segments")),
         "cvl_sparse_product of rows that come by their offsets.",
-        faults=(TOO_MANY, BAD_OFFSETS, LAST_OFFSET, BAD_COLUMN), asks=True, cut=("rows", "n"),
+        faults=(TOO_MANY, BAD_OFFSETS, LAST_OFFSET, BAD_COLUMN), asks=True, cut=("rows", "n"), by_lengths="sparse_product",
         shape="offsets are one more than rows, the first is 0 and the last n; columns, values, x and out are those of cvl_sparse_product.",
         example={"offsets": "0 2 2 4", "columns": "0 2 1 2", "values": "2 1 3 4", "x": "1 2 3", "out": "5 0 18"},
     ),
     family(
-        "checked_sparse_product_by_offsets", "sparse products", (offsets(), ints("columns"), ints("values"), ints("x", "m"), room("ints", "segments")),
+        "checked_sparse_product_by_offsets", "sparse products", (offsets(), ints("columns", use="columns"), ints("values"), ints("x", "m"), room("ints", "segments")),
         "cvl_checked_sparse_product of rows that come by their offsets.",
-        faults=(TOO_MANY, BAD_OFFSETS, LAST_OFFSET, BAD_COLUMN, OVERFLOW_AT_ROW), asks=True, cut=("rows", "n"),
+        faults=(TOO_MANY, BAD_OFFSETS, LAST_OFFSET, BAD_COLUMN, OVERFLOW_AT_ROW), asks=True, cut=("rows", "n"), by_lengths="checked_sparse_product",
         shape="offsets, columns, values, x and out are those of cvl_sparse_product_by_offsets.",
         example={"offsets": "0 2 3", "columns": "0 1 0", "values": "2147483647 -1 3", "x": "2 2147483647", "out": "2147483647 6"},
     ),

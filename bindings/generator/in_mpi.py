@@ -8,92 +8,20 @@ import in_rows
 import rows
 from in_c import indented, kept, parameters, wrapped
 
-# How a family goes over ranks, by its name or else by how it is cut into parts: the name of its way, and what a comment says of it.
-BY_NAME = {
-    "distribute": ("places", "each rank makes its own places: count is how many it has, as long as out"),
-    "index": ("places", "each rank makes its own places: count is how many it has, as long as out"),
-    "extract": ("extract", "the rank that has the element sends it to all"),
-    "replace": ("replace", "the rank that has the place writes it"),
-    "back_permute": ("back", "each rank asks for each element that it needs once"),
-    "seg_back_permute": ("back", "each rank asks for each element that it needs once"),
-    "seg_extract": ("seg_extract", "the rank of a segment's start, which has its index, asks for the element"),
-    "seg_replace": ("seg_replace", "a segment's value goes to the rank of its place"),
-    "seg_permute": ("permute", "elements go to the ranks of their places"),
-    "seg_select_permute": ("permute", "elements go to the ranks of their places"),
-    "seg_default_permute": ("permute", "elements go to the ranks of their places"),
-    "seg_first_senders": ("permute", "senders go to the ranks of the places that they name"),
-    "seg_select_first_senders": ("permute", "senders go to the ranks of the places that they name"),
-    "sparse_product": ("product", "each rank asks once for each element of x that its columns name; a row may cross ranks"),
-    "checked_sparse_product": ("product", "each rank asks once for each element of x that its columns name; a row may cross ranks"),
-    "make_descriptor": ("lengths", "the ranks' totals are added"),
-    "combine_permute": ("combine", "elements go to the ranks of their places, and are joined there in their order"),
-    "seg_combine_permute": ("combine", "elements go to the ranks of their places, and are joined there in their order"),
-    "counts": ("counts", "few places are counted by each rank, and the counts added; else places go to the ranks that have them"),
-    "seg_counts": ("combine", "places go to the ranks that have them, and are counted there"),
-    "order": ("order", "keys go with their places to the ranks of the sorted vector, which is spread as out is"),
-    "seg_order": ("order", "keys of segments that cross ranks go with their places to the ranks of the sorted segments"),
-    "rank": ("rank", "keys go to the ranks of the sorted vector, and their ranks back"),
-    "seg_rank": ("rank", "keys of segments that cross ranks go to the ranks of the sorted segments, and their ranks back"),
-    "sort": ("sort", "keys go to the ranks of the sorted vector, which is spread as out is"),
-    "seg_sort": ("sort", "keys of segments that cross ranks go to the ranks of the sorted segments"),
-    "gather_segments": ("gather", "each rank asks the owners of the source for the runs of its slices; a start stands where its segment starts"),
-    "append_segments": ("append", "pieces go to the ranks of their places; out may be spread in any way"),
-    "merge_by_flags": ("merge", "when_true and when_false may be spread otherwise than the flags"),
-    "seg_merge_by_flags": ("seg_merge", "when_true and when_false may be spread otherwise than the flags"),
-    "transpose": ("transpose", "each element moves once; out may be spread otherwise"),
-    "first_true": ("first_true", "the first of the ranks' places"),
-    "seg_first_true": ("seg_first_true", "the pieces of a segment are joined where it starts"),
-    "seg_exact_sums": ("seg_exact_sums", "the pieces of a segment are added where it starts"),
-}
-BY_CUT = {
-    "places": ("places", "each rank makes its own places"),
-    "reduce": ("reduce", "the ranks' reduces are joined"),
-    "scan": ("scan", "each rank goes on from the reduces before it"),
-    "checked_reduce": ("checked_reduce", "the ranks' exact sums are added"),
-    "checked_scan": ("checked_scan", "each rank goes on from the exact sums before it"),
-    "count": ("count", "the ranks' counts are added"),
-    "pack": ("pack", "what a rank keeps stays with it, and *count is how many they are on this rank"),
-    "seg_pack": ("pack", "what a rank keeps stays with it, and *count is how many they are on this rank"),
-    "ranges": ("permute", "elements go to the ranks of their places"),
-    "senders": ("permute", "senders go to the ranks of the places that they name"),
-    "seg_scan": ("seg_scan", "each rank goes on from what stands before it in its segment"),
-    "seg_checked_scan": ("seg_checked_scan", "each rank goes on from what stands before it in its segment"),
-    "seg_reduce": ("seg_reduce", "the pieces of a segment are joined where it starts"),
-    "seg_checked_reduce": ("seg_checked_reduce", "the pieces of a segment are joined where it starts"),
-    "seg_count": ("seg_count", "the pieces of a segment are added where it starts"),
-    "seg_copies": ("seg_copies", "a segment's value goes on to the ranks behind its start"),
-    "seg_numbers": ("seg_numbers", "a segment's numbers go on in the ranks behind its start"),
-    "rows": ("rows", "the offsets of a rank's rows begin with 0, and no row crosses ranks"),
-}
-
-# Families whose places an index or a count of 32 bits names, so that the whole is no longer than a vector may be.
-NAMED_WAYS = {"back", "seg_extract", "seg_replace", "permute", "combine", "counts", "count", "lengths", "first_true"}
-NAMED_FAMILIES = {"order", "rank"}
-
-# Families whose result may be spread otherwise than what they read, where it is as long.
-SPREAD_OTHERWISE = {"permute_int", "permute_bool", "seg_permute_int", "seg_permute_bool", "order", "sort", "transpose_int", "transpose_bool"}
-
 RANKS = kept("CvlRanks *ranks")
 
 
-def way(row):
-    """How a family goes over ranks, and what is said of it; or nothing."""
-    name = row.family.name
-    plain = name.removesuffix("_int").removesuffix("_bool")
-    return BY_NAME.get(name) or BY_NAME.get(plain) or BY_CUT.get((row.family.cut or (None,))[0])
-
-
 def families():
-    return [row for row in rows.FAMILIES.values() if way(row)]
+    return [row for row in rows.FAMILIES.values() if row.family.over_ranks.way]
 
 
 def calls():
-    return [row for row in rows.CALLS if way(row)]
+    return [row for row in rows.CALLS if row.family.over_ranks.way]
 
 
 def is_held(row):
     """Whether the lengths of a family come by a descriptor."""
-    return bool(row.cuts) and way(row)[0] != "lengths"
+    return bool(row.cuts) and row.result is not None
 
 
 def is_counted(row, operand):
@@ -129,7 +57,7 @@ def declaration(row):
 
 def going(row):
     """The comment on how a family goes over ranks."""
-    said = way(row)[1]
+    said = row.family.over_ranks.said
     return in_c.comment(f"{said[0].upper()}{said[1:]}.")
 
 
@@ -179,7 +107,7 @@ def plain_function(found):
 
 
 def operand_row(found, k):
-    own = found.name in SPREAD_OTHERWISE and found.operands[k].role == "room"
+    own = found.family.over_ranks.spread and found.operands[k].role == "room"
     like, relation = (k, "SAME") if own else found.like(k)
     words = [f"CVL_AS_{found.role(k)}", found.size(k), str(like), f"CVL_{relation}", str(found.total(k)), "CVL_BY_NONE", in_rows.flags_of(found.marks(k))]
     return "        " + "    {" + ", ".join(words) + "},"
@@ -188,7 +116,7 @@ def operand_row(found, k):
 def row_of(number, row):
     """The row of a family over ranks."""
     found = in_rows.Family(row)
-    name = way(row)[0]
+    over = row.family.over_ranks
     said = [
         f".operands = {len(found.operands)}, .out = {found.out}, .cut = {found.cut_place or 0}, .is = {in_rows.flags_of(found.words)},",
         f".most = CVL_MOST_ELEMENTS, .make = make_{found.name},",
@@ -200,7 +128,7 @@ def row_of(number, row):
         said.append(f".faulty = {'1' if found.faulty == [0] else in_rows.bits_of(found.faulty)},")
     marks = {
         "asks": row.family.asks, "held": is_held(row), "checked": any(18 in fault.numbers for fault in row.family.faults),
-        "named": name in NAMED_WAYS or found.name in NAMED_FAMILIES or any(o.role == "count" for o in found.operands),
+        "named": over.named or any(o.role == "count" for o in found.operands),
     }
     so = "".join(f", .{mark} = 1" for mark, is_so in marks.items() if is_so)
     lines = [
@@ -211,7 +139,7 @@ def row_of(number, row):
         "        },",
         *(indented(line, 2) for line in said),
         "    },",
-        f"    .way = cvl_{name}_over_ranks, .call = {number}{so},",
+        f"    .way = cvl_{over.way}_over_ranks, .call = {number}{so},",
         "};",
     ]
     return "\n".join(lines)
@@ -290,7 +218,7 @@ def tried_functions(row):
 
 def tried_operand(row, operand):
     extent = {None: "ONE", "offsets": "OFFSETS"}.get(operand.extent, (operand.extent or "").upper())
-    if row.name in SPREAD_OTHERWISE and operand.role == "room":
+    if row.call is None and row.family.over_ranks.spread and operand.role == "room":
         extent = "SPREAD"
     kind = "INTS" if operand.role == "lengths" else KINDS[operand.kind]
     role = "OVER_ROOM" if operand.over else {"room": "ROOM_OF", "count": "COUNT_OF"}.get(operand.role, operand.role.upper())

@@ -16,7 +16,7 @@ def declaration(row):
 
 def cut(row):
     """The comment on how a family is cut."""
-    said = table.CUTS[row.family.cut[0]]
+    said = table.CUTS[row.family.cut[0]].said
     return in_c.comment(f"{said[0].upper()}{said[1:]}.")
 
 

@@ -245,7 +245,7 @@ def _room_extent(call):
 def _measures(operand, extent):
     """Whether an operand says how long a room of this extent is."""
     if extent == "trues":
-        return operand.name == "flags"
+        return operand.use == "mask"
     if extent in ("segments", "total"):
         return operand.role == "lengths"
     return operand.role == "count" if extent == "count" else operand.role == "reads" and operand.extent == extent

@@ -6,11 +6,11 @@ import rows
 import table
 from in_c import indented, kept, parameters, wrapped
 
-# What an array that is read is to a call, by its name; the first other one is A, and the second B.
-NAMED = {"index": "INDEX", "columns": "INDEX", "flags": "FLAGS", "offsets": "OFFSETS"}
+# What an array that is read is to a call, by its use; the first other one is A, and the second B.
+READ = {"index": "INDEX", "columns": "INDEX", "mask": "FLAGS", "offsets": "OFFSETS"}
 
-# What a number is to a call, by its name or else by its role.
-NUMBERS = {"stride": "STRIDE", "lowest": "LOWEST", "rows": "ROWS", "columns": "COLUMNS"}
+# What a number is to a call, by its use or else by its role.
+NUMBERS = {"stride": "STRIDE", "lowest": "LOWEST", "row_count": "ROWS", "column_count": "COLUMNS"}
 
 SIZES = {
     "ints": "sizeof(int32_t)", "flags": "sizeof(bool)", "bytes": "sizeof(uint8_t)", "text": "sizeof(char)", "marks": "sizeof(uint32_t)", "sums": "sizeof(int64_t)", "int": "sizeof(int32_t)",
@@ -19,12 +19,6 @@ SIZES = {
 
 # The rows that steps of calls in parts name.
 NAMED_BY_HAND = {"int_scan_after", "bool_scan_after", "seg_int_scan", "seg_bool_scan"}
-
-# The function that runs the parts, where it has not the name of the cut.
-RUNS = {"seg_pack": "pack", "seg_write": "write"}
-
-# Ways to cut that copy no flags but those of a select, since what they call takes any bytes.
-ANY_BYTES = {"ranges"}
 
 # The faults that an export tells of elements, behind those that it tells of lengths.
 OF_ELEMENTS = {8, 9, 10, 11, 18}
@@ -45,8 +39,8 @@ class Family:
 
     @property
     def is_cut(self):
-        """Whether the family is made in parts where it is long."""
-        return self.cut not in (None, "whole")
+        """Whether the family is made in parts where it is long, by itself or as the one that takes lengths."""
+        return self.cut is not None and bool(table.CUTS[self.cut].runs or self.family.by_lengths)
 
     # ---- operands ----
 
@@ -54,8 +48,8 @@ class Family:
         """What an operand is to the call, without CVL_AS_."""
         operand = self.operands[k]
         if operand.role == "reads":
-            others = [o for o in self.operands if o.role == "reads" and o.name not in NAMED]
-            return NAMED.get(operand.name) or ("A" if operand is others[0] else "B")
+            others = [o for o in self.operands if o.role == "reads" and o.use not in READ]
+            return READ.get(operand.use) or ("A" if operand is others[0] else "B")
         if operand.role == "lengths":
             first = operand.extent == self.extent or self.cut in (None, "lengths") and k == self.lengths[0] or len(self.lengths) == 1
             return "LENGTHS" if first else "THIRD_LENGTHS" if k in self.lengths[2:] else "OTHER_LENGTHS"
@@ -63,7 +57,7 @@ class Family:
             return "MARKS" if operand.kind == "marks" else "OUT" if k == self.out else "OTHER_OUT"
         if operand.role == "told":
             return "TOLD" if k == self.place(lambda o: o.role == "told") else "OTHER_TOLD"
-        return {"place": "PLACE", "count": "COUNT"}.get(operand.role) or NUMBERS.get(operand.name, "VALUE")
+        return {"place": "PLACE", "count": "COUNT"}.get(operand.role) or NUMBERS.get(operand.use, "VALUE")
 
     @property
     def out(self):
@@ -85,7 +79,7 @@ class Family:
         if operand.extent == "count":
             return self.place(lambda o: o.role == "count"), "SAME"
         if operand.extent == "range":
-            return self.place(lambda o: o.name == "lowest"), "FROM_LOWEST"
+            return self.place(lambda o: o.use == "lowest"), "FROM_LOWEST"
         return (self.out, "A_BIT_EACH") if operand.extent == "marks" else (k, "SAME")
 
     def first_of(self, extent):
@@ -108,7 +102,7 @@ class Family:
         """By which boundaries the parts of an operand are cut, where they make the call itself."""
         operand = self.operands[k]
         if self.cut == "places":
-            return "FROM" if operand.extent == self.extent or operand.role == "count" or operand.name == "init" else "NONE"
+            return "FROM" if operand.extent == self.extent or operand.role == "count" or operand.use == "init" else "NONE"
         if self.cut == "merge":
             return {"n": "FROM", "trues": "OTHER", "falses": "THIRD"}[operand.extent]
         if self.cut != "segments" or operand.role not in ("reads", "lengths", "room"):
@@ -138,7 +132,7 @@ class Family:
             yield "TOO_MANY"
         if operand.copied:
             yield "COPIED"
-            if self.role(k) == "FLAGS" or not (operand.over or self.cut in ANY_BYTES):
+            if self.role(k) == "FLAGS" or not (operand.over or self.cut and table.CUTS[self.cut].any_bytes):
                 yield "COPIED_IN_PARTS"
 
     def size(self, k):
@@ -185,7 +179,7 @@ class Family:
     def of_bools(self):
         """Whether the elements are booleans."""
         arrays = [o for o in self.operands if o.role == "reads"]
-        items = arrays[0] if arrays and arrays[0].name != "flags" else self.row.result
+        items = arrays[0] if arrays and arrays[0].use != "mask" else self.row.result
         items = next((o for o in self.operands if o.role == "value"), items) if self.cut == "places" else items
         return items is not None and items.kind in ("flags", "flag")
 
@@ -199,7 +193,7 @@ class Family:
             "WRITES_TEXT": by_elements and self.room.kind == "text", "FRONT": by_elements and self.room.extent == "room",
             "OF_BOOLS": self.of_bools, "AT_PLACE": any(o.role == "place" for o in self.operands),
             "TOGETHER": any(len(names) > 1 for names in self.family.in_place), "MERGES": not self.lengths and any(o.extent == "falses" for o in self.operands),
-            "APPENDS": any(o.extent == "both" for o in self.operands), "TURNS": any(o.name == "rows" for o in self.operands),
+            "APPENDS": any(o.extent == "both" for o in self.operands), "TURNS": any(o.use == "row_count" for o in self.operands),
         }
         return [word for word, is_so in said.items() if is_so]
 
@@ -228,14 +222,14 @@ def row_of(found):
     if found.faulty:
         lines.append(f".faulty = {'1' if found.faulty == [0] else bits_of(found.faulty)},")
     if found.is_cut:
-        least = {"read": "CVL_LEAST_READ", "write": "CVL_LEAST_WRITTEN", "seg_write": "CVL_LEAST_WRITTEN"}.get(found.cut, "CVL_LEAST_SHARED")
-        each = "CVL_LEAST_EACH" if least == "CVL_LEAST_SHARED" else f"{least}_EACH"
+        least = f"CVL_{table.CUTS[found.cut].least}"
+        each = f"{least.removesuffix('_SHARED')}_EACH"
         lines.append(f".cut = {found.cut_place}, .least = {least}, .each = {each},")
     made = f".make = make_{found.name}"
-    if found.cut == "rows":
-        made += f", .by_lengths = &cvl_{found.name.removesuffix('_by_offsets')}_row"
+    if family.by_lengths:
+        made += f", .by_lengths = &cvl_{family.by_lengths}_row"
     elif found.is_cut:
-        made += f", .in_parts = cvl_{RUNS.get(found.cut, found.cut)}_in_parts"
+        made += f", .in_parts = cvl_{table.CUTS[found.cut].runs}_in_parts"
     static = "" if found.name in NAMED_BY_HAND else "static "
     head = f"{static}const CvlRow cvl_{found.name}_row = {{\n    .operand = {{"
     return "\n".join([head, *(operand_row(found, k) for k in range(len(found.operands))), "    },", *(indented(f"{line}") for line in [*lines, made + ","]), "};"])

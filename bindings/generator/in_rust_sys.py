@@ -54,7 +54,7 @@ def _plain(row):
 
 
 def _in_parts(row):
-    said = documented(f"[`cvl_{row.name}`] in parts: {table.CUTS[row.family.cut[0]]}.")
+    said = documented(f"[`cvl_{row.name}`] in parts: {table.CUTS[row.family.cut[0]].said}.")
     return [*said, *declared(f"{row.name}_on", row.arguments, True)]
 
 

@@ -20,8 +20,9 @@ WRITTEN = {
     ("bytes", "n"): "ROOM_FOR_BYTES", ("text", "n"): "ROOM_FOR_TEXT", ("marks", "n"): "ROOM_FOR_MARKS", ("marks", "trues"): "ROOM_FOR_TRUE_MARKS",
 }  # fmt: skip
 SINGLE = {"int": "ONE_INT", "flag": "ONE_FLAG", "sum": "ONE_SUM", "size": "ONE_COUNT"}
-VALUES = {"init": "5", "stride": "3", "lowest": "0", "rows": "matrix_rows()", "columns": "n / matrix_rows()"}
-OF_KINDS = {"int": "5", "flag": "true", "sum": "5", "size": "2"}
+VALUES = {"init": "5", "stride": "3", "lowest": "0", "row_count": "matrix_rows()", "column_count": "n / matrix_rows()"}
+HELD = {"columns": "INDEX", "starts": "STARTS", "true_lengths": "TRUE_LENGTHS", "false_lengths": "FALSE_LENGTHS"}
+OF_KINDS = {"int": "9", "flag": "true", "sum": "5", "size": "2"}
 PLACES = ("FIRST", "SECOND", "THIRD", "FOURTH", "FIFTH")
 
 
@@ -30,7 +31,7 @@ def _listed(words):
 
 
 def _selects(row):
-    return any(operand.name == "flags" for operand in row.operands) and any(operand.name == "index" for operand in row.operands)
+    return {"mask", "index"} <= {operand.use for operand in row.operands}
 
 
 def _extent(row, operand):
@@ -55,17 +56,15 @@ def _index(row, operand):
 
 def _holds(row, operand):
     """What an array of a call holds; nothing of an operand that is no array."""
-    if operand.name == "columns" and operand.role == "reads":
-        return "INDEX"
-    if operand.name == "starts":
-        return "STARTS"
-    if operand.name == "index" and operand.role == "reads":
+    if operand.use in HELD:
+        return HELD[operand.use]
+    if operand.use == "index":
         return _index(row, operand)
     if operand.role == "reads":
         nested = operand.kind == "text" and len(row.rooms) > 1
         return "NESTED_TEXT" if nested else READ[operand.kind, operand.extent]
     if operand.role == "lengths":
-        return {"true_lengths": "TRUE_LENGTHS", "false_lengths": "FALSE_LENGTHS"}.get(operand.name, "LENGTHS")
+        return "LENGTHS"
     if operand.role == "room":
         return WRITTEN[operand.kind, "both" if operand.extent == "both" else _extent(row, operand)]
     return SINGLE[operand.kind] if operand.role in ("single", "told") else None
@@ -96,8 +95,7 @@ def _given(row, argument, places):
         return "0"
     if operand.role == "count":
         return "(int64_t)n"
-    value = "9" if operand.name == "value" and operand.kind == "int" else OF_KINDS[operand.kind]
-    return VALUES.get(operand.name, value)
+    return VALUES.get(operand.use, OF_KINDS[operand.kind])
 
 
 def _in_place(row, named):

@@ -102,7 +102,7 @@ class Call:
         """The operand that says how long a room is whose length the library is told: flags or lengths; nothing for another room."""
         if self.result.extent in rows.said_by_lengths(self.row):
             return self.cuts[-1]
-        flags = [operand for operand in self.operands if operand.name == "flags"]
+        flags = [operand for operand in self.operands if operand.use == "mask"]
         return flags[0] if self.result.extent in ("trues", "room") else None
 
     def words(self, operand):

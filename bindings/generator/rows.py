@@ -125,7 +125,7 @@ def limited(family):
     arrays = [operand for operand in family.operands if operand.role == "reads" and operand.extent == family.limit]
     if not arrays:
         return None
-    return next((o for name in ("index", "flags") for o in arrays if o.name == name), arrays[0])
+    return next((o for use in ("index", "mask") for o in arrays if o.use == use), arrays[0])
 
 
 def in_place_words(family):
