@@ -54,6 +54,7 @@ Operator = namedtuple("Operator", "name number sentence fault")
 
 # An export.
 #
+#   general    its name where one name stands for integers and booleans
 #   exported   its name in crates/cvl_c, without cvl_proved_
 #   operators  the names of those that it takes
 #   limit      the extent that has a limit, beside that of lengths: MOST_ELEMENTS, or MOST_OF_TEXT of a nested text that is read
@@ -66,7 +67,7 @@ Operator = namedtuple("Operator", "name number sentence fault")
 #   sentence   what it does; `shape` how long its arrays are; `told` what C alone is told
 #   example    where no call has one; with operators it says of which it is, as op
 Family = namedtuple(
-    "Family", "name exported section operators operands limit in_place faults asks cut over_ranks by_lengths sentence shape told example"
+    "Family", "name general exported section operators operands limit in_place faults asks cut over_ranks by_lengths sentence shape told example"
 )
 
 # A call of the table: its family, its operator if the family has some, what it does, and its example, where each operand and the
@@ -171,6 +172,9 @@ MOST_STACK = 32768
 # The exports that only the driver calls: the steps of orders and sorts in parts.
 STEPS = ("placed_from", "key_block", "placed_block", "gather_keys", "gather_placed", "places_of")
 
+# The families that steps of other calls in parts make.
+STEP_FAMILIES = ("int_scan_after", "bool_scan_after", "seg_int_scan", "seg_bool_scan")
+
 # The faults that calls share.
 TOO_LONG = Fault((13,), "13 TooLong", False)
 SUM_OF_N = Fault((7,), "7 LengthMismatch if the lengths do not add up to n", False)
@@ -215,6 +219,8 @@ MONOIDS, BINARY, OF_FLAGS, COMPARISONS, UNARY = (
 NUMBERS = {name: number for family in OF_TABLE.values() for name, number in family.items()}
 if NUMBERS.keys() != SAID.keys():
     sys.exit(f"{', '.join(sorted(NUMBERS.keys() ^ SAID.keys()))}: bindings/table.py does not say what it does, or the table of calls does not have it")
+if max(NUMBERS.values()) >= 32:
+    sys.exit("the rows of bindings/c have one bit for each operator, 32 in all: widen CvlRow.operators and CvlRow.faulty before you add another")
 OPERATORS = tuple(Operator(name, NUMBERS[name], *SAID[name]) for name in sorted(NUMBERS, key=NUMBERS.get))
 
 # The numbers of a status, with their names.
@@ -397,23 +403,37 @@ def told(name="count"):
 
 def family(
     name, section, operands, sentence, operators=(), limit="n", in_place=(), faults=(TOO_LONG,), asks=False, cut=None, over_ranks=None, by_lengths=None,
-    shape="", told="", example=None, exported=None,
+    shape="", told="", example=None, exported=None, general=None,
 ):
-    found = over_ranks or (CUTS[cut[0]].over_ranks if cut else None)
+    unknown = [operand.use for operand in operands if operand.use not in USES] + [cut[0] for cut in [cut] if cut and cut[0] not in CUTS]
+    found = over_ranks or (CUTS[cut[0]].over_ranks if cut and not unknown else None)
+    if unknown:
+        sys.exit(f"{name} in bindings/table.py: neither USES nor CUTS has {', '.join(unknown)}")
     if found is None:
-        sys.exit(f"{name}: say in bindings/table.py by `over_ranks` how the family goes over ranks, or why it does not")
+        sys.exit(f"{name} in bindings/table.py: say by `over_ranks` how the family goes over ranks, or by a reason why it does not")
     return Family(
-        name, exported or name, section, operators, operands, limit, in_place, faults, asks, cut, found, by_lengths, sentence, shape, told, example)
+        name, general or name, exported or name, section, operators, operands, limit, in_place, faults, asks, cut, found, by_lengths, sentence, shape, told,
+        example,
+    )
 
 
-def twins(names, section, operands_of, sentence, **said):
-    """A family of integers and one of booleans, whose operands are those of a function of "ints" or "flags"."""
+def common(first, second):
+    """The words that two names share."""
+    return "_".join(word for word in first.split("_") if word in second.split("_"))
+
+
+def twins(names, section, operands_of, sentence, general=None, **said):
+    """A family of integers and one of booleans, whose operands are those of a function of "ints" or "flags". Their general name is the words
+    that their names share, if it is not given."""
 
     def of(kind, found):
         return found(kind) if callable(found) else found
 
     return tuple(
-        family(name, section, operands_of(kind), of(kind, sentence), **{word: of(kind, found) for word, found in said.items()})
+        family(
+            name, section, operands_of(kind), of(kind, sentence), general=general or common(*names),
+            **{word: of(kind, found) for word, found in said.items()},
+        )
         for name, kind in zip(names, ("ints", "flags"))
     )
 
@@ -529,10 +549,12 @@ FAMILIES = (
         ("int2", "bool2"), "place by place", lambda kind: (any_items(kind, "a"), any_items(kind, "b"), room(kind)),
         lambda kind: f"The operator on each two {word(kind)}s at the same place.",
         operators=lambda kind: BINARY if kind == "ints" else OF_FLAGS, in_place=(("a",), ("b",), ("a", "b")), cut=("places", "n"), shape=SHAPE_TWO,
+        general="binary",
     ),
     *twins(
         ("int1", "bool1"), "place by place", lambda kind: (any_items(kind, "a"), room(kind)),
         lambda kind: f"The operator, CVL_NOT or CVL_CPY, on each {word(kind)}.", operators=UNARY, in_place=(("a",),), cut=("places", "n"), shape=SHAPE_ONE,
+        general="unary",
     ),
     family(
         "compare", "place by place", (ints("a"), ints("b"), room("flags")), "The comparison of each two integers at the same place, on signed numbers.",
@@ -596,7 +618,8 @@ FAMILIES = (
     ),
     family(
         "index", "counts, single elements, and vectors of a given length", (value("init", use="init"), value("stride", use="stride"), count(), room("ints", "count")),
-        "The numbers init + k * stride, each wrapped to 32 bits, count of them.", limit=None, faults=BAD_COUNT, cut=("places", "count"), over_ranks=COUNTED_PLACES,
+        "The numbers init + k * stride, each wrapped to 32 bits, count of them.", limit=None, faults=BAD_COUNT, cut=("places", "count"),
+        over_ranks=COUNTED_PLACES,
     ),
     # ---- segments, which come as their lengths ----
     family(
@@ -606,14 +629,16 @@ FAMILIES = (
     *twins(
         ("seg_extract_int", "seg_extract_bool"), "segments, which come as their lengths",
         lambda kind: (any_items(kind, "vector"), indices("segments"), lengths(), room(kind, "segments")), "The element of each segment at its index.",
-        limit=None, faults=(SUM_OF_N, BAD_PLACES), asks=True, cut=("segments", "n"), over_ranks=OverRanks("seg_extract", "the rank of a segment's start, which has its index, asks for the element", named=True),
+        limit=None, faults=(SUM_OF_N, BAD_PLACES), asks=True, cut=("segments", "n"),
+        over_ranks=OverRanks("seg_extract", "the rank of a segment's start, which has its index, asks for the element", named=True),
         shape="The vector has n elements, index and out one for each segment.",
     ),
     *twins(
         ("seg_replace_int", "seg_replace_bool"), "segments, which come as their lengths",
         lambda kind: (items(kind, "vector"), indices("segments"), items(kind, "values", "segments"), lengths(), room(kind)),
         "The vector with another element in each segment, at its index.",
-        limit=None, faults=(SUM_OF_N, BAD_PLACES), asks=True, cut=("segments", "n"), over_ranks=OverRanks("seg_replace", "a segment's value goes to the rank of its place", named=True),
+        limit=None, faults=(SUM_OF_N, BAD_PLACES), asks=True, cut=("segments", "n"),
+        over_ranks=OverRanks("seg_replace", "a segment's value goes to the rank of its place", named=True),
         shape="vector and out have n elements, index and values one for each segment.",
     ),
     *twins(
@@ -684,13 +709,15 @@ FAMILIES = (
     ),
     *twins(
         ("back_permute_int", "back_permute_bool"), "permutes", lambda kind: (items(kind, "source"), indices("m"), room(kind, "m")),
-        "At each place the element of the source at the place's index.", limit="m", faults=(TOO_LONG, BAD_BACK), cut=("places", "m"), over_ranks=ASKED_ELEMENTS,
+        "At each place the element of the source at the place's index.", limit="m", faults=(TOO_LONG, BAD_BACK), cut=("places", "m"),
+        over_ranks=ASKED_ELEMENTS,
         shape="The source has n elements, which may be any number; index and out have m.",
     ),
     # ---- permutes of segments ----
     *twins(
         ("seg_permute_int", "seg_permute_bool"), "permutes of segments", lambda kind: (items(kind, "source"), indices(), lengths(), room(kind)),
-        "Each element of the source at its index in its segment.", faults=(TOO_LONG, SUM_OF_N, BAD_IN_SEGMENT), asks=True, cut=("segments", "n"), over_ranks=SENT_ANYWHERE,
+        "Each element of the source at its index in its segment.", faults=(TOO_LONG, SUM_OF_N, BAD_IN_SEGMENT), asks=True, cut=("segments", "n"),
+        over_ranks=SENT_ANYWHERE,
         shape="source, index and out have n elements.",
     ),
     *twins(
@@ -758,7 +785,9 @@ FAMILIES = (
     family(
         "counts", "combining permutes", (indices(), room("ints", "m")),
         "For each place of the result how many indices name it. The result may have any number of places.",
-        faults=(LONG_ROOM, BAD_NAMED), cut=("combine", "n"), over_ranks=OverRanks("counts", "few places are counted by each rank, and the counts added; else places go to the ranks that have them", named=True), example={"index": "2 0 2 3", "out": "1 0 2 1"},
+        faults=(LONG_ROOM, BAD_NAMED), cut=("combine", "n"),
+        over_ranks=OverRanks("counts", "few places are counted by each rank, and the counts added; else places go to the ranks that have them", named=True),
+        example={"index": "2 0 2 3", "out": "1 0 2 1"},
     ),
     *twins(
         ("seg_combine_permute_int", "seg_combine_permute_bool"), "combining permutes",
@@ -802,18 +831,23 @@ FAMILIES = (
     family(
         "seg_order", "orders, ranks and sorts", (ints("keys"), lengths(), room("ints")),
         "The order of the keys of each segment, whose places count from the start of the segment.",
-        faults=(TOO_LONG, SUM_OF_N), asks=True, cut=("segments", "n"), over_ranks=OverRanks("order", "keys of segments that cross ranks go with their places to the ranks of the sorted segments"), shape="keys and out have n elements.",
+        faults=(TOO_LONG, SUM_OF_N), asks=True, cut=("segments", "n"),
+        over_ranks=OverRanks("order", "keys of segments that cross ranks go with their places to the ranks of the sorted segments"),
+        shape="keys and out have n elements.",
         example={"keys": "3 1 9 2 7", "lengths": "2 0 3", "out": "1 0 1 2 0"},
     ),
     family(
         "seg_rank", "orders, ranks and sorts", (ints("keys"), lengths(), room("ints")),
         "The rank of each key in its segment.",
-        faults=(TOO_LONG, SUM_OF_N), asks=True, cut=("segments", "n"), over_ranks=OverRanks("rank", "keys of segments that cross ranks go to the ranks of the sorted segments, and their ranks back"), shape="keys and out have n elements.",
+        faults=(TOO_LONG, SUM_OF_N), asks=True, cut=("segments", "n"),
+        over_ranks=OverRanks("rank", "keys of segments that cross ranks go to the ranks of the sorted segments, and their ranks back"),
+        shape="keys and out have n elements.",
         example={"keys": "3 1 9 2 7", "lengths": "2 0 3", "out": "1 0 2 0 1"},
     ),
     family(
         "seg_sort", "orders, ranks and sorts", (ints("keys"), lengths(), room("ints")), "The keys of each segment in ascending order.",
-        in_place=(("keys",),), faults=(TOO_LONG, SUM_OF_N), asks=True, cut=("segments", "n"), over_ranks=OverRanks("sort", "keys of segments that cross ranks go to the ranks of the sorted segments"), shape="keys and out have n elements.",
+        in_place=(("keys",),), faults=(TOO_LONG, SUM_OF_N), asks=True, cut=("segments", "n"),
+        over_ranks=OverRanks("sort", "keys of segments that cross ranks go to the ranks of the sorted segments"), shape="keys and out have n elements.",
         example={"keys": "3 1 9 2 7", "lengths": "2 0 3", "out": "1 3 2 7 9"},
     ),
     # ---- slices and merges ----
@@ -822,7 +856,9 @@ FAMILIES = (
         lambda kind: (items(kind, "source"), ints("starts", "segments", "starts"), lengths(extent="total"), room(kind, "total")),
         "For each segment the elements of the source from the place `starts` on, as many as the segment is long. Slices may overlap, come in any order and be "
         "empty; an empty one may start where the source ends.",
-        limit="segments", faults=(BAD_SLICE,), cut=("segments", "total"), over_ranks=OverRanks("gather", "each rank asks the owners of the source for the runs of its slices; a start stands where its segment starts"), shape="There is one start for each segment; out has the total of the lengths.",
+        limit="segments", faults=(BAD_SLICE,), cut=("segments", "total"),
+        over_ranks=OverRanks("gather", "each rank asks the owners of the source for the runs of its slices; a start stands where its segment starts"),
+        shape="There is one start for each segment; out has the total of the lengths.",
         example=lambda kind: {
             "ints": {"source": "10 20 30 40", "starts": "2 4 1", "lengths": "2 0 3", "out": "30 40 20 30 40"},
             "flags": {"source": "true false false", "starts": "1 0", "lengths": "1 2", "out": "false true false"},
@@ -832,7 +868,9 @@ FAMILIES = (
         ("append_segments_int", "append_segments_bool"), "slices and merges",
         lambda kind: (items(kind, "a"), items(kind, "b", "m"), lengths(), lengths("other_lengths", "m"), room(kind, "both")),
         "The segments of a, each followed by the segment of b that has its number.",
-        limit=None, faults=(SUMS_OF_BOTH,), cut=("segments", "n"), over_ranks=OverRanks("append", "pieces go to the ranks of their places; out may be spread in any way"), shape="a has n elements in segments with the lengths, b has m in as many segments with the other lengths, and out "
+        limit=None, faults=(SUMS_OF_BOTH,), cut=("segments", "n"),
+        over_ranks=OverRanks("append", "pieces go to the ranks of their places; out may be spread in any way"),
+        shape="a has n elements in segments with the lengths, b has m in as many segments with the other lengths, and out "
         "n + m.",
         example=lambda kind: {
             "ints": {"a": "1 2 3", "b": "7 8 9", "lengths": "2 0 1", "other_lengths": "1 2 0", "out": "1 2 7 8 9 3"},
@@ -878,12 +916,14 @@ FAMILIES = (
     family(
         "seg_first_true", "slices and merges", (mask(), lengths(), room("ints", "segments")),
         "For each segment the place of its first true flag, counted from its start, or -1 if none is true.",
-        limit=None, faults=(SUM_OF_N,), cut=("segments", "n"), over_ranks=OverRanks("seg_first_true", JOINED_AT_START), shape="flags has n elements, out one for each segment.",
+        limit=None, faults=(SUM_OF_N,), cut=("segments", "n"),
+        over_ranks=OverRanks ("seg_first_true", JOINED_AT_START), shape="flags has n elements, out one for each segment.",
         example={"flags": "false true false false true", "lengths": "2 1 0 2", "out": "1 -1 -1 1"},
     ),
     family(
         "seg_exact_sums", "slices and merges", (ints("a"), lengths(), room("sums", "segments")),
-        "The sum of each segment in 64 bits, which always fits.", limit=None, faults=(SUM_OF_N,), cut=("segments", "n"), over_ranks=OverRanks("seg_exact_sums", "the pieces of a segment are added where it starts"),
+        "The sum of each segment in 64 bits, which always fits.", limit=None, faults=(SUM_OF_N,), cut=("segments", "n"),
+        over_ranks=OverRanks("seg_exact_sums", "the pieces of a segment are added where it starts"),
         shape="a has n elements, out one for each segment.", example={"a": "2147483647 1 5", "lengths": "2 0 1", "out": "2147483648 0 5"},
     ),
     # ---- transposes, and integers of a byte ----
@@ -915,17 +955,17 @@ FAMILIES = (
             Fault((13,), f"13 TooLong, without a place, if there are more than {MOST_ELEMENTS} words between white space, whatever they are", False),
             Fault((15,), "else 15 BadInput at the first word that is no such integer", False),
         ),
-        asks=True, cut=("read", "n"), example={"text": '"5 -1\\n007 -0"', "out": "5 -1 7 0", "count": "4"},
+        general="read", asks=True, cut=("read", "n"), example={"text": '"5 -1\\n007 -0"', "out": "5 -1 7 0", "count": "4"},
     ),
     family(
         "write_ints", "texts", (ints("a"), room("text", "room"), told()),
         "The text of a vector of integers: in decimal, a space between each two, in brackets.",
-        asks=True, cut=("write", "n"), example={"a": "0 -3 4", "out": '"[0 -3 4]"', "count": "8"},
+        general="write", asks=True, cut=("write", "n"), example={"a": "0 -3 4", "out": '"[0 -3 4]"', "count": "8"},
     ),
     family(
         "write_bools", "texts", (copied("a"), room("text", "room"), told()),
         "The text of a vector of booleans: each T or F, a space between each two, in brackets.",
-        asks=True, cut=("write", "n"), example={"a": "true false", "out": '"[T F]"', "count": "5"},
+        general="write", asks=True, cut=("write", "n"), example={"a": "true false", "out": '"[T F]"', "count": "5"},
     ),
     family(
         "seg_read_ints", "texts", (text("text"), room("ints", "room"), told(), room("ints", "lengths_room", "lengths"), told("segments")),
@@ -943,7 +983,7 @@ FAMILIES = (
                 (15,), "else 15 BadInput at the first word or bracket that cannot stand there, or, if the text ends too early, at the number of "
                 "its words and brackets", False),
         ),
-        asks=True, cut=("whole", None), over_ranks=NO_TEXTS,
+        general="seg_read", asks=True, cut=("whole", None), over_ranks=NO_TEXTS,
         example={"text": '"[[1 2] [] [3]]"', "out": "1 2 3", "count": "3", "lengths": "2 0 1", "segments": "3"},
     ),
     family(
@@ -953,11 +993,12 @@ FAMILIES = (
             Fault((13, 12), "by the lengths those of each call on segments, 13 TooLong, 12 NegativeLength, 13 TooLong", False),
             Fault((7,), "7 LengthMismatch if the lengths do not add up to the vector's", False),
         ),
-        asks=True, cut=("seg_write", "n"), example={"a": "5 1 7", "lengths": "0 2 1", "out": '"[[] [5 1] [7]]"', "count": "14"},
+        general="seg_write", asks=True, cut=("seg_write", "n"), example={"a": "5 1 7", "lengths": "0 2 1", "out": '"[[] [5 1] [7]]"', "count": "14"},
     ),
     family(
         "seg_write_bools", "texts", (copied("a"), lengths(), room("text", "room"), told()), "The same of booleans, each T or F.",
-        limit=None, faults=(), asks=True, cut=("seg_write", "n"), example={"a": "true false", "lengths": "1 1", "out": '"[[T] [F]]"', "count": "9"},
+        limit=None, faults=(), general="seg_write", asks=True, cut=("seg_write", "n"),
+        example={"a": "true false", "lengths": "1 1", "out": '"[[T] [F]]"', "count": "9"},
     ),
     # ---- scans in parts ----
     *twins(
@@ -985,13 +1026,15 @@ FAMILIES = (
         "of the range is written, and written is how many bits are set. Each part has another range, its own marks, and all of source and index. If all parts "
         "together wrote index_len places, the ranges are the permute; else an index is out of range or repeated: cvl_permute_int reports which. Other places "
         "stay as they were, so over ranges that hold the defaults the parts are def_puz.",
-        over_ranks=NO_PARTS, faults=RANGE_FAULTS, example={"source": "5 6 7", "index": "2 0 1", "lowest": "1", "out_len": "2", "out": "7 5", "marks": "3", "written": "2"},
+        general="permute_range",
+        over_ranks=NO_PARTS,
+        faults=RANGE_FAULTS, example={"source": "5 6 7", "index": "2 0 1", "lowest": "1", "out_len": "2", "out": "7 5", "marks": "3", "written": "2"},
     ),
     family(
         "permute_bool_range", "calls in parts",
         (copied("source"), indices(), lowest(), room("flags", "range"), room("marks", "marks", "marks"), told("written")),
         "The same of booleans: smp_pub, and def_pub over ranges that hold the defaults before, each 0 or 1.",
-        over_ranks=NO_PARTS, faults=(),
+        general="permute_range", over_ranks=NO_PARTS, faults=(),
         example={"source": "true false true", "index": "2 0 1", "lowest": "1", "out_len": "2", "out": "true true", "marks": "3", "written": "2"},
     ),
     family(
@@ -1002,6 +1045,7 @@ FAMILIES = (
         ),
         "One range of the result of sel_puz, the same way, of the elements whose flag is true. If the result has as many places as there are true flags, and all "
         "parts together wrote as many, the ranges are the permute.",
+        general="select_permute_range",
         over_ranks=NO_PARTS, faults=(Fault((13, 7), "those of cvl_permute_int_range; 7 LengthMismatch also if index and flags differ in length", False),),
         example={
             "source": "5 6 7", "index": "1 9 0", "flags": "true false true", "lowest": "0", "out_len": "1", "out": "7", "marks": "1", "written": "1",
@@ -1013,7 +1057,7 @@ FAMILIES = (
             copied("source"), indices(), copied_mask(), lowest(), room("flags", "range"), room("marks", "marks", "marks"),
             told("written"),
         ),
-        "The same of booleans: sel_pub.", over_ranks=NO_PARTS, faults=(),
+        "The same of booleans: sel_pub.", general="select_permute_range", over_ranks=NO_PARTS, faults=(),
         example={
             "source": "true false false", "index": "1 9 0", "flags": "true false true", "lowest": "0", "out_len": "1", "out": "false", "marks": "1",
             "written": "1",
@@ -1076,7 +1120,7 @@ FAMILIES = (
                 (15,), "else 15 BadInput at the first word of the piece that is no integer. You must check that all pieces together have at most "
                 f"{MOST_ELEMENTS} words", False),
         ),
-        asks=True, example={"before": "3", "text": '"9 10"', "out": "9 10", "count": "2"},
+        general="read_after", asks=True, example={"before": "3", "text": '"9 10"', "out": "9 10", "count": "2"},
     ),
     # ---- sparse products ----
     family(

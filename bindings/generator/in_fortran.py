@@ -9,11 +9,6 @@ import table
 
 WIDTH = 128
 
-# Families of integers and of booleans, flat and on segments, have one name in Fortran, which the kinds and ranks of arguments
-# tell apart.
-OF_KINDS = {"int2": "binary", "bool2": "binary", "int1": "unary", "bool1": "unary"}
-UNMERGED = ("int_from_bool", "bool_from_int", "ints_from_bytes", "bytes_from_ints")
-
 # The types of what is taken, and of a single value that is written.
 TYPES = {
     "ints": "integer(c_int32_t)", "flags": "logical(c_bool)", "bytes": "integer(c_int8_t)", "text": "character(*)", "marks": "integer(c_int32_t)",
@@ -23,11 +18,8 @@ TYPES = {
 
 
 def generic(family):
-    """The name that a family shares with those of other kinds and on segments."""
-    if family.name in UNMERGED:
-        return f"cvl_{family.name}"
-    words = [word for word in family.name.split("_") if word not in ("seg", "int", "bool", "ints", "bools")]
-    return f"cvl_{OF_KINDS.get(family.name) or '_'.join(words)}"
+    """The name that a family shares with those of other kinds and on segments, which the kinds and ranks of arguments tell apart."""
+    return f"cvl_{family.general.removeprefix('seg_')}"
 
 
 def _wide(operand):

@@ -17,9 +17,6 @@ SIZES = {
     "flag": "sizeof(bool)", "sum": "sizeof(int64_t)", "size": "sizeof(size_t)",
 }
 
-# The rows that steps of calls in parts name.
-NAMED_BY_HAND = {"int_scan_after", "bool_scan_after", "seg_int_scan", "seg_bool_scan"}
-
 # The faults that an export tells of elements, behind those that it tells of lengths.
 OF_ELEMENTS = {8, 9, 10, 11, 18}
 
@@ -230,7 +227,7 @@ def row_of(found):
         made += f", .by_lengths = &cvl_{family.by_lengths}_row"
     elif found.is_cut:
         made += f", .in_parts = cvl_{table.CUTS[found.cut].runs}_in_parts"
-    static = "" if found.name in NAMED_BY_HAND else "static "
+    static = "" if found.name in table.STEP_FAMILIES else "static "
     head = f"{static}const CvlRow cvl_{found.name}_row = {{\n    .operand = {{"
     return "\n".join([head, *(operand_row(found, k) for k in range(len(found.operands))), "    },", *(indented(f"{line}") for line in [*lines, made + ","]), "};"])
 

@@ -1,8 +1,6 @@
 """What is written for the tests in C: a row for each function, of how a careless program calls it, and of what a plain reading makes of it.
 The words of the rows are those of tests/c/calls.h and tests/c/reading.h."""
 
-import re
-
 import rows
 import table
 from in_c import constant, held, on_segments, segments_name
@@ -166,14 +164,6 @@ EXTENTS = {
 TYPES = {"INT": "int32_t", "FLAG": "bool", "SMALL": "uint8_t", "BYTE": "char", "WORD": "uint32_t", "SUM": "int64_t", "SIZE": "size_t"}
 
 
-def _model(name):
-    """The name of the plain reading of a family, which integers and booleans share."""
-    if name in ("int_from_bool", "bool_from_int"):
-        return "CONVERT"
-    words = [word for word in re.split(r"_", name) if word not in ("int", "bool", "ints", "bools")]
-    return {"INT2": "PAIRS", "BOOL2": "PAIRS", "INT1": "ONES", "BOOL1": "ONES"}.get("_".join(words).upper(), "_".join(words).upper())
-
-
 def _operand(operand):
     """An operand as its role, its kind and how long it is."""
     return f"{{{ROLES[operand.role]}, {KINDS[operand.kind]}, {EXTENTS[operand.extent]}}}"
@@ -206,7 +196,7 @@ def _reading_row(row, name, pool=""):
     words = ", ".join([*([pool] if pool else []), *(_argument(row, argument) for argument in row.arguments)])
     columns = [
         name,
-        _model(row.family.name),
+        row.family.general.upper(),
         _listed(map(_operand, row.operands)),
         _in_place(row, [operand.name for operand in row.operands]),
         _operators([row.operator] if row.operator else row.family.operators),

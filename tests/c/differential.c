@@ -398,12 +398,12 @@ static void fill(const Row *row, Given *g, size_t k, size_t n, size_t m) {
     for (size_t j = 0; j < g->len[k] && kind_of(row, k) == INT; j++) ints[j] = small ? (int32_t)below(19) - 9 : any_int();
     for (size_t j = 0; j < g->len[k] && kind_of(row, k) == FLAG; j++) bytes[j] = chance(2) ? 0 : plain || chance(2) ? 1 : (unsigned char)below(256);
     for (size_t j = 0; j < g->len[k] && kind_of(row, k) == SMALL; j++) bytes[j] = (unsigned char)below(256);
-    for (size_t j = 0; j < g->len[k] && row->model == BYTES_FROM; j++) ints[j] = (int32_t)below(256);
-    for (size_t bad = row->model == BYTES_FROM && chance(3) ? 1 + below(3) : 0; bad > 0 && g->len[k] > 0; bad--) ints[below(g->len[k])] = any_int();
+    for (size_t j = 0; j < g->len[k] && row->model == BYTES_FROM_INTS; j++) ints[j] = (int32_t)below(256);
+    for (size_t bad = row->model == BYTES_FROM_INTS && chance(3) ? 1 + below(3) : 0; bad > 0 && g->len[k] > 0; bad--) ints[below(g->len[k])] = any_int();
     if (kind_of(row, k) == BYTE) fill_text(row, (char *)g->at[k], g->len[k]);
     if (row->model == FROM_OFFSETS) fill_offsets(ints, g->len[k]);
     if (extent_of(row, k) == OF_OFFSETS && is_by_offsets(row)) fill_row_offsets(ints, g->len[k], n);
-    if (row->model == PAIRS && k == 1 && kind_of(row, k) == INT && fault_of(g->op) != CVL_DONE) fill_seconds(fault_of(g->op), ints, g->len[k]);
+    if (row->model == BINARY && k == 1 && kind_of(row, k) == INT && fault_of(g->op) != CVL_DONE) fill_seconds(fault_of(g->op), ints, g->len[k]);
 }
 
 /* How many elements an array of an extent has. */

@@ -113,6 +113,19 @@ class Held(unittest.TestCase):
                 told = list(limits.threshold_differences({**proved, name: other}, in_c))
                 self.assertEqual([line.split()[0] for line in told], [f"CVL_{name}"])
 
+    def test_what_a_family_leaves_unsaid(self):
+        """A family that does not say how it goes over ranks, an unknown way to cut it, and an operand of an unknown use."""
+        a, room = table.ints("a"), table.room("ints")
+        for operands, said, words in (
+            ((a, room), {}, "say by `over_ranks` how the family goes over ranks"),
+            ((a, room), {"cut": ("segments", "n")}, "say by `over_ranks` how the family goes over ranks"),
+            ((a, room), {"cut": ("places by places", "n")}, "neither USES nor CUTS has places by places"),
+            ((table.ints("a", use="keys"), room), {"cut": ("places", "n")}, "neither USES nor CUTS has keys"),
+        ):
+            with self.assertRaisesRegex(SystemExit, f"^new in bindings/table.py: {words}"):
+                table.family("new", "place by place", operands, "What it does.", **said)
+        self.assertEqual(table.family("new", "place by place", (a, room), "What it does.", cut=("places", "n")).over_ranks, table.OWN_PLACES)
+
 
 class Versions(unittest.TestCase):
     """Under which version the linker has each name, over versions that follow one another."""
