@@ -1006,6 +1006,10 @@ FAMILIES = (
         lambda kind: (value("before", one(kind)), items(kind, "a"), room(kind)),
         lambda kind: f"For each {word(kind)} `before`, joined by the operator, of {first_to_last(joining(kind))}, with those in front of it.",
         over_ranks=NO_PARTS, operators=joining, in_place=(("a",),), shape=SHAPE_ONE,
+        example=lambda kind: {
+            "ints": {"op": "ADD", "before": "10", "a": "3 1 4", "out": "10 13 14"},
+            "flags": {"op": "IOR", "before": "false", "a": "false true false", "out": "false false true"},
+        }[kind],
     ),
     # ---- calls in parts ----
     family(

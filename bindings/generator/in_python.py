@@ -12,13 +12,6 @@ from packages import name_of
 WIDTH = 118
 NUMPY = {"ints": "numpy.int32", "flags": "bool", "bytes": "numpy.uint8", "marks": "numpy.uint32", "sums": "numpy.int64"}
 
-# Examples of families that have none in the table.
-EXAMPLES = {
-    "int_scan_after": {"op": "ADD", "before": "10", "a": "3 1 4", "out": "10 13 14"},
-    "bool_scan_after": {"op": "IOR", "before": "false", "a": "false true false", "out": "false false true"},
-}
-
-
 class Direct(packages.Call):
     """A family that Python has under its own name."""
 
@@ -31,10 +24,6 @@ class Direct(packages.Call):
             self.operands = [*self.operands, *rooms]
         if row.family.operators:
             self.operands = [table.Operand("op", "operator", "size", None, False), *self.operands]
-
-    @property
-    def example(self):
-        return EXAMPLES.get(self.name) or super().example
 
     @property
     def over(self):

@@ -126,7 +126,7 @@ def _examples(entry):
     if entry.said:
         script, text = entry.example
         found += ["In a script:", _code("Script", script), "writes", _code("Script", text), *in_calls.shows(entry)]
-    if entry.rows and (entry.rows[0].example or entry.rows[0].name in in_python.EXAMPLES):
+    if entry.rows and entry.rows[0].example:
         found += ["In Python:", _code("Python", _example_in_python(entry.rows[0]))]
     return ["## Example", *found] if found else []
 
