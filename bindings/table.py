@@ -969,9 +969,8 @@ FAMILIES = (
     ),
     family(
         "seg_read_ints", "texts", (text("text"), room("ints", "room"), told(), room("ints", "lengths_room", "lengths"), told("segments")),
-        'The integers and the lengths of the lists of a nested text: "[", any number of lists, "]"; a list is "[", integers as in cvl_read_ints, "]". If one '
-        "of the two buffers is too short, both stay as they were, and both counts are the lengths that you need.",
-        limit=None,
+        'The integers and the lengths of the lists of a nested text: "[", any number of lists, "]"; a list is "[", integers as in cvl_read_ints, "]".',
+        told="If one of the two buffers is too short, both stay as they were, and both counts are the lengths that you need.", limit=None,
         faults=(
             Fault(
                 (13,),

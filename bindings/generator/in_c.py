@@ -86,7 +86,7 @@ def comment_of(row):
     one length."""
     family, call = row.family, row.call
     shape = "" if family.shape in (table.SHAPE_ONE, table.SHAPE_TWO) else family.shape
-    said = [call.sentence, shape, family.told] if call else [family.sentence]
+    said = [call.sentence, shape, family.told] if call else [family.sentence, family.told if row.example else ""]
     faults = "; ".join(fault.said for fault in row.faults if fault not in table.OF_LENGTHS) if call or row.example else ""
     said.append(f"Faults: {faults}." if faults else "")
     said.append(f"In place: {rows.in_place_words(family)}".replace(" may be out", "") if call and family.in_place else "")

@@ -145,8 +145,7 @@ def _in_python(said):
 def _purpose(call):
     said = _in_python(call.purpose)
     if isinstance(call, Direct) and call.gives == "READ_NESTED":
-        # of rooms a caller in C alone has two
-        said = f'{said.partition(" Each of the two results has a room")[0]} It gives both, the lengths as `Segments`.'
+        said += " It gives both, the lengths as `Segments`."
     if isinstance(call, Direct):
         said = said.replace(" out may be longer than the result, which stands at its front.", "")
         said += " out may be longer than the result, which stands at its front." if call.fills and call.told else ""

@@ -50,7 +50,7 @@ def declared(name, arguments, pool=False):
 
 def _plain(row):
     faults = rows.fault_text(row)
-    return [*documented(row.sentences, faults and f"Faults: {faults}"), *declared(row.name, row.arguments)]
+    return [*documented(row.sentences, row.family.told, faults and f"Faults: {faults}"), *declared(row.name, row.arguments)]
 
 
 def _in_parts(row):
