@@ -37,6 +37,7 @@ USES = {
     "starts": "the places where slices start",
     "mask": "flags that choose among elements",
     "offsets": "where rows start, and the last one ends",
+    "lengths": "the lengths of segments, as a result",
     "init": "the first number of a progression",
     "stride": "its steps",
     "lowest": "the first place of a range",
@@ -379,8 +380,8 @@ def count(name="count"):
     return Operand(name, "count", "int", None, False)
 
 
-def room(kind, extent="n", name="out"):
-    return Operand(name, "room", kind, extent, False)
+def room(kind, extent="n", name="out", use="elements"):
+    return Operand(name, "room", kind, extent, False, use=use)
 
 
 def over(kind, extent="m", name="out"):
@@ -680,7 +681,7 @@ FAMILIES = (
         limit=None, faults=(SUM_OR_NO_ROOM,), cut=("pack", "n"), shape="values and flags have n elements.", told=PACKED,
     ),
     family(
-        "seg_packed_lengths", "packs and counts of segments", (mask(), lengths(), room("ints", "segments")),
+        "seg_packed_lengths", "packs and counts of segments", (mask(), lengths(), room("ints", "segments", use="lengths")),
         "The lengths of the segments of what a pack of segments keeps.", limit=None, faults=(SUM_OF_N,), cut=("seg_count", "n"),
         shape="flags has n elements, out one for each segment.", exported="packed_lengths",
     ),
@@ -968,7 +969,7 @@ FAMILIES = (
         general="write", asks=True, cut=("write", "n"), example={"a": "true false", "out": '"[T F]"', "count": "5"},
     ),
     family(
-        "seg_read_ints", "texts", (text("text"), room("ints", "room"), told(), room("ints", "lengths_room", "lengths"), told("segments")),
+        "seg_read_ints", "texts", (text("text"), room("ints", "room"), told(), room("ints", "lengths_room", "lengths", "lengths"), told("segments")),
         'The integers and the lengths of the lists of a nested text: "[", any number of lists, "]"; a list is "[", integers as in cvl_read_ints, "]".',
         told="If one of the two buffers is too short, both stay as they were, and both counts are the lengths that you need.", limit=None,
         faults=(

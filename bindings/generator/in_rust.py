@@ -24,22 +24,23 @@ TAKEN = {
 GIVEN = {"ints": "Vec<i32>", "flags": "Vec<bool>", "bytes": "Vec<u8>", "text": "String", "sums": "Vec<i64>", "int": "i32", "flag": "bool", "sum": "i64"}
 ROOMS = {"ints": "&mut [i32]", "flags": "&mut [bool]", "bytes": "&mut [u8]", "text": "&mut [u8]", "marks": "&mut [u32]", "sums": "&mut [i64]"}
 
-# How many places are enough for a result of which nobody knows the length before. In a text that is written an integer has up to
-# 11 bytes and a blank, a boolean one and a blank, a list two brackets and a blank, and all together two brackets.
-ENOUGH = {
-    "read_ints": "most_words(text)",
-    "read_ints_after": "most_words(text)",
-    "write_ints": "12 * a.len() + 2",
-    "write_bools": "2 * a.len() + 2",
-    "seg_write_ints": "12 * a.len() + 3 * segments.len() + 2",
-    "seg_write_bools": "2 * a.len() + 3 * segments.len() + 2",
-}
+# The most bytes of an element in a text that is written: an integer has up to 11 and a blank, a boolean one and a blank.
+BYTES = {"ints": 12, "flags": 2}
 
-# This one gives two vectors, and is written by hand.
-BY_HAND = ("seg_read_ints",)
+# The functions that are no call; what gives two vectors is written by hand.
+FAMILIES = [call for call in map(packages.Call, packages.BESIDE) if not call.gives_two]
 
-# The functions that are no call.
-FAMILIES = [packages.Call(row) for row in packages.BESIDE if row.name not in BY_HAND]
+
+def _enough(function):
+    """How many places are enough for a result of which nobody knows the length before, or nothing. In a text that is written a list has two
+    brackets and a blank, and all together two brackets."""
+    first, result = function.row.takes[0], function.result
+    if function.counts and any(operand.kind == "text" for operand in function.row.takes):
+        return "most_words(text)"
+    if result is None or result.kind != "text":
+        return None
+    of_lists = "".join(f" + 3 * {packages.name_of(cut)}.len()" for cut in function.cuts)
+    return f"{BYTES[first.kind]} * {first.name}.len(){of_lists} + 2"
 
 
 def _has_ranges(function):
@@ -308,7 +309,7 @@ def _filled(function):
 
 def _counted(function):
     """The body of a function whose call reports the length of its result; the room is as long as the result can be."""
-    places = ENOUGH.get(function.family.name) or _extent(function)
+    places = _enough(function) or _extent(function)
     filled = f"counted({places}, |out| {function.name}_into({', '.join([*_passed(function), 'out'])}))"
     yield f"{filled}.map(text_of)" if function.result.kind == "text" else filled
 

@@ -3,10 +3,6 @@
 import rows
 import table
 
-# The families whose result is segments: the lengths that they tell or write.
-OF_SEGMENTS = ("make_descriptor", "seg_packed_lengths")
-
-
 def name_of(operand):
     """The name of an operand, where what are `lengths` in C, and what else ends so, are segments."""
     return operand.name.replace("lengths", "segments") if operand.role == "lengths" else operand.name
@@ -21,14 +17,19 @@ class Call:
 
     def __init__(self, row):
         self.row, self.name, self.family = row, row.name, row.family
-        self.makes_segments = row.family.name == OF_SEGMENTS[0]
-        self.gives_segments = row.family.name in OF_SEGMENTS
+        self.makes_segments = row.result is None
+        self.gives_segments = self.makes_segments or row.result.use == "lengths"
         # what segments are made of are integers still
         self.operands = [operand._replace(role="reads") for operand in row.takes] if self.makes_segments else row.takes
         self.cuts = [operand for operand in self.operands if operand.role == "lengths"]
         self.result = row.result
         if self.is_sized:
             self.operands = [*self.operands, COUNT]
+
+    @property
+    def gives_two(self):
+        """Whether it gives a vector and the lengths of its segments."""
+        return len(self.row.rooms) > 1 and self.row.rooms[-1].use == "lengths"
 
     @property
     def is_sized(self):

@@ -77,7 +77,7 @@ class Entry:
 
     def _taken(self, operand):
         if operand.role == "lengths":
-            if self.rows[0].family.name == "make_descriptor":
+            if self.rows[0].result is None:
                 return "lengths (integers)"
             whose = {"index_lengths": " of the index", "default_lengths": " of the defaults"}.get(operand.name, " of the source" if len(self._cuts) > 1 else "")
             return f"{self._cuts[operand.name]} (descriptor{whose})"

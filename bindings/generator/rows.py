@@ -169,7 +169,7 @@ def call_differences(calls):
         yield f"{name} of the table of calls has no row"
     for name, row in named.items():
         takes, gives = calls.get(name, ([], []))
-        operands = ["Integers"] if row.family.name == "make_descriptor" else [_kind(operand) for operand in row.takes]
+        operands = ["Integers"] if row.result is None else [_kind(operand) for operand in row.takes]
         if operands != takes:
             yield f"{name} takes {takes} in the table of calls and {operands} in its row"
         found = [KINDS[row.result.kind]] if row.result else ["Descriptor"]

@@ -45,7 +45,7 @@ def of_python(row):
 
 def of_rust(row):
     """The declaration in Rust; of what is written by hand, that of its file."""
-    if row.call is None and row.name in in_rust.BY_HAND:
+    if row.call is None and packages.Call(row).gives_two:
         code = "\n".join(path.read_text() for path in sorted((rows.pathlib.Path(__file__).resolve().parents[1] / "rust/src").glob("*.rs")))
     else:
         code = in_rust._written(packages.Call(row))
