@@ -247,8 +247,8 @@ def _measured_by(call):
 
 
 def _spreads(call):
-    """Whether a number may stand for one of several arrays: place by place alone."""
-    return call.family.section == "place by place" and len([o for o in call.operands if o.role == "reads"]) > 1
+    """Whether a number may stand for one of several arrays: where all are as long as the result, place by place."""
+    return call.row.is_place_by_place and len([o for o in call.operands if o.role == "reads"]) > 1
 
 
 def _most(call):

@@ -115,7 +115,7 @@ class Entry:
         if extent == "count":
             return ", as many as the count"
         alike = [operand for operand in row.takes if operand.role == "reads" and operand.extent == extent]
-        if row.section == "place by place":
+        if row.is_place_by_place:
             return ""
         return f", as many as {self._named(alike[-1] if extent == 'm' else alike[0])}"
 
@@ -132,7 +132,7 @@ class Entry:
     @property
     def agree(self):
         """Which lengths must agree, or nothing."""
-        if not self.rows or self.rows[0].family.name == "make_descriptor":
+        if not self.rows or self.rows[0].result is None:
             return ""
         row, found = self.rows[0], []
         for extent in dict.fromkeys(operand.extent for operand in row.takes if operand.role == "reads"):

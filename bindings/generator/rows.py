@@ -78,6 +78,12 @@ class Row:
         return next((operand for operand in self.operands if operand.role in ("room", "single")), None)
 
     @property
+    def is_place_by_place(self):
+        """Whether each place of the result is made of the elements there, and of nothing else."""
+        cut, extent = self.family.cut or (None, None)
+        return cut == "places" and extent == "n" and all(o.extent == extent for o in self.operands if is_array(o))
+
+    @property
     def arguments(self):
         """The arguments in C, in their order."""
         return _of_call(self) if self.call else _of_family(self.family)
