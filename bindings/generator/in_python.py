@@ -262,7 +262,7 @@ def _argument(call, operand):
     if operand.role in ("reads", "lengths"):
         return f"CUT({k})" if operand.extent is not None and operand.role == "lengths" else f"READ({TYPES[operand.kind]}, {k})"
     if operand.role == "room":
-        second = "frame->second" if operand.name != "out" else "frame->room"
+        second = "frame->room" if operand == call.row.result else "frame->second"
         return f"WRITE({TYPES[operand.kind]}, {second if k is None else f'frame->given[{k}]'})"
     if operand.role == "single":
         return SINGLES[operand.kind]

@@ -125,8 +125,8 @@ class Entry:
 
     @staticmethod
     def _named(operand):
-        if operand.name == "defaults":
-            return "there are defaults"
+        if operand.name.endswith("s"):
+            return f"there are {operand.name}"
         return f"{operand.name if len(operand.name) == 1 else 'the ' + operand.name} has"
 
     @property
