@@ -13,7 +13,7 @@ HEAD = """! cvl_mpi: the vector calls of CVL over the ranks of MPI, beside the m
 !
 ! cvl_ranks_new(comm, ranks) makes the ranks of a communicator, an integer of the module mpi; comm%mpi_val is that of mpi_f08. Each call is a
 ! subroutine, as cvl_add_suz_mpi(ranks, a, out, status), which all ranks make, each with its own arrays. Segments come as the pieces in a rank's
-! range: cvl_rank_segments_new(ranks, lengths, goes_on, segments); the lengths are a target that stays as it is while the descriptor serves.
+! range: cvl_rank_segments_new(ranks, lengths, goes_on, segments). Descriptors and routes keep none of your arrays.
 ! A call without a status stops the program at a fault.
 module cvl_mpi
     use, intrinsic :: iso_c_binding, only: c_bool, c_int, c_int8_t, c_int32_t, c_int64_t, c_loc, c_null_ptr, c_ptr, c_size_t
