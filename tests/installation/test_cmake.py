@@ -67,12 +67,19 @@ if(TARGET cvl::mpi)
   message(STATUS "a library: ${text}")
 endif()
 """)
-        why = "the package cvl has no component mpi here"
-        without = [f"-- asked for: 0, {why}, FALSE", "-- at will: 1, FALSE"]
-        found = ["-- asked for: 1, , TRUE", "-- at will: 1, TRUE", "-- a library: libcvl_mpi.so.1.0.0"]
-        for options, wanted in (((), without), (("--mpi",), found)):
+        library = self.root / "lib/libcvl_mpi.so.1.0.0"
+        found = ["-- asked for: 1, , TRUE", "-- at will: 1, TRUE", f"-- a library: {library.name}"]
+        self.find_ranks("not_installed", ["-- asked for: 0, the package cvl has no component mpi here, FALSE", "-- at will: 1, FALSE"])
+        self.find_ranks("installed", found, "--mpi")
+        library.unlink()
+        why = f"{library} is not there, which was installed with this package"
+        self.find_ranks("lost", [f"-- asked for: 0, {why}, FALSE", "-- at will: 1, FALSE"], install=False)
+
+    def find_ranks(self, to, wanted, *options, install=True):
+        """Installs with these options, and compares what CMake reports."""
+        if install:
             with mock.patch.object(Used, "build", Whole.build):
                 self.install(self.root, "--no-python", *options)
-            asks = 'cmake -S . -B "$TO" -DCMAKE_PREFIX_PATH="$ROOT" -DCMAKE_MODULE_PATH="$PWD/modules" 2>&1'
-            told = self.run_in_shell(asks, ROOT=str(self.root), TO=f"build{len(options)}")
-            self.assertEqual([line for line in told.split("\n") if line.startswith("-- a")], wanted)
+        asks = 'cmake -S . -B "$TO" -DCMAKE_PREFIX_PATH="$ROOT" -DCMAKE_MODULE_PATH="$PWD/modules" 2>&1'
+        told = self.run_in_shell(asks, ROOT=str(self.root), TO=to)
+        self.assertEqual([line for line in told.split("\n") if line.startswith("-- a")], wanted)

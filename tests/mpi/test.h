@@ -33,7 +33,43 @@ static inline int64_t own_from(int r) {
     return from;
 }
 
+/* Fills a vector with the elements of this rank. */
+static inline void fill(int32_t *a) {
+    for (size_t k = 0; k < own_count(rank); k++) a[k] = of_place(own_from(rank) + (int64_t)k);
+}
+
+static inline int is_filled(const int32_t *out, size_t n, int32_t with) {
+    for (size_t k = 0; k < n; k++) {
+        if (out[k] != with) return 0;
+    }
+    return 1;
+}
+
 /* ---- the other files ---- */
+
+/* made.c */
+void try_none(void);
+void try_no_place(void);
+void try_other_descriptors(void);
+void try_bad_pieces(void);
+void try_changed_pieces(void);
+void try_all_refused(void);
+
+/* mistakes.c */
+void try_overlaps(void);
+void try_differences(void);
+void try_counts(void);
+void try_other_calls(void);
+
+void try_routes(void); /* routes.c */
+
+/* spreads.c */
+void try_spreads(void);
+void try_few(void);
+
+/* texts.c */
+void try_texts(void);
+void try_long_texts(void);
 
 void try_long_vectors(void); /* blocks.c */
 void try_given_back(void);   /* given_back.c */

@@ -8,8 +8,7 @@ program over_ranks
     type(cvl_rank_segments) :: rows
     type(cvl_route) :: route
     type(cvl_status) :: status
-    integer(c_int32_t) :: a(2), out(2), sums(1), index(2), total
-    integer(c_int32_t), target :: pieces(2)
+    integer(c_int32_t) :: a(2), out(2), sums(1), index(2), pieces(2), total
     integer(c_int64_t) :: wide(2)
     integer :: again, rank, number, ierror
 
@@ -29,6 +28,7 @@ program over_ranks
     else
         call cvl_rank_segments_new(ranks, pieces, .true., rows)
     end if
+    pieces = 0 ! the descriptor has its own
     call check("what starts here", cvl_rank_segments_starts(rows) == merge(2, 1, rank == 0))
     if (rank == 0) then
         call cvl_add_rez_mpi(ranks, a, rows, out)
@@ -42,6 +42,7 @@ program over_ranks
     call cvl_smp_puz_mpi(ranks, a, index, out)
     call check("a permute", out(1) == -1 .and. out(2) == 3)
     call cvl_route_new(ranks, index, 2, route)
+    index = 0 ! and so has the route
     call cvl_route_back(route, a, out)
     call check("back by a route", out(1) == -1 .and. out(2) == 3)
     ! all of -1, then all of 3; and one key that all ranks add to

@@ -2,6 +2,7 @@
 -- Source: this example.
 use Rattle.std.specs.Prelude.{ℕ, ℤ, pos, negsuc, ◌==◌, if◌then◌else◌}
 
+-- the slot of a number
 abbrev pub slot_of : ℤ → ℕ
 slot_of (negsuc n) = 0
 slot_of (pos n) = if n == 0 then 1 else 2
