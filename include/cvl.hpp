@@ -542,6 +542,7 @@ class Segments {
     explicit Segments(std::vector<std::int32_t> &&lengths);
     Segments(std::initializer_list<std::int32_t> lengths) : Segments(Ints(lengths)) {}
     Segments(Ints lengths, Status &status) noexcept;
+    Segments(std::initializer_list<std::int32_t> lengths, Status &status) noexcept : Segments(Ints(lengths), status) {}
     Segments(std::vector<std::int32_t> &&lengths, Status &status) noexcept;
 
     /// The same without a copy: the lengths have to live, and stay as they are, while the segments are used.
@@ -730,7 +731,8 @@ struct Telling {
     // where an index leads
     void say_into(Arguments arguments, const char *into) noexcept {
         for (const Argument &array : arguments) {
-            if (array.is_array && std::strcmp(array.name, into) == 0) say(", and %s has %zu elements", into, array.size);
+            if (!array.is_array || std::strcmp(array.name, into) != 0) continue;
+            say(", and %s has %zu elements", array.is_room ? "the result" : into, array.size);
         }
     }
 
