@@ -694,7 +694,7 @@ struct Telling {
             }
             return false;
         }
-        if (first.extent != second.extent || first.size == second.size) return false;
+        if (first.extent == Extent::alone || first.extent != second.extent || first.size == second.size) return false;
         say(": %s has %zu elements, and %s has %zu", second.name, second.size, first.name, first.size);
         return true;
     }

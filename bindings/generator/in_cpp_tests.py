@@ -72,7 +72,7 @@ def _tried(function):
     yield f'{form}("{name}", {wanted}, {_called(function, operands, "more")}{wrong});'
     if form == "fresh":
         beside = in_cpp._beside_room(function)
-        yield f'room("{name}", {wanted}, {"true" if function.is_counted else "false"}, {_called(function, beside, "more")});'
+        yield f'room("{name}", {wanted}, {"COUNTED" if function.is_counted else "ANY" if function.is_sized else "EXACT"}, {_called(function, beside, "more")});'
         for names in function.family.in_place:
             if len(names) == 1:
                 yield _in_place(function, beside, names[0], wanted)

@@ -5,16 +5,16 @@
 #include <cstdio>
 #include <vector>
 
-std::vector<std::int32_t> sparse_product(const cvl::Segments &rows, cvl::Ints columns, cvl::Ints entries, cvl::Ints x) {
+std::vector<std::int32_t> product(const cvl::Segments &rows, cvl::Ints columns, cvl::Ints entries, cvl::Ints x) {
     return cvl::add_rez(cvl::mul_wuz(entries, cvl::bck_puz(x, columns)), rows);
 }
 
 int main() {
     const cvl::Segments rows = {2, 0, 2}; // the number of entries of each row
     const std::vector<std::int32_t> columns = {0, 2, 1, 2}, wrong = {0, 2, 1, 3}, entries = {2, 1, 3, 4}, x = {1, 2, 3};
-    std::printf("y = %s\n", cvl::write_ints(sparse_product(rows, columns, entries, x)).c_str());
+    std::printf("y = %s\n", cvl::write_ints(product(rows, columns, entries, x)).c_str());
     try {
-        sparse_product(rows, wrong, entries, x);
+        product(rows, wrong, entries, x);
     } catch (const cvl::Fault &fault) {
         std::printf("%s\n", fault.what());
     }

@@ -18,6 +18,9 @@ void *operator new(std::size_t size) {
     if (found == nullptr) throw std::bad_alloc();
     return found;
 }
+void *operator new[](std::size_t size, const std::nothrow_t &) noexcept { return is_refused() ? nullptr : std::malloc(size == 0 ? 1 : size); }
+void operator delete[](void *at) noexcept { std::free(at); }
+void operator delete[](void *at, std::size_t) noexcept { std::free(at); }
 void operator delete(void *at) noexcept { std::free(at); }
 void operator delete(void *at, std::size_t) noexcept { std::free(at); }
 
@@ -53,7 +56,7 @@ void refuse(const char *name, Make make) {
 } // namespace
 
 int main() {
-    const std::vector<std::int32_t> a = ints({3, 1, 4}), index = ints({2, 0, 1});
+    const std::vector<std::int32_t> a = ints({3, 1, 4}), wide = cvl::dis_vuz(123456, 20);
     const cvl::Flags odd = {true, true, false};
     const cvl::Segments rows = {1, 2};
     refuse("cvl::add_suz", [&](auto &...more) { (void)cvl::add_suz(a, more...); });
@@ -62,7 +65,7 @@ int main() {
     refuse("cvl::pck_lub", [&](auto &...more) { (void)cvl::pck_lub(odd, odd, more...); });
     refuse("cvl::pck_fov", [&](auto &...more) { (void)cvl::pck_fov(odd, rows, more...); });
     refuse("cvl::read_ints", [&](auto &...more) { (void)cvl::read_ints("3 1 4", more...); });
-    refuse("cvl::write_ints", [&](auto &...more) { (void)cvl::write_ints(cvl::dis_vuz(123456, 20), more...); });
+    refuse("cvl::write_ints", [&](auto &...more) { (void)cvl::write_ints(wide, more...); });
     refuse("cvl::seg_read_ints", [&](auto &...more) { (void)cvl::seg_read_ints("[[3 1] [4]]", more...); });
     refuse("cvl::Segments", [&](auto &...more) { (void)cvl::Segments(cvl::Ints(a), more...); });
     refuse("cvl::Segments", [&](auto &...more) { (void)cvl::Segments::from_offsets({0, 2}, more...); });
