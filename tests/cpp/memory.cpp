@@ -18,6 +18,7 @@ void *operator new(std::size_t size) {
     if (found == nullptr) throw std::bad_alloc();
     return found;
 }
+void *operator new[](std::size_t size) { return operator new(size); }
 void *operator new[](std::size_t size, const std::nothrow_t &) noexcept { return is_refused() ? nullptr : std::malloc(size == 0 ? 1 : size); }
 void operator delete[](void *at) noexcept { std::free(at); }
 void operator delete[](void *at, std::size_t) noexcept { std::free(at); }
