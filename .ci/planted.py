@@ -22,6 +22,7 @@ EDITS = {
     "calls.check_without_c": [("include/cvl.h", "len_luz, len_lub and", "len_luz and")],
     "calls.check_without_on": [("docs/user/parallel.md", "`cvl_exact_sum`, `cvl_read_ints_after`", "`cvl_read_ints_after`")],
     "calls.check_starts": [("docs/user/performance.md", "`add_rez`, `smp_puz`", "`add_rez`, `tot_rez`, `smp_puz`")],
+    "calls.check_cpp": [("docs/user/cpp.md", "`cvl::first_true` of", "`cvl::first_index` of")],
     "calls.check_thresholds": [("docs/user/parallel.md", "work from 524,288 on", "work from 524,289 on")],
     "calls.check_faults": [(SCRIPT, "| 10 | IndexOutOfRange |", "| 10 | OutOfRange |")],
     "calls.check_limits": [(SCRIPT, "| 1,048,576 |", "| 1,048,577 |")],

@@ -47,8 +47,9 @@ USES = {
     "false_lengths": "where it is false",
 }
 
-# A fault: its numbers, and what is said of it. One of the room is C's alone.
-Fault = namedtuple("Fault", "numbers said of_room")
+# A fault: its numbers, and what is said of it. One of the room is C's alone. If its place counts in an operand, or it is a number that
+# the caller gives, `about` names that operand; if that holds indices, `into` names the array into which all of them lead.
+Fault = namedtuple("Fault", "numbers said of_room about into", defaults=(None, None))
 
 # An operator: its name, its number, what it does, and its fault.
 Operator = namedtuple("Operator", "name number sentence fault")
@@ -181,11 +182,11 @@ TOO_LONG = Fault((13,), "13 TooLong", False)
 SUM_OF_N = Fault((7,), "7 LengthMismatch if the lengths do not add up to n", False)
 NO_ROOM = Fault((7,), "7 LengthMismatch if out is too short", True)
 SUM_OR_NO_ROOM = Fault((7,), "7 LengthMismatch if the lengths do not add up to n, with *count as it was, and if out is too short", True)
-BAD_PLACE = Fault((10,), "10 IndexOutOfRange at 0 if the index is below 0, or n or more", False)
-BAD_PLACES = Fault((10,), "10 IndexOutOfRange at the segment", False)
+BAD_PLACE = Fault((10,), "10 IndexOutOfRange at 0 if the index is below 0, or n or more", False, "index", "vector")
+BAD_PLACES = Fault((10,), "10 IndexOutOfRange at the segment", False, "index")
 BAD_COUNT = (
-    Fault((12,), "12 NegativeLength, without a place, if count is below 0", False),
-    Fault((13,), f"13 TooLong if it is above {MOST_ELEMENTS}", False),
+    Fault((12,), "12 NegativeLength, without a place, if count is below 0", False, "count"),
+    Fault((13,), f"13 TooLong if it is above {MOST_ELEMENTS}", False, "count"),
 )
 
 # What each operator does, and its fault.
@@ -198,10 +199,10 @@ SAID = {
     "IOR": ("or, bit by bit", None),
     "XOR": ("exclusive or, bit by bit", None),
     "SUB": ("the difference, wrapped to 32 bits", None),
-    "DIV": ("the quotient, truncated toward zero", Fault((8,), "8 DivideByZero at the first divisor that is 0", False)),
-    "MOD": ("the remainder of that quotient, with the dividend's sign", Fault((8,), "8 DivideByZero at the first divisor that is 0", False)),
-    "LSH": ("the first, shifted left by the second", Fault((9,), "9 ShiftOutOfRange at the first element of b outside 0 to 31", False)),
-    "RSH": ("the first, shifted right by the second; the sign is copied", Fault((9,), "9 ShiftOutOfRange at the first element of b outside 0 to 31", False)),
+    "DIV": ("the quotient, truncated toward zero", Fault((8,), "8 DivideByZero at the first divisor that is 0", False, "b")),
+    "MOD": ("the remainder of that quotient, with the dividend's sign", Fault((8,), "8 DivideByZero at the first divisor that is 0", False, "b")),
+    "LSH": ("the first, shifted left by the second", Fault((9,), "9 ShiftOutOfRange at the first element of b outside 0 to 31", False, "b")),
+    "RSH": ("the first, shifted right by the second; the sign is copied", Fault((9,), "9 ShiftOutOfRange at the first element of b outside 0 to 31", False, "b")),
     "GRT": ("whether the first is greater", None),
     "LES": ("whether it is less", None),
     "GEQ": ("whether it is at least the second", None),
@@ -482,32 +483,32 @@ SHAPE_ONE = "a and out have n elements."
 SHAPE_TWO = "a, b and out have n elements."
 PACKED = "out needs room for so many; n is always enough. *count is how many they are, also if out is too short."
 BAD_INDEX = Fault(
-    (10, 11), "at the first bad index 10 IndexOutOfRange if it is below 0, or n or more, else 11 IndexRepeated if an earlier one is the same", False)
+    (10, 11), "at the first bad index 10 IndexOutOfRange if it is below 0, or n or more, else 11 IndexRepeated if an earlier one is the same", False, "index", "out")
 BAD_SELECTED = Fault(
     (10, 11),
     "at the first bad index 10 IndexOutOfRange if it is below 0, or the number of true flags or more, else 11 IndexRepeated if an "
     "earlier one is the same",
-    False,
+    False, "index", "out",
 )
 BAD_DEFAULTED = Fault(
-    (10, 11), "at the first bad index 10 IndexOutOfRange if it is below 0, or m or more, else 11 IndexRepeated if an earlier one is the same", False)
-BAD_BACK = Fault((10,), "10 IndexOutOfRange at the first index below 0, or n or more", False)
+    (10, 11), "at the first bad index 10 IndexOutOfRange if it is below 0, or m or more, else 11 IndexRepeated if an earlier one is the same", False, "index", "defaults")
+BAD_BACK = Fault((10,), "10 IndexOutOfRange at the first index below 0, or n or more", False, "index", "source")
 REPEATED = "else 11 IndexRepeated if an earlier one of its segment is the same"
-BAD_IN_SEGMENT = Fault((10, 11), f"at the first bad index 10 IndexOutOfRange if it is no place of its segment, {REPEATED}", False)
-BAD_IN_RESULT = Fault((10, 11), f"at the first bad index 10 IndexOutOfRange if it is no place of its segment of the result, {REPEATED}", False)
-BAD_IN_DEFAULTS = Fault((10, 11), f"at the first bad index 10 IndexOutOfRange if it is no place of its segment of the defaults, {REPEATED}", False)
-BAD_IN_SOURCE = Fault((10,), "10 IndexOutOfRange at the first index that is no place of its segment of the source", False)
+BAD_IN_SEGMENT = Fault((10, 11), f"at the first bad index 10 IndexOutOfRange if it is no place of its segment, {REPEATED}", False, "index")
+BAD_IN_RESULT = Fault((10, 11), f"at the first bad index 10 IndexOutOfRange if it is no place of its segment of the result, {REPEATED}", False, "index")
+BAD_IN_DEFAULTS = Fault((10, 11), f"at the first bad index 10 IndexOutOfRange if it is no place of its segment of the defaults, {REPEATED}", False, "index")
+BAD_IN_SOURCE = Fault((10,), "10 IndexOutOfRange at the first index that is no place of its segment of the source", False, "index")
 SUMS_OF_DEFAULTS = Fault((7,), "7 LengthMismatch if the lengths do not add up to n or the default lengths to m", False)
 SUMS_OF_INDEX = Fault((7,), "7 LengthMismatch if the lengths do not add up to n or the index lengths to m", False)
 FLAGS_DIFFER = Fault((7,), "7 LengthMismatch if index and flags differ in length", False)
-BAD_NAMED = Fault((10,), "10 IndexOutOfRange at the first index that is no place of the result", False)
+BAD_NAMED = Fault((10,), "10 IndexOutOfRange at the first index that is no place of the result", False, "index", "out")
 SUMS_OF_RESULT = Fault((7,), "7 LengthMismatch if the lengths do not add up to the index, or the result lengths to out", False)
-BAD_NAMED_IN_SEGMENT = Fault((10,), "10 IndexOutOfRange at the first index that is no place of its segment of the result", False)
+BAD_NAMED_IN_SEGMENT = Fault((10,), "10 IndexOutOfRange at the first index that is no place of its segment of the result", False, "index")
 LONG_ROOM = Fault((13,), "13 TooLong, also if out is too long", False)
 NOT_AS_MANY = Fault((7,), "7 LengthMismatch if source and index differ in length", False)
 SUMS_OF_SENT = Fault(
     (7,), "7 LengthMismatch if source and index differ in length, or the lengths do not add up to them, or the result lengths to out", False)
-BAD_SLICE = Fault((10,), "10 IndexOutOfRange at the first segment that starts below 0 or ends behind the source", False)
+BAD_SLICE = Fault((10,), "10 IndexOutOfRange at the first segment that starts below 0 or ends behind the source", False, "starts")
 SUMS_OF_BOTH = Fault((7,), "7 LengthMismatch if the lengths do not add up to a, or the other lengths to b", False)
 SUMS_OF_SIDES = Fault(
     (7,), "7 LengthMismatch if the lengths do not add up to flags, the true lengths to when_true or the false lengths to when_false", False)
@@ -518,16 +519,16 @@ RANGE_OF_MATRIX_FAULTS = (
     Fault((13,), f"13 TooLong, by the source, and if the range ends behind place {MOST_ELEMENTS}", False), NO_MATRIX,
     Fault((7,), "7 LengthMismatch if the range ends behind place n", False),
 )
-NO_BYTE = Fault((18,), "18 Overflow at the first integer below 0 or above 255", False)
+NO_BYTE = Fault((18,), "18 Overflow at the first integer below 0 or above 255", False, "a")
 NO_SIDES = Fault((7,), "7 LengthMismatch if when_true does not have one element for each true flag, or when_false for each false one", False)
 OVERFLOW_AT_PLACE = Fault((18,), "18 Overflow at the first place whose sum does not fit 32 bits", False)
 OVERFLOW_AT_0 = Fault((18,), "18 Overflow at 0 if it does not fit 32 bits", False)
-BAD_COLUMN = Fault((10,), "10 IndexOutOfRange at the first column below 0, or m or more", False)
+BAD_COLUMN = Fault((10,), "10 IndexOutOfRange at the first column below 0, or m or more", False, "columns", "x")
 SUM_OF_ENTRIES = Fault((7,), "7 LengthMismatch if columns and values differ in length, or the lengths do not add up to n", False)
 TOO_MANY = Fault((13,), f"13 TooLong, also if there are more than {MOST_ELEMENTS + 1} offsets", False)
 BAD_OFFSETS = Fault(
     (7, 12), "7 LengthMismatch if there is no offset or the first is not 0, else 12 NegativeLength at the first row whose offset is above the next one",
-    False)
+    False, "offsets")
 LAST_OFFSET = Fault((7,), "7 LengthMismatch if columns and values differ in length, or the last offset is not n", False)
 OVERFLOW_AT_ROW = Fault((18,), "18 Overflow at the first row whose sum does not fit 32 bits", False)
 OVERFLOW_AT_SEGMENT = Fault((18,), "18 Overflow at the first segment whose sum does not fit 32 bits", False)

@@ -13,6 +13,8 @@ import call_table
 import calls as plain_reading
 import rows
 
+CPP = "docs/user/cpp.md"
+
 PAGE, SCRIPT, GLOSSARY = "docs/user/calls.md", "docs/user/script.md", "docs/user/glossary.md"
 
 IN_PARTS, COSTS, STARTS = "docs/user/parallel.md", "docs/user/performance.md", "tests/process/resources"
@@ -50,6 +52,13 @@ def check_glossary():
     for heading in headings():
         if not any(f"`{name}`" in glossary for name in heading.split()):
             yield f"{GLOSSARY} has none of {heading}"
+
+
+def check_cpp():
+    """Each name in the namespace cvl that docs/user/cpp.md has is in the header for C++."""
+    header = set(re.findall(r"\b(\w+)\b", re.sub(r"//[^\n]*|/\*.*?\*/", "", text_of("include/cvl.hpp"), flags=re.S)))
+    for name in sorted(set(re.findall(r"\bcvl::(\w+)", re.sub(r"CMake's target.*", "", text_of(CPP)))) - header):
+        yield f"{CPP} has cvl::{name}, which include/cvl.hpp has not"
 
 
 def faults_of_page():

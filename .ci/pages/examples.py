@@ -10,7 +10,7 @@ PAGES_OF_CASES = {"calls": "reference", "segments": "segments", "mistakes": "mis
 PAGES_WITH_RUNS = ("README.md", "docs/user/README.md", "docs/user/examples.md")
 
 PAGES_WITH_CODE = (
-    "README.md", "docs/dev/embedding.md", "docs/dev/look-back.md", "docs/user/parallel.md", "docs/user/programs.md", "docs/user/python.md",
+    "README.md", "docs/dev/embedding.md", "docs/dev/look-back.md", "docs/user/cpp.md", "docs/user/parallel.md", "docs/user/programs.md", "docs/user/python.md",
     "docs/user/segments.md",
 )  # fmt: skip
 

@@ -113,7 +113,7 @@ def check_trusted():
 
 
 # the pages that say what is proved of the library from other languages; the manual takes the words from the same place
-PAGES_FROM_C = ("README.md", "bindings/rust/README.md", *(f"docs/user/{name}.md" for name in ("programs", "python", "rust", "fortran")))
+PAGES_FROM_C = ("README.md", "bindings/rust/README.md", *(f"docs/user/{name}.md" for name in ("programs", "cpp", "python", "rust", "fortran")))
 
 
 def check_from_c():

@@ -14,7 +14,7 @@ CRATE = ("Cargo.toml", "README.md", "LICENSE", "build.rs", "build/*.rs", "src/**
 def base(places, work, written, made):
     """What each install has, and its links. `work` is where the library was built, and below `written` stands what the repository has
     not; `made` are files for this install alone, with where they go."""
-    libdir, headers = places.libdir, generated.both(written, "include", "*.h")
+    libdir, headers = places.libdir, generated.both(written, "include", "*.h", "*.hpp")
     crates = generated.both(written, "bindings/rust", *CRATE, *(f"cvl-sys/{name}" for name in CRATE))
     found = {
         "bin/cvl": work / "cvl",

@@ -1,7 +1,6 @@
-// A pool of the threads of C++ for the calls of cvl_parallel.h: a thread for each part but one, started for each step. What starting a
-// thread throws is caught, since no exception may leave `run`: the thread that calls runs the parts that have no thread.
-// `examples/cpp/run threads` builds and runs it.
-#include "cvl_parallel.h"
+// Long calls on the threads of C++: a pool that starts a thread for each part but one, at each step. A program that has threads that wait
+// runs the parts on those, and starts none. `examples/cpp/run threads` builds and runs it.
+#include "cvl.hpp"
 
 #include <cstdio>
 #include <thread>
@@ -9,30 +8,26 @@
 
 namespace {
 
-void run(void *, CvlPart part, void *work, std::size_t parts) noexcept {
+// Runs the parts of a step. If no thread can be started, the calling thread runs the parts that are left.
+void run(std::size_t parts, cvl::Part part) {
     std::vector<std::thread> threads;
     std::size_t started = 0;
     try {
         threads.reserve(parts);
-        for (; started + 1 < parts; started++) threads.emplace_back(part, work, started);
-    } catch (...) {
-        // no memory, or no more threads: the rest runs here
+        for (; started + 1 < parts; started++) threads.emplace_back(part, started);
+    } catch (const std::exception &) {
+        // no memory, or no more threads
     }
-    for (std::size_t k = started; k < parts; k++) part(work, k);
+    for (std::size_t k = started; k < parts; k++) part(k);
     for (std::thread &thread : threads) thread.join();
 }
 
 } // namespace
 
 int main() {
-    const CvlPool pool = {4, run, nullptr};
-    std::vector<std::int32_t> a(1000000, 1), plain(a.size()), parts(a.size());
-    CvlStatus status = cvl_add_suz(a.data(), plain.data(), a.size());
-    if (status.number == CVL_DONE) status = cvl_add_suz_on(&pool, a.data(), parts.data(), a.size());
-    if (status.number != CVL_DONE) {
-        std::printf("fault %u at %lld\n", static_cast<unsigned>(status.number), static_cast<long long>(status.place));
-        return 1;
-    }
+    const std::vector<std::int32_t> a(1000000, 1), plain = cvl::add_suz(a);
+    const cvl::OnPool on(4, run);
+    const std::vector<std::int32_t> parts = cvl::add_suz(a);
     std::printf("the last of %zu sums is %d, %s\n", parts.size(), static_cast<int>(parts.back()), parts == plain ? "as by one thread" : "another");
     return parts == plain ? 0 : 1;
 }

@@ -63,7 +63,7 @@ class Installs(Whole):
             "share/man/man1/cvl.1": "docs/man/cvl.1",
             **{f"share/man/man3/{path.name}": f"docs/man/{path.name}" for path in (written() / "docs/man").glob("*.3")},
             "include/cvl.f90": "bindings/fortran/cvl.f90",
-            **{f"include/{path.name}": f"include/{path.name}" for path in (TOP / "include").glob("*.h")},
+            **{f"include/{path.name}": f"include/{path.name}" for path in (TOP / "include").glob("*.h*")},
         }  # fmt: skip
         for name, source in wanted.items():
             (source,) = (top / source for top in (TOP, written()) if (top / source).exists())
@@ -393,7 +393,7 @@ class Pages(Tree):
     def setUp(self):
         super().setUp()
         self.files = pages.files()
-        headers = {f"include/{path.name}": path for path in (TOP / "include").glob("*.h")}
+        headers = {f"include/{path.name}": path for path in (TOP / "include").glob("*.h*")}
         # the last two are there if --mpi puts them
         drawn = {"include/cvl.f90": "bindings/fortran/cvl.f90", "include/cvl_mpi.h": "bindings/mpi/cvl_mpi.h", "include/cvl_mpi.f90": "bindings/fortran/cvl_mpi.f90"}
         self.headers = {**headers, **{name: written() / path for name, path in drawn.items()}}
@@ -403,7 +403,7 @@ class Pages(Tree):
 
     def test_each_name_is_there(self):
         for name, path in {**self.files, **self.headers, **self.manual, **self.crates}.items():
-            if name.endswith((".md", ".h", ".f90", ".1", ".3")):
+            if name.endswith((".md", ".h", ".hpp", ".f90", ".1", ".3")):
                 self.assertEqual(self.installed.without(path.read_text()), [], name)
 
     def test_a_name_that_is_not_there_is_reported(self):
