@@ -37,6 +37,17 @@ def _run(said, *words, cwd=None):
         stop(f"{said}:\n{(told.stdout + told.stderr)[-4000:]}")
 
 
+def compiled_of(program):
+    """The object that a program was linked from, which stands beside it."""
+    return program.with_name(f"{program.name}.o")
+
+
+def link(compiled, made, toolchain=None, *more):
+    """Links a program that the kit compiled, over the kit's toolchain or one that is like it."""
+    words = [kit() / "bin/rattle-link", "--target", "x86_64-unknown-linux-gnu", "--toolchain", toolchain or kit() / "toolchain"]
+    _run("the program was not linked", *words, "-o", made, compiled, *more, kit() / "c/libos_c.a", kit() / "c/liblibc_c.a")
+
+
 class Crates:
     """The crates of a checkout."""
 
@@ -96,10 +107,9 @@ class Crates:
 
     def build_program_over_gate(self, made, cpu=""):
         """Builds the program over the libraries that `rt ci` left, where that was not done yet."""
-        found, compiled = kit(), made.with_name(f"{made.name}.o")
+        compiled = compiled_of(made)
         if self._build_over_gate(PROGRAM, ["src/main.rt"], compiled, cpu) or not made.exists():
-            words = [found / "bin/rattle-link", "--target", "x86_64-unknown-linux-gnu", "--toolchain", found / "toolchain"]
-            _run("the program was not linked", *words, "-o", made, compiled, found / "c/libos_c.a", found / "c/liblibc_c.a")
+            link(compiled, made)
 
     def _build_over_gate(self, name, more, made, cpu):
         """Whether a crate had to be built over the libraries that `rt ci` left, which it is then."""

@@ -1,14 +1,18 @@
-"""What a release is made of: the program and the exports for each kind of processor, and trees as `./install` puts them."""
+"""What a release is made of: the program and the exports for each kind of processor, and trees as `./install` puts them. All of it is
+linked so that it runs with an older glibc."""
 
 import os
 import pathlib
 import re
+import shlex
 import subprocess
 import sys
 
 import archive
 import proved
 from installer import building
+
+from .older_glibc import OlderGlibc
 
 # the processors that a release is built for: the usual ones, and those with AVX2
 USUAL, NEWER = "", "x86-64-v3"
@@ -27,6 +31,8 @@ class Built:
         self.environment.update(SOURCE_DATE_EPOCH=str(time), PYTHONDONTWRITEBYTECODE="1", LC_ALL="C.UTF-8")
         os.environ.clear()
         os.environ.update(self.environment)
+        self.glibc = OlderGlibc(self.work / "glibc")
+        self.environment["LDFLAGS"] = os.environ["LDFLAGS"] = shlex.join(self.glibc.linked)
 
     @property
     def is_given(self):
@@ -38,8 +44,18 @@ class Built:
         if cpu not in self.given:
             (self.work / "logs").mkdir(parents=True, exist_ok=True)
             own = self.work / f"compiled for {CPUS[cpu]}" if self.anew else ""
-            self.given[cpu] = [str(path) for path in building.Build(cpu, self.jobs, own).both(self.work / "logs")]
+            program, exports = building.Build(cpu, self.jobs, own).both(self.work / "logs")
+            self.given[cpu] = [str(self._linked_again(pathlib.Path(program), cpu)), str(exports)]
         return self.given[cpu]
+
+    def _linked_again(self, program, cpu):
+        """A program over the older glibc, of the object that stands beside it."""
+        compiled = proved.compiled_of(program)
+        if not compiled.exists():
+            proved.stop(f"{compiled} is not there, of which a release links the program")
+        made = self.work / f"linked for {CPUS[cpu]}/cvl"
+        made.parent.mkdir()
+        return self.glibc.program(compiled, made)
 
     def installed(self, name, prefix, cpu, *words):
         """The folder below which `./install` has put all for this prefix."""

@@ -9,6 +9,7 @@ import shutil
 import subprocess
 import sys
 import tarfile
+import tempfile
 import time
 import types
 import unittest
@@ -23,7 +24,7 @@ import generated
 from installer import files
 from installer.words import Places
 import table
-from releasing import built, crates, debian, found_right, licences, packed, receipt, shown, texts, trees, trying, writing
+from releasing import built, crates, debian, found_right, licences, older_glibc, packed, receipt, shown, texts, trees, trying, writing
 from trees import Tree
 from whole import Whole, command, written
 
@@ -237,12 +238,96 @@ class Environment(unittest.TestCase):
         # MPICC makes the calls over ranks, and PKG_CONFIG finds an installed library: a release has neither
         asked = {*re.findall(r'(?:words_of|environ.get)\("((?!CVL_)\w+)"', sources), *archive.USUAL} - {"MPICC", "PKG_CONFIG"}
         self.assertLess({"CC", "CFLAGS", "CPPFLAGS", "LDFLAGS", "DESTDIR"}, asked)
-        imports = "import os, sys; sys.path.insert(0, 'bindings'); from releasing.built import Built"
-        words = [sys.executable, "-c", f"{imports}; Built('.', 1000, 1, False); print(*os.environ)"]
-        given = {**os.environ, **dict.fromkeys(asked, "x"), "PYTHONPATH": "x"}
-        said = subprocess.run(words, cwd=TOP, env=given, capture_output=True, text=True, check=True).stdout
-        self.assertEqual(set(said.split()) & {*asked, "PYTHONPATH"}, set())
-        self.assertIn("SOURCE_DATE_EPOCH", said.split())
+        imports = "import json, os, sys; sys.path.insert(0, 'bindings'); from releasing.built import Built"
+        with tempfile.TemporaryDirectory() as folder:
+            words = [sys.executable, "-c", f"{imports}; Built(sys.argv[1], 1000, 1, False); print(json.dumps(dict(os.environ)))", folder]
+            given = {**os.environ, **dict.fromkeys(asked, "x"), "PYTHONPATH": "x"}
+            said = json.loads(subprocess.run(words, cwd=TOP, env=given, capture_output=True, text=True, check=True).stdout)
+            self.assertEqual(said.pop("LDFLAGS"), f"-L{folder}/glibc")
+        self.assertEqual(set(said) & {*asked, "PYTHONPATH"}, set())
+        self.assertEqual(said["SOURCE_DATE_EPOCH"], "1000")
+
+
+class Older(Tree):
+    """What is linked so that it runs with an older glibc."""
+
+    # a library that starts a thread and watches forks, in the words of the C library before and after 2.34
+    SOURCE = """#include <pthread.h>
+        #include <string.h>
+        static void *same(void *given) { return given; }
+        static void forked(void) {}
+        int started(void) {
+            pthread_t thread;
+            void *found = NULL;
+            if (pthread_atfork(NULL, NULL, forked) || pthread_create(&thread, NULL, same, &thread)) return 0;
+            return pthread_join(thread, &found) == 0 && found == &thread;
+        }
+        """
+    MAIN = "int started(void); int main(void) { return started() ? 7 : 0; }"
+
+    def setUp(self):
+        super().setUp()
+        self.glibc = older_glibc.OlderGlibc(self.top / "glibc")
+
+    def run_it(self, *words):
+        return subprocess.run([str(word) for word in words], capture_output=True, text=True, cwd=self.top)
+
+    def linked(self, text, made):
+        self.write("linked.c", text)
+        shared = ["-shared", "-fPIC", "-pthread", "-Wl,-z,defs", *self.glibc.linked]
+        return self.run_it("cc", *shared, "-o", made, "linked.c")
+
+    def needed(self, path):
+        told = self.run_it("readelf", "--wide", "-V", "-d", path).stdout
+        return set(re.findall(r"\(NEEDED\).*\[(.*)\]", told)), set(re.findall(r"GLIBC_([\d.]+)", told))
+
+    def test_a_library_that_starts_threads_needs_no_newer_glibc(self):
+        self.assertEqual(self.linked(self.SOURCE, "libstarted.so").returncode, 0)
+        self.assertEqual(self.needed("libstarted.so"), ({"libc.so.6", "libpthread.so.0"}, {"2.2.5", "2.3.2"}))
+        self.write("main.c", self.MAIN)
+        self.assertEqual(self.run_it("cc", "-o", "main", "main.c", "-L.", "-lstarted", "-Wl,-rpath,$ORIGIN").stderr, "")
+        self.assertEqual(self.run_it("./main").returncode, 7)
+
+    def test_what_an_older_glibc_has_not_is_reported(self):
+        told = self.linked("#define _GNU_SOURCE\n#include <unistd.h>\nint closes(void) { return close_range(3, 4, 0); }", "libcloses.so")
+        self.assertNotEqual(told.returncode, 0)
+        self.assertIn("undefined reference to `close_range'", told.stderr)
+
+    def test_each_name_has_the_newest_version_of_that_time(self):
+        rows = (
+            ("close@@GLIBC_2.2.5", "FUNC"), ("environ@@GLIBC_2.2.5", "OBJECT"), ("memcpy@GLIBC_2.2.5", "FUNC"), ("memcpy@@GLIBC_2.14", "IFUNC"),
+            ("statx@@GLIBC_2.28", "FUNC"), ("close_range@@GLIBC_2.34", "FUNC"), ("pthread_create@GLIBC_2.2.5", "FUNC"),
+            ("pthread_create@@GLIBC_2.34", "FUNC"), ("__libc_start_main@GLIBC_2.2.5", "FUNC"), ("__libc_start_main@@GLIBC_2.34", "FUNC"),
+            ("dlopen@GLIBC_2.2.5", "FUNC"), ("dlopen@@GLIBC_2.34", "FUNC"), ("old@GLIBC_2.2.5", "FUNC"), ("mine@@GLIBC_PRIVATE", "FUNC"),
+        )  # fmt: skip
+        lines = "".join(f"{k:>6}: 0000000000001000     8 {kind:<7} GLOBAL DEFAULT   15 {name}\n" for k, (name, kind) in enumerate(rows))
+        asked = "     9: 0000000000000000     0 FUNC    GLOBAL DEFAULT  UND calloc@GLIBC_2.2.5 (2)\n"
+        found = {file: {name.name: name.version for name in of_file} for file, of_file in older_glibc.names(lines + asked).items()}
+        self.assertEqual(found, {
+            "libc.so.6": {"close": "2.2.5", "environ": "2.2.5", "memcpy": "2.14", "statx": "2.28", "__libc_start_main": "2.2.5"},
+            "libpthread.so.0": {"pthread_create": "2.2.5"},
+        })  # fmt: skip
+
+    def test_what_the_program_asks_of_the_processor(self):
+        self.write("asks.c", """#include <stdint.h>
+            #include <stdio.h>
+            struct feature { uint32_t has[4], may[4]; };
+            const struct feature *__x86_get_cpuid_feature_leaf(unsigned leaf);
+            int main(void) {
+                for (unsigned leaf = 0; leaf < 3; leaf++) {
+                    const struct feature *const found = __x86_get_cpuid_feature_leaf(leaf);
+                    for (int k = 1; k < 4; k++) printf("%x ", (leaf == 0 && k == 1) ? 0 : found->may[k]);
+                }
+                return 0;
+            }""")
+        # the bits that the levels v2, v3 and v4 of x86-64 are about, in ebx, ecx and edx
+        told = []
+        for more in ((), (older_glibc.PROCESSOR,)):
+            self.assertEqual(self.run_it("cc", "-Wall", "-Wextra", "-o", "asks", "asks.c", *more).stderr, "")
+            told.append([int(word, 16) for word in self.run_it("./asks").stdout.split()])
+        levels = [0, 0x38983201, 0, 0xd0030128, 0, 0, 0, 0x21, 0]
+        self.assertEqual(*[[word & bits for word, bits in zip(found, levels)] for found in told])
+        self.assertEqual(told[1][1] & 0x982201, 0x982201, "x86-64-v2")
 
 
 class Crates(Tree):
