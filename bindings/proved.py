@@ -3,6 +3,7 @@
 import concurrent.futures
 import os
 import pathlib
+import shutil
 import subprocess
 import sys
 import time
@@ -22,6 +23,16 @@ def show(page):
     except BrokenPipeError:
         # what is flushed at the end goes nowhere
         os.dup2(os.open(os.devnull, os.O_WRONLY), sys.stdout.fileno())
+
+
+def revision():
+    """The revision of this checkout, with a mark if files have changed since; "unknown" outside of a repository."""
+    words = ["git", "-C", str(TOP), "describe", "--always", "--exclude=*", "--abbrev=12", "--dirty=-changed"]
+    try:
+        told = subprocess.run(words, capture_output=True, text=True)
+    except OSError:
+        return "unknown"
+    return told.stdout.strip() if told.returncode == 0 else "unknown"
 
 
 def kit():
@@ -149,6 +160,12 @@ class Crates:
             words += ["--", "--help"]
         with open(log, "wb") as told:
             return subprocess.run(words, cwd=self.folder(name), stdin=subprocess.DEVNULL, stdout=told, stderr=told).returncode
+
+    def build_archive_for(self, cpu, folder):
+        """Builds the archive for some processors into a folder, where all below it was built, and answers where it is."""
+        if self._build(LIBRARY, cpu, folder / "log") != 0:
+            stop(f"the archive for {cpu} was not built:\n{(folder / 'log').read_text(errors='replace')[-4000:]}")
+        return pathlib.Path(shutil.copy(self.archive, folder / self.archive.name))
 
     def build_all(self, cpu, jobs, logs):
         """Proves and builds the program, the archive and all below them, some crates side by side, and tells how far it is."""

@@ -270,6 +270,11 @@ WITHOUT_ROWS = """
             type(c_ptr) :: text
         end function c_version
 
+        function c_build() result(text) bind(c, name="cvl_build")
+            import :: c_ptr
+            type(c_ptr) :: text
+        end function c_build
+
         function c_fault_name(number) result(text) bind(c, name="cvl_fault_name")
             import :: c_int32_t, c_ptr
             integer(c_int32_t), value :: number
@@ -302,6 +307,13 @@ TAIL = """
 
         version = text_of(c_version())
     end function cvl_version
+
+    ! Which library this is, as "1.0.0 29801b93 x86-64-v3": its version, the revision of its sources and the processors.
+    function cvl_build() result(build)
+        character(:), allocatable :: build
+
+        build = text_of(c_build())
+    end function cvl_build
 
     ! The name of the number of a status, as "DivideByZero"; "Unknown" if no status has that number.
     function cvl_fault_name(number) result(name)
@@ -412,7 +424,7 @@ def _constants():
 
 
 def _publics():
-    yield "    public :: cvl_fault_name, cvl_set_threads, cvl_threads, cvl_version"
+    yield "    public :: cvl_build, cvl_fault_name, cvl_set_threads, cvl_threads, cvl_version"
     for procedure in dict.fromkeys(procedure.public for procedure in procedures()):
         yield f"    public :: {procedure}"
     for name, names in _generics().items():

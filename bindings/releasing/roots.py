@@ -20,6 +20,7 @@ PACKAGES = {
     "python": ("python3-numpy", "python3-venv"),
     "source": ("gcc", "libc6-dev", "python3-numpy", "python3-dev", "python3-venv"),
     "rust": ("cargo", "gcc", "libc6-dev"),
+    "mpi": ("gcc", "libc6-dev", "make", "pkg-config", "libmpich-dev", "mpich"),
     "older": ("xz-utils", "gcc", "libc6-dev", "pkg-config", "python3-numpy", "python3-dev", "python3-venv"),
     "next": ("xz-utils", "cargo", "gcc", "libc6-dev", "pkg-config", "python3-numpy", "python3-dev", "python3-venv"),
 }

@@ -24,7 +24,7 @@ import generated
 from installer import files
 from installer.words import Places
 import table
-from releasing import built, crates, debian, found_right, licences, older_glibc, packed, receipt, shown, texts, trees, trying, writing
+from releasing import built, crates, debian, found_right, licences, older_glibc, over_ranks, packed, receipt, shown, texts, trees, trying, writing
 from trees import Tree
 from whole import Whole, command, written
 
@@ -108,12 +108,13 @@ class Packages(unittest.TestCase):
 
     def test_each_file_has_a_package(self):
         places = Places("/usr", debian.LIBDIR)
-        given, links = files.base(places, pathlib.Path("/work"), pathlib.Path("/written"), {"share/doc/cvl/README.md": None})
+        given, links = files.base(places, pathlib.Path("/work"), pathlib.Path("/written"), built.OWN, {"share/doc/cvl/README.md": None})
         of = {name: debian._package_of(name) for name in (*given, *links)}
         self.assertEqual([name for name, package in of.items() if package is None], [])
         for name, package in (
             ("bin/cvl", "cvl"), ("share/man/man1/cvl.1", "cvl"), (f"{debian.LIBDIR}/{archive.SONAME}", "libcvl1"), ("include/cvl.h", "libcvl-dev"),
-            (f"{debian.LIBDIR}/{archive.LINKED}", "libcvl-dev"), (f"{debian.LIBDIR}/libcvl.a", "libcvl-dev"), ("share/doc/cvl/README.md", "cvl-doc"),
+            (f"{debian.LIBDIR}/{archive.LINKED}", "libcvl-dev"),
+            (f"{debian.LIBDIR}/glibc-hwcaps/x86-64-v3/{archive.SONAME}", "libcvl1"), (f"{debian.LIBDIR}/libcvl.a", "libcvl-dev"), ("share/doc/cvl/README.md", "cvl-doc"),
         ):  # fmt: skip
             self.assertEqual(of[name], package, name)
         self.assertIsNone(debian._package_of("share/cvl/installed"))
@@ -147,15 +148,12 @@ class Debian(Whole):
         self.run_it("cc", "-c", "-o", "program.o", "program.c")
         self.run_it("ar", "rcs", work / "libcvl.a", "program.o")
 
-    def built(self, python, *words):
-        names = super().built(python, *words)
-        if names:
-            (made,) = pathlib.Path(words[-1]).rglob(self.module)
-            self.run_it("cc", "-shared", "-fPIC", "-o", made, "program.c")
-        return names
+    def put_python(self, staged):
+        self.built(None, staged / "lib/python3/dist-packages")
+        (made,) = staged.rglob(self.module)
+        self.run_it("cc", "-shared", "-fPIC", "-o", made, "program.c")
 
-    def installed(self, name, prefix, cpu, *words):
-        self.python["folders"] = ["/usr/lib/python3/dist-packages"]
+    def installed(self, name, prefix, *words):
         self.install(prefix, *words, destination=self.top / "staged")
         return self.top / "staged/usr"
 
@@ -167,7 +165,7 @@ class Debian(Whole):
         asked = types.SimpleNamespace(run=lambda *words, **more: self.NUMPY)
         with at(moment), mock.patch.object(texts, "copyright_of", lambda: "a licence\n"), \
                 mock.patch.dict(os.environ, {"SOURCE_DATE_EPOCH": "1000"}), \
-                mock.patch.object(debian, "subprocess", asked):  # fmt: skip
+                mock.patch.object(debian, "_put_python", self.put_python), mock.patch.object(debian, "subprocess", asked):  # fmt: skip
             names = debian.write(folder, builds)
         return {name.partition("_")[0]: folder / name for name in names}
 
@@ -210,7 +208,7 @@ class Debian(Whole):
                     owner = places[os.path.normpath(os.path.join(os.path.dirname(place), os.readlink(path)))]
                     self.assertIn(f"{owner} (= {debian.REVISION})", [*own, *depends[name]], place)
         major, minor = map(int, self.run_it(debian.PYTHON, "-c", "import sys; print(*sys.version_info[:2])").split())
-        own = [f"python3 (>= {major}.{minor}~)", f"python3 (<< {major}.{minor + 1})", "python3-numpy", "python3-numpy-abi9"]
+        own = [f"libcvl1 (= {debian.REVISION})", f"python3 (>= {major}.{minor}~)", f"python3 (<< {major}.{minor + 1})", "python3-numpy", "python3-numpy-abi9"]
         self.assertEqual([word for word in depends["python3-cvl"] if not word.startswith("libc6")], own)
 
     def check_places(self, unpacked):
@@ -369,7 +367,8 @@ class Receipt(Tree):
     """What the receipt says of files of a release."""
 
     def text(self, is_given=False, not_tried=""):
-        builds = types.SimpleNamespace(is_given=is_given, given={"": [self.write("cvl", "a program"), self.write("libcvl_c.a", "exports")]})
+        given = {("program", ""): self.write("cvl", "a program"), ("exports", "x86-64-v3"): self.write("libcvl_c.a", "exports")}
+        builds = types.SimpleNamespace(is_given=is_given, given=given)
         record = found_right.Record(**{**RECORD, "not_tried": not_tried})
         with mock.patch.object(receipt, "sources", lambda: {"crates/sums": "0" * 64, "docs": "1" * 64}), \
                 mock.patch.object(found_right, "revision", lambda: "a revision"):  # fmt: skip
@@ -381,6 +380,7 @@ class Receipt(Tree):
             self.assertIn(f"| `{name}` | {made_of} | `{receipt.sum_of(self.top / name)}` |", text)
         self.assertEqual(dict(writing.SOURCE.findall(text)), {"crates/sums": "0" * 64, "docs": "1" * 64})
         self.assertIn(f"| program | the usual processors | `{receipt.sum_of(self.top / 'cvl')}` |", text)
+        self.assertIn(f"| exports | x86-64-v3 | `{receipt.sum_of(self.top / 'libcvl_c.a')}` |", text)
         for said in ("revision `a revision` by the kit `a kit`", "`5 passed, 0 failed`, and everything was tried.", "`shell::program`"):
             self.assertIn(said, text)
 
@@ -475,7 +475,7 @@ class Shown(unittest.TestCase):
     FILE = re.compile(r"[\w.-]+\.(?:tar\.xz|deb|crate|tar\.gz|spdx)\b")
 
     def test_the_pages_name_the_files_of_a_release(self):
-        made = {*map(trees.file_of, built.CPUS), *map(debian.file_of, debian.PACKAGES), *map(crates.file_of, ("cvl", "cvl-sys"))}
+        made = {trees.FILE, over_ranks.FILE, *map(debian.file_of, debian.PACKAGES), *map(crates.file_of, ("cvl", "cvl-sys"))}
         made |= {writing.PARTS, f"cvl-{table.VERSION}.tar.gz"}
         self.assertEqual(set(self.FILE.findall((TOP / shown.INSTALLING).read_text())), made)
         self.assertLess(set(self.FILE.findall((TOP / shown.FIRST).read_text())), made)
@@ -483,7 +483,7 @@ class Shown(unittest.TestCase):
     def test_each_way_to_install_has_one_command(self):
         packages = {"cvl", "libcvl1", "cvl-doc", "python3-cvl"}
         words = [f"apt install ./{debian.file_of(package)}" for package in debian.PACKAGES if package.name in packages]
-        for said in (*words, *(f"tar -xJf {trees.file_of(cpu)}" for cpu in built.CPUS), ".whl", "CVL_PREFIX=", "tar -xzf", "cargo add"):
+        for said in (*words, f"tar -xJf {trees.FILE}", "make -C", ".whl", "CVL_PREFIX=", "tar -xzf", "cargo add"):
             self.assertIn(said, shown.command(said))
         self.assertIn(trying.EXAMPLE, shown.block(shown.FIRST, "tar -xJf"))
 
