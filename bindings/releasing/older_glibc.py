@@ -101,8 +101,9 @@ class OlderGlibc:
 
     @property
     def linked(self):
-        """The words for a C compiler that links a shared object."""
-        return [f"-L{self.folder}"]
+        """The words for a C compiler that links a shared object. On a processor before x86-64-v2 the loader of glibc from 2.33 on
+        says that it is too old."""
+        return [f"-L{self.folder}", "-Wl,-z,x86-64-v2"]
 
     def program(self, compiled, made):
         """Links a program that the kit compiled."""

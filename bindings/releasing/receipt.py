@@ -59,6 +59,7 @@ MADE_OF = (
     ("cvl-sys-*.crate", "exports, bindings"),
     ("*.crate", "bindings, examples"),
     ("cvl-mpi-*.tar.gz", "bindings, examples"),
+    ("cvl-recipes-*.tar.gz", "bindings"),
     ("*.tar.gz", "bindings, include"),
     ("*", "bindings"),
 )

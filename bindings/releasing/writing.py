@@ -10,7 +10,7 @@ import time
 import proved
 import table
 
-from . import built, crates, debian, found_right, licences, over_ranks, pythons, receipt, trees
+from . import built, crates, debian, found_right, licences, over_ranks, pythons, receipt, recipes, trees
 
 SUMS, RECEIPT, PARTS = "SHA256SUMS", "PROVED.md", f"cvl-{table.VERSION}.spdx"
 # a line of the sums, and a row of the receipt's sources
@@ -38,10 +38,12 @@ def _files(folder, builds, moment, jobs):
         "the crates for Rust": lambda: crates.write(folder, builds, moment),
         "the sources of the calls over ranks": lambda: over_ranks.write(folder, moment),
     }  # fmt: skip
-    told = Told(len(first) + len(steps))
+    told = Told(len(first) + len(steps) + 1)
     built.side_by_side(first, jobs, told)
     made = built.side_by_side(steps, jobs, told)
-    return [name for step in steps for name in made[step]]
+    names = [name for step in steps for name in made[step]] + recipes.write(folder, builds.work, moment)
+    told("the recipes for other package managers")
+    return names
 
 
 def write(folder, jobs, anew=False):

@@ -24,7 +24,7 @@ import generated
 from installer import files
 from installer.words import Places
 import table
-from releasing import built, crates, debian, found_right, licences, older_glibc, over_ranks, packed, receipt, shown, texts, trees, trying, writing
+from releasing import built, crates, debian, found_right, licences, older_glibc, over_ranks, packed, receipt, recipes, shown, texts, trees, trying, writing
 from trees import Tree
 from whole import Whole, command, written
 
@@ -69,6 +69,15 @@ class Command(Tree):
                 self.assertRaisesRegex(SystemExit, "has not found this checkout right"):  # fmt: skip
             command("release").main([str(self.top / "a/release")])
         self.assertEqual(self.found(self.top), [])
+
+    def test_a_folder_that_is_none(self):
+        made = self.write("a file")
+        for words, why in ((made,), "is not a folder"), (("--check", made), "is not a folder"), (("--test", made), "is not a folder"), \
+                (("--check", self.top / "nothing"), "is not there"), ((made / "below",), "is not a folder"), (("--jobs", "0", "x"), "at least 1"):  # fmt: skip
+            told = subprocess.run([TOP / "release", *words], capture_output=True, text=True)
+            self.assertNotIn("Traceback", told.stderr)
+            self.assertIn(why, told.stderr)
+            self.assertEqual((told.returncode, told.stdout), (1, ""), words)
 
     def test_help_that_nobody_reads_to_its_end(self):
         for name in ("release", "install"):
@@ -118,6 +127,12 @@ class Packages(unittest.TestCase):
         ):  # fmt: skip
             self.assertEqual(of[name], package, name)
         self.assertIsNone(debian._package_of("share/cvl/installed"))
+
+    def test_the_list_of_changes_is_newest_first(self):
+        with mock.patch.dict(os.environ, SOURCE_DATE_EPOCH="1795392000"):
+            said = texts.debian_changes("1.0.0-1")
+        self.assertEqual(re.findall(r"^cimorelua \((.*)\)", said, re.M), ["1.0.0-1", "1.0.0~0-1"])
+        self.assertEqual(re.findall(r"  (\w+, .*)$", said, re.M), ["Mon, 23 Nov 2026 00:00:00 -0000", "Sun, 22 Nov 2026 00:00:00 -0000"])
 
     def test_symbols_have_the_version_that_they_came_with(self):
         lines = texts.scripts("libcvl1")["symbols"].splitlines()
@@ -241,7 +256,7 @@ class Environment(unittest.TestCase):
             words = [sys.executable, "-c", f"{imports}; Built(sys.argv[1], 1000, 1, False); print(json.dumps(dict(os.environ)))", folder]
             given = {**os.environ, **dict.fromkeys(asked, "x"), "PYTHONPATH": "x"}
             said = json.loads(subprocess.run(words, cwd=TOP, env=given, capture_output=True, text=True, check=True).stdout)
-            self.assertEqual(said.pop("LDFLAGS"), f"-L{folder}/glibc")
+            self.assertEqual(said.pop("LDFLAGS"), f"-L{folder}/glibc -Wl,-z,x86-64-v2")
         self.assertEqual(set(said) & {*asked, "PYTHONPATH"}, set())
         self.assertEqual(said["SOURCE_DATE_EPOCH"], "1000")
 
@@ -363,6 +378,25 @@ class Parts(unittest.TestCase):
         self.assertEqual(related[:2], ["SPDXRef-DOCUMENT DESCRIBES SPDXRef-cvl", "SPDXRef-cvl STATIC_LINK SPDXRef-rattle-atomic-table"])
 
 
+class Recipes(Tree):
+    """The recipes for other package managers."""
+
+    def test_each_takes_the_tree_by_its_sum_and_reads_as_its_language(self):
+        tree = self.write(trees.FILE, "a tree")
+        found = recipes.recipes(tree)
+        self.assertEqual(sorted(found), ["conda/meta.yaml", "homebrew/cvl.rb", "spack/package.py", "vcpkg/portfile.cmake", "vcpkg/vcpkg.json"])
+        for place, text in found.items():
+            if place.endswith((".yaml", ".rb", "package.py")):
+                self.assertIn(receipt.sum_of(tree), text, place)
+            self.assertNotRegex(text, r"\{(version|url|sha)")
+        self.assertEqual(json.loads(found["vcpkg/vcpkg.json"])["version"], table.VERSION)
+        compile(found["spack/package.py"], "package.py", "exec")
+        for program, place in ((("ruby", "-c"), "homebrew/cvl.rb"),):
+            if shutil.which(program[0]):
+                made = self.write(place, found[place])
+                self.assertEqual(subprocess.run([*program, made], capture_output=True).returncode, 0, place)
+
+
 class Receipt(Tree):
     """What the receipt says of files of a release."""
 
@@ -475,7 +509,7 @@ class Shown(unittest.TestCase):
     FILE = re.compile(r"[\w.-]+\.(?:tar\.xz|deb|crate|tar\.gz|spdx)\b")
 
     def test_the_pages_name_the_files_of_a_release(self):
-        made = {trees.FILE, over_ranks.FILE, *map(debian.file_of, debian.PACKAGES), *map(crates.file_of, ("cvl", "cvl-sys"))}
+        made = {trees.FILE, over_ranks.FILE, recipes.FILE, *map(debian.file_of, debian.PACKAGES), *map(crates.file_of, ("cvl", "cvl-sys"))}
         made |= {writing.PARTS, f"cvl-{table.VERSION}.tar.gz"}
         self.assertEqual(set(self.FILE.findall((TOP / shown.INSTALLING).read_text())), made)
         self.assertLess(set(self.FILE.findall((TOP / shown.FIRST).read_text())), made)
