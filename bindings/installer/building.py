@@ -108,6 +108,14 @@ class Build:
         found = self._built(work) if not self.is_given else (None, None)
         return self.given["CVL_PROGRAM"] or found[0], self.given["CVL_ARCHIVE"] or found[1]
 
+    def compiled_program(self, program):
+        """The object of which a program is linked. `rt ci` leaves the program alone, and what stands beside it may be of another text."""
+        if self.is_given or not self.is_left:
+            return proved.compiled_of(pathlib.Path(program))
+        made = (self.own or self.crates.archive.parent / "released") / "cvl"
+        self.crates.build_program_over_gate(made)
+        return proved.compiled_of(made)
+
     def exports_for(self, cpu, work):
         """The archive of the exports for some processors, once the usual one is built: a given one, or one that is built beside it."""
         given = os.environ.get(given_for(cpu))

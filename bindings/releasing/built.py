@@ -50,15 +50,14 @@ class Built:
     def build(self):
         """The program and the exports for all processors, and then side by side those for others."""
         program, exports = self._build.both(self.work / "logs")
-        self.given["program", USUAL] = self._linked_again(pathlib.Path(program))
+        self.given["program", USUAL] = self._linked_again(self._build.compiled_program(program))
         self.given["exports", USUAL] = pathlib.Path(exports)
         for cpu in OWN:
             (self.work / "logs" / cpu).mkdir(parents=True)
             self.given["exports", cpu] = pathlib.Path(self._build.exports_for(cpu, self.work / "logs" / cpu))
 
-    def _linked_again(self, program):
-        """A program over the older glibc, of the object that stands beside it."""
-        compiled = proved.compiled_of(program)
+    def _linked_again(self, compiled):
+        """A program over the older glibc, of the object that the kit compiled."""
         if not compiled.exists():
             proved.stop(f"{compiled} is not there, of which a release links the program")
         made = self.work / "linked/cvl"
@@ -67,9 +66,11 @@ class Built:
 
     def site(self):
         """Makes the pages in HTML, once."""
-        if pages.making.maker():
-            pages.site(self.work / "site")
-            self.environment["CVL_SITE"] = str(self.work / "site")
+        if not pages.making.maker():
+            return
+        if not pages.site(self.work / "site"):
+            proved.stop("Sphinx could not make the pages in HTML")
+        self.environment["CVL_SITE"] = str(self.work / "site")
 
     def installed(self, name, prefix, *words):
         """The folder below which `./install` has put all for this prefix."""
