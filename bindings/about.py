@@ -83,6 +83,11 @@ SEGMENTS_TYPE = """typedef struct CvlSegments {
 OF_VERSIONS = (
     ("cvl_version", ("The version of the library; CVL_VERSION is that of the header.",), "const char *cvl_version(void);"),
     (
+        "cvl_build",
+        ('Which library this is: its version, the revision of its sources and the processors that it was built for, as "1.0.0 29801b93 x86-64-v3".',),
+        "const char *cvl_build(void);",
+    ),
+    (
         "cvl_fault_name", ('The name of a status, such as "DivideByZero"; "Unknown" if no status has that number.',),
         "const char *cvl_fault_name(uint32_t number);",
     ),

@@ -78,9 +78,16 @@ def compiling(flags=()):
     return [*program("CC"), *words_of("CPPFLAGS"), *optimized, *STANDARD, "-fno-lto", unnamed, "-I", str(TOP / "include"), *flags]
 
 
+def told_of(flags):
+    """What `cvl_build` says: the revision, and the processors of `-march`."""
+    processors = [word.partition("=")[2] for word in flags if word.startswith("-march=")]
+    said = {"CVL_REVISION": proved.revision(), **({"CVL_PROCESSOR": processors[-1]} if processors else {})}
+    return [f'-D{name}="{text}"' for name, text in said.items()]
+
+
 def compiled(work, written, flags=()):
     """The objects of the C over the exports, by hand and below the folder `written`."""
-    flags = [*flags, f"-ffile-prefix-map={written}=.", *(f"-iquote{top / 'bindings/c'}" for top in (TOP, written))]
+    flags = [*flags, *told_of(flags), f"-ffile-prefix-map={written}=.", *(f"-iquote{top / 'bindings/c'}" for top in (TOP, written))]
     found = []
     for path in generated.both(written, "bindings/c", "*.c").values():
         found.append(work / f"{path.stem}.o")
@@ -95,6 +102,11 @@ def library(folder, archive, flags=()):
         written = generated.below(work / "written")
         public = (written / "bindings/c/public").read_text().split()
         return joined(work, folder / "libcvl.a", [archive, *compiled(work, written, flags)], public)
+
+
+def for_processor(cpu):
+    """The folder, below that of a library, in which the loader of glibc from 2.33 on looks first on these processors."""
+    return f"glibc-hwcaps/{cpu}"
 
 
 def linking():

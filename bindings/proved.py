@@ -3,6 +3,7 @@
 import concurrent.futures
 import os
 import pathlib
+import shutil
 import subprocess
 import sys
 import time
@@ -24,6 +25,16 @@ def show(page):
         os.dup2(os.open(os.devnull, os.O_WRONLY), sys.stdout.fileno())
 
 
+def revision():
+    """The revision of this checkout, with a mark if files have changed since; "unknown" outside of a repository."""
+    words = ["git", "-C", str(TOP), "describe", "--always", "--exclude=*", "--abbrev=12", "--dirty=-changed"]
+    try:
+        told = subprocess.run(words, capture_output=True, text=True)
+    except OSError:
+        return "unknown"
+    return told.stdout.strip() if told.returncode == 0 else "unknown"
+
+
 def kit():
     """The folder of the kit."""
     told = subprocess.run(["rt", "doc"], capture_output=True, text=True, check=True)
@@ -35,6 +46,17 @@ def _run(said, *words, cwd=None):
     told = subprocess.run([str(word) for word in words], cwd=cwd, capture_output=True, text=True, stdin=subprocess.DEVNULL)
     if told.returncode != 0:
         stop(f"{said}:\n{(told.stdout + told.stderr)[-4000:]}")
+
+
+def compiled_of(program):
+    """The object that a program was linked from, which stands beside it."""
+    return program.with_name(f"{program.name}.o")
+
+
+def link(compiled, made, toolchain=None, *more):
+    """Links a program that the kit compiled, over the kit's toolchain or one that is like it."""
+    words = [kit() / "bin/rattle-link", "--target", "x86_64-unknown-linux-gnu", "--toolchain", toolchain or kit() / "toolchain"]
+    _run("the program was not linked", *words, "-o", made, compiled, *more, kit() / "c/libos_c.a", kit() / "c/liblibc_c.a")
 
 
 class Crates:
@@ -96,10 +118,9 @@ class Crates:
 
     def build_program_over_gate(self, made, cpu=""):
         """Builds the program over the libraries that `rt ci` left, where that was not done yet."""
-        found, compiled = kit(), made.with_name(f"{made.name}.o")
+        compiled = compiled_of(made)
         if self._build_over_gate(PROGRAM, ["src/main.rt"], compiled, cpu) or not made.exists():
-            words = [found / "bin/rattle-link", "--target", "x86_64-unknown-linux-gnu", "--toolchain", found / "toolchain"]
-            _run("the program was not linked", *words, "-o", made, compiled, found / "c/libos_c.a", found / "c/liblibc_c.a")
+            link(compiled, made)
 
     def _build_over_gate(self, name, more, made, cpu):
         """Whether a crate had to be built over the libraries that `rt ci` left, which it is then."""
@@ -139,6 +160,12 @@ class Crates:
             words += ["--", "--help"]
         with open(log, "wb") as told:
             return subprocess.run(words, cwd=self.folder(name), stdin=subprocess.DEVNULL, stdout=told, stderr=told).returncode
+
+    def build_archive_for(self, cpu, folder):
+        """Builds the archive for some processors into a folder, where all below it was built, and answers where it is."""
+        if self._build(LIBRARY, cpu, folder / "log") != 0:
+            stop(f"the archive for {cpu} was not built:\n{(folder / 'log').read_text(errors='replace')[-4000:]}")
+        return pathlib.Path(shutil.copy(self.archive, folder / self.archive.name))
 
     def build_all(self, cpu, jobs, logs):
         """Proves and builds the program, the archive and all below them, some crates side by side, and tells how far it is."""

@@ -1,8 +1,18 @@
-/* Descriptors, and the version. */
+/* Descriptors, the version, and which build this is. */
 #include "proved.h"
 #include "segments.h"
 
 const char *cvl_version(void) { return CVL_VERSION; }
+
+/* `bindings/archive.py` says both. */
+#ifndef CVL_REVISION
+#define CVL_REVISION "unknown"
+#endif
+#ifndef CVL_PROCESSOR
+#define CVL_PROCESSOR "x86-64-v2"
+#endif
+
+const char *cvl_build(void) { return CVL_VERSION " " CVL_REVISION " " CVL_PROCESSOR; }
 
 /* Field by field, since the bytes between the fields are the caller's. */
 static void put(CvlSegments *segments, CvlLengths lengths, bool some) {

@@ -227,7 +227,7 @@ def _constants():
 
 
 def _publics():
-    yield "    public :: cvl_fault_name, cvl_set_threads, cvl_threads, cvl_version"
+    yield "    public :: cvl_build, cvl_fault_name, cvl_set_threads, cvl_threads, cvl_version"
     for procedure in dict.fromkeys(procedure.public for procedure in procedures()):
         yield f"    public :: {procedure}"
     for name, names in _generics().items():

@@ -40,14 +40,20 @@ def copied(top, copy):
     return copy
 
 
+def given_for(cpu):
+    """The variable that names an archive of the exports for some processors: CVL_ARCHIVE_V3 for x86-64-v3."""
+    return f"CVL_ARCHIVE_{cpu.rpartition('-')[2].upper()}" if cpu else "CVL_ARCHIVE"
+
+
 class Build:
     """What is to be built, and where."""
 
-    def __init__(self, cpu, jobs, own):
-        self.cpu, self.jobs = cpu, jobs
+    def __init__(self, cpu, jobs, own, also=()):
+        # beside the usual build or that for one kind of processor, the library is built also for these
+        self.cpu, self.jobs, self.also = cpu, jobs, also
         # the folder of the caller's own, or nothing
         self.own = pathlib.Path(os.path.abspath(own)) if own else None
-        self.crates = proved.Crates()
+        self.crates = self.source = proved.Crates()
         self.given = {name: os.environ.get(name) for name in ("CVL_ARCHIVE", "CVL_PROGRAM")}
 
     @property
@@ -83,9 +89,9 @@ class Build:
         if self.is_left:
             print("rt ci has proved all crates here: what is missing is built over its libraries", flush=True)
             return self._built_over_gate()
-        crates = proved.Crates(copied(proved.TOP, self.own / "source")) if self.own else self.crates
-        crates.build_all(self.cpu, self.jobs, work)
-        return crates.program, crates.archive
+        self.source = proved.Crates(copied(proved.TOP, self.own / "source")) if self.own else self.crates
+        self.source.build_all(self.cpu, self.jobs, work)
+        return self.source.program, self.source.archive
 
     def _built_over_gate(self):
         """The program and the archive over what `rt ci` left. For other processors than the usual ones both are built beside those."""
@@ -102,9 +108,37 @@ class Build:
         found = self._built(work) if not self.is_given else (None, None)
         return self.given["CVL_PROGRAM"] or found[0], self.given["CVL_ARCHIVE"] or found[1]
 
+    def compiled_program(self, program):
+        """The object of which a program is linked. `rt ci` leaves the program alone, and what stands beside it may be of another text."""
+        if self.is_given or not self.is_left:
+            return proved.compiled_of(pathlib.Path(program))
+        made = (self.own or self.crates.archive.parent / "released") / "cvl"
+        self.crates.build_program_over_gate(made)
+        return proved.compiled_of(made)
+
+    def exports_for(self, cpu, work):
+        """The archive of the exports for some processors, once the usual one is built: a given one, or one that is built beside it."""
+        given = os.environ.get(given_for(cpu))
+        if given:
+            return pathlib.Path(given)
+        if self.is_given:
+            proved.stop(f"CVL_ARCHIVE names an archive that you built, and {given_for(cpu)} none for {cpu}")
+        if not self.is_left:
+            return self.source.build_archive_for(cpu, work)
+        made = (self.own or self.crates.archive.parent) / cpu / self.crates.archive.name
+        self.crates.build_over_gate(made, cpu)
+        return made
+
+    def _library_for(self, cpu, work):
+        folder = work / archive.for_processor(cpu)
+        folder.mkdir(parents=True, exist_ok=True)
+        archive.shared(archive.library(folder, self.exports_for(cpu, folder), [f"-march={cpu}"]))
+
     def run(self, work):
         """The program and the library, in the folder `work`."""
         program, exports = self.both(work)
         if work / "cvl" != pathlib.Path(program):
             shutil.copy(program, work / "cvl")
         archive.shared(archive.library(work, exports, [f"-march={self.cpu}"] if self.cpu else []))
+        for cpu in self.also:
+            self._library_for(cpu, work)

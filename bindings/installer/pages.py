@@ -1,6 +1,8 @@
 """The pages as they are installed: those for users as they stand in the repository, with the examples beside them, in the folders of
 the repository, so that links lead to the same files in both. The scripts alone stand elsewhere: here with the cases of the tests."""
 
+import os
+import pathlib
 import sys
 
 import proved
@@ -31,14 +33,18 @@ def _below(folder, place, *patterns):
 
 
 def site(folder):
-    """Makes the pages in HTML in a folder, and returns where each file goes. Where they cannot be made it says so, and there are none."""
-    if not making.maker():
+    """Makes the pages in HTML in a folder, and returns where each file goes. Where they cannot be made it says so, and there are none.
+    If CVL_SITE names a folder in which they were made, these are taken."""
+    made = os.environ.get("CVL_SITE")
+    if made:
+        folder = pathlib.Path(made)
+    elif not making.maker():
         print(f"no pages in HTML: {making.NEEDED} is not here", flush=True)
     elif not making.build(folder):
         print("no pages in HTML: Sphinx could not make them", flush=True)
     else:
-        return {f"{DOC}/html/{path.relative_to(folder)}": path for path in sorted(folder.rglob("*")) if path.is_file()}
-    return {}
+        made = folder
+    return {f"{DOC}/html/{path.relative_to(folder)}": path for path in sorted(folder.rglob("*")) if path.is_file()} if made else {}
 
 
 def files():

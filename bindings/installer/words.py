@@ -10,8 +10,13 @@ import proved
 
 from . import prefixes
 
-USAGE = """install PREFIX [--libdir DIR] [--python PROGRAM | --no-python] [--mpi] [--rpath] [--build DIR] [--cpu NAME] [--jobs N]
+USAGE = """install PREFIX [--libdir DIR] [--python PROGRAM | --no-python] [--mpi] [--rpath] [--build DIR] [--cpu NAME] [--also NAME ..]
+               [--jobs N]
        install PREFIX --uninstall"""
+
+
+# the processors for which the loader of glibc has a folder of its own
+LEVELS = ("x86-64-v2", "x86-64-v3", "x86-64-v4")
 
 
 def _from_the_root(said):
@@ -53,6 +58,7 @@ def _parser():
     parser.add_argument("--rpath", action="store_true")
     parser.add_argument("--build", default="")
     parser.add_argument("--cpu", default="")
+    parser.add_argument("--also", action="append", default=[], choices=LEVELS)
     parser.add_argument("--jobs", type=int, default=max(1, (os.cpu_count() or 2) // 2))
     parser.add_argument("--uninstall", action="store_true")
     return parser

@@ -1,11 +1,12 @@
 """The package `cvl` for the Python that runs this, with the library inside its compiled module: below a folder, as a wheel, and for pip,
-which builds with the functions at the end.
+which builds with the functions at the end. Or a wheel for every Python from 3.9 on, with the library beside the module.
 
 It needs a C compiler, which CC names, the headers of Python and of numpy, and nothing else, so that nothing has to be fetched where
 numpy is installed. The compiler and the linker are given the words of CFLAGS and LDFLAGS.
 """
 
 import base64
+import collections
 import hashlib
 import os
 import pathlib
@@ -30,6 +31,10 @@ if not IS_SOURCE:
 NAME = "cvl"
 FLAGS = ["-std=c11", "-O2", "-fPIC", "-fvisibility=hidden", "-Wall", "-Wextra", "-Wshadow"]
 LINKED = ["-shared", "-pthread", "-Wl,--exclude-libs,ALL", "-Wl,-z,relro", "-Wl,-z,now", "-Wl,-s"]
+OLDEST_NUMPY = (1, 23)
+# the library that stands beside a module, which finds it there whatever else the loader is told
+SONAME = "libcvl.so.1"
+BESIDE = ["-Wl,--disable-new-dtags", "-Wl,-rpath,$ORIGIN"]
 # what a module may need of the system, where the wheel is for all systems with the same or a newer glibc
 OF_GLIBC = re.compile(r"lib(c|m|pthread|dl|rt)\.so\.\d+|ld-linux.*\.so\.\d+|libgcc_s\.so\.1")
 
@@ -67,6 +72,16 @@ def numpy_found():
     return version, folder
 
 
+def numpy_of_2():
+    """The headers of numpy 2, over which a module runs with numpy 1 as well: those that a variable names, or those of this numpy."""
+    folder = os.environ.get("CVL_NUMPY_HEADERS") or numpy_found()[1]
+    config = pathlib.Path(folder) / "numpy/numpyconfig.h"
+    if not config.exists() or "NPY_2_0_API_VERSION" not in config.read_text():
+        raise Missing(f"{folder} has no headers of numpy 2, which a wheel for every Python is built over; name a folder that has them by "
+            "CVL_NUMPY_HEADERS (Debian 13: python3-numpy-dev, which `dpkg-deb -x` unpacks)")  # fmt: skip
+    return folder
+
+
 def python_headers():
     folder = sysconfig.get_path("include")
     if not (pathlib.Path(folder) / "Python.h").exists():
@@ -82,9 +97,41 @@ def compiler():
 
 
 def check():
-    numpy_found()
-    python_headers()
-    compiler()
+    """Raises all that is missing, one line each."""
+    lacking = []
+    for needed in (numpy_is_new, python_headers, compiler, *([installed_library] if IS_SOURCE else [])):
+        try:
+            needed()
+        except Missing as missing:
+            lacking.append(str(missing))
+    if lacking:
+        raise Missing("\n".join(lacking))
+
+
+def numpy_is_new():
+    version = numpy_found()[0]
+    if tuple(map(int, version.split(".")[:2])) < OLDEST_NUMPY:
+        raise Missing("numpy {}.{} or later is needed, and {} has numpy {}".format(*OLDEST_NUMPY, sys.executable, version))
+
+
+# ---- for which Pythons ----
+
+# What a package is built for: options of the compiler, the end of the module's name, the tag of the Pythons, the oldest one if that is
+# not the project's, which numpy is needed, and the folder of its headers.
+Target = collections.namedtuple("Target", "flags suffix tag oldest numpy headers")
+
+
+def this_python():
+    python = f"cp{sys.version_info[0]}{sys.version_info[1]}"
+    tag = f"{python}-{python}{getattr(sys, 'abiflags', '')}"
+    return Target([], sysconfig.get_config_var("EXT_SUFFIX"), tag, project("requires-python"), needed_numpy(), numpy_found()[1])
+
+
+def every_python():
+    """Every Python from 3.9 on: by the limited interface of 3.11, of which 3.9 and 3.10 have each name that the module uses."""
+    if sys.version_info[:2] != (3, 11):
+        raise Missing("a wheel for every Python is built with the headers of Python 3.11: later ones ask for names that 3.9 has not")
+    return Target(["-DPy_LIMITED_API=0x030b0000"], ".abi3.so", "cp39-abi3", ">=3.9", "numpy>={}.{}".format(*OLDEST_NUMPY), numpy_of_2())
 
 
 # ---- the compiled module ----
@@ -97,7 +144,20 @@ def library(work):
     if not os.environ.get("CVL_ARCHIVE"):
         said = "building the library of this checkout; what `rt ci` has not proved of it is proved first, in up to an hour"
         print(f"{NAME}: {said}", file=sys.stderr, flush=True)
+        tell_terminal(said)
     return run(sys.executable, TOP / "bindings/archive", work).strip().split("\n")[-1]
+
+
+def tell_terminal(said):
+    """Says something where pip keeps back what a build prints."""
+    if sys.stderr.isatty():
+        return
+    try:
+        with open("/dev/tty", "w") as terminal:
+            terminal.write(f"\n{NAME}: {said}\n")
+    except OSError:
+        # there is nobody to read it
+        pass
 
 
 def installed_library():
@@ -128,20 +188,31 @@ def files(written, folder, *patterns):
     return list(generated.both(written, f"bindings/python/{folder}", *patterns).values())
 
 
-def compiled(work, written, archive):
+def compiled(work, written, library, target, linked=()):
     """The compiled module, in the folder `work`, of what stands here and below the folder `written`."""
-    folders = [TOP / "include", python_headers(), numpy_found()[1]]
+    # Debian has headers of its own numpy among those of Python
+    folders = [TOP / "include", target.headers, python_headers()]
     # the module is the same wherever it is built
     maps = [f"-ffile-prefix-map={top}/=" for top in (TOP, written)]
     included = [word for folder in folders for word in ("-isystem", folder)]
-    flags = [*FLAGS, *maps, "-iquote", HERE / "extension", *included, *words_of("CFLAGS")]
+    flags = [*FLAGS, *target.flags, *maps, "-iquote", HERE / "extension", *included, *words_of("CFLAGS")]
     objects = []
     for path in files(written, "extension", "*.c"):
         objects.append(work / f"{path.stem}.o")
         run(*compiler(), *flags, "-c", path, "-o", objects[-1])
-    made = work / f"_calls{sysconfig.get_config_var('EXT_SUFFIX')}"
-    run(*compiler(), *words_of("CFLAGS"), *LINKED, "-o", made, *objects, archive, *words_of("LDFLAGS"))
+    made = work / f"_calls{target.suffix}"
+    run(*compiler(), *words_of("CFLAGS"), *LINKED, *linked, "-o", made, *objects, library, *words_of("LDFLAGS"))
     return made
+
+
+def libraries(library):
+    """The files of a library that stands beside the module, by their names there: its builds for some processors too, in the folders
+    in which the loader of glibc looks for them."""
+    if pathlib.Path(library).name != SONAME:
+        return {}
+    folder = pathlib.Path(library).parent
+    found = [folder / SONAME, *sorted(folder.glob(f"glibc-hwcaps/*/{SONAME}"))]
+    return {str(path.relative_to(folder)): path for path in found}
 
 
 # ---- the package and its description ----
@@ -159,42 +230,44 @@ def project(name):
 def needed_numpy():
     """Which numpy the module runs with: one that is compiled over the first numbers runs from that on, up to the second."""
     found = numpy_found()[0].split(".")
-    return f"numpy>={found[0]}.{found[1]},<2" if found[0] == "1" else "numpy>=1.23"
+    return f"numpy>={found[0]}.{found[1]},<2" if found[0] == "1" else "numpy>={}.{}".format(*OLDEST_NUMPY)
 
 
-def description():
+def description(oldest=None):
     """What a wheel and a source archive say of the package."""
     lines = ["Metadata-Version: 2.1", f"Name: {NAME}", f"Version: {version()}", f"Summary: {project('description')}"]
-    return [*lines, "License: MIT", "License-File: LICENSE", f"Requires-Python: {project('requires-python')}"]
+    return [*lines, "License: MIT", "License-File: LICENSE", f"Requires-Python: {oldest or project('requires-python')}"]
 
 
-def metadata():
-    return "".join(f"{line}\n" for line in [*description(), f"Requires-Dist: {needed_numpy()}"])
+def metadata(target):
+    return "".join(f"{line}\n" for line in [*description(target.oldest), f"Requires-Dist: {target.numpy}"])
 
 
-def platform(module):
-    """The platform of a module: all systems with a glibc that has what it needs, where it needs nothing else."""
+def platform(*objects):
+    """The platform of a module and the libraries beside it: all systems with a glibc that has what they need, where they need nothing
+    else."""
     name = re.sub(r"[-.]", "_", sysconfig.get_platform())
-    needed = re.findall(r"\(NEEDED\).*\[(.*)\]", run("readelf", "-d", module))
-    versions = [(int(major), int(minor)) for major, minor in re.findall(r"GLIBC_(\d+)\.(\d+)", run("readelf", "-V", module))]
-    if not name.startswith("linux_") or not versions or not all(map(OF_GLIBC.fullmatch, needed)):
+    needed = [found for path in objects for found in re.findall(r"\(NEEDED\).*\[(.*)\]", run("readelf", "-d", path))]
+    found = [pair for path in objects for pair in re.findall(r"GLIBC_(\d+)\.(\d+)", run("readelf", "-V", path))]
+    versions = [(int(major), int(minor)) for major, minor in found]
+    others = {found for found in needed if not OF_GLIBC.fullmatch(found)} - ({SONAME} if len(objects) > 1 else set())
+    if not name.startswith("linux_") or not versions or others:
         return name
     return "manylinux_{}_{}".format(*max(versions)) + name[len("linux") :]
 
 
-def tag(module):
-    python = f"cp{sys.version_info[0]}{sys.version_info[1]}"
-    return f"{python}-{python}{getattr(sys, 'abiflags', '')}-{platform(module)}"
-
-
-def contents(work, archive):
-    """Each file of a wheel by its name there, and the tag of the wheel."""
+def contents(work, given, target, stands=False):
+    """Each file of a wheel by its name there, and the tag of the wheel. A library that is given is an archive, which goes into the
+    module, or a shared object, which goes beside it, unless it `stands` where the system looks for libraries."""
     written = written_below(work / "written")
-    module = compiled(work, written, archive or library(work))
+    whole = given or library(work)
+    beside = {} if stands else libraries(whole)
+    module = compiled(work, written, whole, target, BESIDE if beside else ())
     package = files(written, NAME, "*.py", "*.pyi", "*.typed")
     found = {f"{NAME}/{path.name}": path.read_bytes() for path in [*package, module]}
-    described, tagged = f"{NAME}-{version()}.dist-info", tag(module)
-    found[f"{described}/METADATA"] = metadata().encode()
+    found.update({f"{NAME}/{name}": path.read_bytes() for name, path in beside.items()})
+    described, tagged = f"{NAME}-{version()}.dist-info", f"{target.tag}-{platform(module, *beside.values())}"
+    found[f"{described}/METADATA"] = metadata(target).encode()
     found[f"{described}/LICENSE"] = (TOP / "LICENSE").read_bytes()
     found[f"{described}/WHEEL"] = f"Wheel-Version: 1.0\nGenerator: {NAME}\nRoot-Is-Purelib: false\nTag: {tagged}\n".encode()
     return found, tagged
@@ -211,10 +284,10 @@ def recorded(found):
     return record, ("".join(line(*item) for item in found.items()) + f"{record},,\n").encode()
 
 
-def put(folder, archive=None):
-    """Puts the package and its description into a folder, as an installer does."""
+def put(folder, library=None):
+    """Puts the package and its description into a folder, as an installer does. A shared object stands where the system looks for it."""
     with tempfile.TemporaryDirectory() as work:
-        found, _ = contents(pathlib.Path(work), archive)
+        found, _ = contents(pathlib.Path(work), library, this_python(), stands=True)
     described = next(name for name in found if name.endswith("/METADATA")).rpartition("/")[0]
     found[f"{described}/INSTALLER"] = b"install\n"
     found = dict([*found.items(), recorded(found)])
@@ -227,10 +300,10 @@ def put(folder, archive=None):
     return sorted(found)
 
 
-def wheel(folder, archive=None):
-    """Makes a wheel in a folder, and answers its name. The same files give the same wheel."""
+def wheel(folder, library=None, target=None):
+    """Makes a wheel in a folder, for this Python or another target, and answers its name. The same files give the same wheel."""
     with tempfile.TemporaryDirectory() as work:
-        found, tagged = contents(pathlib.Path(work), archive)
+        found, tagged = contents(pathlib.Path(work), library, target or this_python())
     name = f"{NAME}-{version()}-{tagged}.whl"
     with zipfile.ZipFile(pathlib.Path(folder) / name, "w", zipfile.ZIP_DEFLATED) as file:
         for path, text in [*found.items(), recorded(found)]:
@@ -245,7 +318,12 @@ def wheel(folder, archive=None):
 
 
 def build_wheel(wheel_directory, config_settings=None, metadata_directory=None):
-    return wheel(wheel_directory)
+    try:
+        check()
+        return wheel(wheel_directory)
+    except Missing as missing:
+        # pip shows what a build prints before it fails, and a traceback would stand above that
+        sys.exit(f"{NAME} {version()} cannot be built here:\n{missing}")
 
 
 def get_requires_for_build_wheel(config_settings=None):

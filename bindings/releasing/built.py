@@ -1,65 +1,122 @@
-"""What a release is made of: the program and the exports for each kind of processor, and trees as `./install` puts them."""
+"""What a release is made of: the program, and the exports for each kind of processor, and trees as `./install` puts them. All of it is
+linked so that it runs with an older glibc."""
 
+import concurrent.futures
+import functools
 import os
 import pathlib
 import re
+import shlex
 import subprocess
 import sys
+import threading
 
 import archive
 import proved
-from installer import building
+from installer import building, pages
 
-# the processors that a release is built for: the usual ones, and those with AVX2
-USUAL, NEWER = "", "x86-64-v3"
-CPUS = {USUAL: "x86_64", NEWER: "x86_64-v3"}
+from .older_glibc import OlderGlibc
+
+# the processors that a release runs on, and those for which its shared objects have a build of their own
+USUAL, OWN = "", ("x86-64-v3",)
+MACHINE = "x86_64"
 
 
 class Built:
-    """The program and the exports, built once for each kind of processor, and what `./install` makes of them."""
+    """The program and the exports, each built once, and what `./install` makes of them."""
 
     def __init__(self, work, time, jobs, anew):
         # `anew`: what is compiled over the libraries that `rt ci` left is compiled again, and not taken from an earlier build
-        self.work, self.jobs, self.anew, self.given = pathlib.Path(work), jobs, anew, {}
+        self.work, self.jobs, self.anew, self.given, self.lock = pathlib.Path(work), jobs, anew, {}, threading.Lock()
         # what no caller says may change the bytes of a release
         unset = ("CPPFLAGS", "CFLAGS", "LDFLAGS", "CC", "LD", "OBJCOPY", "NM", "AR", "DESTDIR", "PYTHONPATH")
         self.environment = {name: said for name, said in os.environ.items() if name not in unset}
         self.environment.update(SOURCE_DATE_EPOCH=str(time), PYTHONDONTWRITEBYTECODE="1", LC_ALL="C.UTF-8")
         os.environ.clear()
         os.environ.update(self.environment)
+        self.glibc = OlderGlibc(self.work / "glibc")
+        self.environment["LDFLAGS"] = os.environ["LDFLAGS"] = shlex.join(self.glibc.linked)
+
+    @functools.cached_property
+    def _build(self):
+        (self.work / "logs").mkdir(parents=True, exist_ok=True)
+        return building.Build(USUAL, self.jobs, self.work / "compiled" if self.anew else "", OWN)
 
     @property
     def is_given(self):
-        """Whether the caller named the program or the archive, as for a try of this code."""
+        """Whether the caller named the program or an archive, as for a try of this code."""
         return any(building.Build(USUAL, self.jobs, "").given.values())
 
-    def both(self, cpu):
-        """Where the program and the archive of the exports are."""
-        if cpu not in self.given:
-            (self.work / "logs").mkdir(parents=True, exist_ok=True)
-            own = self.work / f"compiled for {CPUS[cpu]}" if self.anew else ""
-            self.given[cpu] = [str(path) for path in building.Build(cpu, self.jobs, own).both(self.work / "logs")]
-        return self.given[cpu]
+    def build(self):
+        """The program and the exports for all processors, and then side by side those for others."""
+        program, exports = self._build.both(self.work / "logs")
+        self.given["program", USUAL] = self._linked_again(self._build.compiled_program(program))
+        self.given["exports", USUAL] = pathlib.Path(exports)
+        for cpu in OWN:
+            (self.work / "logs" / cpu).mkdir(parents=True)
+            self.given["exports", cpu] = pathlib.Path(self._build.exports_for(cpu, self.work / "logs" / cpu))
 
-    def installed(self, name, prefix, cpu, *words):
+    def _linked_again(self, compiled):
+        """A program over the older glibc, of the object that the kit compiled."""
+        if not compiled.exists():
+            proved.stop(f"{compiled} is not there, of which a release links the program")
+        made = self.work / "linked/cvl"
+        made.parent.mkdir()
+        return self.glibc.program(compiled, made)
+
+    def site(self):
+        """Makes the pages in HTML, once."""
+        if not pages.making.maker():
+            return
+        if not pages.site(self.work / "site"):
+            proved.stop("Sphinx could not make the pages in HTML")
+        self.environment["CVL_SITE"] = str(self.work / "site")
+
+    def installed(self, name, prefix, *words):
         """The folder below which `./install` has put all for this prefix."""
-        program, exports = self.both(cpu)
         folder = self.work / name
+        also = [word for cpu in OWN for word in ("--also", cpu)]
+        given = {building.given_for(cpu): str(self.given["exports", cpu]) for cpu in (USUAL, *OWN)}
         told = subprocess.run(
-            [sys.executable, proved.TOP / "install", prefix, *(["--cpu", cpu] if cpu else []), *words], capture_output=True, text=True,
-            env={**self.environment, "DESTDIR": str(folder), "CVL_PROGRAM": program, "CVL_ARCHIVE": exports},
+            [sys.executable, proved.TOP / "install", prefix, *also, *words], capture_output=True, text=True,
+            env={**self.environment, **given, "DESTDIR": str(folder), "CVL_PROGRAM": str(self.given["program", USUAL])},
         )  # fmt: skip
         if told.returncode != 0:
             proved.stop(f"./install failed:\n{told.stdout}{told.stderr}")
         return folder / prefix.lstrip("/")
 
     def library(self):
-        """The archive of the whole library, for the usual processors."""
-        made = self.work / "library"
-        if not (made / "libcvl.a").exists():
-            made.mkdir(parents=True)
-            archive.library(made, pathlib.Path(self.both(USUAL)[1]))
+        """The archive of the whole library, for the usual processors; beside it stand the shared objects."""
+        with self.lock:
+            made = self.work / "library"
+            if not made.exists():
+                for cpu in (USUAL, *OWN):
+                    folder = made / archive.for_processor(cpu) if cpu else made
+                    folder.mkdir(parents=True)
+                    flags = [f"-march={cpu}"] if cpu else []
+                    archive.shared(archive.library(folder, self.given["exports", cpu], flags))
         return made / "libcvl.a"
+
+    def shared(self):
+        """The shared object for the usual processors; beside it stand those for others."""
+        return self.library().with_name(archive.SONAME)
+
+
+def side_by_side(steps, jobs, tell):
+    """What each step returns, by its name. Steps run side by side, and `tell` learns of each one that is done."""
+    found = {}
+    with concurrent.futures.ThreadPoolExecutor(max(1, jobs)) as pool:
+        at_work = {pool.submit(step): name for name, step in steps.items()}
+        for future in concurrent.futures.as_completed(at_work):
+            try:
+                found[at_work[future]] = future.result()
+            except BaseException:
+                # what has not begun does not begin
+                for other in at_work:
+                    other.cancel()
+                raise
+            tell(at_work[future])
+    return found
 
 
 def needed_glibc(*paths):

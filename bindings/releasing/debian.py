@@ -15,11 +15,10 @@ import proved
 import table
 
 from . import built, texts
+from .pythons import BUILDS, PYTHON
 
 LIBDIR = "lib/x86_64-linux-gnu"
 REVISION = f"{table.VERSION}-1"
-# the Python that the package is for is Debian's own
-PYTHON = "/usr/bin/python3"
 
 # A package: which files below /usr it has, what it depends on, its section, and its description, a line and paragraphs.
 #
@@ -33,9 +32,9 @@ PACKAGES = (
          "vectors, over files of integers. What it writes, and the first fault, is proved to be what one thread over plain lists gives.",),
     ),
     Package(
-        "libcvl1", (f"{LIBDIR}/libcvl.so.*",), "{libc}", "libs", "proved vector calls for flat and nested data - shared library",
+        "libcvl1", (f"{LIBDIR}/libcvl.so.*", f"{LIBDIR}/glibc-hwcaps/*"), "{libc}", "libs", "proved vector calls for flat and nested data - shared library",
         ("CVL's calls on the caller's own arrays of 32-bit integers and booleans, on one thread or several. The walks over vectors are "
-         "proved to give what one thread over plain lists gives.", "This package has the shared object."),
+         "proved to give what one thread over plain lists gives.", "This package has the shared object, for all processors and for x86-64-v3, which the loader finds by itself."),
     ),
     Package(
         "libcvl-dev", (f"{LIBDIR}/*", "include/*", "share/man/man3/*", "share/cvl/rust/*"), "libcvl1 (= {version})", "libdevel",
@@ -44,7 +43,7 @@ PACKAGES = (
          "This package has the headers for C, the archive, the module for Fortran, the crates for Rust, and what pkg-config and CMake read."),
     ),
     Package(
-        "python3-cvl", ("lib/python3/dist-packages/*",), "{libc}, {python}", "python", "proved vector calls over numpy arrays",
+        "python3-cvl", ("lib/python3/dist-packages/*",), "{libc}, libcvl1 (= {version}), {python}", "python", "proved vector calls over numpy arrays",
         ("CVL's calls, elementwise operations, scans, reductions, permutes and packs of flat and segmented vectors, over numpy arrays of "
          "int32 and bool, on one thread or several.",),
     ),
@@ -58,7 +57,7 @@ PACKAGES = (
 MOVED = {"share/zsh/site-functions/": "share/zsh/vendor-completions/"}
 STRIPPED = {
     "bin/*": ("--strip-all", "--remove-section=.comment"),
-    f"{LIBDIR}/libcvl.so.*": ("--strip-unneeded", "--remove-section=.comment"),
+    f"{LIBDIR}/*libcvl.so.*": ("--strip-unneeded", "--remove-section=.comment"),
     f"{LIBDIR}/libcvl.a": ("--strip-debug", "--enable-deterministic-archives"),
 }
 
@@ -160,9 +159,15 @@ def _built(package, root, depends, folder):
     return file_of(package)
 
 
+def _put_python(staged):
+    """Puts the package for Debian's own Python, whose module stands over the shared object of libcvl1."""
+    archive.run(PYTHON, "-B", BUILDS, f"--library={staged / LIBDIR / archive.SONAME}", staged / "lib/python3/dist-packages")
+
+
 def write(folder, builds):
     """Writes the packages, and answers their names."""
-    staged = builds.installed("debian", "/usr", built.USUAL, "--libdir", LIBDIR, "--python", PYTHON)
+    staged = builds.installed("debian", "/usr", "--libdir", LIBDIR, "--no-python")
+    _put_python(staged)
     roots = {package.name: builds.work / "packages" / package.name for package in PACKAGES}
     for path in sorted(staged.rglob("*")):
         name = str(path.relative_to(staged))

@@ -14,7 +14,7 @@ def _git(*words):
     told = subprocess.run(["git", "-C", str(proved.TOP), *words], capture_output=True, text=True)
     if told.returncode != 0:
         proved.stop(f"git {' '.join(words)} failed:\n{told.stderr.strip()}")
-    return told.stdout.strip()
+    return told.stdout.rstrip()
 
 
 def revision():

@@ -58,6 +58,8 @@ MADE_OF = (
     ("*.whl", "exports, bindings, include"),
     ("cvl-sys-*.crate", "exports, bindings"),
     ("*.crate", "bindings, examples"),
+    ("cvl-mpi-*.tar.gz", "bindings, examples"),
+    ("cvl-recipes-*.tar.gz", "bindings"),
     ("*.tar.gz", "bindings, include"),
     ("*", "bindings"),
 )
@@ -81,9 +83,7 @@ def _of_objects(builds):
 def text(record, builds, folder, names):
     """The receipt of these files of a release."""
     compiled = [
-        (what, said or "the usual processors", f"`{sum_of(pathlib.Path(path))}`")
-        for said, pair in builds.given.items()
-        for what, path in zip(("program", "exports"), pair)
+        (what, cpu or "the usual processors", f"`{sum_of(pathlib.Path(path))}`") for (what, cpu), path in builds.given.items()
     ]
     files = [(f"`{name}`", made_of(name), f"`{sum_of(folder / name)}`") for name in names]
     return "\n".join([

@@ -10,7 +10,7 @@ import tempfile
 
 import proved
 
-# the Debian that the packages are made for, one with an older glibc than a release needs, and the next one
+# the Debian that the packages are made for, the one before it, with glibc 2.31, and the next one
 SUITE, OLDER, NEWER = "bookworm", "bullseye", "trixie"
 PATH = "/usr/local/sbin:/usr/local/bin:/usr/sbin:/usr/bin:/sbin:/bin"
 # what a root has beside the essential packages and apt; the usual Debian has xz
@@ -20,6 +20,8 @@ PACKAGES = {
     "python": ("python3-numpy", "python3-venv"),
     "source": ("gcc", "libc6-dev", "python3-numpy", "python3-dev", "python3-venv"),
     "rust": ("cargo", "gcc", "libc6-dev"),
+    "mpi": ("gcc", "libc6-dev", "make", "pkg-config", "libmpich-dev", "mpich"),
+    "older": ("xz-utils", "gcc", "libc6-dev", "pkg-config", "python3-numpy", "python3-dev", "python3-venv"),
     "next": ("xz-utils", "cargo", "gcc", "libc6-dev", "pkg-config", "python3-numpy", "python3-dev", "python3-venv"),
 }
 

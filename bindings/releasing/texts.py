@@ -9,7 +9,8 @@ import proved
 
 from . import licences
 
-# the one place for an address, as soon as there is one
+# the one place for addresses, as soon as there are some
+ADDRESS = "https://cimorelua.invalid/releases"
 MAINTAINER = "Cimorelua maintainers <maintainers@cimorelua.invalid>"
 
 
@@ -46,9 +47,22 @@ def copyright_of():
     )
 
 
+# when work on the library began, at midnight
+BEGAN = 1795305600
+
+
+def _entry(version, said, moment):
+    """An entry of Debian's list of changes."""
+    return f"cimorelua ({version}) unstable; urgency=medium\n\n  * {said}\n\n -- {MAINTAINER}  {email.utils.formatdate(moment)}\n"
+
+
 def debian_changes(revision):
-    date = email.utils.formatdate(int(os.environ["SOURCE_DATE_EPOCH"]))
-    return f"cimorelua ({revision}) unstable; urgency=medium\n\n  * New release.\n\n -- {MAINTAINER}  {date}\n"
+    """The changes of the packages, newest first."""
+    version, _, number = revision.partition("-")
+    return "\n".join([
+        _entry(revision, "New release.", int(os.environ["SOURCE_DATE_EPOCH"])),
+        _entry(f"{version}~0-{number}", "First packages, made outside of Debian's archive, where no bug asks for them.", BEGAN),
+    ])  # fmt: skip
 
 
 def _symbols():

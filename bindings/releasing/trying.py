@@ -8,8 +8,7 @@ import time
 import proved
 import table
 
-from . import debian, roots, shown, trees
-from .built import NEWER, USUAL
+from . import built, debian, over_ranks, roots, shown, trees
 
 PRINTED = "y = [5 0 18]\n"
 # how long it may take from a file of the release to what README's example prints
@@ -19,6 +18,7 @@ EXAMPLE = "sparse_product.cvl row_lengths.txt columns.txt entries.txt x.txt"
 IN_C, IN_FORTRAN = "examples/c/sparse_product.c", "examples/fortran/sparse_product.f90"
 IN_PYTHON, IN_RUST = "examples/python/sparse_product.py", "examples/rust/sparse_product.rs"
 PRODUCT, OUTSIDE = "y = 5 0 18\n", "a column outside the vector: fault 10 IndexOutOfRange at "
+WALKS = "1024 walks of 10 steps, of which 252 end where they began\n"
 CMAKE = """cmake_minimum_required(VERSION 3.13)
 project(product C)
 find_package(cvl 1.0 REQUIRED)
@@ -62,13 +62,20 @@ class Release:
     def deb(self, name):
         return self.one(f"{name}_*.deb")
 
-    def tree(self, cpu=USUAL):
-        return self.one(trees.file_of(cpu))
+    def tree(self):
+        return self.one(trees.FILE)
 
 
-def runs_here(cpu):
-    """Whether this machine has such a processor."""
-    return cpu == USUAL or " avx2 " in pathlib.Path("/proc/cpuinfo").read_text().replace("\n", " ")
+# The processors that this machine may have of those with a build of their own, by a word of /proc/cpuinfo.
+FEATURES = {"x86-64-v3": " avx2 "}
+# How the loader of glibc is told to look into no folder for other processors than the usual ones.
+USUAL_ALONE = {"GLIBC_TUNABLES": "glibc.cpu.hwcaps=-AVX2_Usable,-AVX2"}
+
+
+def own_build():
+    """For which processors the build is that the loader finds here, where it looks for one."""
+    has = pathlib.Path("/proc/cpuinfo").read_text().replace("\n", " ")
+    return next((cpu for cpu in reversed(built.OWN) if FEATURES[cpu] in has), "x86-64-v2")
 
 
 def example(root, name, place):
@@ -91,29 +98,47 @@ def first_example(release, root):
 
 
 def tree(release, made):
-    """Each tree runs wherever it is unpacked, with nothing in its environment; on an older processor it says so."""
+    """The tree runs wherever it is unpacked and moved to, with nothing in its environment."""
     with made.fresh("bare") as root:
         first_example(release, root)
-        for cpu in (USUAL, NEWER):
-            root.put(release.tree(cpu))
-            root.run(f"cd /srv && {shown.command(f'tar -xJf {trees.file_of(cpu)}')}")
-            below = f"/srv/{trees.name(cpu)}"
-            if not runs_here(cpu):
-                root.refuses(f"{below}/bin/cvl --version", f"lacks a feature of {cpu}")
-                continue
-            by_both(root, f"cd {below}/{SCRIPTS} && env -i {below}/bin/cvl {EXAMPLE}", PRINTED)
-            same(root.run(f"env -i {below}/bin/cvl --version"), f"cvl {table.VERSION}\n")
+        root.put(release.tree())
+        root.run(f"cd /srv && {shown.command(f'tar -xJf {trees.FILE}')} && mv {trees.NAME} '/srv/another place'")
+        below = "'/srv/another place'"
+        by_both(root, f"cd {below}/{SCRIPTS} && env -i {below}/bin/cvl {EXAMPLE}", PRINTED)
+        same(root.run(f"env -i {below}/bin/cvl --version"), f"cvl {table.VERSION}\n")
 
 
 def tree_in_c(release, made):
     """The tree has what pkg-config and CMake read, for the shared object and the archive, and the module for Fortran."""
     with made.fresh("compilers") as root:
         root.unpack(release.tree())
-        below = f"/opt/{trees.name(USUAL)}"
+        below = f"/opt/{trees.NAME}"
         variables = {"PKG_CONFIG_PATH": f"{below}/lib/pkgconfig", "CMAKE_PREFIX_PATH": below, "LD_LIBRARY_PATH": f"{below}/lib"}
         by_pkg_config(root, **variables)
         by_cmake(root, **variables)
         in_fortran(root, **variables)
+        own_builds(root, f"{below}/lib", **variables)
+
+
+BUILD = """#include <cvl.h>
+#include <stdio.h>
+int main(void) { return puts(cvl_build()) < 0; }
+"""
+
+
+def own_builds(root, folder, own=None, **variables):
+    """The loader finds the build for this processor by itself, and that for all if it is told to, or if the other is not there."""
+    root.write("srv/c/build.c", BUILD)
+    root.run("cd /srv/c && cc build.c -o build $(pkg-config --cflags --libs cvl)", **variables)
+    own = own or own_build()
+    for more, cpu in (({}, own), (USUAL_ALONE, "x86-64-v2")):
+        said = root.run("/srv/c/build", **variables, **more).split()
+        if said[0] != table.VERSION or said[2:] != [cpu]:
+            raise roots.Failed(f"cvl_build() says {said}, and should have said {cpu} with {more}")
+    root.run(f"mv {folder}/glibc-hwcaps /srv/c && ldconfig")
+    if root.run("/srv/c/build", **variables).split()[2:] != ["x86-64-v2"]:
+        raise roots.Failed("without the folder glibc-hwcaps another library is found than the usual one")
+    root.run(f"mv /srv/c/glibc-hwcaps {folder} && ldconfig")
 
 
 def by_pkg_config(root, **variables):
@@ -175,19 +200,15 @@ def packages_in_c(release, made):
         by_pkg_config(root)
         by_cmake(root)
         in_fortran(root)
-
-
-# what lintian may report: the packages are not from Debian's archive, so their first version closes no bug there
-REPORTED = "initial-upload-closes-no-bugs"
+        own_builds(root, f"/usr/{debian.LIBDIR}")
 
 
 def lintian(release, made):
-    """lintian has nothing to report of the packages but that."""
+    """lintian has nothing to report of the packages."""
     files = [release.deb(package.name) for package in debian.PACKAGES]
     told = subprocess.run(["lintian", "--allow-root", *files], capture_output=True, text=True)
-    reported = [line for line in f"{told.stdout}{told.stderr}".splitlines() if f": {REPORTED} " not in line]
-    if reported:
-        raise roots.Failed("lintian reports:\n" + "\n".join(reported))
+    if f"{told.stdout}{told.stderr}".strip():
+        raise roots.Failed(f"lintian reports:\n{told.stdout}{told.stderr}")
 
 
 def in_python(root, python):
@@ -196,13 +217,22 @@ def in_python(root, python):
         begins(root.run(f"cd / && {python} /srv/python/sparse_product.py", user), PRODUCT.strip(), f"{OUTSIDE}3")
 
 
+def says_its_build(root, python, own=None):
+    """The package has the build for this processor, and that for all if the loader is told so."""
+    for more, cpu in (({}, own or own_build()), (USUAL_ALONE, "x86-64-v2")):
+        said = root.run(f"cd / && {python} -c 'import cvl; print(cvl.build)'", **more).split()
+        if said[0] != table.VERSION or said[2:] != [cpu]:
+            raise roots.Failed(f"cvl.build is {said}, and should be that for {cpu} with {more}")
+
+
 def packages_in_python(release, made):
     """Debian's own Python has the package, and no file of it is left once it is removed."""
     with made.fresh("python") as root:
         before = root.files()
-        installs(release, root, "python3-cvl")
+        installs(release, root, "python3-cvl", "libcvl1")
         in_python(root, "python3")
-        root.run("dpkg --purge python3-cvl && rm /srv/*.deb")
+        says_its_build(root, "python3")
+        root.run("dpkg --purge python3-cvl libcvl1 && rm /srv/*.deb")
         left = sorted(name for name in root.files() - before if "cvl" in name)
         if left:
             raise roots.Failed("python3-cvl leaves behind:\n" + "\n".join(left))
@@ -211,14 +241,22 @@ def packages_in_python(release, made):
 # ---- Python and Rust ----
 
 
+def by_wheel(release, root, own=None):
+    """The wheel installs into an environment without a compiler and a network, and is found although another library has its name."""
+    said = shown.command(".whl")
+    root.put(release.one(said.rpartition("/")[2]))
+    root.run("python3 -m venv --system-site-packages /srv/wheel")
+    root.run(f"cd /srv && {said}", **{**OWN, "PATH": f"/srv/wheel/bin:{roots.PATH}"})
+    in_python(root, "/srv/wheel/bin/python")
+    says_its_build(root, "/srv/wheel/bin/python", own)
+    root.run("mkdir -p /srv/older && echo 'no library' > /srv/older/libcvl.so.1")
+    says_its_build(root, "env LD_LIBRARY_PATH=/srv/older /srv/wheel/bin/python", own)
+
+
 def wheel(release, made):
-    """The wheel for Debian's Python installs into an environment without a compiler and a network."""
+    """The wheel runs with the Python and the numpy 1.24 of this Debian."""
     with made.fresh("python") as root:
-        said = shown.command(".whl")
-        root.put(release.one(said.rpartition("/")[2]))
-        root.run("python3 -m venv --system-site-packages /srv/own")
-        root.run(f"cd /srv && {said}", **OWN)
-        in_python(root, "/srv/own/bin/python")
+        by_wheel(release, root)
 
 
 def by_source(release, root, prefix):
@@ -237,7 +275,7 @@ def source(release, made):
     """pip builds the source archive over the tree."""
     with made.fresh("source") as root:
         root.unpack(release.tree())
-        by_source(release, root, f"/opt/{trees.name(USUAL)}")
+        by_source(release, root, f"/opt/{trees.NAME}")
 
 
 def by_cargo(release, root):
@@ -258,31 +296,60 @@ def crates(release, made):
 # ---- other systems ----
 
 
+def on_system(release, root):
+    """README's example from the tree, and the packages for scripts and for C."""
+    first_example(release, root)
+    installs(release, root, "cvl")
+    by_both(root, "env -i /usr/bin/cvl --version", f"cvl {table.VERSION}\n")
+    installs(release, root, "libcvl1", "libcvl-dev")
+    installs(release, root, "cvl-doc")
+    by_pkg_config(root)
+
+
 def newer_system(release, made):
-    """On the next Debian run the tree, the packages for scripts and for C, the source archive, and the crates."""
+    """On the next Debian run the tree, the packages, the wheel and the source archive over numpy 2, and the crates."""
     with made.fresh("next", roots.NEWER) as root:
-        first_example(release, root)
-        installs(release, root, "cvl")
-        by_both(root, "env -i /usr/bin/cvl --version", f"cvl {table.VERSION}\n")
-        installs(release, root, "libcvl1", "libcvl-dev")
-        installs(release, root, "cvl-doc")
-        by_pkg_config(root)
+        on_system(release, root)
+        own_builds(root, f"/usr/{debian.LIBDIR}")
+        by_wheel(release, root)
         by_source(release, root, "/usr")
         by_cargo(release, root)
 
 
-def older_glibc(release, made):
-    """On a system with an older glibc the loader says which one the program needs, and so does apt."""
-    needed = shown.glibc()
-    with made.fresh("bare", roots.OLDER) as root:
+# Debian 11 has numpy 1.19
+TOO_OLD = "numpy 1.23 or later"
+
+
+def older_system(release, made):
+    """On the Debian before run the tree and the packages, with a glibc that knows no folders for processors. Its numpy is too old, which
+    the wheel and the source archive say."""
+    with made.fresh("older", roots.OLDER) as root:
+        on_system(release, root)
+        own_builds(root, f"/usr/{debian.LIBDIR}", "x86-64-v2")
+        said = shown.command(".whl")
+        root.put(release.one(said.rpartition("/")[2]), release.one(f"cvl-{table.VERSION}.tar.gz"))
+        root.run("python3 -m venv --system-site-packages /srv/own")
+        root.refuses(f"cd /srv && {shown.command('CVL_PREFIX=').replace('=PREFIX', '=/usr')}", TOO_OLD, **OWN)
+        root.refuses(f"cd /srv && {said}", "numpy>=1.23", **OWN)
+        wheel = said.rpartition("/")[2]
+        root.run(f"cd /srv/own/lib/python3.9/site-packages && python3 -m zipfile -e /srv/{wheel} .")
+        root.refuses("/srv/own/bin/python -c 'import cvl'", TOO_OLD)
+
+
+def in_mpi(release, made):
+    """The sources of the calls over ranks build over the tree, with the MPI that is there, and run in two ranks."""
+    with made.fresh("mpi") as root:
         root.unpack(release.tree())
-        root.refuses(f"/opt/{trees.name(USUAL)}/bin/cvl --version", f"version `GLIBC_{needed}' not found")
-        for name in ("cvl", "libcvl1"):
-            root.put(release.deb(name))
-            root.refuses(f"apt install -y /srv/{release.deb(name).name}", f"libc6 (>= {needed})")
+        root.put(release.one(over_ranks.FILE))
+        prefix = f"/opt/{trees.NAME}"
+        root.run(f"cd /srv && {shown.command('make -C').replace('PREFIX=PREFIX', f'PREFIX={prefix}')}")
+        words = f"export PKG_CONFIG_PATH={prefix}/lib/pkgconfig LD_LIBRARY_PATH={prefix}/lib; cd /srv/{over_ranks.NAME}/examples"
+        root.run(f"{words} && mpicc -o walks walks.c $(pkg-config --cflags --libs cvl-mpi)")
+        for ranks in (1, 2):
+            same(root.run(f"{words} && mpirun -n {ranks} ./walks"), WALKS)
 
 
-TRIES = (tree, tree_in_c, lintian, packages, packages_in_c, packages_in_python, wheel, source, crates, newer_system, older_glibc)
+TRIES = (tree, tree_in_c, lintian, packages, packages_in_c, packages_in_python, wheel, source, crates, in_mpi, newer_system, older_system)
 
 
 def all_of(folder):

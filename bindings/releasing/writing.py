@@ -5,12 +5,12 @@ import filecmp
 import pathlib
 import re
 import tempfile
+import time
 
 import proved
 import table
 
-from . import crates, debian, found_right, licences, pythons, receipt, trees
-from .built import Built
+from . import built, crates, debian, found_right, licences, over_ranks, pythons, receipt, recipes, trees
 
 SUMS, RECEIPT, PARTS = "SHA256SUMS", "PROVED.md", f"cvl-{table.VERSION}.spdx"
 # a line of the sums, and a row of the receipt's sources
@@ -18,16 +18,43 @@ SUM = re.compile(r"^([0-9a-f]{64})  (\S+)$", re.M)
 SOURCE = re.compile(r"^\| `([\w./]+)` \| `([0-9a-f]{64})` \|$", re.M)
 
 
+class Told:
+    """Tells which step of a release is done, of how many, and when."""
+
+    def __init__(self, count):
+        self.count, self.done, self.start = count, 0, time.monotonic()
+
+    def __call__(self, name):
+        self.done += 1
+        print(f"{self.done} of {self.count}: {name}, after {time.monotonic() - self.start:.0f} s", flush=True)
+
+
+def _files(folder, builds, moment, jobs):
+    """Writes all that is made of the builds, and answers the names of the files."""
+    first = {"the program and the exports": builds.build, "the pages in HTML": builds.site}
+    steps = {
+        "the tree": lambda: trees.write(folder, builds, moment), "the packages for Debian": lambda: debian.write(folder, builds),
+        "the wheel and the source archive for Python": lambda: pythons.write(folder, builds),
+        "the crates for Rust": lambda: crates.write(folder, builds, moment),
+        "the sources of the calls over ranks": lambda: over_ranks.write(folder, moment),
+    }  # fmt: skip
+    told = Told(len(first) + len(steps) + 1)
+    built.side_by_side(first, jobs, told)
+    made = built.side_by_side(steps, jobs, told)
+    names = [name for step in steps for name in made[step]] + recipes.write(folder, builds.work, moment)
+    told("the recipes for other package managers")
+    return names
+
+
 def write(folder, jobs, anew=False):
     """Writes the release into a folder that is empty or not there yet, of objects that are compiled anew, or were compiled
     before. If this checkout may not be released, it stops before it makes the folder."""
-    record, time = found_right.read(), found_right.time_of_revision()
+    record, moment = found_right.read(), found_right.time_of_revision()
     folder.mkdir(parents=True, exist_ok=True)
     with tempfile.TemporaryDirectory() as work:
-        builds = Built(work, time, jobs, anew)
-        names = [*trees.write(folder, builds, time), *debian.write(folder, builds)]
-        names += [*pythons.write(folder, builds), *crates.write(folder, builds, time)]
-        when = datetime.datetime.fromtimestamp(time, datetime.timezone.utc).strftime("%Y-%m-%dT%H:%M:%SZ")
+        builds = built.Built(work, moment, jobs, anew)
+        names = _files(folder, builds, moment, jobs)
+        when = datetime.datetime.fromtimestamp(moment, datetime.timezone.utc).strftime("%Y-%m-%dT%H:%M:%SZ")
         (folder / PARTS).write_text(licences.document(record.kit, when))
         (folder / RECEIPT).write_text(receipt.text(record, builds, folder, [*names, PARTS]))
     names = sorted([*names, PARTS, RECEIPT])

@@ -198,13 +198,18 @@ class ForACpu(Tree):
         with mock.patch.object(proved.Crates, "gate_left", lambda *given: True), \
                 mock.patch.object(proved.Crates, "is_left", lambda *given: True), mock.patch("builtins.print"), \
                 mock.patch.object(proved.Crates, "build_over_gate", lambda self, made, cpu: built.append((made, cpu))), \
-                mock.patch.object(proved.Crates, "build_program_over_gate", lambda self, made, cpu: built.append((made, cpu))):  # fmt: skip
+                mock.patch.object(proved.Crates, "build_program_over_gate", lambda self, made, cpu="": built.append((made, cpu))):  # fmt: skip
             for own in (TOP / "crates/cvl_c/out/x86-64-v3", self.top):
                 built.clear()
                 given = str(own) if own == self.top else ""
                 found = building.Build("x86-64-v3", 1, given).both(self.top)
                 self.assertEqual(found, (own / "cvl", own / "libcvl_c.a"))
                 self.assertEqual(sorted(built), [(own / "cvl", "x86-64-v3"), (own / "libcvl_c.a", "x86-64-v3")])
+            built.clear()
+            # a release links the object again, which is built where `rt ci` writes nothing
+            released = TOP / "crates/cvl_c/out/released/cvl"
+            self.assertEqual(building.Build("", 1, "").compiled_program("a program"), released.with_name("cvl.o"))
+            self.assertEqual(built, [(released, "")])
             built.clear()
             self.assertEqual(building.Build("", 1, "").both(self.top)[0], TOP / "crates/cvl/out/cvl")
             self.assertEqual(built, [(TOP / "crates/cvl_c/out/libcvl_c.a", "")])

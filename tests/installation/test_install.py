@@ -13,6 +13,7 @@ sys.dont_write_bytecode = True
 TOP = pathlib.Path(__file__).resolve().parents[2]
 sys.path.insert(0, str(TOP / "bindings"))
 
+import archive
 import generated
 import proved
 from installer import building, checks, obstacles, package, pages, prefixes, putting, removing
@@ -113,6 +114,42 @@ class Installs(Whole):
         self.assertEqual({prefix: package.folder(python, pathlib.Path(prefix)) for prefix in wanted}, wanted)
         fedora = {**self.python, "folders": ["/usr/lib64/python3.11/site-packages", "/usr/lib/python3.11/site-packages"]}
         self.assertEqual(package.folder(fedora, pathlib.Path("/usr")), "lib64/python3.11/site-packages")
+
+
+class ForProcessors(Whole):
+    """The library for some processors, beside the one for all."""
+
+    FOLDER = "lib/glibc-hwcaps/x86-64-v3"
+
+    def build(self, work):
+        super().build(work)
+        made = work / archive.for_processor("x86-64-v3") / archive.FULL
+        made.parent.mkdir(parents=True)
+        made.write_text("for x86-64-v3")
+
+    def test_it_stands_where_the_loader_looks_first_and_is_removed(self):
+        self.install(self.root, "--no-python", "--also", "x86-64-v3")
+        self.assertEqual((self.root / self.FOLDER / archive.SONAME).read_text(), "for x86-64-v3")
+        self.assertEqual((self.root / "lib" / archive.SONAME).read_text(), archive.FULL)
+        # an install without it leaves no library of an earlier version there
+        self.install(self.root, "--no-python")
+        self.assertEqual([name for name in self.found() if "hwcaps" in name and (self.root / name).is_file()], [])
+        install.main([str(self.root), "--uninstall"])
+        self.assertEqual(self.found(), [])
+
+    def test_processors_that_the_loader_has_no_folder_for_are_refused(self):
+        with mock.patch("sys.stderr"), self.assertRaises(SystemExit) as caught:
+            self.install(self.root, "--also", "haswell")
+        self.assertEqual(caught.exception.code, 2)
+
+    def test_an_archive_for_them_has_to_be_given_where_the_usual_one_is(self):
+        given = {"CVL_PROGRAM": "/some/cvl", "CVL_ARCHIVE": "/some/libcvl_c.a", "CVL_ARCHIVE_V3": ""}
+        with mock.patch.dict(os.environ, given):
+            build = building.Build("", 1, "", ["x86-64-v3"])
+            with self.assertRaisesRegex(SystemExit, "CVL_ARCHIVE_V3 none for x86-64-v3"):
+                build.exports_for("x86-64-v3", self.top)
+            os.environ["CVL_ARCHIVE_V3"] = "/some/other.a"
+            self.assertEqual(build.exports_for("x86-64-v3", self.top), pathlib.Path("/some/other.a"))
 
 
 class Read(Whole):

@@ -9,6 +9,7 @@ import shutil
 import subprocess
 import sys
 import tarfile
+import tempfile
 import time
 import types
 import unittest
@@ -23,7 +24,7 @@ import generated
 from installer import files
 from installer.words import Places
 import table
-from releasing import built, crates, debian, found_right, licences, packed, receipt, shown, texts, trees, trying, writing
+from releasing import built, crates, debian, found_right, licences, older_glibc, over_ranks, packed, receipt, recipes, shown, texts, trees, trying, writing
 from trees import Tree
 from whole import Whole, command, written
 
@@ -69,6 +70,15 @@ class Command(Tree):
             command("release").main([str(self.top / "a/release")])
         self.assertEqual(self.found(self.top), [])
 
+    def test_a_folder_that_is_none(self):
+        made = self.write("a file")
+        for words, why in ((made,), "is not a folder"), (("--check", made), "is not a folder"), (("--test", made), "is not a folder"), \
+                (("--check", self.top / "nothing"), "is not there"), ((made / "below",), "is not a folder"), (("--jobs", "0", "x"), "at least 1"):  # fmt: skip
+            told = subprocess.run([TOP / "release", *words], capture_output=True, text=True)
+            self.assertNotIn("Traceback", told.stderr)
+            self.assertIn(why, told.stderr)
+            self.assertEqual((told.returncode, told.stdout), (1, ""), words)
+
     def test_help_that_nobody_reads_to_its_end(self):
         for name in ("release", "install"):
             reads, writes = os.pipe()
@@ -107,15 +117,22 @@ class Packages(unittest.TestCase):
 
     def test_each_file_has_a_package(self):
         places = Places("/usr", debian.LIBDIR)
-        given, links = files.base(places, pathlib.Path("/work"), pathlib.Path("/written"), {"share/doc/cvl/README.md": None})
+        given, links = files.base(places, pathlib.Path("/work"), pathlib.Path("/written"), built.OWN, {"share/doc/cvl/README.md": None})
         of = {name: debian._package_of(name) for name in (*given, *links)}
         self.assertEqual([name for name, package in of.items() if package is None], [])
         for name, package in (
             ("bin/cvl", "cvl"), ("share/man/man1/cvl.1", "cvl"), (f"{debian.LIBDIR}/{archive.SONAME}", "libcvl1"), ("include/cvl.h", "libcvl-dev"),
-            (f"{debian.LIBDIR}/{archive.LINKED}", "libcvl-dev"), (f"{debian.LIBDIR}/libcvl.a", "libcvl-dev"), ("share/doc/cvl/README.md", "cvl-doc"),
+            (f"{debian.LIBDIR}/{archive.LINKED}", "libcvl-dev"),
+            (f"{debian.LIBDIR}/glibc-hwcaps/x86-64-v3/{archive.SONAME}", "libcvl1"), (f"{debian.LIBDIR}/libcvl.a", "libcvl-dev"), ("share/doc/cvl/README.md", "cvl-doc"),
         ):  # fmt: skip
             self.assertEqual(of[name], package, name)
         self.assertIsNone(debian._package_of("share/cvl/installed"))
+
+    def test_the_list_of_changes_is_newest_first(self):
+        with mock.patch.dict(os.environ, SOURCE_DATE_EPOCH="1795392000"):
+            said = texts.debian_changes("1.0.0-1")
+        self.assertEqual(re.findall(r"^cimorelua \((.*)\)", said, re.M), ["1.0.0-1", "1.0.0~0-1"])
+        self.assertEqual(re.findall(r"  (\w+, .*)$", said, re.M), ["Mon, 23 Nov 2026 00:00:00 -0000", "Sun, 22 Nov 2026 00:00:00 -0000"])
 
     def test_symbols_have_the_version_that_they_came_with(self):
         lines = texts.scripts("libcvl1")["symbols"].splitlines()
@@ -146,15 +163,12 @@ class Debian(Whole):
         self.run_it("cc", "-c", "-o", "program.o", "program.c")
         self.run_it("ar", "rcs", work / "libcvl.a", "program.o")
 
-    def built(self, python, *words):
-        names = super().built(python, *words)
-        if names:
-            (made,) = pathlib.Path(words[-1]).rglob(self.module)
-            self.run_it("cc", "-shared", "-fPIC", "-o", made, "program.c")
-        return names
+    def put_python(self, staged):
+        self.built(None, staged / "lib/python3/dist-packages")
+        (made,) = staged.rglob(self.module)
+        self.run_it("cc", "-shared", "-fPIC", "-o", made, "program.c")
 
-    def installed(self, name, prefix, cpu, *words):
-        self.python["folders"] = ["/usr/lib/python3/dist-packages"]
+    def installed(self, name, prefix, *words):
         self.install(prefix, *words, destination=self.top / "staged")
         return self.top / "staged/usr"
 
@@ -166,7 +180,7 @@ class Debian(Whole):
         asked = types.SimpleNamespace(run=lambda *words, **more: self.NUMPY)
         with at(moment), mock.patch.object(texts, "copyright_of", lambda: "a licence\n"), \
                 mock.patch.dict(os.environ, {"SOURCE_DATE_EPOCH": "1000"}), \
-                mock.patch.object(debian, "subprocess", asked):  # fmt: skip
+                mock.patch.object(debian, "_put_python", self.put_python), mock.patch.object(debian, "subprocess", asked):  # fmt: skip
             names = debian.write(folder, builds)
         return {name.partition("_")[0]: folder / name for name in names}
 
@@ -209,7 +223,7 @@ class Debian(Whole):
                     owner = places[os.path.normpath(os.path.join(os.path.dirname(place), os.readlink(path)))]
                     self.assertIn(f"{owner} (= {debian.REVISION})", [*own, *depends[name]], place)
         major, minor = map(int, self.run_it(debian.PYTHON, "-c", "import sys; print(*sys.version_info[:2])").split())
-        own = [f"python3 (>= {major}.{minor}~)", f"python3 (<< {major}.{minor + 1})", "python3-numpy", "python3-numpy-abi9"]
+        own = [f"libcvl1 (= {debian.REVISION})", f"python3 (>= {major}.{minor}~)", f"python3 (<< {major}.{minor + 1})", "python3-numpy", "python3-numpy-abi9"]
         self.assertEqual([word for word in depends["python3-cvl"] if not word.startswith("libc6")], own)
 
     def check_places(self, unpacked):
@@ -237,12 +251,96 @@ class Environment(unittest.TestCase):
         # MPICC makes the calls over ranks, and PKG_CONFIG finds an installed library: a release has neither
         asked = {*re.findall(r'(?:words_of|environ.get)\("((?!CVL_)\w+)"', sources), *archive.USUAL} - {"MPICC", "PKG_CONFIG"}
         self.assertLess({"CC", "CFLAGS", "CPPFLAGS", "LDFLAGS", "DESTDIR"}, asked)
-        imports = "import os, sys; sys.path.insert(0, 'bindings'); from releasing.built import Built"
-        words = [sys.executable, "-c", f"{imports}; Built('.', 1000, 1, False); print(*os.environ)"]
-        given = {**os.environ, **dict.fromkeys(asked, "x"), "PYTHONPATH": "x"}
-        said = subprocess.run(words, cwd=TOP, env=given, capture_output=True, text=True, check=True).stdout
-        self.assertEqual(set(said.split()) & {*asked, "PYTHONPATH"}, set())
-        self.assertIn("SOURCE_DATE_EPOCH", said.split())
+        imports = "import json, os, sys; sys.path.insert(0, 'bindings'); from releasing.built import Built"
+        with tempfile.TemporaryDirectory() as folder:
+            words = [sys.executable, "-c", f"{imports}; Built(sys.argv[1], 1000, 1, False); print(json.dumps(dict(os.environ)))", folder]
+            given = {**os.environ, **dict.fromkeys(asked, "x"), "PYTHONPATH": "x"}
+            said = json.loads(subprocess.run(words, cwd=TOP, env=given, capture_output=True, text=True, check=True).stdout)
+            self.assertEqual(said.pop("LDFLAGS"), f"-L{folder}/glibc -Wl,-z,x86-64-v2")
+        self.assertEqual(set(said) & {*asked, "PYTHONPATH"}, set())
+        self.assertEqual(said["SOURCE_DATE_EPOCH"], "1000")
+
+
+class Older(Tree):
+    """What is linked so that it runs with an older glibc."""
+
+    # a library that starts a thread and watches forks, in the words of the C library before and after 2.34
+    SOURCE = """#include <pthread.h>
+        #include <string.h>
+        static void *same(void *given) { return given; }
+        static void forked(void) {}
+        int started(void) {
+            pthread_t thread;
+            void *found = NULL;
+            if (pthread_atfork(NULL, NULL, forked) || pthread_create(&thread, NULL, same, &thread)) return 0;
+            return pthread_join(thread, &found) == 0 && found == &thread;
+        }
+        """
+    MAIN = "int started(void); int main(void) { return started() ? 7 : 0; }"
+
+    def setUp(self):
+        super().setUp()
+        self.glibc = older_glibc.OlderGlibc(self.top / "glibc")
+
+    def run_it(self, *words):
+        return subprocess.run([str(word) for word in words], capture_output=True, text=True, cwd=self.top)
+
+    def linked(self, text, made):
+        self.write("linked.c", text)
+        shared = ["-shared", "-fPIC", "-pthread", "-Wl,-z,defs", *self.glibc.linked]
+        return self.run_it("cc", *shared, "-o", made, "linked.c")
+
+    def needed(self, path):
+        told = self.run_it("readelf", "--wide", "-V", "-d", path).stdout
+        return set(re.findall(r"\(NEEDED\).*\[(.*)\]", told)), set(re.findall(r"GLIBC_([\d.]+)", told))
+
+    def test_a_library_that_starts_threads_needs_no_newer_glibc(self):
+        self.assertEqual(self.linked(self.SOURCE, "libstarted.so").returncode, 0)
+        self.assertEqual(self.needed("libstarted.so"), ({"libc.so.6", "libpthread.so.0"}, {"2.2.5", "2.3.2"}))
+        self.write("main.c", self.MAIN)
+        self.assertEqual(self.run_it("cc", "-o", "main", "main.c", "-L.", "-lstarted", "-Wl,-rpath,$ORIGIN").stderr, "")
+        self.assertEqual(self.run_it("./main").returncode, 7)
+
+    def test_what_an_older_glibc_has_not_is_reported(self):
+        told = self.linked("#define _GNU_SOURCE\n#include <unistd.h>\nint closes(void) { return close_range(3, 4, 0); }", "libcloses.so")
+        self.assertNotEqual(told.returncode, 0)
+        self.assertIn("undefined reference to `close_range'", told.stderr)
+
+    def test_each_name_has_the_newest_version_of_that_time(self):
+        rows = (
+            ("close@@GLIBC_2.2.5", "FUNC"), ("environ@@GLIBC_2.2.5", "OBJECT"), ("memcpy@GLIBC_2.2.5", "FUNC"), ("memcpy@@GLIBC_2.14", "IFUNC"),
+            ("statx@@GLIBC_2.28", "FUNC"), ("close_range@@GLIBC_2.34", "FUNC"), ("pthread_create@GLIBC_2.2.5", "FUNC"),
+            ("pthread_create@@GLIBC_2.34", "FUNC"), ("__libc_start_main@GLIBC_2.2.5", "FUNC"), ("__libc_start_main@@GLIBC_2.34", "FUNC"),
+            ("dlopen@GLIBC_2.2.5", "FUNC"), ("dlopen@@GLIBC_2.34", "FUNC"), ("old@GLIBC_2.2.5", "FUNC"), ("mine@@GLIBC_PRIVATE", "FUNC"),
+        )  # fmt: skip
+        lines = "".join(f"{k:>6}: 0000000000001000     8 {kind:<7} GLOBAL DEFAULT   15 {name}\n" for k, (name, kind) in enumerate(rows))
+        asked = "     9: 0000000000000000     0 FUNC    GLOBAL DEFAULT  UND calloc@GLIBC_2.2.5 (2)\n"
+        found = {file: {name.name: name.version for name in of_file} for file, of_file in older_glibc.names(lines + asked).items()}
+        self.assertEqual(found, {
+            "libc.so.6": {"close": "2.2.5", "environ": "2.2.5", "memcpy": "2.14", "statx": "2.28", "__libc_start_main": "2.2.5"},
+            "libpthread.so.0": {"pthread_create": "2.2.5"},
+        })  # fmt: skip
+
+    def test_what_the_program_asks_of_the_processor(self):
+        self.write("asks.c", """#include <stdint.h>
+            #include <stdio.h>
+            struct feature { uint32_t has[4], may[4]; };
+            const struct feature *__x86_get_cpuid_feature_leaf(unsigned leaf);
+            int main(void) {
+                for (unsigned leaf = 0; leaf < 3; leaf++) {
+                    const struct feature *const found = __x86_get_cpuid_feature_leaf(leaf);
+                    for (int k = 1; k < 4; k++) printf("%x ", (leaf == 0 && k == 1) ? 0 : found->may[k]);
+                }
+                return 0;
+            }""")
+        # the bits that the levels v2, v3 and v4 of x86-64 are about, in ebx, ecx and edx
+        told = []
+        for more in ((), (older_glibc.PROCESSOR,)):
+            self.assertEqual(self.run_it("cc", "-Wall", "-Wextra", "-o", "asks", "asks.c", *more).stderr, "")
+            told.append([int(word, 16) for word in self.run_it("./asks").stdout.split()])
+        levels = [0, 0x38983201, 0, 0xd0030128, 0, 0, 0, 0x21, 0]
+        self.assertEqual(*[[word & bits for word, bits in zip(found, levels)] for found in told])
+        self.assertEqual(told[1][1] & 0x982201, 0x982201, "x86-64-v2")
 
 
 class Crates(Tree):
@@ -280,11 +378,31 @@ class Parts(unittest.TestCase):
         self.assertEqual(related[:2], ["SPDXRef-DOCUMENT DESCRIBES SPDXRef-cvl", "SPDXRef-cvl STATIC_LINK SPDXRef-rattle-atomic-table"])
 
 
+class Recipes(Tree):
+    """The recipes for other package managers."""
+
+    def test_each_takes_the_tree_by_its_sum_and_reads_as_its_language(self):
+        tree = self.write(trees.FILE, "a tree")
+        found = recipes.recipes(tree)
+        self.assertEqual(sorted(found), ["conda/meta.yaml", "homebrew/cvl.rb", "spack/package.py", "vcpkg/portfile.cmake", "vcpkg/vcpkg.json"])
+        for place, text in found.items():
+            if place.endswith((".yaml", ".rb", "package.py")):
+                self.assertIn(receipt.sum_of(tree), text, place)
+            self.assertNotRegex(text, r"\{(version|url|sha)")
+        self.assertEqual(json.loads(found["vcpkg/vcpkg.json"])["version"], table.VERSION)
+        compile(found["spack/package.py"], "package.py", "exec")
+        for program, place in ((("ruby", "-c"), "homebrew/cvl.rb"),):
+            if shutil.which(program[0]):
+                made = self.write(place, found[place])
+                self.assertEqual(subprocess.run([*program, made], capture_output=True).returncode, 0, place)
+
+
 class Receipt(Tree):
     """What the receipt says of files of a release."""
 
     def text(self, is_given=False, not_tried=""):
-        builds = types.SimpleNamespace(is_given=is_given, given={"": [self.write("cvl", "a program"), self.write("libcvl_c.a", "exports")]})
+        given = {("program", ""): self.write("cvl", "a program"), ("exports", "x86-64-v3"): self.write("libcvl_c.a", "exports")}
+        builds = types.SimpleNamespace(is_given=is_given, given=given)
         record = found_right.Record(**{**RECORD, "not_tried": not_tried})
         with mock.patch.object(receipt, "sources", lambda: {"crates/sums": "0" * 64, "docs": "1" * 64}), \
                 mock.patch.object(found_right, "revision", lambda: "a revision"):  # fmt: skip
@@ -296,6 +414,7 @@ class Receipt(Tree):
             self.assertIn(f"| `{name}` | {made_of} | `{receipt.sum_of(self.top / name)}` |", text)
         self.assertEqual(dict(writing.SOURCE.findall(text)), {"crates/sums": "0" * 64, "docs": "1" * 64})
         self.assertIn(f"| program | the usual processors | `{receipt.sum_of(self.top / 'cvl')}` |", text)
+        self.assertIn(f"| exports | x86-64-v3 | `{receipt.sum_of(self.top / 'libcvl_c.a')}` |", text)
         for said in ("revision `a revision` by the kit `a kit`", "`5 passed, 0 failed`, and everything was tried.", "`shell::program`"):
             self.assertIn(said, text)
 
@@ -390,7 +509,7 @@ class Shown(unittest.TestCase):
     FILE = re.compile(r"[\w.-]+\.(?:tar\.xz|deb|crate|tar\.gz|spdx)\b")
 
     def test_the_pages_name_the_files_of_a_release(self):
-        made = {*map(trees.file_of, built.CPUS), *map(debian.file_of, debian.PACKAGES), *map(crates.file_of, ("cvl", "cvl-sys"))}
+        made = {trees.FILE, over_ranks.FILE, recipes.FILE, *map(debian.file_of, debian.PACKAGES), *map(crates.file_of, ("cvl", "cvl-sys"))}
         made |= {writing.PARTS, f"cvl-{table.VERSION}.tar.gz"}
         self.assertEqual(set(self.FILE.findall((TOP / shown.INSTALLING).read_text())), made)
         self.assertLess(set(self.FILE.findall((TOP / shown.FIRST).read_text())), made)
@@ -398,7 +517,7 @@ class Shown(unittest.TestCase):
     def test_each_way_to_install_has_one_command(self):
         packages = {"cvl", "libcvl1", "cvl-doc", "python3-cvl"}
         words = [f"apt install ./{debian.file_of(package)}" for package in debian.PACKAGES if package.name in packages]
-        for said in (*words, *(f"tar -xJf {trees.file_of(cpu)}" for cpu in built.CPUS), ".whl", "CVL_PREFIX=", "tar -xzf", "cargo add"):
+        for said in (*words, f"tar -xJf {trees.FILE}", "make -C", ".whl", "CVL_PREFIX=", "tar -xzf", "cargo add"):
             self.assertIn(said, shown.command(said))
         self.assertIn(trying.EXAMPLE, shown.block(shown.FIRST, "tar -xJf"))
 

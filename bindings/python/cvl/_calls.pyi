@@ -7,6 +7,7 @@ from cvl._kinds import IntArray
 MOST_ELEMENTS: int
 MOST_OF_TEXT: int
 version: str
+build: str
 
 _Kind = TypeVar("_Kind", bound="Lengths")
 

@@ -1,6 +1,30 @@
 /* Arguments of calls: taken as a call takes them, and never copied or converted. */
 #include "calls.h"
 
+/* ---- the type of an argument, where it is none that a call takes ---- */
+
+PyObject *cvl_type_name(PyObject *object) {
+    PyObject *const type = (PyObject *)Py_TYPE(object);
+    PyObject *name = PyObject_GetAttrString(type, "__name__");
+    if (name == NULL || (PyType_GetFlags(Py_TYPE(object)) & Py_TPFLAGS_HEAPTYPE) != 0) return name;
+    PyObject *module = PyObject_GetAttrString(type, "__module__"), *whole = NULL;
+    if (module != NULL) {
+        const int is_plain = PyUnicode_Check(module) && PyUnicode_CompareWithASCIIString(module, "builtins") == 0;
+        whole = is_plain ? Py_NewRef(name) : PyUnicode_FromFormat("%S.%U", module, name);
+    }
+    Py_XDECREF(module);
+    Py_DECREF(name);
+    return whole;
+}
+
+/* Raises that an argument is of a type that the call does not take. The form has its name, its type, and its name again. */
+static int refuse_type(PyObject *object, const char *form, const char *name) {
+    PyObject *type = cvl_type_name(object);
+    if (type != NULL) PyErr_Format(PyExc_TypeError, form, name, type, name);
+    Py_XDECREF(type);
+    return -1;
+}
+
 /* ---- texts ---- */
 
 /* A text is a `str`, or memory that holds bytes. */
@@ -12,18 +36,18 @@ static int take_text(PyObject *object, const Operand *operand, Given *given) {
         given->count = (size_t)count;
         return given->at == NULL ? -1 : 0;
     }
-    PyObject *view = PyMemoryView_FromObject(object);
+    Py_buffer bytes;
+    PyObject *view = cvl_view(object, &bytes);
     if (view == NULL && !PyErr_ExceptionMatches(PyExc_TypeError)) return -1;
     PyErr_Clear();
-    const Py_buffer *bytes = view == NULL ? NULL : PyMemoryView_GET_BUFFER(view);
-    if (bytes == NULL || bytes->itemsize != 1 || !PyBuffer_IsContiguous(bytes, 'C')) {
-        PyErr_Format(PyExc_TypeError, "%s is no text, a str or bytes side by side, but a %s", operand->name, Py_TYPE(object)->tp_name);
+    if (view == NULL || bytes.itemsize != 1 || !PyBuffer_IsContiguous(&bytes, 'C')) {
+        refuse_type(object, "%s is no text, a str or bytes side by side, but a %U", operand->name);
         Py_XDECREF(view);
         return -1;
     }
     given->held = view;
-    given->at = bytes->buf;
-    given->count = (size_t)bytes->len;
+    given->at = bytes.buf;
+    given->count = (size_t)bytes.len;
     return 0;
 }
 
@@ -32,10 +56,8 @@ static int take_text(PyObject *object, const Operand *operand, Given *given) {
 /* The whole number that an object is. One beyond 64 bits is the least or the greatest of these, and sets `beyond`. */
 static int whole_number(PyObject *object, const char *name, int64_t *number, int *beyond) {
     if (!PyIndex_Check(object)) {
-        PyErr_Format(PyExc_TypeError, PyFloat_Check(object) ? "%s is no whole number but a %s; int(%s) would cut its fraction"
-                : "%s is no whole number but a %s; write int(%s)",
-            name, Py_TYPE(object)->tp_name, name);
-        return -1;
+        return refuse_type(object, PyFloat_Check(object) ? "%s is no whole number but a %U; int(%s) would cut its fraction"
+                : "%s is no whole number but a %U; write int(%s)", name);
     }
     PyObject *found = PyNumber_Index(object);
     if (found == NULL) return -1;
@@ -57,8 +79,7 @@ static int is_flag(PyObject *object) { return PyBool_Check(object) || PyArray_Is
 
 static int take_flag(PyObject *object, const char *name, Given *given) {
     if (!is_flag(object)) {
-        PyErr_Format(PyExc_TypeError, "%s is no boolean but a %s; write bool(%s)", name, Py_TYPE(object)->tp_name, name);
-        return -1;
+        return refuse_type(object, "%s is no boolean but a %U; write bool(%s)", name);
     }
     given->number = PyObject_IsTrue(object);
     return given->number < 0 ? -1 : 0;
@@ -68,7 +89,7 @@ static int take_flag(PyObject *object, const char *name, Given *given) {
 
 /* Lengths of segments, of a `Segments` or an array. */
 static int take_lengths(PyObject *object, const Operand *operand, Given *given) {
-    if (!PyObject_TypeCheck(object, &cvl_lengths_type)) return cvl_take_array(object, operand, given);
+    if (!PyObject_TypeCheck(object, cvl_lengths_type)) return cvl_take_array(object, operand, given);
     const CvlLengths lengths = cvl_cut_of(object);
     given->at = (void *)lengths.lengths;
     given->count = lengths.segments;

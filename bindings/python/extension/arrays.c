@@ -63,6 +63,16 @@ static int refuse_mask(PyObject *object, const char *name) {
     return masked == 0 ? 0 : -1;
 }
 
+PyObject *cvl_view(PyObject *object, Py_buffer *found) {
+    PyObject *view = PyMemoryView_FromObject(object);
+    if (view != NULL && PyObject_GetBuffer(view, found, PyBUF_FULL_RO) < 0) Py_CLEAR(view);
+    if (view != NULL) {
+        Py_buffer given_back = *found;
+        PyBuffer_Release(&given_back);
+    }
+    return view;
+}
+
 /* Whether numpy knows the elements of a format of buffers. */
 static int is_of_numpy(const char *format) {
     if (format == NULL) return 1;
@@ -75,16 +85,19 @@ static int is_of_numpy(const char *format) {
  * array.
  */
 static PyObject *over_memory(PyObject *object, const char *name, PyObject *advice) {
-    PyObject *view = PyMemoryView_FromObject(object);
+    Py_buffer memory;
+    PyObject *view = cvl_view(object, &memory);
     if (view == NULL) {
         if (!PyErr_ExceptionMatches(PyExc_TypeError)) return NULL;
         PyErr_Clear();
-        PyErr_Format(PyExc_TypeError, "%s is no array but a %s; %U", name, Py_TYPE(object)->tp_name, advice);
+        PyObject *type = cvl_type_name(object);
+        if (type != NULL) PyErr_Format(PyExc_TypeError, "%s is no array but a %U; %U", name, type, advice);
+        Py_XDECREF(type);
         return NULL;
     }
     PyObject *array = PyArray_FromAny(view, NULL, 0, 0, 0, NULL);
-    if (array != NULL && PyArray_DATA((PyArrayObject *)array) != PyMemoryView_GET_BUFFER(view)->buf) {
-        if (is_of_numpy(PyMemoryView_GET_BUFFER(view)->format)) PyErr_NoMemory();
+    if (array != NULL && PyArray_DATA((PyArrayObject *)array) != memory.buf) {
+        if (is_of_numpy(memory.format)) PyErr_NoMemory();
         else PyErr_Format(PyExc_TypeError, "the elements of %s are of no kind that numpy has; %U", name, advice);
         Py_CLEAR(array);
     }
@@ -98,8 +111,12 @@ int cvl_is_number(PyObject *object) {
 
 /* Raises that a number is no array. */
 static int refuse_number(PyObject *object, const Operand *operand) {
-    PyErr_Format(PyExc_TypeError, "%s is no array but a %s; write numpy.array([%s], dtype=%s)", operand->name,
-        Py_TYPE(object)->tp_name, operand->name, cvl_needs[operand->kind].element->written);
+    PyObject *type = cvl_type_name(object);
+    if (type != NULL) {
+        PyErr_Format(PyExc_TypeError, "%s is no array but a %U; write numpy.array([%s], dtype=%s)", operand->name, type, operand->name,
+            cvl_needs[operand->kind].element->written);
+    }
+    Py_XDECREF(type);
     return -1;
 }
 
@@ -161,7 +178,9 @@ static void refuse_room(PyArrayObject *array, const char *name, const Element *e
 static int refuse(PyArrayObject *array, const Operand *operand) {
     const Element *element = cvl_needs[operand->kind].element;
     if (element == NULL) {
-        PyErr_Format(PyExc_TypeError, "%s is no text, a str or bytes side by side, but a %s", operand->name, Py_TYPE(array)->tp_name);
+        PyObject *type = cvl_type_name((PyObject *)array);
+        if (type != NULL) PyErr_Format(PyExc_TypeError, "%s is no text, a str or bytes side by side, but a %U", operand->name, type);
+        Py_XDECREF(type);
     } else if (is_room(operand)) {
         PyObject *advice = advice_for(operand);
         if (advice != NULL) refuse_room(array, operand->name, element, advice);

@@ -53,7 +53,7 @@ static int place_of(const Family *family, PyObject *name) {
 
 static int bind(const Row *row, PyObject *const *arguments, Py_ssize_t count, PyObject *keywords, PyObject **bound) {
     const Family *family = row->family;
-    const Py_ssize_t named = keywords == NULL ? 0 : PyTuple_GET_SIZE(keywords);
+    const Py_ssize_t named = keywords == NULL ? 0 : PyTuple_Size(keywords);
     const int required = family->count + is_over(family);
     if (count > required) {
         PyErr_Format(PyExc_TypeError, "%s() takes %d positional arguments but %zd were given", row->name, required, count);
@@ -61,7 +61,7 @@ static int bind(const Row *row, PyObject *const *arguments, Py_ssize_t count, Py
     }
     for (int k = 0; k <= family->count; k++) bound[k] = k < count ? arguments[k] : NULL;
     for (Py_ssize_t k = 0; k < named; k++) {
-        PyObject *name = PyTuple_GET_ITEM(keywords, k);
+        PyObject *name = PyTuple_GetItem(keywords, k);
         const int place = place_of(family, name);
         if (place < 0 || bound[place] != NULL) {
             const char *said = place < 0 ? "an unexpected keyword argument" : "multiple values for argument";
@@ -198,6 +198,9 @@ static int fill(Frame *frame, PyObject *out) {
 
 /* ---- texts ---- */
 
+/* A text of at most so many bytes is written on the stack first, and a longer one in memory of its own. */
+enum { SHORT = 512 };
+
 /*
  * Makes a call that reports how long its result is: first without a room, and then with one. Answers whether there is one to be filled, or
  * -1. A count that was not reported was no count.
@@ -239,15 +242,19 @@ static PyObject *read_nested(Frame *frame) {
     return segments == NULL ? NULL : Py_BuildValue("ON", frame->room.held, segments);
 }
 
-/* The text stands in the memory of a new `str`. */
+/* A text of ASCII. What is written is not known to be that before it is looked at, since another thread may write its argument. */
 static PyObject *write_text(Frame *frame) {
+    char here[SHORT];
     const int more = ask(frame);
     if (more < 0) return NULL;
-    frame->room.held = PyUnicode_New(more ? (Py_ssize_t)frame->told : 0, 127);
-    if (frame->room.held == NULL) return NULL;
-    frame->room.at = PyUnicode_DATA(frame->room.held);
     frame->room.count = more ? frame->told : 0;
-    return !more || fill_asked(frame) ? Py_NewRef(frame->room.held) : NULL;
+    if (frame->room.count > sizeof here) {
+        frame->room.held = PyBytes_FromStringAndSize(NULL, (Py_ssize_t)frame->room.count);
+        if (frame->room.held == NULL) return NULL;
+    }
+    char *const at = frame->room.held == NULL ? here : PyBytes_AsString(frame->room.held);
+    frame->room.at = at;
+    return !more || fill_asked(frame) ? PyUnicode_DecodeASCII(at, (Py_ssize_t)frame->room.count, NULL) : NULL;
 }
 
 /* ---- what is returned ---- */

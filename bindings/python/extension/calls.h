@@ -13,7 +13,8 @@
 #define PY_SSIZE_T_CLEAN
 #include <Python.h>
 
-/* One file asks numpy for its functions, and the others use them. */
+/* One file asks numpy for its functions, and the others use them. Built over numpy 2, the module runs over numpy 1.23 too. */
+#define NPY_TARGET_VERSION NPY_1_23_API_VERSION
 #define NPY_NO_DEPRECATED_API NPY_1_20_API_VERSION
 #define PY_ARRAY_UNIQUE_SYMBOL cvl_numpy_functions
 #ifndef CVL_ASKS_NUMPY
@@ -23,6 +24,8 @@
 #include <numpy/arrayscalars.h>
 
 #include <cvl.h>
+
+#include <string.h>
 
 #if PY_VERSION_HEX < 0x030A0000
 static inline PyObject *Py_NewRef(PyObject *object) {
@@ -179,6 +182,12 @@ int cvl_learn_kinds(void);
 int cvl_is_number(PyObject *object);
 
 /*
+ * A view of the memory of an object, and where that lies, with the format of its elements; nothing with an exception. The memory stays
+ * while the view is kept.
+ */
+PyObject *cvl_view(PyObject *object, Py_buffer *found);
+
+/*
  * Reads where the elements of all arrays lie and how many there are, or -1 with an exception if one is of the wrong kind. It runs no code
  * in Python.
  */
@@ -188,6 +197,9 @@ int cvl_look(Frame *frame);
 void cvl_tell_change(void);
 
 /* ---- arguments.c ---- */
+
+/* The name of an object's type as messages have it, with its module if the type is written in C; nothing with an exception. */
+PyObject *cvl_type_name(PyObject *object);
 
 /* Takes an argument; -1 with an exception. */
 int cvl_take(PyObject *object, const Operand *operand, int spreads, Given *given);
@@ -225,7 +237,10 @@ int cvl_agree(const Frame *frame);
 
 /* ---- lengths.c ---- */
 
-extern PyTypeObject cvl_lengths_type;
+extern PyTypeObject *cvl_lengths_type;
+
+/* Makes the type; -1 with an exception. */
+int cvl_lengths_ready(void);
 
 /* Segments of an array of lengths, and the lengths of segments where they lie. */
 PyObject *cvl_segments_of(PyObject *lengths);

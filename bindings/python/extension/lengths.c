@@ -27,8 +27,8 @@ static PyObject *as_array(PyObject *self, void *unused) {
     const Lengths *found = (Lengths *)self;
     npy_intp count = (npy_intp)found->lengths.segments;
     (void)unused;
-    Py_INCREF(cvl_ints.descr);
-    PyObject *array = PyArray_NewFromDescr(&PyArray_Type, cvl_ints.descr, 1, &count, NULL, PyBytes_AS_STRING(found->bytes), 0, NULL);
+    Py_INCREF((PyObject *)cvl_ints.descr);
+    PyObject *array = PyArray_NewFromDescr(&PyArray_Type, cvl_ints.descr, 1, &count, NULL, PyBytes_AsString(found->bytes), 0, NULL);
     if (array == NULL) return NULL;
     PyArray_UpdateFlags((PyArrayObject *)array, NPY_ARRAY_C_CONTIGUOUS | NPY_ARRAY_F_CONTIGUOUS | NPY_ARRAY_ALIGNED);
     if (PyArray_SetBaseObject((PyArrayObject *)array, Py_NewRef(found->bytes)) < 0) Py_CLEAR(array);
@@ -55,10 +55,10 @@ static PyObject *lengths_new(PyTypeObject *type, PyObject *arguments, PyObject *
     if (!PyArg_ParseTupleAndKeywords(arguments, keywords, "O", names, &given)) return NULL;
     PyObject *bytes = copied(&frame, given);
     if (bytes != NULL) {
-        const CvlLengths lengths = {(const int32_t *)(const void *)PyBytes_AS_STRING(bytes), frame.given[0].count};
+        const CvlLengths lengths = {(const int32_t *)(const void *)PyBytes_AsString(bytes), frame.given[0].count};
         const CvlStatus status = cvl_make_descriptor(lengths, &total);
         if (status.number != CVL_DONE) cvl_tell(&frame, status, 0);
-        else self = type->tp_alloc(type, 0);
+        else self = PyType_GenericAlloc(type, 0);
         if (self != NULL) ((Lengths *)self)->lengths = lengths;
     }
     Py_XDECREF(frame.given[0].held);
@@ -72,13 +72,14 @@ static PyObject *lengths_new(PyTypeObject *type, PyObject *arguments, PyObject *
 }
 
 static void lengths_dealloc(PyObject *self) {
+    PyTypeObject *type = Py_TYPE(self);
+    const freefunc release = (freefunc)PyType_GetSlot(type, Py_tp_free);
     Py_CLEAR(((Lengths *)self)->bytes);
-    Py_TYPE(self)->tp_free(self);
+    release(self);
+    Py_DECREF(type);
 }
 
 static Py_ssize_t lengths_length(PyObject *self) { return (Py_ssize_t)cvl_cut_of(self).segments; }
-
-static PySequenceMethods as_sequence = {.sq_length = lengths_length};
 
 static PyGetSetDef computed[] = {
     {"lengths", as_array, NULL, "How long each segment is, a new array each time, which nobody can write.", NULL},
@@ -90,15 +91,31 @@ static PyMemberDef members[] = {
     {NULL, 0, 0, 0, NULL},
 };
 
-PyTypeObject cvl_lengths_type = {
-    PyVarObject_HEAD_INIT(NULL, 0)
-    .tp_name = "cvl._calls.Lengths",
-    .tp_doc = "Lengths of segments that nobody can change. `cvl.Segments` is what a program makes.",
-    .tp_basicsize = sizeof(Lengths),
-    .tp_flags = Py_TPFLAGS_DEFAULT | Py_TPFLAGS_BASETYPE,
-    .tp_new = lengths_new,
-    .tp_dealloc = lengths_dealloc,
-    .tp_as_sequence = &as_sequence,
-    .tp_getset = computed,
-    .tp_members = members,
+static PyType_Slot slots[] = {
+    {Py_tp_doc, "Lengths of segments that nobody can change. `cvl.Segments` is what a program makes."},
+    {Py_tp_new, (void *)lengths_new},
+    {Py_tp_dealloc, (void *)lengths_dealloc},
+    {Py_sq_length, (void *)lengths_length},
+    {Py_tp_getset, computed},
+    {Py_tp_members, members},
+    {0, NULL},
 };
+
+/* Python 3.9 has no flag for a type that programs cannot change. */
+#ifndef Py_TPFLAGS_IMMUTABLETYPE
+#define Py_TPFLAGS_IMMUTABLETYPE 0
+#endif
+
+static PyType_Spec spec = {
+    .name = "cvl._calls.Lengths",
+    .basicsize = sizeof(Lengths),
+    .flags = Py_TPFLAGS_DEFAULT | Py_TPFLAGS_BASETYPE | Py_TPFLAGS_IMMUTABLETYPE,
+    .slots = slots,
+};
+
+PyTypeObject *cvl_lengths_type;
+
+int cvl_lengths_ready(void) {
+    if (cvl_lengths_type == NULL) cvl_lengths_type = (PyTypeObject *)PyType_FromSpec(&spec);
+    return cvl_lengths_type == NULL ? -1 : 0;
+}

@@ -41,7 +41,7 @@ static int read_operand(PyObject *said, Operand *operand) {
     const int number = number_of(kinds, kind), long_as = extent == NULL ? EXTENT_NONE : number_of(extents, extent);
     operand->kind = (Kind)number;
     operand->extent = (Extent)long_as;
-    operand->name = PyUnicode_AsUTF8(operand->keyword);
+    operand->name = PyUnicode_AsUTF8AndSize(operand->keyword, NULL);
     return operand->name == NULL || number < 0 || long_as < 0 ? -1 : 0;
 }
 
@@ -53,14 +53,14 @@ static int read_row(PyObject *said, Row *row, Family *family) {
     const int number = number_of(results, gives);
     if (number < 0) return -1;
     family->gives = (Gives)number;
-    family->count = (int)PyTuple_GET_SIZE(operands);
+    family->count = (int)PyTuple_Size(operands);
     family->most = SIZE_MAX;
     if (family->count > MOST_OPERANDS) {
         PyErr_Format(PyExc_SystemError, "%s has too many operands", row->name);
         return -1;
     }
     for (int k = 0; k < family->count; k++) {
-        if (read_operand(PyTuple_GET_ITEM(operands, k), &family->operands[k]) < 0) return -1;
+        if (read_operand(PyTuple_GetItem(operands, k), &family->operands[k]) < 0) return -1;
     }
     row->family = family;
     return 0;
@@ -81,11 +81,11 @@ static PyObject *all_taken(Frame *frame, PyObject **bound) {
     for (int k = 0; found != NULL && k < count; k++) {
         PyObject *one = taken(&frame->given[k], family->operands[k].kind, bound[k]);
         if (one == NULL) Py_CLEAR(found);
-        else PyList_SET_ITEM(found, k, one);
+        else PyList_SetItem(found, k, one);
     }
     if (found == NULL) return NULL;
-    PyList_SET_ITEM(found, count, Py_NewRef(out == NULL ? Py_None : (PyObject *)frame->room.array));
-    PyList_SET_ITEM(found, count + 1, Py_NewRef(out == NULL ? Py_None : out));
+    PyList_SetItem(found, count, Py_NewRef(out == NULL ? Py_None : (PyObject *)frame->room.array));
+    PyList_SetItem(found, count + 1, Py_NewRef(out == NULL ? Py_None : out));
     return found;
 }
 
@@ -133,11 +133,11 @@ static PyObject *said(PyObject *self, PyObject *words) {
     (void)self;
     if (!PyArg_ParseTuple(words, "OO!IL", &row_said, &PyList_Type, &given, &number, &place)) return NULL;
     if (read_row(row_said, &row, &family) < 0) return NULL;
-    if (PyList_GET_SIZE(given) <= family.count) return PyErr_Format(PyExc_TypeError, "said() takes what take() gave");
+    if (PyList_Size(given) <= family.count) return PyErr_Format(PyExc_TypeError, "said() takes what take() gave");
     for (int k = 0; k < family.count; k++) {
-        if (retake(PyList_GET_ITEM(given, k), family.operands[k].kind, &frame.given[k]) < 0) return NULL;
+        if (retake(PyList_GetItem(given, k), family.operands[k].kind, &frame.given[k]) < 0) return NULL;
     }
-    PyObject *room = PyList_GET_ITEM(given, family.count);
+    PyObject *room = PyList_GetItem(given, family.count);
     frame.out = cvl_out_of(&family);
     if (PyArray_Check(room)) frame.room.array = (PyArrayObject *)room;
     status = (CvlStatus){number, place};

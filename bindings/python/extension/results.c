@@ -5,7 +5,7 @@
 static PyObject *new_array(size_t count, const Element *element) {
     npy_intp places = (npy_intp)count;
     if (count > (size_t)(NPY_MAX_INTP / 8)) return NULL;
-    Py_INCREF(element->descr);
+    Py_INCREF((PyObject *)element->descr);
     PyObject *array = PyArray_NewFromDescr(&PyArray_Type, element->descr, 1, &places, NULL, NULL, 0, NULL);
     if (array == NULL && PyErr_ExceptionMatches(PyExc_MemoryError)) PyErr_Clear();
     return array;

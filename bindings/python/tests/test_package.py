@@ -99,18 +99,61 @@ class Said(unittest.TestCase):
         wanted = {"1.23.5": "numpy>=1.23,<2", "1.24.2": "numpy>=1.24,<2", "2.0.1": "numpy>=1.23", "2.3.0": "numpy>=1.23"}
         for version, said in wanted.items():
             with mock.patch.object(package, "numpy_found", lambda: (version, "a folder")):
-                found = re.findall(r"^Requires-Dist: (.*)$", package.metadata(), re.M)
+                found = re.findall(r"^Requires-Dist: (.*)$", package.metadata(package.this_python()), re.M)
             self.assertEqual(found, [said], version)
 
-    def platform(self, needed, versions):
-        """The platform of a module that needs these libraries, and symbols of these versions."""
+    def refusal(self, function, version="2.2.4", headers="a folder", **variables):
+        """Why something is refused, with this numpy."""
+        with mock.patch.object(package, "numpy_found", lambda: (version, headers)), mock.patch.dict(os.environ, variables), \
+                self.assertRaises(package.Missing) as caught:  # fmt: skip
+            function()
+        return str(caught.exception)
+
+    def test_an_old_numpy_is_refused_by_its_version(self):
+        self.assertIn("numpy 1.23 or later is needed, and ", self.refusal(package.check, "1.19.5"))
+        self.assertIn(" has numpy 1.19.5", self.refusal(package.check, "1.19.5"))
+
+    def test_all_that_is_missing_is_said_at_once(self):
+        with mock.patch.object(package, "python_headers", mock.Mock(side_effect=package.Missing("no headers"))):
+            said = self.refusal(package.check, "1.19.5", CC="no-such-compiler").splitlines()
+        self.assertEqual([said[0].startswith("numpy 1.23"), *said[1:]], [True, "no headers", "there is no C compiler no-such-compiler"])
+
+    def test_pip_shows_what_is_missing_and_no_traceback(self):
+        with mock.patch.object(package, "check", mock.Mock(side_effect=package.Missing("no headers"))), self.assertRaises(SystemExit) as caught:
+            package.build_wheel("a folder")
+        self.assertRegex(str(caught.exception.code), r"^cvl 1\..* cannot be built here:\nno headers$")
+
+    def headers(self, folder, text):
+        """Headers of a numpy, with this text."""
+        (folder / "numpy").mkdir(exist_ok=True)
+        (folder / "numpy/numpyconfig.h").write_text(text)
+        return str(folder)
+
+    def test_the_wheel_for_every_python_is_built_over_numpy_2(self):
+        with tempfile.TemporaryDirectory() as folder, mock.patch.object(package.sys, "version_info", (3, 11, 2)):
+            older = self.headers(pathlib.Path(folder), "#define NPY_1_23_API_VERSION 16\n")
+            self.assertIn("CVL_NUMPY_HEADERS", self.refusal(package.every_python, headers=older))
+            named = self.headers(pathlib.Path(folder), "#define NPY_2_0_API_VERSION 18\n")
+            with mock.patch.dict(os.environ, CVL_NUMPY_HEADERS=named):
+                target = package.every_python()
+        self.assertEqual((target.suffix, target.tag, target.numpy, target.headers), (".abi3.so", "cp39-abi3", "numpy>=1.23", named))
+        said = package.metadata(target)
+        self.assertIn("Requires-Python: >=3.9\n", said)
+        self.assertIn("Requires-Dist: numpy>=1.23\n", said)
+
+    def test_the_wheel_for_every_python_needs_names_of_the_oldest_one(self):
+        with mock.patch.object(package.sys, "version_info", (3, 13, 0)):
+            self.assertIn("headers of Python 3.11", self.refusal(package.every_python))
+
+    def platform(self, needed, versions, *beside):
+        """The platform of a module that needs these libraries, and symbols of these versions, with libraries beside it."""
         told = {
             "-d": "".join(f" 0x01 (NEEDED)  Shared library: [{name}]\n" for name in needed),
             "-V": "".join(f"  Name: {name}  Flags: none\n" for name in versions),
         }  # fmt: skip
         with mock.patch.object(package, "run", lambda program, word, module: told[word]), \
                 mock.patch.object(package.sysconfig, "get_platform", lambda: "linux-x86_64"):  # fmt: skip
-            return package.platform("a module")
+            return package.platform("a module", *beside)
 
     def test_the_platform_has_the_newest_glibc_that_is_needed(self):
         of_glibc = ("libc.so.6", "libm.so.6", "libpthread.so.0", "ld-linux-x86-64.so.2")
@@ -120,6 +163,8 @@ class Said(unittest.TestCase):
             (("GLIBC_2.9",), "manylinux_2_9_x86_64"), ((), "linux_x86_64"),
         ):  # fmt: skip
             self.assertEqual(self.platform(of_glibc, versions), wanted)
+        # a library beside the module is in the wheel too
+        self.assertEqual(self.platform((*of_glibc, "libcvl.so.1"), ("GLIBC_2.17",), "a library"), "manylinux_2_17_x86_64")
         # what needs another library runs on systems like this one alone
         self.assertEqual(self.platform((*of_glibc, "libcvl.so.1"), ("GLIBC_2.34",)), "linux_x86_64")
 

@@ -54,3 +54,9 @@ pub fn version() -> &'static str {
     // The library answers a text that ends with a zero and is never written.
     unsafe { fault::told_text(cvl_sys::cvl_version()) }
 }
+
+/// Which library this is: its version, the revision of its sources and the processors that it was built for.
+pub fn build() -> &'static str {
+    // As the version.
+    unsafe { fault::told_text(cvl_sys::cvl_build()) }
+}

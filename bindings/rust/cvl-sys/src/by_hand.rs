@@ -71,6 +71,10 @@ extern "C" {
     /// The version of the library, as a text with a zero at its end that is never written.
     pub fn cvl_version() -> *const u8;
 
+    /// Which library this is: its version, the revision of its sources and the processors that it was built for, with a zero at its
+    /// end, never written.
+    pub fn cvl_build() -> *const u8;
+
     /// The name of the number of a status, as "DivideByZero", with a zero at its end; "Unknown" where it is no such number.
     pub fn cvl_fault_name(number: u32) -> *const u8;
 

@@ -48,6 +48,9 @@ fn types_are_as_long_as_in_c() {
 #[test]
 fn the_version_and_the_names_of_faults() {
     assert_eq!(text(unsafe { cvl_version() }), CVL_VERSION);
+    let build = text(unsafe { cvl_build() });
+    assert_eq!(build.split(' ').next(), Some(CVL_VERSION));
+    assert_eq!(build.split(' ').count(), 3, "{build}");
     let numbers = [CVL_VERSION_MAJOR, CVL_VERSION_MINOR, CVL_VERSION_PATCH];
     assert_eq!(
         numbers.map(|number| number.to_string()).join("."),

@@ -101,6 +101,7 @@ static void descriptors(void) {
     }
     (void)cvl_segments_free(NULL);
     (void)cvl_version();
+    (void)cvl_build();
 }
 
 /* Two rows of an element each, by a pool of one part: the export that makes their lengths gives any, which no part could be cut by here. */
