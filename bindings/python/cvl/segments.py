@@ -2,7 +2,7 @@
 
 from __future__ import annotations
 
-from typing import TYPE_CHECKING, Any
+from typing import TYPE_CHECKING, Any, Iterator
 
 import numpy
 
@@ -60,10 +60,28 @@ class Segments(Lengths):
     True
     """
 
-    __slots__ = ()
+    __slots__ = ("_kept",)
+    _kept: IntArray
 
     def __new__(cls, lengths: ArrayLike) -> Segments:
         return super().__new__(cls, _numbers(lengths))
+
+    def kept_offsets(self) -> IntArray:
+        """The offsets, which are found once; nobody else has this array."""
+        try:
+            return self._kept
+        except AttributeError:
+            self._kept = self.offsets
+            return self._kept
+
+    def __getitem__(self, key: Any) -> Any:
+        return self.lengths[key]
+
+    def __iter__(self) -> Iterator[Any]:
+        return iter(self.lengths)
+
+    def __array__(self, dtype: Any = None, copy: Any = None) -> Any:
+        return numpy.array(self.lengths, dtype=dtype) if copy or dtype not in (None, INT) else self.lengths
 
     def __copy__(self) -> Segments:
         return self
@@ -114,19 +132,16 @@ class Segments(Lengths):
         """
         return _frozen(dis_vez(ind_luz(0, 1, len(self)), self))
 
-    def __eq__(self, other: object) -> bool:
-        if not isinstance(other, Segments):
-            return NotImplemented
-        return numpy.array_equal(self.lengths, other.lengths)
-
-    def __hash__(self) -> int:
-        return hash(self.lengths.tobytes())
-
     def __repr__(self) -> str:
         if len(self) <= SHOWN:
             return f"Segments({self.lengths.tolist()})"
         first, last = (", ".join(map(str, part)) for part in (self.lengths[:3], self.lengths[-3:]))
         return f"<{len(self)} Segments of {self.total} elements: {first}, .., {last}>"
+
+
+def cut(lengths: IntArray) -> Segments:
+    """Segments of an array of int32, which is not looked at before the compiled module does."""
+    return Lengths.__new__(Segments, lengths)
 
 
 def own_lengths(lengths: ArrayLike) -> IntArray:

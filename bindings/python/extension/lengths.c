@@ -78,6 +78,18 @@ static void lengths_dealloc(PyObject *self) {
 
 static Py_ssize_t lengths_length(PyObject *self) { return (Py_ssize_t)cvl_cut_of(self).segments; }
 
+/* Whether two have the same lengths. */
+static PyObject *lengths_compare(PyObject *self, PyObject *other, int op) {
+    if (!PyObject_TypeCheck(self, &cvl_lengths_type) || !PyObject_TypeCheck(other, &cvl_lengths_type) || (op != Py_EQ && op != Py_NE)) {
+        Py_RETURN_NOTIMPLEMENTED;
+    }
+    const CvlLengths a = cvl_cut_of(self), b = cvl_cut_of(other);
+    const int same = a.segments == b.segments && memcmp(a.lengths, b.lengths, a.segments * sizeof *a.lengths) == 0;
+    return PyBool_FromLong(same == (op == Py_EQ));
+}
+
+static Py_hash_t lengths_hash(PyObject *self) { return PyObject_Hash(((Lengths *)self)->bytes); }
+
 static PySequenceMethods as_sequence = {.sq_length = lengths_length};
 
 static PyGetSetDef computed[] = {
@@ -99,6 +111,8 @@ PyTypeObject cvl_lengths_type = {
     .tp_new = lengths_new,
     .tp_dealloc = lengths_dealloc,
     .tp_as_sequence = &as_sequence,
+    .tp_richcompare = lengths_compare,
+    .tp_hash = lengths_hash,
     .tp_getset = computed,
     .tp_members = members,
 };
