@@ -98,9 +98,10 @@ def along(name, call, numpy, says, differs="", example="", shown="", gives="Ragg
 def at(name, word, says):
     return along(
         f"{name}_at", None, f"numpy.{word}.at(a, index, values)",
-        f"Changes r in place: {says} each value at its index in the row, and gives r. Several that go to one place all "
-        "count.", "", f"r.copy().{name}_at([[0, 0], [], [2]], 1)", {"add": "[[5, 1], [], [4, 1, 6]]"}.get(name, ""), gives="self",
-        beside=("index", "values"), calls="seg_combine_permute_int, .._bool", section=BETWEEN,
+        f"{says} in place, and gives r: each value goes to its index in the row, and several at one place all count.", "",
+        f"r.copy().{name}_at([[0, 0], [], [2]], 1)", {"add": "[[5, 1], [], [4, 1, 6]]"}.get(name, ""), gives="self",
+        beside=("index", "values"), calls="seg_combine_permute_int, seg_combine_permute_bool",
+        section=BETWEEN,
     )  # fmt: skip
 
 
@@ -217,20 +218,20 @@ METHODS = (
         "element.", "An element below 0 is fault 10 IndexOutOfRange, in numpy a ValueError.", "r.bincount()",
         "[[0, 1, 0, 1], [], [0, 1, 0, 0, 1, 1]]", fixed=("minlength: int = 0",), calls="max_rez, seg_counts", section=BETWEEN,
     ),
-    at("add", "add", "adds"),
-    at("multiply", "multiply", "multiplies by"),
-    at("minimum", "minimum", "takes the lesser with"),
-    at("maximum", "maximum", "takes the greater with"),
-    at("and", "bitwise_and", "joins by and"),
-    at("or", "bitwise_or", "joins by or"),
-    at("xor", "bitwise_xor", "joins by exclusive or"),
+    at("add", "add", "Adds"),
+    at("multiply", "multiply", "Multiplies"),
+    at("minimum", "minimum", "Takes the least"),
+    at("maximum", "maximum", "Takes the greatest"),
+    at("and", "bitwise_and", "Joins by and"),
+    at("or", "bitwise_or", "Joins by or"),
+    at("xor", "bitwise_xor", "Joins by exclusive or"),
 )  # fmt: skip
 
 # What has other rows, of `_whole.py`: static methods, and methods of a whole `Ragged`.
 WHOLE = (
     Method(
         "concat", BETWEEN, (), ("ragged: Sequence[Ragged]",), "static Ragged", None, "append_segments_int",
-        "numpy.concatenate", "Row by row one behind the other.", "", "cvl.Ragged.concat([r, r[::-1]])",
+        "numpy.concatenate", "Joins them row by row, one behind the other.", "", "cvl.Ragged.concat([r, r[::-1]])",
         "[[3, 1, 4, 1, 5], [], [4, 1, 5, 3, 1]]",
     ),
     Method(
@@ -244,17 +245,17 @@ WHOLE = (
     ),
     Method(
         "groupby", BETWEEN, (), ("keys: Any",), "Tuple[IntArray, Ragged]", None, "order, pck_luz, bck_puz", "",
-        "The distinct keys in order, and for each a row of its values in theirs. One key a row groups rows, a key for each "
-        "number numbers.", "", "r.groupby([7, 7, 2])[1]", "[[[4, 1, 5]], [[3, 1], []]]",
+        "The distinct keys in order, and the values of each key as a row, in their order. One key a row groups whole rows, a "
+        "key for each number the numbers.", "", "r.groupby([7, 7, 2])[1]", "[[[4, 1, 5]], [[3, 1], []]]",
     ),
     Method(
         "explode", BETWEEN, (), (), "Tuple[IntArray, Values]", None, "dis_vez", "",
-        "The row of each element, and the elements.", "", "r.explode()[0]", "[0, 0, 2, 2, 2]",
+        "The number of the row of each element, and the elements.", "", "r.explode()[0]", "[0, 0, 2, 2, 2]",
     ),
     Method(
         "implode", BETWEEN, (), ("numbers: Any", "values: Any", "count: Optional[int] = None"), "static Ragged", None,
-        "counts, order, bck_puz", "", "The inverse of explode: rows of the values by the numbers of their rows, in any "
-        "order; count rows, or as many as the greatest number needs.", "", "cvl.Ragged.implode([2, 0, 2], [5, 6, 7])",
+        "counts, order, bck_puz", "", "The inverse of explode: each value goes into the row of its number. There are "
+        "count rows, or as many as the greatest number needs.", "", "cvl.Ragged.implode([2, 0, 2], [5, 6, 7])",
         "[[6], [], [5, 7]]",
     ),
     Method(
@@ -296,7 +297,7 @@ FLAT = (
     ),
     Flat(
         "groupby", "values: Any, keys: Any", "Tuple[IntArray, Ragged]", "order, pck_luz, bck_puz", "",
-        "The distinct keys in order, and for each a row of its values in theirs.", "",
+        "The distinct keys in order, and the values of each key as a row, in their order.", "",
         "cvl.groupby([5, 6, 7, 8], [2, 0, 2, 1])[1]", "[[6], [8], [5, 7]]",
     ),
 )  # fmt: skip

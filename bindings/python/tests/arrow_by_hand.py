@@ -14,14 +14,16 @@ class Array(ctypes.Structure):
 
 
 RELEASE_SCHEMA, RELEASE_ARRAY = ctypes.CFUNCTYPE(None, ctypes.POINTER(Schema)), ctypes.CFUNCTYPE(None, ctypes.POINTER(Array))
+LAST = [("release", ctypes.c_void_p), ("private_data", ctypes.c_void_p)]
 Schema._fields_ = [
-    ("format", ctypes.c_char_p), ("name", ctypes.c_char_p), ("metadata", ctypes.c_char_p), ("flags", ctypes.c_int64), ("n_children", ctypes.c_int64),
-    ("children", ctypes.POINTER(ctypes.POINTER(Schema))), ("dictionary", ctypes.POINTER(Schema)), ("release", ctypes.c_void_p), ("private_data", ctypes.c_void_p),
+    *((name, ctypes.c_char_p) for name in ("format", "name", "metadata")),
+    *((name, ctypes.c_int64) for name in ("flags", "n_children")),
+    ("children", ctypes.POINTER(ctypes.POINTER(Schema))), ("dictionary", ctypes.POINTER(Schema)), *LAST,
 ]  # fmt: skip
 Array._fields_ = [
-    ("length", ctypes.c_int64), ("null_count", ctypes.c_int64), ("offset", ctypes.c_int64), ("n_buffers", ctypes.c_int64), ("n_children", ctypes.c_int64),
-    ("buffers", ctypes.POINTER(ctypes.c_void_p)), ("children", ctypes.POINTER(ctypes.POINTER(Array))), ("dictionary", ctypes.POINTER(Array)),
-    ("release", ctypes.c_void_p), ("private_data", ctypes.c_void_p),
+    *((name, ctypes.c_int64) for name in ("length", "null_count", "offset", "n_buffers", "n_children")),
+    ("buffers", ctypes.POINTER(ctypes.c_void_p)), ("children", ctypes.POINTER(ctypes.POINTER(Array))),
+    ("dictionary", ctypes.POINTER(Array)), *LAST,
 ]  # fmt: skip
 NEW, POINTER = ctypes.pythonapi.PyCapsule_New, ctypes.pythonapi.PyCapsule_GetPointer
 NEW.restype, NEW.argtypes = ctypes.py_object, [ctypes.c_void_p, ctypes.c_char_p, ctypes.c_void_p]
@@ -72,7 +74,8 @@ class Producer:
         children = [self._array(child) for child in node.children]
         addresses = [None if buffer is None else self._keep(buffer).ctypes.data for buffer in node.buffers]
         buffers = self._keep((ctypes.c_void_p * max(len(addresses), 1))(*addresses))
-        made = self._keep(Array(node.length, node.nulls, node.offset, len(addresses), len(children), buffers, self._pointers(Array, children)))
+        numbers = node.length, node.nulls, node.offset, len(addresses), len(children)
+        made = self._keep(Array(*numbers, buffers, self._pointers(Array, children)))
         made.release = ctypes.cast(self.of_array, ctypes.c_void_p).value
         return made
 
@@ -85,7 +88,8 @@ class Consumer:
 
     def __init__(self, producer):
         capsules = producer.__arrow_c_array__()
-        given = Schema.from_address(POINTER(capsules[0], b"arrow_schema")), Array.from_address(POINTER(capsules[1], b"arrow_array"))
+        schema, array = (POINTER(capsule, name) for capsule, name in zip(capsules, (b"arrow_schema", b"arrow_array")))
+        given = Schema.from_address(schema), Array.from_address(array)
         self.schema, self.array = Schema.from_buffer_copy(given[0]), Array.from_buffer_copy(given[1])
         for one in given:
             one.release = None

@@ -19,7 +19,8 @@ OPERATIONS = (
     *ARITHMETIC, "bitwise_and", "bitwise_or", "bitwise_xor", "equal", "not_equal", "less", "less_equal", "greater", "greater_equal", "minimum",
     "maximum", "logical_and", "logical_or", "logical_xor",
 )  # fmt: skip
-NO_BOOLEANS = ("subtract", "floor_divide", "remainder", "left_shift", "right_shift")
+QUOTIENTS, SHIFTS = ("floor_divide", "remainder"), ("left_shift", "right_shift")
+NO_BOOLEANS = ("subtract", *QUOTIENTS, *SHIFTS)
 SIGNS = {
     "add": operator.add, "subtract": operator.sub, "multiply": operator.mul, "floor_divide": operator.floordiv, "remainder": operator.mod,
     "bitwise_and": operator.and_, "bitwise_or": operator.or_, "bitwise_xor": operator.xor, "left_shift": operator.lshift,
@@ -69,11 +70,14 @@ def leaves(nested):
     return [leaf for row in nested for leaf in (leaves(row) if isinstance(row, list) else [row])]
 
 
+def joined(rows, kind):
+    """The numbers of rows, one behind the other."""
+    return numpy.concatenate([numpy.zeros(0, kind), *rows]).astype(kind)
+
+
 def ragged(lengths, depth, nested, kind):
     """The `Ragged` of rows, by their parts."""
-    rows = leaves(nested)
-    values = numpy.concatenate([numpy.zeros(0, kind), *rows]).astype(kind)
-    found = cvl.Ragged((values, numpy.array(levels(lengths, depth)[-1], INT)))
+    found = cvl.Ragged((joined(leaves(nested), kind), numpy.array(levels(lengths, depth)[-1], INT)))
     for counts in reversed(levels(lengths, depth)[:-1]):
         found = cvl.Ragged((found, numpy.array(counts, INT)))
     return found
@@ -113,10 +117,13 @@ class Case:
         name = OPERATIONS[int(rng.integers(len(OPERATIONS)))]
         if self.kind == bool and kind == bool and name in NO_BOOLEANS:
             return
-        make = {
-            "floor_divide": lambda length: (found := numbers(rng, length, INT)) + (found == 0), "remainder": lambda length: (found := numbers(rng, length, INT)) + (found == 0),
-            "left_shift": lambda length: rng.integers(0, 32, length, INT), "right_shift": lambda length: rng.integers(0, 32, length, INT),
-        }.get(name, lambda length: numbers(rng, length, kind))  # fmt: skip
+
+        def make(length):
+            if name in SHIFTS:
+                return rng.integers(0, 32, length, INT)
+            found = numbers(rng, length, kind if name not in QUOTIENTS else INT)
+            return found + (found == 0) if name in QUOTIENTS else found
+
         kind = INT if name in NO_BOOLEANS[1:] else kind
         ufunc = getattr(numpy, name)
 
@@ -140,7 +147,8 @@ class Case:
             self.compare(f"{name} sign", SIGNS[name](self.r, s), mapped(wanted, self.rows, other))
             self.compare(f"{name} list", SIGNS[name](self.r, each.tolist()), wide)
         if name not in NO_BOOLEANS[1:]:
-            self.compare(f"{name} swapped", ufunc(each, self.r), [self.turned(wanted, row, number) for row, number in zip(self.rows, each)])
+            turned = [self.turned(wanted, row, number) for row, number in zip(self.rows, each)]
+            self.compare(f"{name} swapped", ufunc(each, self.r), turned)
 
     def turned(self, wanted, rows, number):
         return [self.turned(wanted, row, number) for row in rows] if isinstance(rows, list) else wanted(number, rows)
@@ -172,7 +180,8 @@ class Case:
     def along(self):
         r, rows = self.r, self.rows
         self.compare("cumsum", r.cumsum(), mapped(lambda a: a.cumsum(dtype=INT), rows))
-        self.compare("exclusive_cumsum", r.exclusive_cumsum(), mapped(lambda a: numpy.append(INT(0), a.cumsum(dtype=INT))[: len(a)], rows))
+        before = mapped(lambda a: numpy.append(INT(0), a.cumsum(dtype=INT))[: len(a)], rows)
+        self.compare("exclusive_cumsum", r.exclusive_cumsum(), before)
         self.compare("cummax", r.cummax(), mapped(numpy.maximum.accumulate, rows))
         self.compare("cummin", r.cummin(), mapped(numpy.minimum.accumulate, rows))
         self.compare("diff", r.diff(), mapped(numpy.diff, rows))
@@ -191,9 +200,13 @@ class Case:
 
     def taken(self):
         rng, r, rows = self.rng, self.r, self.rows
-        wide = mapped(lambda a: rng.integers(-len(a), len(a), int(rng.integers(0, 6)), INT) if len(a) else numpy.zeros(0, INT), rows)
+
+        def places(a):
+            return rng.integers(-len(a), len(a), int(rng.integers(0, 6)), INT) if len(a) else numpy.zeros(0, INT)
+
+        wide = mapped(places, rows)
         lengths = [len(leaf) for leaf in leaves(wide)]
-        index = cvl.Ragged((numpy.concatenate([numpy.zeros(0, INT), *leaves(wide)]).astype(INT), lengths))
+        index = cvl.Ragged((joined(leaves(wide), INT), lengths))
         for counts in reversed(levels(self.lengths, self.depth)[:-1]):
             index = cvl.Ragged((index, numpy.array(counts, INT)))
         self.compare("take", r.take(index), mapped(lambda a, i: a[i], rows, wide))
@@ -213,7 +226,7 @@ class Case:
     def joined(self, index, wide):
         name = JOINED[int(self.rng.integers(len(JOINED)))]
         sent = mapped(lambda i: numbers(self.rng, len(i), self.kind), wide)
-        values = index._on_rows(lambda rows: rows._with(numpy.concatenate([numpy.zeros(0, self.kind), *leaves(sent)]).astype(self.kind)))
+        values = index._on_rows(lambda rows: rows._with(joined(leaves(sent), self.kind)))
         found = self.r.copy()
 
         def wanted(a, i, b):
@@ -227,7 +240,7 @@ class Case:
     def chosen(self):
         rng, r, rows = self.rng, self.r, self.rows
         count = len(rows)
-        self.compare("flatten", r.flatten(), numpy.concatenate([numpy.zeros(0, self.kind), *leaves(rows)]).astype(self.kind).tolist())
+        self.compare("flatten", r.flatten(), joined(leaves(rows), self.kind).tolist())
         self.compare("rows", [plain([row])[0] for row in r], rows)
         for k in range(-count, count):
             self.compare(f"r[{k}]", r[k], rows[k])
