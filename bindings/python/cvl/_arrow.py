@@ -96,7 +96,7 @@ def _node(values: Any) -> Tuple[Any, ...]:
         if values.dtype == bool:
             return "b", len(values), (None, numpy.packbits(values, bitorder="little")), None
         return "i", len(values), (None, values), None
-    return "+l", len(values), (None, values.segments.kept_offsets()), _node(values.values)
+    return "+l", len(values), (None, values.segments.offsets), _node(values.values)
 
 
 def given(ragged: Any) -> Any:

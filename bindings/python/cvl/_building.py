@@ -89,7 +89,7 @@ def _path(levels: List[Segments], place: int) -> str:
     """A place by its rows."""
     path = []
     for segments in reversed(levels):
-        offsets = segments.kept_offsets()
+        offsets = segments.offsets
         row = int(offsets.searchsorted(place, "right")) - 1
         path.append(place - int(offsets[row]))
         place = row

@@ -80,13 +80,18 @@ def two(rows: Any, other: Any, operation: Operation, swapped: bool) -> Any:
         raise _divisor_told(rows, fault, operation, x if swapped else y) from None
 
 
+def refuse_frozen(values: Any) -> None:
+    """Raises that numbers may not be changed where they are, as those of Arrow."""
+    if not values.flags.writeable:
+        raise ValueError("the memory of r may not be written; write r.copy()")
+
+
 def changed(rows: Any, other: Any, operation: Operation) -> Any:
     """The operator in the memory of rows."""
     x, y = rows._values, rows._beside(other)
     if is_bool(x) and not (is_bool(y) and operation.flags is not None):
         raise TypeError(f"{operation.name} changes r where it is, and the result is no boolean; write r = r.astype(numpy.int32)")
-    if not x.flags.writeable:
-        raise ValueError("the memory of r may not be written; write r.copy()")
+    refuse_frozen(x)
     try:
         if operation.is_call and not (isinstance(y, numpy.ndarray) and numpy.may_share_memory(x, y)):
             operation.flags(x, y, out=x) if is_bool(x) else operation.ints(x, ints(y), out=x)

@@ -8,7 +8,7 @@ import numpy
 
 from cvl import _building, operators
 from cvl._elementwise import flags, ints, is_bool
-from cvl._rows import from_end
+from cvl._rows import from_end, refuse_below_0
 from cvl._whole import grouped, taken
 from cvl.calls import add_suz, add_wuz, combine_permute_bool, combine_permute_int, counts, max_ruz, min_ruz, order, pck_lub, pck_luz
 from cvl.fault import Fault
@@ -26,8 +26,9 @@ def argsort(a: Any) -> Any:
 
 
 def bincount(a: Any, minlength: int = 0) -> Any:
+    refuse_below_0(minlength)
     given = ints(_building.numbers(a, "a"))
-    return counts(given, max(max_ruz(given) + 1, minlength, 0) if len(given) else minlength)
+    return counts(given, max(max_ruz(given) + 1, minlength) if len(given) else minlength)
 
 
 def _at(a: Any, places: Any) -> Any:

@@ -8,11 +8,11 @@ from typing import Any, Optional, Tuple
 import numpy
 
 from cvl import calls, faults, operators
-from cvl._elementwise import flags, ints, is_bool
+from cvl._elementwise import flags, ints, is_bool, refuse_frozen
 from cvl.calls import (
     add_rez, add_sez, add_wuz, and_reb, and_wub, append_segments_bool, append_segments_int, bck_pez, bck_peb, bck_pub, bck_puz, boo_wuz,
     dis_veb, dis_vez, dis_vub, dis_vuz, eql_wuz, ext_veb, ext_vez, gather_segments_bool, gather_segments_int, ind_lez, int_wub, ior_reb,
-    ior_seb, ior_wub, les_wuz, max_rez, max_sez, max_wuz, min_rez, min_ruz, min_sez, min_wuz, neq_wuz, pck_fov, pck_leb, pck_lez, pck_luz,
+    ior_seb, ior_wub, les_wuz, max_rez, max_ruz, max_sez, max_wuz, min_rez, min_ruz, min_sez, min_wuz, neq_wuz, pck_fov, pck_leb, pck_lez, pck_luz,
     seg_combine_permute_bool, seg_combine_permute_int, seg_counts, seg_exact_sums, seg_first_true, seg_sort, sel_wuz, sub_wuz, xor_wub,
 )  # fmt: skip
 from cvl.fault import Fault
@@ -105,7 +105,7 @@ def cummin(rows: Any) -> Any:
 
 def _ends(rows: Any) -> Tuple[Any, Any]:
     """Where rows start and end."""
-    offsets = rows._segments.kept_offsets()
+    offsets = rows._segments.offsets
     return offsets[:-1], offsets[1:]
 
 
@@ -188,7 +188,7 @@ def take(rows: Any, index: Any) -> Any:
             return _of_kind(values, ext_vez, ext_veb)(values, from_end(index, segments.lengths), segments)
         except Fault as fault:
             raise rows._told(fault, _out_of_row(rows, index, None), lambda flat: (flat, 0)) from None
-    given, cuts = index._values, index._segments
+    given, cuts = index._values, rows._as_many(index)._segments
     try:
         places = from_end(given, dis_vez(segments.lengths, cuts)) if min_ruz(given) < 0 else given
         return rows._with(_of_kind(values, bck_pez, bck_peb)(values, places, segments, cuts), cuts)
@@ -204,7 +204,7 @@ def filter(rows: Any, mask: Any) -> Any:
 
 
 def append(rows: Any, s: Any) -> Any:
-    other = rows._as_rows(s)
+    other = rows._as_many(rows._as_rows(s))
     a, b = same_kind(rows._values, other._values)
     found = _of_kind(a, append_segments_int, append_segments_bool)(a, b, rows._segments, other._segments)
     return rows._with(found, cut(add_wuz(rows._segments.lengths, other._segments.lengths)))
@@ -221,10 +221,16 @@ def repeat(rows: Any, counts: Any) -> Any:
     return rows._with(_of_kind(values, dis_vez, dis_veb)(values, copies), cut(add_rez(ints(each), rows._segments)))
 
 
+def refuse_below_0(minlength: int) -> None:
+    if minlength < 0:
+        raise ValueError(f"minlength is {minlength}, and has to be 0 or more")
+
+
 def bincount(rows: Any, minlength: int = 0) -> Any:
+    refuse_below_0(minlength)
     values, segments = ints(rows._values), rows._segments
     greatest = max_rez(values, segments)
-    if MOST in greatest:
+    if max_ruz(greatest) == MOST:
         raise Fault(faults.TOO_LONG, "TooLong", None, f"the greatest element is {MOST}")
     many = cut(max_wuz(max_wuz(add_wuz(greatest, 1), 0), minlength))
     try:
@@ -235,19 +241,21 @@ def bincount(rows: Any, minlength: int = 0) -> Any:
 
 def at(rows: Any, index: Any, values: Any, name: str) -> Any:
     """Joins the numbers of rows, where they are, with what is sent to them."""
-    index = rows._as_rows(rows._as_index(index))
+    index = rows._as_many(rows._as_rows(rows._as_index(index)))
     room, given, cuts, sent = rows._values, index._values, index._segments, index._beside(values)
+    refuse_frozen(room)
     if not isinstance(sent, numpy.ndarray):
         sent = dis_vub(sent, len(given)) if is_bool(sent) else dis_vuz(sent, len(given))
     if is_bool(room) and not is_bool(sent):
         raise TypeError("the values are integers, and r has booleans; write values != 0")
     sent = sent if is_bool(room) else ints(sent)
-    if numpy.may_share_memory(room, sent) or numpy.may_share_memory(room, given):
-        sent, given = sent.copy(), given.copy()
     places = from_end(given, dis_vez(rows._segments.lengths, cuts)) if min_ruz(given) < 0 else given
     call = _of_kind(room, seg_combine_permute_int, seg_combine_permute_bool)
+    op = getattr(operators, OF_FLAGS.get(name, name) if is_bool(room) else name)
     try:
-        call(getattr(operators, OF_FLAGS.get(name, name) if is_bool(room) else name), sent, places, cuts, rows._segments, room)
+        call(op, sent, places, cuts, rows._segments, room)
     except Fault as fault:
+        if fault.number == faults.OVERLAP:
+            return at(rows, rows._new(given.copy(), cuts), rows._new(sent.copy(), cuts), name)
         raise rows._told(fault, _out_of_row(rows, given, index), index._row_of) from None
     return rows

@@ -10,7 +10,9 @@ import numpy
 from cvl import _building, faults, ragged
 from cvl._elementwise import flags, ints, is_bool
 from cvl._rows import same_kind
-from cvl.calls import bck_pub, bck_puz, counts, ind_luz, max_ruz, neq_wuz, order, pck_luz, sel_wub, sel_wuz, sub_wuz
+from cvl.calls import (
+    bck_pub, bck_puz, counts, dis_vub, dis_vuz, ind_luz, max_ruz, neq_wuz, order, pck_luz, sel_wub, sel_wuz, sub_wuz,
+)  # fmt: skip
 from cvl.fault import Fault
 from cvl.segments import Segments, cut
 
@@ -53,11 +55,13 @@ def _runs(keys: Any) -> Tuple[Any, Any, Segments]:
     """The places in the order of their keys, the distinct keys, and how many places each has."""
     places = order(keys)
     found = bck_puz(keys, places)
-    is_new = numpy.ones(len(found), bool)
+    count = len(found)
+    is_new = dis_vub(True, count)
     neq_wuz(found[1:], found[:-1], out=is_new[1:])
-    starts = pck_luz(ind_luz(0, 1, len(found)), is_new)
-    ends = numpy.append(starts[1:], numpy.int32(len(found)))[: len(starts)]
-    return places, pck_luz(found, is_new), cut(sub_wuz(ends, starts))
+    distinct, bounds = pck_luz(found, is_new), dis_vuz(count, count + 1)
+    # the starts of the runs, and behind them the end of the last one
+    many = len(pck_luz(ind_luz(0, 1, count), is_new, out=bounds))
+    return places, distinct, cut(sub_wuz(bounds[1 : many + 1], bounds[:many]))
 
 
 def taken(values: Any, places: Any) -> Any:

@@ -39,6 +39,9 @@ def _check(given: Any, named: Callable[[int], str]) -> None:
 
 def as_elements(numbers: Any, named: Callable[[int], str], name: str, keeps_bools: bool = True) -> Any:
     """The numbers as `as_ints` has them, and booleans as they are; a message says the place by `named`."""
+    if type(numbers) is numpy.ndarray and numbers.ndim == 1 and numbers.flags.carray:
+        if numbers.dtype == INT or keeps_bools and numbers.dtype == bool:
+            return numbers
     refuse_mask(numbers, name)
     given = numpy.asarray(numbers)
     if given.ndim != 1:

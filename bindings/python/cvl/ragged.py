@@ -10,6 +10,7 @@ import numpy
 from cvl import _arrow, _building, _shown, faults
 from cvl._elementwise import Operation, changed, is_bool, two
 from cvl._methods import OPERATIONS, UNARY, Methods, joined_at
+from cvl._rows import from_end
 from cvl.calls import bck_puz, dis_veb, dis_vez, dis_vuz, gather_segments_bool, gather_segments_int, ind_lez, ind_luz, pck_luz
 from cvl.conversions import INT, as_ints
 from cvl.fault import Fault
@@ -175,13 +176,20 @@ class Ragged(Methods):
             raise TypeError("there is one index a level; write r[i][j], or r.take(j) for a place in each row")
         if hasattr(key, "__index__") and not isinstance(key, (bool, numpy.bool_, numpy.ndarray)):
             return self._row(operator.index(key))
-        return self._gathered(self._chosen(numpy.asarray(key)))
+        index = self._chosen(key if isinstance(key, numpy.ndarray) else numpy.asarray(key))
+        try:
+            return self._gathered(from_end(index, len(self)))
+        except Fault as fault:
+            if not isinstance(fault.place, int):
+                raise
+            said = f"index[{fault.place}] is {index[fault.place]}, and there are {len(self)} rows"
+        raise IndexError(said)
 
     def _row(self, key: int) -> Any:
         row = key + len(self) if key < 0 else key
         if not 0 <= row < len(self):
             raise IndexError(f"the index is {key}, and there are {len(self)} rows")
-        offsets, values = self._segments.kept_offsets(), self._values
+        offsets, values = self._segments.offsets, self._values
         start, end = offsets[row], offsets[row + 1]
         return values._between(start, end) if isinstance(values, Ragged) else values[start:end]
 
@@ -193,13 +201,13 @@ class Ragged(Methods):
 
     def _between(self, start: int, end: int) -> Ragged:
         """The rows from one to before another, over the same memory."""
-        offsets, values = self._segments.kept_offsets(), self._values
+        offsets, values = self._segments.offsets, self._values
         first, last = offsets[start], offsets[end]
         inner = values._between(first, last) if isinstance(values, Ragged) else values[first:last]
         return Ragged._new(inner, cut(self._segments.lengths[start:end]))
 
     def _chosen(self, key: Any) -> Any:
-        """The rows that a mask or indices choose, counted from the first."""
+        """The rows that a mask or indices choose."""
         count = len(self)
         if key.dtype.char == "?":
             if key.shape != (count,):
@@ -207,13 +215,10 @@ class Ragged(Methods):
             return pck_luz(ind_luz(0, 1, count), numpy.ascontiguousarray(key))
         if key.dtype.kind not in "iu" and key.size:
             raise IndexError(f"rows are chosen by whole numbers, by a mask or by a slice, and not by {key.dtype}")
-        wrong = (key < -count) | (key >= count)
-        if wrong.any():
-            raise IndexError(f"index[{int(wrong.argmax())}] is {key[wrong][0]}, and there are {count} rows")
-        return as_ints(numpy.where(key < 0, key + count, key), "index")
+        return as_ints(key, "index")
 
     def _gathered(self, index: Any) -> Ragged:
-        offsets, values = self._segments.kept_offsets(), self._values
+        offsets, values = self._segments.offsets, self._values
         starts, rows = bck_puz(offsets[:-1], index), cut(bck_puz(self._segments.lengths, index))
         if isinstance(values, Ragged):
             return Ragged._new(values._gathered(ind_lez(starts, dis_vuz(1, len(index)), rows)), rows)
@@ -275,6 +280,12 @@ class Ragged(Methods):
             found = Ragged._new(each, cut(dis_vuz(1, len(each))))
         return found
 
+    def _as_many(self, other: Ragged) -> Ragged:
+        """Rows that are as many as these, of any lengths."""
+        if len(other) != len(self):
+            raise self._differs(other)
+        return other
+
     def _differs(self, other: Ragged) -> Fault:
         """The fault that other rows have other lengths."""
         a, b = self._segments.lengths, other._segments.lengths
@@ -298,7 +309,7 @@ class Ragged(Methods):
 
     def _row_of(self, flat: int) -> Tuple[int, int]:
         """The row of a place, and the place in it."""
-        offsets = self._segments.kept_offsets()
+        offsets = self._segments.offsets
         row = int(offsets.searchsorted(flat, "right")) - 1
         return row, flat - int(offsets[row])
 
@@ -371,7 +382,7 @@ class Ragged(Methods):
 
     def tolist(self) -> List[Any]:
         """Lists of lists."""
-        offsets, inner = self._segments.kept_offsets().tolist(), self._values.tolist()
+        offsets, inner = self._segments.offsets.tolist(), self._values.tolist()
         return [inner[start:end] for start, end in zip(offsets, offsets[1:])]
 
     def to_numpy(self) -> Any:

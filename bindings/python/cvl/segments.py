@@ -8,7 +8,7 @@ import numpy
 
 from cvl import faults
 from cvl._calls import MOST_ELEMENTS, Lengths
-from cvl.calls import add_suz, dis_vez, ind_luz
+from cvl.calls import dis_vez, ind_luz
 from cvl.conversions import INT, as_ints, refuse_mask
 from cvl.fault import Fault
 
@@ -58,21 +58,14 @@ class Segments(Lengths):
     [4, 0, 10]
     >>> cvl.Segments.from_offsets([0, 2, 2, 5]) == rows
     True
+    >>> rows.offsets.tolist(), list(rows)
+    ([0, 2, 2, 5], [2, 0, 3])
     """
 
-    __slots__ = ("_kept",)
-    _kept: IntArray
+    __slots__ = ()
 
     def __new__(cls, lengths: ArrayLike) -> Segments:
         return super().__new__(cls, _numbers(lengths))
-
-    def kept_offsets(self) -> IntArray:
-        """The offsets, which are found once; nobody else has this array."""
-        try:
-            return self._kept
-        except AttributeError:
-            self._kept = self.offsets
-            return self._kept
 
     def __getitem__(self, key: Any) -> Any:
         return self.lengths[key]
@@ -108,19 +101,6 @@ class Segments(Lengths):
         if given[-1] > MOST_ELEMENTS:
             raise Fault(faults.TOO_LONG, "TooLong")
         return cls(numpy.diff(given))
-
-    @property
-    def offsets(self) -> IntArray:
-        """Where each segment starts, and where the last one ends: one more than there are segments.
-
-        >>> import cvl
-        >>> cvl.Segments([2, 0, 3]).offsets.tolist()
-        [0, 2, 2, 5]
-        """
-        found = numpy.zeros(len(self) + 1, INT)
-        add_suz(self.lengths, out=found[:-1])
-        found[-1] = self.total
-        return _frozen(found)
 
     @property
     def numbers(self) -> IntArray:

@@ -131,7 +131,7 @@ class OfArrow(Refusing):
         self.assertEqual(r.tolist(), ROWS)
         self.assertEqual(r.values.ctypes.data, node.children[0].buffers[1].ctypes.data)
         self.assertFalse(r.values.flags.writeable)
-        self.refused(ValueError, "out may not be written", r.add_at, [[0], [], []], 1)
+        self.refused(ValueError, "the memory of r may not be written; write r.copy()", r.add_at, [[0], [], []], 1)
         row = r[2]
         del r
         gc.collect()
@@ -408,6 +408,11 @@ class Operators(Refusing):
             ("fault 7 LengthMismatch: there are 3 rows, and 2 beside them", lambda: r + Ragged([[1, 1], [1]])),
             ("fault 7 LengthMismatch: there are 3 rows, and 2 numbers beside them", lambda: r + [1, 2]),
             ("fault 7 LengthMismatch: there are 3 rows, and 2 beside them", lambda: r.filter(Ragged([[True], [False]]))),
+            ("fault 7 LengthMismatch: there are 3 rows, and 2 beside them", lambda: r.take([[-1], [0]])),
+            ("fault 7 LengthMismatch: there are 3 rows, and 2 beside them", lambda: r.append([[1], [0]])),
+            ("fault 7 LengthMismatch: there are 3 rows, and 2 beside them", lambda: r.add_at([[1], [0]], 1)),
+            ("fault 7 LengthMismatch: row 1 has 1 elements, and row 1 beside it 0", lambda: r.add_at([[1], [0], []], [[1], [], []])),
+            ("fault 7 LengthMismatch: row 0 has 2 elements, and row 0 beside it 1", lambda: deep.take([[[0]], [], [[0]]])),
         ):
             fault = self.refused(cvl.Fault, said, call)
             self.assertEqual(str(fault), said)
@@ -451,6 +456,8 @@ class Operators(Refusing):
             (ValueError, "row 1 is empty and has no argmin", r.argmin),
             (TypeError, "write r.sum(exact=True) / r.lengths", r.mean),
             (TypeError, "64 bits are no elements of a Ragged; write r.values.sum(exact=True)", lambda: Ragged(DEEP).sum(exact=True)),
+            (ValueError, "minlength is -1, and has to be 0 or more", lambda: r.bincount(-1)),
+            (ValueError, "minlength is -1, and has to be 0 or more", lambda: cvl.bincount([1], -1)),
             (TypeError, "an index is no boolean; write r.filter(mask)", lambda: r.take(r > 1)),
             (TypeError, "an index is no boolean", lambda: r.add_at([True, False, True], 1)),
             (TypeError, "mask has to be of booleans; write mask != 0", lambda: r.filter(r)),

@@ -89,7 +89,7 @@ def plain(nested):
 
 
 class Case:
-    """Rows at random, and what is compared of them."""
+    """Rows at random, of which three of seven groups of methods are compared."""
 
     def __init__(self, seed, number):
         self.rng = rng = numpy.random.default_rng([seed, number])
@@ -105,9 +105,10 @@ class Case:
         rows = filled(self.lengths, make)
         return rows, ragged(self.lengths, self.depth, rows, kind)
 
-    def compare(self, name, found, wanted, kind=None):
+    def compare(self, name, found, wanted):
         found = found if isinstance(found, (list, bool, int)) else found.tolist()
-        if found != plain(wanted):
+        # as texts, since True is equal to 1
+        if repr(found) != repr(plain(wanted)):
             self.failed.append(f"{name} of {plain(self.rows)}: {found}, and numpy {plain(wanted)}")
 
     # ---- elementwise ----
@@ -270,8 +271,9 @@ class Case:
         self.compare("implode", cvl.Ragged.implode(numbers_of[places], other, len(rows)), turned)
 
     def run(self):
-        for part in (self.operations, self.on_one, self.of_each, self.along, self.taken, self.chosen, self.grouped):
-            part()
+        parts = self.operations, self.on_one, self.of_each, self.along, self.taken, self.chosen, self.grouped
+        for k in self.rng.permutation(len(parts))[:3]:
+            parts[k]()
         return self.failed
 
 
