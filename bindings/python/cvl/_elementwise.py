@@ -29,9 +29,8 @@ class Operation(NamedTuple):
 
 def is_bool(values: Any) -> bool:
     """Whether an array, or a number, is of booleans."""
-    if isinstance(values, numpy.ndarray):
-        return values.dtype.char == "?"
-    return isinstance(values, (bool, numpy.bool_))
+    kind = type(values)
+    return values.dtype.char == "?" if kind is numpy.ndarray else kind is bool or kind is numpy.bool_
 
 
 def ints(values: Any) -> Any:
@@ -50,14 +49,18 @@ def flags(values: Any) -> Any:
 
 def _called(operation: Operation, x: Any, y: Any) -> Any:
     """The operator on arrays, of which one may be a number."""
-    if operation.only == "flags":
-        return operation.flags(flags(x), flags(y))
-    if is_bool(x) and is_bool(y):
-        if operation.only == "ints":
-            raise TypeError(f"{operation.name} takes no booleans; write r.astype(numpy.int32)")
-        if operation.flags is not None:
-            return operation.flags(x, y)
-    return operation.ints(ints(x), ints(y))
+    name, of_ints, of_flags, only = operation
+    x_is_bool, y_is_bool = is_bool(x), is_bool(y)
+    if only == "flags":
+        return of_flags(flags(x), flags(y))
+    if not x_is_bool and not y_is_bool:
+        return of_ints(x, y)
+    if x_is_bool and y_is_bool:
+        if only == "ints":
+            raise TypeError(f"{name} takes no booleans; write r.astype(numpy.int32)")
+        if of_flags is not None:
+            return of_flags(x, y)
+    return of_ints(ints(x), ints(y))
 
 
 def _divisor_told(rows: Any, fault: Fault, operation: Operation, divisor: Any) -> Fault:

@@ -243,15 +243,17 @@ def at(rows: Any, index: Any, values: Any, name: str) -> Any:
     """Joins the numbers of rows, where they are, with what is sent to them."""
     index = rows._as_many(rows._as_rows(rows._as_index(index)))
     room, given, cuts, sent = rows._values, index._values, index._segments, index._beside(values)
+    has_flags, sends_flags = is_bool(room), is_bool(sent)
     refuse_frozen(room)
-    if not isinstance(sent, numpy.ndarray):
-        sent = dis_vub(sent, len(given)) if is_bool(sent) else dis_vuz(sent, len(given))
-    if is_bool(room) and not is_bool(sent):
+    if type(sent) is not numpy.ndarray:
+        sent = (dis_vub if sends_flags else dis_vuz)(sent, len(given))
+    if has_flags and not sends_flags:
         raise TypeError("the values are integers, and r has booleans; write values != 0")
-    sent = sent if is_bool(room) else ints(sent)
+    if sends_flags and not has_flags:
+        sent = int_wub(sent)
     places = from_end(given, dis_vez(rows._segments.lengths, cuts)) if min_ruz(given) < 0 else given
-    call = _of_kind(room, seg_combine_permute_int, seg_combine_permute_bool)
-    op = getattr(operators, OF_FLAGS.get(name, name) if is_bool(room) else name)
+    call = seg_combine_permute_bool if has_flags else seg_combine_permute_int
+    op = getattr(operators, OF_FLAGS.get(name, name) if has_flags else name)
     try:
         call(op, sent, places, cuts, rows._segments, room)
     except Fault as fault:

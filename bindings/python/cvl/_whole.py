@@ -32,7 +32,10 @@ def _chosen(rows: Any, mask: Any, a: Any, b: Any) -> Any:
 
 
 def where(mask: Any, a: Any, b: Any) -> Ragged:
-    deepest = max((one for one in (mask, a, b) if isinstance(one, ragged.Ragged)), key=lambda one: one.depth, default=None)
+    deepest = None
+    for one in (mask, a, b):
+        if isinstance(one, ragged.Ragged) and (deepest is None or one.depth > deepest.depth):
+            deepest = one
     if deepest is None:
         raise TypeError("where takes a Ragged; numpy.where takes arrays")
     return deepest._on_rows(_chosen, (mask, a, b))

@@ -16,11 +16,14 @@ from cvl.conversions import INT, as_ints
 from cvl.fault import Fault
 from cvl.segments import Segments, cut
 
-Numbers = (int, numpy.generic)
+NUMBERS = (int, numpy.generic, float)
+BESIDE = (*NUMBERS, numpy.ndarray, list)
 
 
 def is_number(other: Any) -> bool:
-    return isinstance(other, (*Numbers, float)) or isinstance(other, numpy.ndarray) and other.ndim == 0
+    if type(other) is numpy.ndarray:
+        return other.ndim == 0
+    return isinstance(other, NUMBERS)
 
 
 class Ragged(Methods):
@@ -249,7 +252,7 @@ class Ragged(Methods):
         """What stands beside the values: those of rows of the same lengths, each number of an array for its row, or a number."""
         if type(other) is not Ragged:
             if is_number(other):
-                return other[()] if isinstance(other, numpy.ndarray) else other
+                return other[()] if type(other) is numpy.ndarray else other
             other = self._as_operand(other)
             if type(other) is not Ragged:
                 return (dis_veb if is_bool(other) else dis_vez)(other, self._segments)
@@ -346,15 +349,17 @@ class Ragged(Methods):
         if type(other) is Ragged:
             if type(other._values) is Ragged and other.depth > self.depth:
                 return other._on_rows(two, (self,), (operation, not swapped))
-        elif not isinstance(other, (*Numbers, float, numpy.ndarray, list)):
+        elif not isinstance(other, BESIDE):
             return NotImplemented
+        if type(self._values) is not Ragged:
+            return two(self, other, operation, swapped)
         return self._on_rows(two, (other,), (operation, swapped))
 
     def _changed(self, operation: Operation, other: Any) -> Ragged:
         """The operator in the memory of this one."""
         if type(other) is Ragged and other.depth > self.depth:
             raise TypeError(f"r has {self.depth} levels of rows, and {other.depth} stand beside it, which r cannot hold")
-        if type(other) is not Ragged and not isinstance(other, (*Numbers, float, numpy.ndarray, list)):
+        if type(other) is not Ragged and not isinstance(other, BESIDE):
             return NotImplemented
         self._on_rows(changed, (other,), (operation,))
         return self
