@@ -11,6 +11,7 @@ from cvl.calls import (
     rsh_wuz, sel_wuz, sub_wuz, xor_wuz,
 )  # fmt: skip
 from cvl.fault import Fault
+from cvl.faults import OVERLAP
 
 
 class Operation(NamedTuple):
@@ -96,12 +97,15 @@ def changed(rows: Any, other: Any, operation: Operation) -> Any:
         raise TypeError(f"{operation.name} changes r where it is, and the result is no boolean; write r = r.astype(numpy.int32)")
     refuse_frozen(x)
     try:
-        if operation.is_call and not (isinstance(y, numpy.ndarray) and numpy.may_share_memory(x, y)):
-            operation.flags(x, y, out=x) if is_bool(x) else operation.ints(x, ints(y), out=x)
+        if operation.is_call:
+            (operation.flags if is_bool(x) else operation.ints)(x, y if is_bool(x) else ints(y), out=x)
         else:
             numpy.copyto(x, _called(operation, x, y))
     except Fault as fault:
-        raise _divisor_told(rows, fault, operation, y) from None
+        if fault.number != OVERLAP:
+            raise _divisor_told(rows, fault, operation, y) from None
+        # a part of this memory stands beside it
+        numpy.copyto(x, _called(operation, x, y))
     return rows
 
 

@@ -348,6 +348,10 @@ class Operators(Refusing):
         r += r
         r -= r[:]
         self.assertEqual((r.tolist(), r.values is values), ([[0, 0], [], [0, 0, 0]], True))
+        whole = ints(1, 2, 3, 4)
+        first, last = Ragged((whole[:3], [1, 2])), Ragged((whole[1:], [1, 2]))
+        first += last
+        self.assertEqual(whole.tolist(), [3, 5, 7, 4])
         deep = Ragged(DEEP)
         deep *= [2, 3, 4]
         deep ^= Ragged([[1, 0], [], [1]])
