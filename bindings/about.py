@@ -84,7 +84,7 @@ OF_VERSIONS = (
     ("cvl_version", ("The version of the library; CVL_VERSION is that of the header.",), "const char *cvl_version(void);"),
     (
         "cvl_build",
-        ('Which library this is: its version, the revision of its sources and the processors that it was built for, as "1.0.0 29801b93 x86-64-v3".',),
+        ('Which library this is: its version, the revision of its sources and the processors that it was built for, as "1.0.0 0123abcd x86-64-v3".',),
         "const char *cvl_build(void);",
     ),
     (

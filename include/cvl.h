@@ -164,7 +164,7 @@ enum {
 const char *cvl_version(void);
 
 /*
- * Which library this is: its version, the revision of its sources and the processors that it was built for, as "1.0.0 29801b93
+ * Which library this is: its version, the revision of its sources and the processors that it was built for, as "1.0.0 0123abcd
  * x86-64-v3".
  */
 const char *cvl_build(void);

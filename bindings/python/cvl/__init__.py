@@ -35,15 +35,18 @@ that end in `_after` or `_range`, are for calls in parts.
 
 from typing import List
 
-from cvl import calls, faults, operators
+from cvl import calls, faults, named, operators
 from cvl._calls import MOST_ELEMENTS, MOST_OF_TEXT, build, get_threads, set_threads, version
 from cvl._threads import threads
 from cvl.calls import *
 from cvl.conversions import as_ints
 from cvl.fault import Fault
+from cvl.named import *
+from cvl.ragged import Ragged
 from cvl.segments import Segments
 
-__all__: List[str] = ["MOST_ELEMENTS", "MOST_OF_TEXT", "Fault", "Segments", "build", "faults", "operators"]
+__all__: List[str] = ["MOST_ELEMENTS", "MOST_OF_TEXT", "Fault", "Ragged", "Segments", "build", "faults", "operators"]
 __all__ += ["as_ints", "get_threads", "set_threads", "threads"]
 __all__ += calls.__all__
+__all__ += named.__all__
 __version__: str = version

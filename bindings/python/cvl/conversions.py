@@ -2,7 +2,7 @@
 
 from __future__ import annotations
 
-from typing import TYPE_CHECKING, Any
+from typing import TYPE_CHECKING, Any, Callable
 
 import numpy
 import numpy.ma
@@ -26,15 +26,33 @@ def _first(wrong: Any) -> int:
     return int(wrong.argmax()) if wrong.any() else -1
 
 
-def _check(given: Any, name: str) -> None:
+def _check(given: Any, named: Callable[[int], str]) -> None:
     """Raises that an element is not whole, or does not fit 32 bits, with the first that is so."""
     if given.dtype.kind == "f":
         place = _first(~numpy.isfinite(given) | (given != numpy.trunc(given)))
         if place >= 0:
-            raise ValueError(f"{name}[{place}] is {given[place]}, and has to be a whole number")
+            raise ValueError(f"{named(place)} is {given[place]}, and has to be a whole number")
     place = _first((given < -(2**31)) | (given > 2**31 - 1))
     if place >= 0:
-        raise OverflowError(f"{name}[{place}] is {given[place]}, which does not fit 32 bits")
+        raise OverflowError(f"{named(place)} is {given[place]}, which does not fit 32 bits")
+
+
+def as_elements(numbers: Any, named: Callable[[int], str], name: str, keeps_bools: bool = True) -> Any:
+    """The numbers as `as_ints` has them, and booleans as they are; a message says the place by `named`."""
+    if type(numbers) is numpy.ndarray and numbers.ndim == 1 and numbers.flags.carray:
+        if numbers.dtype == INT or keeps_bools and numbers.dtype == bool:
+            return numbers
+    refuse_mask(numbers, name)
+    given = numpy.asarray(numbers)
+    if given.ndim != 1:
+        raise TypeError(f"{name} has {given.ndim} dimensions, and has to have one; write numpy.ravel({name})")
+    if given.dtype.kind not in "biuf" and given.size:
+        raise TypeError(f"{name} has elements of {given.dtype}, which are no numbers")
+    if given.size and given.dtype.kind in "iuf" and given.dtype != INT:
+        _check(given, named)
+    is_kept = keeps_bools and given.dtype.kind == "b"
+    found = numpy.ascontiguousarray(given, given.dtype if is_kept else INT)
+    return found if found.flags.aligned else found.copy()
 
 
 def as_ints(numbers: ArrayLike, name: str = "numbers") -> IntArray:
@@ -50,12 +68,4 @@ def as_ints(numbers: ArrayLike, name: str = "numbers") -> IntArray:
     Traceback (most recent call last):
     OverflowError: keys[1] is 2147483648, which does not fit 32 bits
     """
-    refuse_mask(numbers, name)
-    given = numpy.asarray(numbers)
-    if given.ndim != 1:
-        raise TypeError(f"{name} has {given.ndim} dimensions, and has to have one; write numpy.ravel({name})")
-    if given.dtype.kind not in "biuf" and given.size:
-        raise TypeError(f"{name} has elements of {given.dtype}, which are no numbers")
-    if given.size and given.dtype.kind in "iuf" and given.dtype != INT:
-        _check(given, name)
-    return numpy.ascontiguousarray(given, INT)
+    return as_elements(numbers, lambda place: f"{name}[{place}]", name, keeps_bools=False)

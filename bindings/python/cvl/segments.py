@@ -2,13 +2,13 @@
 
 from __future__ import annotations
 
-from typing import TYPE_CHECKING, Any
+from typing import TYPE_CHECKING, Any, Iterator
 
 import numpy
 
 from cvl import faults
 from cvl._calls import MOST_ELEMENTS, Lengths
-from cvl.calls import add_suz, dis_vez, ind_luz
+from cvl.calls import dis_vez, ind_luz
 from cvl.conversions import INT, as_ints, refuse_mask
 from cvl.fault import Fault
 
@@ -58,12 +58,23 @@ class Segments(Lengths):
     [4, 0, 10]
     >>> cvl.Segments.from_offsets([0, 2, 2, 5]) == rows
     True
+    >>> rows.offsets.tolist(), list(rows)
+    ([0, 2, 2, 5], [2, 0, 3])
     """
 
     __slots__ = ()
 
     def __new__(cls, lengths: ArrayLike) -> Segments:
         return super().__new__(cls, _numbers(lengths))
+
+    def __getitem__(self, key: Any) -> Any:
+        return self.lengths[key]
+
+    def __iter__(self) -> Iterator[Any]:
+        return iter(self.lengths)
+
+    def __array__(self, dtype: Any = None, copy: Any = None) -> Any:
+        return numpy.array(self.lengths, dtype=dtype) if copy or dtype not in (None, INT) else self.lengths
 
     def __copy__(self) -> Segments:
         return self
@@ -92,19 +103,6 @@ class Segments(Lengths):
         return cls(numpy.diff(given))
 
     @property
-    def offsets(self) -> IntArray:
-        """Where each segment starts, and where the last one ends: one more than there are segments.
-
-        >>> import cvl
-        >>> cvl.Segments([2, 0, 3]).offsets.tolist()
-        [0, 2, 2, 5]
-        """
-        found = numpy.zeros(len(self) + 1, INT)
-        add_suz(self.lengths, out=found[:-1])
-        found[-1] = self.total
-        return _frozen(found)
-
-    @property
     def numbers(self) -> IntArray:
         """At each place the number of its segment, counted from 0.
 
@@ -114,19 +112,16 @@ class Segments(Lengths):
         """
         return _frozen(dis_vez(ind_luz(0, 1, len(self)), self))
 
-    def __eq__(self, other: object) -> bool:
-        if not isinstance(other, Segments):
-            return NotImplemented
-        return numpy.array_equal(self.lengths, other.lengths)
-
-    def __hash__(self) -> int:
-        return hash(self.lengths.tobytes())
-
     def __repr__(self) -> str:
         if len(self) <= SHOWN:
             return f"Segments({self.lengths.tolist()})"
         first, last = (", ".join(map(str, part)) for part in (self.lengths[:3], self.lengths[-3:]))
         return f"<{len(self)} Segments of {self.total} elements: {first}, .., {last}>"
+
+
+def cut(lengths: IntArray) -> Segments:
+    """Segments of an array of int32, which is not looked at before the compiled module does."""
+    return Lengths.__new__(Segments, lengths)
 
 
 def own_lengths(lengths: ArrayLike) -> IntArray:

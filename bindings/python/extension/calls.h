@@ -261,6 +261,10 @@ void cvl_let_go(Frame *frame);
 /* What the caller's room is taken for. */
 const Operand *cvl_out_of(const Family *family);
 
+/* ---- arrow.c ---- */
+
+extern PyMethodDef cvl_arrow_methods[];
+
 /* ---- over_ranks.c ---- */
 
 extern PyMethodDef cvl_rank_methods[];

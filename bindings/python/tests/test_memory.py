@@ -69,6 +69,12 @@ def forms(example):
         yield f" with {changed} short", arguments
 
 
+def through_arrow(node):
+    """What a consumer finds of what is given, without where it lies."""
+    kind, length, nulls, offset, _, children = cvl._calls.arrow_take(*cvl._calls.arrow_give(node))[0]
+    return kind, length, nulls, offset, children[0][:4]
+
+
 def each_call():
     """Calls of each name, with their arguments."""
     for name in cvl.calls.__all__:
@@ -77,6 +83,7 @@ def each_call():
             yield name + said, example.call, arguments
     yield "a number", cvl.add_wuz, {"a": ints(1, 2), "b": 3}
     yield "a divisor", cvl.div_wuz, {"a": ints(1, 2), "b": 0}
+    yield "an array of Arrow", through_arrow, {"node": ("+l", 2, (None, ints(0, 2, 3)), ("i", 3, (None, ints(7, 8, 9)), None))}
     yield "bytes that are flags", cvl.pck_lub, {"values": numpy.array([2, 0], numpy.uint8).view(bool), "flags": flags(True, True)}
 
 

@@ -1,0 +1,105 @@
+"""Methods of `cvl.Ragged` that give other rows."""
+
+from __future__ import annotations
+
+from functools import reduce
+from typing import TYPE_CHECKING, Any, Optional, Sequence, Tuple
+
+import numpy
+
+from cvl import _building, faults, ragged
+from cvl._elementwise import flags, ints, is_bool
+from cvl._rows import same_kind
+from cvl.calls import (
+    bck_pub, bck_puz, counts, dis_vub, dis_vuz, ind_luz, max_ruz, neq_wuz, order, pck_luz, sel_wub, sel_wuz, sub_wuz,
+)  # fmt: skip
+from cvl.fault import Fault
+from cvl.segments import Segments, cut
+
+if TYPE_CHECKING:
+    from cvl.ragged import Ragged
+
+
+def concat(several: Sequence[Ragged]) -> Ragged:
+    if not several or not all(isinstance(one, ragged.Ragged) for one in several):
+        raise TypeError("concat takes a list of Ragged, with one at least")
+    return reduce(ragged.Ragged.append, several)
+
+
+def _chosen(rows: Any, mask: Any, a: Any, b: Any) -> Any:
+    chosen, x, y = flags(rows._beside(mask)), *same_kind(rows._beside(a), rows._beside(b))
+    return rows._with((sel_wub if is_bool(x) else sel_wuz)(chosen, x, y))
+
+
+def where(mask: Any, a: Any, b: Any) -> Ragged:
+    deepest = None
+    for one in (mask, a, b):
+        if isinstance(one, ragged.Ragged) and (deepest is None or one.depth > deepest.depth):
+            deepest = one
+    if deepest is None:
+        raise TypeError("where takes a Ragged; numpy.where takes arrays")
+    return deepest._on_rows(_chosen, (mask, a, b))
+
+
+def flatten(self: Ragged) -> Any:
+    return self._flat().copy()
+
+
+def astype(self: Ragged, dtype: Any) -> Ragged:
+    kind = numpy.dtype(dtype)
+    if kind == bool:
+        return self._on_rows(lambda rows: rows._with(flags(rows._values)))
+    if kind == numpy.int32:
+        return self._on_rows(lambda rows: rows._with(ints(rows._values)))
+    raise TypeError(f"elements are int32 or bool, and not {kind}; write r.flatten().astype({kind.name!r})")
+
+
+def _runs(keys: Any) -> Tuple[Any, Any, Segments]:
+    """The places in the order of their keys, the distinct keys, and how many places each has."""
+    places = order(keys)
+    found = bck_puz(keys, places)
+    count = len(found)
+    is_new = dis_vub(True, count)
+    neq_wuz(found[1:], found[:-1], out=is_new[1:])
+    distinct, bounds = pck_luz(found, is_new), dis_vuz(count, count + 1)
+    # the starts of the runs, and behind them the end of the last one
+    many = len(pck_luz(ind_luz(0, 1, count), is_new, out=bounds))
+    return places, distinct, cut(sub_wuz(bounds[1 : many + 1], bounds[:many]))
+
+
+def taken(values: Any, places: Any) -> Any:
+    if isinstance(values, ragged.Ragged):
+        return values._gathered(places)
+    return (bck_pub if is_bool(values) else bck_puz)(values, places)
+
+
+def groupby(self: Ragged, keys: Any) -> Tuple[Any, Ragged]:
+    if ragged.is_number(keys):
+        raise TypeError("keys are one a row, or one for each number")
+    found = keys if isinstance(keys, ragged.Ragged) else self._as_operand(keys)
+    if isinstance(found, ragged.Ragged):
+        return grouped(self._flat(), self._flat_beside(found))
+    return grouped(self, found)
+
+
+def grouped(values: Any, keys: Any) -> Tuple[Any, Ragged]:
+    """The distinct keys, and the values or rows of each."""
+    found = values if isinstance(values, ragged.Ragged) else _building.numbers(values)
+    numbers = ints(_building.numbers(keys, "keys"))
+    if len(numbers) != len(found):
+        raise Fault(faults.LENGTH_MISMATCH, "LengthMismatch", None, f"there are {len(numbers)} keys, and {len(found)} values")
+    places, distinct, runs = _runs(numbers)
+    return distinct, ragged.Ragged._new(taken(found, places), runs)
+
+
+def explode(self: Ragged) -> Tuple[Any, Any]:
+    return self._segments.numbers, self._values
+
+
+def implode(numbers: Any, values: Any, count: Optional[int] = None) -> Ragged:
+    rows = _building.numbers(numbers, "numbers")
+    found = values if isinstance(values, ragged.Ragged) else _building.numbers(values)
+    if len(rows) != len(found):
+        raise Fault(faults.LENGTH_MISMATCH, "LengthMismatch", None, f"there are {len(rows)} numbers, and {len(found)} values")
+    many = counts(rows, max_ruz(rows) + 1 if count is None and len(rows) else count or 0)
+    return ragged.Ragged._new(taken(found, order(rows)), cut(many))
