@@ -5,14 +5,15 @@ all elements one behind another, which may be lists again. So a list of lists of
 elements, whatever the lists are.
 """
 
+import re
 from dataclasses import dataclass, field
 from typing import Optional, Union
 
-# each call that the compiler uses, by what it gives: a vector of integers or of booleans, a single integer or a single boolean. All of
-# them are functions of `cvl`; those with a _ before their kind are made by scripts out of others, and those of ONLY_IN_PYTHON are not.
+# each call that the compiler uses, by what it gives: a vector of integers or of booleans, a single integer or a single boolean. All are
+# functions of `cvl`. script.py makes those without three letters at their end out of others.
 CALLS = {
-    "z": """add_wuz sub_wuz mul_wuz div_wuz mod_wuz min_wuz max_wuz and_wuz xor_wuz not_wuz sel_wuz int_wub
-        add_suz add_sez add_rez tot_rez min_rez max_rez bck_puz ext_vez pck_luz dis_vuz dis_vez ind_luz ind_lez
+    "z": """add_wuz sub_wuz mul_wuz div_wuz mod_wuz rsh_wuz min_wuz max_wuz and_wuz xor_wuz sel_wuz int_wub
+        add_suz add_rez tot_rez min_rez max_rez bck_puz ext_vez pck_luz dis_vuz dis_vez ind_luz ind_lez
         gather_segments_int append_segments_int merge_by_flags_int seg_sort""",
     "b": """les_wuz leq_wuz grt_wuz geq_wuz eql_wuz neq_wuz and_wub ior_wub not_wub sel_wub boo_wuz and_reb ior_reb
         bck_pub ext_veb pck_lub dis_vub dis_veb gather_segments_bool append_segments_bool merge_by_flags_bool""",
@@ -39,6 +40,10 @@ class Same:
     value: Union[int, bool, str]
     kind: str
 
+    @property
+    def is_written(self):
+        return not isinstance(self.value, str)
+
 
 @dataclass(frozen=True)
 class Vector:
@@ -46,6 +51,7 @@ class Vector:
 
     name: str
     kind: str
+    is_written = False
 
 
 @dataclass(frozen=True)
@@ -77,7 +83,7 @@ Value = Union[Same, Vector, Lists, Whole, Tuple]
 def leaves(value):
     """The names of all vectors and single values of a value, in one order for all values of its form."""
     if isinstance(value, Same):
-        return [value.value] if isinstance(value.value, str) else []
+        return [] if value.is_written else [value.value]
     if isinstance(value, Vector):
         return [value.name]
     if isinstance(value, Tuple):
@@ -90,7 +96,7 @@ def leaves(value):
 def renamed(value, names):
     """A value of the same form, with new names from an iterator."""
     if isinstance(value, Same):
-        return Same(next(names), value.kind) if isinstance(value.value, str) else value
+        return value if value.is_written else Same(next(names), value.kind)
     if isinstance(value, Vector):
         return Vector(next(names), value.kind)
     if isinstance(value, Tuple):
@@ -104,7 +110,7 @@ def renamed(value, names):
 def form(value):
     """What two values have in common that the same code may take: all but their names."""
     if isinstance(value, Same):
-        return ("same", value.kind, None if isinstance(value.value, str) else value.value)
+        return ("same", value.kind, value.value if value.is_written else None)
     if isinstance(value, Vector):
         return value.kind
     if isinstance(value, Tuple):
@@ -221,26 +227,26 @@ def tidied(block):
 
 
 def listing(function):
-    """The code of a function and of those that it calls as text, a step a line."""
-    found = [function]
+    """The code of a function and of those that it calls as text, a step a line. Names count from v1."""
+    found, text, names = [function], [], {}
     for one in found:
         parameters = [name for value in one.block.inputs for name in leaves(value)]
-        yield f"{one.name}({', '.join(parameters)}) for {one.block.count} iterations:"
-        yield from lines(one.block.steps, "    ", found)
-        yield f"    return {', '.join(leaves(one.block.result))}"
+        text.append(f"{one.name}({', '.join(parameters)}), {one.block.count} iterations:")
+        text += [*_lines(one.block.steps, "    ", found), f"    return {', '.join(leaves(one.block.result))}"]
+    return re.sub(r"\bv\d+\b", lambda name: names.setdefault(name[0], f"v{len(names) + 1}"), "\n".join(text))
 
 
-def lines(steps, blanks, found):
+def _lines(steps, blanks, found):
     for step in steps:
         if isinstance(step, Call):
             yield f"{blanks}{step.name} = {step.call} {' '.join(map(str, step.given))}"
         elif isinstance(step, Check):
-            yield f"{blanks}{step.error.kind.__name__} at the first of {step.flags}    # line {step.error.line}"
+            yield f"{blanks}{step.error.kind.__name__} at the first of {step.flags}"
         elif isinstance(step, Apply):
             found += [] if any(one is step.function for one in found) else [step.function]
             yield f"{blanks}{', '.join(gives(step))} = {step.function.name}({', '.join(reads(step)[1:])})"
         else:
             of = f"the elements of {step.lengths}" if step.lengths else f"the true of {step.flags}"
-            yield f"{blanks}{', '.join(gives(step))} = in {step.block.count} iterations, {of}:"
-            yield from lines(step.block.steps, blanks + "    ", found)
-            yield f"{blanks}    {', '.join(leaves(step.block.result))}"
+            yield f"{blanks}{step.block.count} iterations, {of}:"
+            yield from _lines(step.block.steps, blanks + "    ", found)
+            yield f"{blanks}    give {', '.join(leaves(step.block.result))} as {', '.join(gives(step))}"

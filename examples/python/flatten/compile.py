@@ -8,18 +8,16 @@ import ast
 import functools
 import itertools
 
-from flatten.code import Apply, Block, Error, Function, Inside, Lists, Same, Tuple, Vector, Whole, form, of_kind, renamed, tidied
+from flatten.code import Apply, Block, Function, Inside, Lists, Same, Tuple, Vector, Whole, form, renamed, tidied
+from flatten.functions import Functions
 from flatten.infer import Instances
 from flatten.kinds import BOOL, List, final
 from flatten.kinds import Tuple as TupleKind
-from flatten.language import assigned, called, free_names, may_return, returns
-from flatten.lift import Lift
+from flatten.language import LEAST, assigned, called, free_names, may_return, returns
 from flatten.safe import cannot_fail, side_by_side
 
 OPERATORS = {ast.Add: "add", ast.Sub: "sub", ast.Mult: "mul"}
 COMPARISONS = {ast.Lt: "les_wuz", ast.LtE: "leq_wuz", ast.Gt: "grt_wuz", ast.GtE: "geq_wuz", ast.Eq: "eql_wuz", ast.NotEq: "neq_wuz"}
-REDUCES = {("sum", "z"): "tot_rez", ("min", "z"): "min_rez", ("max", "z"): "max_rez", ("min", "b"): "and_reb", ("max", "b"): "ior_reb"}
-REDUCES |= {("any", "b"): "ior_reb", ("all", "b"): "and_reb"}
 
 
 def compiled(function, kinds, straight=False):
@@ -59,15 +57,12 @@ class Program:
         return self.functions[key]
 
 
-class Body(Lift):
+class Body(Functions):
     """Compiles what one block does. `names` maps each name of the program to its value; an assignment makes a new map."""
 
     def __init__(self, program, instance, block, single):
         super().__init__(program.names, block, Same(block.count, "z"), single)
         self.program, self.instance, self.done = program, instance, {}
-
-    def error(self, node, kind, said):
-        return Error(kind, said, node.lineno, self.instance.function)
 
     # ---- blocks ----
 
@@ -218,9 +213,10 @@ class Body(Lift):
         value = self.of(node.operand, names)
         if isinstance(node.op, ast.Not):
             return self.call("not_wub", self.vector(value))
-        result = self.call("sub_wuz", Same(0, "z"), value)
-        self.fits(node, "sub", Same(0, "z"), value, result)
-        return result
+        if not self.instance.function.wraps:
+            least = self.call("eql_wuz", value, Same(LEAST, "z"))
+            self.check(least, self.error(node, OverflowError, "a result leaves 32 bits"))
+        return self.call("sub_wuz", Same(0, "z"), value)
 
     def Compare(self, node, names):
         a, b = self.of(node.left, names), self.of(node.comparators[0], names)
@@ -285,44 +281,9 @@ class Body(Lift):
         if isinstance(value, Tuple):
             return value.parts[node.slice.value]
         if isinstance(node.slice, ast.Slice):
-            return self.cut(node.slice, self.lists(value), names)
+            ends = [end and self.of(end, names) for end in (node.slice.lower, node.slice.upper)]
+            return self.turned(value) if node.slice.step else self.cut(value, *ends)
         return self.element(node, value, self.of(node.slice, names))
-
-    def element(self, node, value, index):
-        error = self.error(node, IndexError, "list index out of range")
-        length = value.length if isinstance(value, Whole) else value.lengths
-        if not (isinstance(node.slice, ast.Constant) and node.slice.value >= 0):
-            index = self.from_end(index, length)
-        index = self.vector(index)
-        if isinstance(value, Whole):
-            return self.take(value.inner, index, error)
-        if value.starts is None:
-            return self.each(value.inner, lambda vector: self.call(of_kind("ext_vez", vector.kind), vector, index, length, error=error))
-        outside = self.call("ior_wub", self.call("les_wuz", index, Same(0, "z")), self.call("geq_wuz", index, length))
-        self.check(outside, error)
-        return self.take(value.inner, self.call("add_wuz", value.starts, index))
-
-    def from_end(self, index, length):
-        """An index, of which a negative one counts from the end."""
-        return self.call("sel_wuz", self.call("les_wuz", index, Same(0, "z")), self.call("add_wuz", index, length), index)
-
-    def cut(self, part, value, names):
-        """A slice: other lists of the same elements."""
-        if part.step:
-            return self.turned(value)
-        ends = [end and self.end(self.of(end, names), value.lengths) for end in (part.lower, part.upper)]
-        begin, end = ends[0] or Same(0, "z"), ends[1] or value.lengths
-        lengths = self.call("max_wuz", self.call("sub_wuz", end, begin), Same(0, "z"))
-        return Lists(lengths, value.inner, self.call("add_wuz", self.offsets(value), begin))
-
-    def end(self, index, lengths):
-        """An end of a slice, inside the list."""
-        return self.call("max_wuz", self.call("min_wuz", self.from_end(index, lengths), lengths), Same(0, "z"))
-
-    def turned(self, value):
-        last = self.call("sub_wuz", self.call("add_wuz", self.offsets(value), value.lengths), Same(1, "z"))
-        places = self.call("ind_lez", last, self.vector(Same(-1, "z")), value.lengths)
-        return Lists(value.lengths, self.take(value.inner, places))
 
     # ---- calls ----
 
@@ -351,80 +312,6 @@ class Body(Lift):
         result = self.inside({}, [], None, self.call("add_ruz", lengths), compile_block, lengths=lengths.name)
         for k, call in enumerate(calls):
             self.done[call] = self.take(result, self.call("ind_luz", Same(k, "z"), Same(many, "z"), self.count))
-
-    # ---- the functions of Python ----
-
-    def call_len(self, node, value):
-        return value.length if isinstance(value, Whole) else value.lengths
-
-    def call_list(self, node, value):
-        return value
-
-    def call_reversed(self, node, value):
-        return self.turned(self.lists(value))
-
-    def call_sorted(self, node, value):
-        value = self.tight(value)
-        if value.inner.kind == "z":
-            return Lists(value.lengths, self.call("seg_sort", value.inner, value.lengths))
-        numbers = self.call("seg_sort", self.call("int_wub", value.inner), value.lengths)
-        return Lists(value.lengths, self.call("boo_wuz", numbers))
-
-    def reduce(self, node, value):
-        """A sum, the least, the greatest, any or all of each list. If one list is the same in all iterations, it is reduced once."""
-        if isinstance(value, Whole) and not self.program.straight:
-            return self.same(self.reduce(node, Lists(self.call("dis_vuz", value.length, Same(1, "z")), value.inner)))
-        name, value = called(node), self.tight(value)
-        elements = value.inner
-        if name == "sum" and elements.kind == "b":
-            elements = self.call("int_wub", elements)
-        if name == "sum" and not self.instance.function.wraps:
-            return self.call("tot_rez", elements, value.lengths, error=self.error(node, OverflowError, "a sum leaves 32 bits"))
-        if name in ("min", "max"):
-            empty = self.call("eql_wuz", value.lengths, Same(0, "z"))
-            self.check(empty, self.error(node, ValueError, f"{name}() arg is an empty sequence"))
-        return self.call(REDUCES[name, elements.kind], elements, value.lengths)
-
-    call_sum = call_any = call_all = reduce
-
-    def call_min(self, node, *given):
-        if len(given) == 1:
-            return self.reduce(node, *given)
-        return functools.reduce(functools.partial(self.call, f"{called(node)}_wuz"), given)
-
-    call_max = call_min
-
-    def call_range(self, node, *given):
-        first, last = (Same(0, "z"), *given) if len(given) == 1 else given[:2]
-        step = given[2] if len(given) == 3 else Same(1, "z")
-        low, high, size = first, last, step
-        if step != Same(1, "z"):
-            self.check(self.call("eql_wuz", step, Same(0, "z")), self.error(node, ValueError, "range() arg 3 must not be zero"))
-            up = self.call("grt_wuz", step, Same(0, "z"))
-            low, high = self.call("sel_wuz", up, first, last), self.call("sel_wuz", up, last, first)
-            size = self.call("sel_wuz", up, step, self.call("sub_wuz", Same(0, "z"), step))
-        span = high
-        if low != Same(0, "z"):
-            span = self.call("sub_wuz", high, low)
-            wraps = self.leaves_32_bits("sub", high, low, span)
-            self.check(wraps, self.error(node, OverflowError, "a range is longer than a vector"))
-        lengths = self.call("max_wuz", span, Same(0, "z"))
-        if step != Same(1, "z"):
-            before = self.call("sub_wuz", self.call("max_wuz", lengths, Same(1, "z")), Same(1, "z"))
-            lengths = self.call("min_wuz", lengths, self.call("add_wuz", self.call("div_wuz", before, size), Same(1, "z")))
-        return Lists(lengths, self.call("ind_lez", self.vector(first), self.vector(step), lengths))
-
-    def call_enumerate(self, node, value):
-        value = self.tight(value)
-        zeros, ones = (self.vector(Same(number, "z")) for number in (0, 1))
-        return Lists(value.lengths, Tuple((self.call("ind_lez", zeros, ones, value.lengths), value.inner)))
-
-    def call_zip(self, node, *given):
-        given = [self.lists(value) for value in given]
-        lengths = functools.reduce(functools.partial(self.call, "min_wuz"), [value.lengths for value in given])
-        if len(given) > 1:
-            given = [self.tight(Lists(lengths, value.inner, self.offsets(value))) for value in given]
-        return Lists(lengths, Tuple(tuple(self.tight(value).inner for value in given)))
 
 
 def nodes_of(node, conditions, rest):

@@ -41,7 +41,7 @@ class Instances:
                 if exact or not instance.is_done:
                     if all([unify(one, other) for one, other in zip(arguments, instance.arguments)]):
                         return instance
-        if max(map(_depth, arguments), default=0) > DEEPEST:
+        if refuse and max(map(_depth, arguments), default=0) > DEEPEST:
             refuse("the arguments nest deeper in each call", "keep their types")
         instance = Instance(function, arguments)
         self.made.append(instance)
@@ -66,9 +66,9 @@ class Inference:
 
     def same(self, node, a, b, what):
         """Makes two types the same, or refuses."""
-        said = str(a), str(b)
+        said = f"{what}: {known(a)} and {known(b)}"
         if not unify(a, b):
-            self.refuse(node, f"{what}: {said[0]} and {said[1]}", "make them the same")
+            self.refuse(node, said, "make them the same")
 
     def expect(self, node, wanted, names, what):
         found = self.of(node, names)

@@ -56,7 +56,7 @@ class Source:
     def __init__(self, function):
         lines, first = inspect.getsourcelines(function)
         text = textwrap.dedent("".join(lines))
-        self.file, self.lines, self.first = inspect.getsourcefile(function), lines, first
+        self.file, self.lines, self.first = function.__code__.co_filename, lines, first
         self.indent = len(lines[0]) - len(lines[0].lstrip())
         self.tree = ast.increment_lineno(ast.parse(text).body[0], first - 1)
         if not isinstance(self.tree, ast.FunctionDef):

@@ -100,12 +100,15 @@ class Lift:
         return value
 
     def settled(self, value):
-        """A value in the form that results have: a vector or lists one behind another, whatever it was before."""
+        """A value in the form that results have: vectors, and lists whose elements lie one behind another at each level."""
         if isinstance(value, Same):
             return self.vector(value)
         if isinstance(value, Tuple):
             return Tuple(tuple(map(self.settled, value.parts)))
-        return self.tight(value) if isinstance(value, (Lists, Whole)) else value
+        if isinstance(value, Vector):
+            return value
+        value = self.tight(value)
+        return Lists(value.lengths, self.settled(value.inner))
 
     def empty(self, kind):
         """A value of no iterations."""
@@ -120,7 +123,7 @@ class Lift:
 
     def append(self, one, other):
         """The list of each iteration, and behind it that of another value."""
-        one, other = self.tight(one), self.tight(other)
+        one, other = self.settled(one), self.settled(other)
         inner = self.behind(one.inner, other.inner, one.lengths, other.lengths)
         return Lists(self.call("add_wuz", one.lengths, other.lengths), inner)
 
@@ -147,9 +150,12 @@ class Lift:
 
     def floor(self, a, b, error, is_quotient):
         """`a // b` or `a % b` as in Python. Calls divide toward zero, so the quotient is one less if there is a remainder of another
-        sign than the divisor."""
+        sign than the divisor. By a power of two, bits are shifted out or left."""
+        if b.is_written and b.value > 0 and b.value & (b.value - 1) == 0:
+            bits = b.value.bit_length() - 1 if is_quotient else b.value - 1
+            return self.call("rsh_wuz" if is_quotient else "and_wuz", a, Same(bits, "z"))
         rest = self.call("mod_wuz", a, b, error=error)
-        if isinstance(b, Same) and not isinstance(b.value, str):
+        if b.is_written:
             turned = self.call("les_wuz" if b.value > 0 else "grt_wuz", rest, Same(0, "z"))
         else:
             apart = self.call("les_wuz", self.call("xor_wuz", rest, b), Same(0, "z"))
@@ -171,9 +177,9 @@ class Lift:
 
     def product_wraps(self, a, b, product):
         """Dividing it gives something else; only -1 times the least integer is seen otherwise."""
-        if isinstance(a, Same) and not isinstance(a.value, str):
+        if a.is_written:
             a, b = b, a
-        if isinstance(b, Same) and not isinstance(b.value, str) and b.value > 0:
+        if b.is_written and b.value > 0:
             over = self.call("grt_wuz", a, Same(GREATEST // b.value, "z"))
             return self.call("ior_wub", over, self.call("les_wuz", a, Same(-(-LEAST // b.value), "z")))
         divisor = self.call("sel_wuz", self.call("eql_wuz", b, Same(0, "z")), Same(1, "z"), b)

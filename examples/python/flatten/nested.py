@@ -34,7 +34,8 @@ class Nested:
         vectors = [vector for value, kind in zip(given, instance.arguments) for vector in lowered([value], final(kind))]
         names = [name for value in function.block.inputs for name in leaves(value)]
         try:
-            result = run.run(function.block, dict(zip(names, vectors)), 1)
+            with run.deep_enough():
+                result = run.run(function.block, dict(zip(names, vectors)), 1)
         except run.Failed as failed:
             error = failed.error
         else:
@@ -58,7 +59,7 @@ class Nested:
 
     def listing(self, *given):
         """The vector calls as text, for arguments of the types of these: this function, and those that it calls."""
-        return "\n".join(listing(self.compile(given)[0]))
+        return listing(self.compile(given)[0])
 
     def value(self, given, vectors):
         """The result of a script for these arguments, of the vectors that it printed."""

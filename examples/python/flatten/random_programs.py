@@ -1,6 +1,8 @@
 """Nested programs at random, each with inputs: what they give as vector calls, as scripts, and what Python gives.
 
-    python3 -m flatten.random_programs COUNT [SEED]    compares so many, and tells what they were
+    python3 -m flatten.random_programs COUNT [FIRST [PROGRAM]]
+
+compares so many from a number on, by the program `cvl` too if that is named, and tells what their runs were.
 
 Python runs the same text with integers that raise an `OverflowError` where they leave 32 bits, as the compiler's do.
 """
@@ -364,3 +366,15 @@ def compare(seed, run_script=None):
                 script.error(stopped)
             seen["a script"] += 1
     return seen
+
+
+def main(count, first=0, program=None):
+    """Compares programs, the scripts too where a program `cvl` is named, and tells what their runs were."""
+    seen = collections.Counter()
+    for seed in range(int(first), int(first) + int(count)):
+        seen += compare(seed, program and (lambda script: script.run(program)))
+    print(f"{count} programs:", ", ".join(f"{count} times {what}" for what, count in seen.most_common()))
+
+
+if __name__ == "__main__":
+    main(*sys.argv[1:])

@@ -4,12 +4,29 @@ The first error is the one that Python would raise: of the first iteration that 
 later step may fail in an earlier iteration. So if one fails, those before it run again, alone; if one of these fails, it is the first.
 """
 
+import contextlib
+import sys
+
 import cvl
 import numpy
 
 from flatten.code import Apply, Call, Check, Lists, Same, Tuple, Vector, Whole, leaves
 
 DTYPES = {"z": numpy.int32, "b": bool}
+
+# so many calls of Python's run a call of a function within another, at most in common programs
+CALLS_EACH = 12
+
+
+@contextlib.contextmanager
+def deep_enough():
+    """Functions may call one another as deeply as Python's own do."""
+    before = sys.getrecursionlimit()
+    sys.setrecursionlimit(CALLS_EACH * before)
+    try:
+        yield
+    finally:
+        sys.setrecursionlimit(before)
 
 
 class Failed(Exception):

@@ -4,7 +4,10 @@ A script runs from its first line to its last, so blocks run even without iterat
 that calls itself has no script. Calls that scripts do not have are made of others.
 """
 
+import pathlib
 import re
+import subprocess
+import tempfile
 
 import numpy
 
@@ -23,6 +26,15 @@ class Script:
 
     def __init__(self, lines, inputs):
         self.text, self.inputs = "".join(f"{line}\n" for line in lines), inputs
+
+    def run(self, program):
+        """Runs the script by a program `cvl`: what it prints, and what it says where it stops."""
+        with tempfile.TemporaryDirectory() as folder:
+            files = [pathlib.Path(folder, "script.cvl"), *(pathlib.Path(folder, f"{k}.txt") for k in range(1, len(self.inputs) + 1))]
+            for file, text in zip(files, (self.text, *self.inputs)):
+                file.write_text(text)
+            done = subprocess.run([program, *files], capture_output=True, text=True)
+        return done.stdout, done.stderr
 
     def vectors(self, printed):
         """The vectors of the result, of what the script printed."""
@@ -56,15 +68,16 @@ class _Writer:
     """Lines so far, the name or number that stands in them for each name of the code, and the kind of each."""
 
     def __init__(self):
-        self.lines, self.inputs, self.names, self.kinds, self.inside = [], [], {}, {}, []
+        self.lines, self.bound, self.inputs, self.names, self.kinds, self.inside = [], {}, [], {}, {}, []
 
     def line(self, call, *words, error=None):
-        """Writes a line that binds a new name."""
-        name = f"v{len(self.lines) + 1}"
-        said = f"    # {error.kind.__name__}, line {error.line}" if error else ""
-        self.lines.append(f"{name} = {call} {' '.join(map(str, words))}{said}")
-        self.kinds[name] = GIVES.get(call) or KINDS.get(call[:3], "z" if call[-1] == "z" else "b")
-        return name
+        """Writes a line that binds a new name, unless one has bound the same."""
+        text = f"{call} {' '.join(map(str, words))}"
+        if text not in self.bound:
+            name = self.bound[text] = f"v{len(self.bound) + 1}"
+            self.lines.append(f"{name} = {text}" + (f"    # {error.kind.__name__}, line {error.line}" if error else ""))
+            self.kinds[name] = GIVES.get(call) or KINDS.get(call[:3], "z" if call[-1] == "z" else "b")
+        return self.bound[text]
 
     # ---- arguments ----
 
@@ -126,11 +139,14 @@ class _Writer:
         if hasattr(self, call):
             return getattr(self, call)(*words)
         if call[-3] == "w":
-            length = next(self.length(word) for word in words if self.kinds.get(word) in ("z", "b"))
-            words = [word if self.kinds.get(word) in ("z", "b") else self.copies(word, length) for word in words]
+            vector = next(word for word in words if self.is_vector(word))
+            words = [word if self.is_vector(word) else self.copies(word, self.length(vector)) for word in words]
         if call in LENGTHS:
             words[LENGTHS[call]] = self.line("mke_fov", words[LENGTHS[call]])
         return self.line(call, *words, error=error)
+
+    def is_vector(self, word):
+        return self.kinds.get(word) in ("z", "b")
 
     def length(self, name):
         return self.line(f"len_lu{self.kinds[name]}", name)
