@@ -10,7 +10,11 @@ import linecache
 import os
 import pathlib
 import random
+import re
+import shutil
+import subprocess
 import sys
+import tempfile
 import traceback
 import unittest
 
@@ -206,6 +210,41 @@ class Refusals(Limited):
             found = caught.exception
             self.assertEqual((found.lineno, found.offset, found.msg[: len(said)]), (line, column, said), body)
             self.assertEqual(found.text, text.splitlines(True)[line - 1])
+
+
+BY_THE_PAGE = """
+from flatten import nested
+
+@nested
+def parts(rows, by):
+    return [[divmod(x, by) for x in row] for row in rows]
+
+given = [[7, -7], [], [9]], -4
+assert parts(*given) == parts.plain(*given), parts(*given)
+for wrong, kind in ((0, ZeroDivisionError), (-1, OverflowError)):
+    try:
+        parts([[-(2**31)]], wrong)
+    except kind:
+        continue
+    raise AssertionError(wrong)
+"""
+
+
+class Page(Limited):
+    def test_divmod(self):
+        """What the page says adds a function to the compiler."""
+        page = (TOP / "docs/user/flattening.md").read_text()
+        infer, functions = (re.sub("^   ", "", block, flags=re.M) for block in re.findall(r"^   ```python\n(.*?)^   ```", page, re.M | re.S))
+        with tempfile.TemporaryDirectory() as folder:
+            copy = pathlib.Path(shutil.copytree(TOP / "examples/python/flatten", pathlib.Path(folder, "flatten")))
+            language = (copy / "language.py").read_text()
+            (copy / "language.py").write_text(language.replace('BUILTINS = (', 'BUILTINS = ("divmod", '))
+            for name, block in (("infer", infer), ("functions", functions)):
+                with open(copy / f"{name}.py", "a") as file:
+                    file.write(f"\n{block}")
+            pathlib.Path(folder, "by_the_page.py").write_text(BY_THE_PAGE)
+            done = subprocess.run([sys.executable, pathlib.Path(folder, "by_the_page.py")], capture_output=True, text=True)
+        self.assertEqual((done.returncode, done.stderr), (0, ""))
 
 
 if __name__ == "__main__":

@@ -14,6 +14,7 @@ The page docs/user/flattening.md walks through it. Each module has one idea; rea
     safe      which expressions cannot fail
     code      lifted values, and code as lists of vector calls
     lift      operations on lifted values, as vector calls
+    functions the functions of Python, elements and slices, for all iterations at once
     compile   each expression and statement, for all iterations at once
     run       runs code by the package `cvl`, with errors in the order of Python
     script    writes code as a script of the program `cvl`

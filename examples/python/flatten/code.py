@@ -208,6 +208,15 @@ def gives(step):
     return [step.name] if isinstance(step, Call) else leaves(step.result)
 
 
+def _read_of(value, names):
+    """The parts of a value that are read, by the names that are."""
+    if isinstance(value, Tuple):
+        return [part for whole in value.parts for part in _read_of(whole, names)]
+    if isinstance(value, Lists) and not names & {*leaves(value.starts or value.inner)}:
+        return _read_of(value.lengths, names)
+    return [value] if names & {*leaves(value)} else []
+
+
 def tidied(block):
     """A block without the calls that nothing needs, and with what each step is the last to read, so that it can be let go."""
     needed, steps = set(leaves(block.result)), []
@@ -216,7 +225,7 @@ def tidied(block):
             continue
         if isinstance(step, Inside):
             inside = tidied(step.block)
-            inside.inputs = [value for value in inside.inputs if inside.reads & {*leaves(value)}]
+            inside.inputs = [part for value in inside.inputs for part in _read_of(value, inside.reads)]
             step = Inside(inside, step.result, step.lengths, step.flags)
         step.last = {*reads(step), *gives(step)} - needed
         needed |= {*reads(step)}

@@ -170,10 +170,20 @@ class Lift:
             return self.call("and_wub", self.call("eql_wuz", a, Same(LEAST, "z")), self.call("eql_wuz", b, Same(-1, "z")))
         if op == "mul":
             return self.product_wraps(a, b, wrapped)
+        if op == "add" and a.is_written:
+            a, b = b, a
+        if b.is_written:
+            return self.above_or_below(a, b.value if op == "add" else -b.value)
         # a sum has wrapped if its sign differs from both signs, a difference if a's sign differs from both others
         first = self.call("xor_wuz", a, wrapped if op == "add" else b)
         second = self.call("xor_wuz", wrapped, b if op == "add" else a)
         return self.call("les_wuz", self.call("and_wuz", first, second), Same(0, "z"))
+
+    def above_or_below(self, a, added):
+        """Flags where so much cannot be added."""
+        if added >= 0:
+            return self.call("grt_wuz", a, Same(GREATEST - added, "z"))
+        return self.call("les_wuz", a, Same(LEAST - added, "z"))
 
     def product_wraps(self, a, b, product):
         """Dividing it gives something else; only -1 times the least integer is seen otherwise."""

@@ -282,8 +282,8 @@ class Writer:
             lines.append(f"    {found} = {name}({less}, {self.of(kind, names, 2)})")
             names[found] = result
         elif self.random.random() < 0.4:
+            lines.append(f"    {found}, {found}b = {name}({less}, {self.of(kind, names, 1)}), {name}({less}, {other})")
             names.update({found: result, found + "b": result})
-            lines.append(f"    {found}, {found}b = {name}({less}, {self.of(kind, names | {found: 0}, 1)}), {name}({less}, {other})")
         else:
             each = self.name()
             several = f"[{self.of(kind, names, 2)}, {self.of(kind, names, 2)}]"

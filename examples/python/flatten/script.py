@@ -61,7 +61,18 @@ def written(function, vectors):
     for k, name in enumerate(leaves(function.block.result), 1):
         kind = "z" if writer.kinds[writer.names[name]] == "z" else "b"
         writer.lines += [f"result{k} = cpy_wu{kind} {writer.names[name]}", f"write result{k}"]
-    return Script(writer.lines, writer.inputs)
+    return Script(needed(writer.lines), writer.inputs)
+
+
+def needed(lines):
+    """The lines that a result needs, or that may stop; their names count from v1."""
+    read, found, names = set(), [], {}
+    for line in reversed(lines):
+        name, *words = re.findall(r"\w+", line.partition("#")[0])
+        if name in read or not name.startswith("v") or "#" in line:
+            found.append(line)
+            read.update(words)
+    return [re.sub(r"\bv\d+\b", lambda name: names.setdefault(name[0], f"v{len(names) + 1}"), line) for line in reversed(found)]
 
 
 class _Writer:
