@@ -1,6 +1,7 @@
 """The decorator `nested`: a function of Python that runs as vector calls."""
 
 import functools
+import types
 
 import cvl
 import numpy
@@ -25,7 +26,7 @@ class Nested:
 
     def __init__(self, function, wraps):
         functools.update_wrapper(self, function)
-        self.plain, self.name, self.wraps = function, function.__name__, wraps
+        self.function, self.name, self.wraps = function, function.__name__, wraps
         self.source = read(function)
         self.compiled = {}
 
@@ -52,10 +53,26 @@ class Nested:
 
     def lookup(self, name):
         """The nested function that a name of the text stands for, if it does."""
-        cells = zip(self.plain.__code__.co_freevars, self.plain.__closure__ or ())
-        around = {variable: cell.cell_contents for variable, cell in cells}
-        found = around.get(name, self.plain.__globals__.get(name))
+        found = {**self.function.__globals__, **self.variables()}.get(name)
         return found if isinstance(found, Nested) else None
+
+    def variables(self):
+        """What stands around the function and is named in it."""
+        return {name: cell.cell_contents for name, cell in zip(self.function.__code__.co_freevars, self.function.__closure__ or ())}
+
+    @property
+    def plain(self):
+        return self.plainly({})
+
+    def plainly(self, made):
+        """The function as it stands, calling those as they stand that it calls. `made` has those that have been made so."""
+        if self not in made:
+            names, cells = dict(self.function.__globals__), {name: types.CellType(value) for name, value in self.variables().items()}
+            made[self] = types.FunctionType(self.function.__code__, names, self.name, None, tuple(cells.values()))
+            names.update({name: value.plainly(made) for name, value in names.items() if isinstance(value, Nested)})
+            for name, value in self.variables().items():
+                cells[name].cell_contents = value.plainly(made) if isinstance(value, Nested) else value
+        return made[self]
 
     def listing(self, *given):
         """The vector calls as text, for arguments of the types of these: this function, and those that it calls."""
