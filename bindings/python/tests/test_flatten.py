@@ -6,6 +6,7 @@ it is that of the checkout. With a number it compares so many programs at random
     python3 test_flatten.py 100000
 """
 
+import doctest
 import linecache
 import os
 import pathlib
@@ -23,7 +24,7 @@ import cvl
 TOP = pathlib.Path(__file__).resolve().parents[3]
 sys.path.insert(0, str(TOP / "examples/python"))
 
-from flatten import Refused, nested, programs, random_programs
+from flatten import Refused, kinds, nested, programs, random_programs
 from test_cvl import Limited
 
 PROGRAM = os.environ.get("CVL_PROGRAM") or str(TOP / "crates/cvl/out/cvl")
@@ -66,7 +67,7 @@ def inputs(drawn, n):
 class Programs(Limited):
     def test_beside_their_plain_forms(self):
         drawn = random.Random(1)
-        for n in (0, 1, 2, 3, 4, 9, 20, 40, 60):
+        for n in (0, 1, 2, 3, 5, 20, 60):
             for program, *given in inputs(drawn, n):
                 wanted = program.plain(*given)
                 self.assertEqual(program(*given), wanted, (program.name, given))
@@ -105,6 +106,8 @@ class Programs(Limited):
 
 
 class RandomPrograms(Limited):
+    LIMIT = 240
+
     def test_against_python(self):
         for seed in range(300):
             random_programs.compare(seed)
@@ -139,6 +142,11 @@ def later(v):
 
 
 @nested
+def with_last(rows):
+    return [[100 // x + row[-1] for x in row] for row in rows]
+
+
+@nested
 def of_each(v):
     return [(100 // x) + [5, 7][x] for x in v]
 
@@ -161,6 +169,10 @@ class Errors(Limited):
         """In the order of the elements, whatever fails first in all of them together."""
         self.stops(IndexError, 2, of_each, [1, 2, 0])
         self.stops(ZeroDivisionError, 2, of_each, [1, 0, 2])
+        self.stops(ZeroDivisionError, 2, with_last, [[1, 2], [3, 4, 0, 5]])
+
+    def test_examples(self):
+        self.assertEqual(doctest.testmod(kinds).failed, 0)
 
     def test_numbers_of_32_bits(self):
         least, greatest = -(2**31), 2**31 - 1

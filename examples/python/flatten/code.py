@@ -20,6 +20,8 @@ CALLS = {
     "n": "add_ruz cnt_lub ext_vuz",
     "t": "ext_vub",
 }
+# a new name for what has one
+SAME = "is"
 GIVES = {name: kind for kind, names in CALLS.items() for name in names.split()}
 
 
@@ -91,6 +93,15 @@ def leaves(value):
     if isinstance(value, Whole):
         return leaves(value.length) + leaves(value.inner)
     return [value.lengths.name, *([value.starts.name] if value.starts else []), *leaves(value.inner)]
+
+
+def stays(value):
+    """The names of the vectors that are the same, whichever iterations of a value are left out: the elements of lists with starts."""
+    if isinstance(value, Tuple):
+        return [name for part in value.parts for name in stays(part)]
+    if isinstance(value, Lists):
+        return leaves(value.inner) if value.starts else stays(value.inner)
+    return leaves(value.inner) if isinstance(value, Whole) else []
 
 
 def renamed(value, names):

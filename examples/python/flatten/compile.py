@@ -8,7 +8,7 @@ import ast
 import functools
 import itertools
 
-from flatten.code import Apply, Block, Function, Inside, Lists, Same, Tuple, Vector, Whole, form, renamed, tidied
+from flatten.code import Apply, Block, Function, Inside, Lists, Same, Tuple, Vector, Whole, form, leaves, renamed, stays, tidied
 from flatten.functions import Functions
 from flatten.infer import Instances
 from flatten.kinds import BOOL, List, final
@@ -66,32 +66,24 @@ class Body(Functions):
 
     # ---- blocks ----
 
-    def inside(self, names, nodes, enter, count, compile_block, **of):
+    def inside(self, names, nodes, enter, count, compile_block, single=False, **of):
         """Runs a block for other iterations. It takes the names that its nodes read, as `enter` makes them."""
         block = Block(count.value)
-        free = free_names(*nodes)
-        inner = {name: enter(value) for name, value in names.items() if name in free}
+        body = Body(self.program, self.instance, block, single)
+        inner = {name: enter(names[name]) for name in names.keys() & free_names(*nodes)}
         block.inputs = [*inner.values()]
-        body = Body(self.program, self.instance, block, False)
         block.result = compile_block(body, inner)
-        if not block.steps and not body.single:
+        if not block.steps and not single:
             return block.result
         result = renamed(block.result, self.names)
         self.block.steps.append(Inside(block, result, **of))
         return result
 
     def where(self, names, nodes, flags, compile_block):
-        """Runs a block for the iterations whose flag is true."""
-        count = self.call("cnt_lub", flags)
-
-        is_single = self.single and not self.program.straight
-
-        def compile_where(body, inner):
-            body.single = is_single
-            return compile_block(body, inner)
-
-        enter = (lambda value: value) if is_single else (lambda value: self.pack(value, flags))
-        return self.inside(names, nodes, enter, count, compile_where, flags=flags.name)
+        """Runs a block for the iterations whose flag is true. If there is one iteration, the block runs for this or does not run."""
+        single = self.single and not self.program.straight
+        enter = (lambda value: value) if single else (lambda value: self.pack(value, flags))
+        return self.inside(names, nodes, enter, self.call("cnt_lub", flags), compile_block, single, flags=flags.name)
 
     def branch(self, names, flags, sides):
         """Two blocks, for the iterations whose flag is true and for the others, and both results put together. A side is what its block
@@ -103,45 +95,36 @@ class Body(Functions):
     # ---- statements ----
 
     def statements(self, lines, names):
-        """The value that statements return."""
+        """The value that statements return. Where some way through an `if` returns, what follows belongs to the other ways."""
         for k, line in enumerate(lines):
             if isinstance(line, ast.Return):
                 return self.settled(self.of(line.value, names))
-            if isinstance(line, ast.Assign):
-                names = {**names, **self.assign(line.targets[0], self.of(line.value, names), line)}
-            elif isinstance(line, ast.If):
-                if may_return([line]):
-                    rest = lines[k + 1 :]
-                    ways = [side if returns(side) else side + rest for side in (line.body, line.orelse)]
-                    sides = [(way, lambda body, inner, way=way: body.statements(way, inner)) for way in ways]
-                    return self.branch(names, self.of(line.test, names), sides)
-                names = self.joined(line, names)
+            if may_return([line]):
+                ways = [side if returns(side) else side + lines[k + 1 :] for side in (line.body, line.orelse)]
+                sides = [(way, lambda body, inner, way=way: body.statements(way, inner)) for way in ways]
+                return self.branch(names, self.of(line.test, names), sides)
+            names = self.after(line, names)
+
+    def after(self, line, names):
+        """The names behind a statement that does not return."""
+        if isinstance(line, ast.Assign):
+            return {**names, **self.assign(line.targets[0], self.of(line.value, names), line)}
+        return self.joined(line, names) if isinstance(line, ast.If) else names
 
     def joined(self, line, names):
         """The names behind an `if` that does not return."""
-        ways = [{*names, *assigned(side)} for side in (line.body, line.orelse)]
-        changed = [name for name in assigned([line]) if all(name in way for way in ways)]
-        reads = [ast.Name(name, ast.Load()) for name in changed]
+        bound = [{*names, *assigned(side)} for side in (line.body, line.orelse)]
+        changed = [name for name in assigned([line]) if name in bound[0] & bound[1]]
 
         def side(lines):
             def compile_side(body, inner):
-                inner = body.run(lines, inner)
+                inner = functools.reduce(lambda found, one: body.after(one, found), lines, inner)
                 return Tuple(tuple(body.settled(inner[name]) for name in changed))
 
-            return [*lines, *reads], compile_side
+            return [*lines, *(ast.Name(name, ast.Load()) for name in changed)], compile_side
 
         result = self.branch(names, self.of(line.test, names), [side(line.body), side(line.orelse)])
-        gone = {name for way in ways for name in way} - (ways[0] & ways[1])
-        return {**{name: value for name, value in names.items() if name not in gone}, **dict(zip(changed, result.parts))}
-
-    def run(self, lines, names):
-        """The names behind statements that do not return."""
-        for line in lines:
-            if isinstance(line, ast.Assign):
-                names = {**names, **self.assign(line.targets[0], self.of(line.value, names), line)}
-            elif isinstance(line, ast.If):
-                names = self.joined(line, names)
-        return names
+        return {**names, **dict(zip(changed, result.parts))}
 
     def assign(self, target, value, near):
         """The names that a target binds. A list is taken apart if it has as many elements in each iteration."""
@@ -198,14 +181,16 @@ class Body(Functions):
         return result
 
     def fits(self, node, op, a, b, wrapped):
-        if not self.instance.function.wraps:
+        """Checks that a result has not wrapped, unless it may or never does."""
+        never = op == "div" and (a.is_written and a.value != LEAST or b.is_written and b.value != -1)
+        if not self.instance.function.wraps and not never:
             self.check(self.leaves_32_bits(op, a, b, wrapped), self.error(node, OverflowError, "a result leaves 32 bits"))
 
     def quotient(self, node, a, b):
         is_quotient = isinstance(node.op, ast.FloorDiv)
         said = "integer division or modulo by zero" if is_quotient else "integer modulo by zero"
         result = self.floor(a, b, self.error(node, ZeroDivisionError, said), is_quotient)
-        if is_quotient and not (isinstance(node.right, ast.Constant) and node.right.value != -1):
+        if is_quotient:
             self.fits(node, "div", a, b, result)
         return result
 
@@ -253,8 +238,11 @@ class Body(Functions):
         source = self.tight(self.of(first.iter, names))
 
         def compile_block(body, inner):
-            body.block.inputs.append(source.inner)
-            return body.kept(node, first.ifs, rest, {**inner, **body.assign(first.target, source.inner, node)})
+            elements = source.inner
+            if {*leaves(elements)} & {name for value in inner.values() for name in stays(value)}:
+                elements = self.again(elements)
+            body.block.inputs.append(elements)
+            return body.kept(node, first.ifs, rest, {**inner, **body.assign(first.target, elements, node)})
 
         outer = {name: value for name, value in names.items() if name not in bound_by(first.target)}
         count = self.call("add_ruz", source.lengths)

@@ -21,9 +21,7 @@ class Functions(Lift):
     def element(self, node, value, index):
         error = self.error(node, IndexError, "list index out of range")
         length = value.length if isinstance(value, Whole) else value.lengths
-        if not (index.is_written and index.value >= 0):
-            index = self.from_end(index, length)
-        index = self.vector(index)
+        index = self.vector(self.from_end(index, length))
         if isinstance(value, Whole):
             return self.take(value.inner, index, error)
         if value.starts is None:
@@ -34,6 +32,8 @@ class Functions(Lift):
 
     def from_end(self, index, length):
         """An index, of which a negative one counts from the end."""
+        if index.is_written:
+            return self.call("add_wuz", length, index) if index.value < 0 else index
         return self.call("sel_wuz", self.call("les_wuz", index, Same(0, "z")), self.call("add_wuz", index, length), index)
 
     def cut(self, value, begin, end):

@@ -1,6 +1,6 @@
 """Operations on lifted values: each does at once, for all iterations, what Python does in one. They write vector calls."""
 
-from flatten.code import GIVES, Call, Check, Lists, Same, Tuple, Vector, Whole, of_kind
+from flatten.code import GIVES, SAME, Call, Check, Lists, Same, Tuple, Vector, Whole, leaves, of_kind, renamed
 from flatten.kinds import INT, BOOL, List
 from flatten.kinds import Tuple as TupleKind
 from flatten.language import GREATEST, LEAST
@@ -31,6 +31,12 @@ class Lift:
     def check(self, flags, error):
         """The first iteration whose flag is true has this error."""
         self.block.steps.append(Check(self.vector(flags).name, error))
+
+    def again(self, value):
+        """A value by other names. If iterations fail, a block leaves elements out of what it walks, and not of a list that it indexes."""
+        other = renamed(value, self.names)
+        self.block.steps += [Call(name, SAME, [old]) for name, old in zip(leaves(other), leaves(value))]
+        return other
 
     def vector(self, value):
         """A vector of what may be the same in all iterations."""

@@ -127,6 +127,13 @@ class Writer:
         right = self.pick("2", "3", "-3") if op in "//%" and self.random.random() < 0.6 else self.of(INT, names, depth)
         return f"({self.of(INT, names, depth)} {op} {right})"
 
+    def fragile(self, kind, names, depth):
+        """What fails for some numbers, and is cheap."""
+        numbers = [name for name, has in names.items() if has == INT] or ["2"]
+        lists = [name for name, has in names.items() if has == INTS] or ["[1, 2]"]
+        x, y, v = self.pick(*numbers), self.pick(*numbers), self.pick(*lists)
+        return self.pick(f"(9 // {x})", f"({x} % {y})", f"[5, 6, 7][{x}]", f"{v}[{x}]", f"max({v}[{x}:])", f"({x} * 999999999)", f"{v}[-1]")
+
     def negative(self, kind, names, depth):
         return f"(-{self.of(INT, names, depth)})" if kind == INT else f"(not {self.of(BOOL, names, depth)})"
 
@@ -212,7 +219,8 @@ class Writer:
             names = {**names, **more}
             text += f" for {target} in {source}"
             text += "".join(f" if {self.of(BOOL, names, depth)}" for _ in range(self.pick(0, 0, 1, 1, 2)))
-        return f"[{self.of(ELEMENT[kind], names, depth)}{text}]"
+        makes = self.call if self.random.random() < 0.4 else self.of
+        return f"[{makes(ELEMENT[kind], names, depth)}{text}]"
 
     def call(self, kind, names, depth):
         found = [one for one in self.functions if one[2] == kind]
@@ -296,8 +304,8 @@ class Writer:
     def program(self):
         """The text of a program, and whether a function in it calls itself."""
         lines, recurs = [], False
-        for _ in range(self.pick(0, 0, 1, 2)):
-            is_recursion = self.random.random() < 0.5
+        for _ in range(self.pick(0, 1, 1, 2)):
+            is_recursion = self.random.random() < 0.35
             recurs = recurs or is_recursion
             lines += [*(self.recursion() if is_recursion else self.function()), ""]
         lines += self.function()
@@ -305,14 +313,14 @@ class Writer:
 
     def value(self, kind):
         if kind == INT:
-            return self.pick(0, 1, 2, 3, -1, -5, 100, GREATEST, LEAST, self.random.randrange(-9, 9))
+            return self.pick(0, 1, 2, 3, 1, 2, -1, -3, 100, GREATEST, LEAST, *range(-3, 4))
         if kind == BOOL:
             return self.pick(True, False)
-        return [self.value(ELEMENT[kind]) for _ in range(self.pick(0, 1, 2, 3, 5))]
+        return [self.value(ELEMENT[kind]) for _ in range(self.pick(0, 1, 2, 3, 5, 6))]
 
 
 WAYS = {
-    INT: ("arithmetic", "arithmetic", "negative", "small", "index", "index", "length", "reduce", "reduce", "choice", "extreme", "taken", "call", "call"),
+    INT: ("arithmetic", "arithmetic", "fragile", "fragile", "fragile", "negative", "small", "index", "index", "length", "reduce", "reduce", "choice", "extreme", "taken", "call", "call"),
     BOOL: ("compare", "compare", "compare", "logic", "logic", "negative", "index", "reduce", "choice", "call"),
     INTS: ("display", "joined", "slice", "order", "comprehension", "comprehension", "comprehension", "choice", "index", "taken", "call"),
     BOOLS: ("display", "joined", "slice", "order", "comprehension", "comprehension", "choice"),

@@ -10,7 +10,7 @@ import sys
 import cvl
 import numpy
 
-from flatten.code import Apply, Call, Check, Lists, Same, Tuple, Vector, Whole, leaves
+from flatten.code import SAME, Apply, Call, Check, Lists, Same, Tuple, Vector, Whole, leaves
 
 DTYPES = {"z": numpy.int32, "b": bool}
 
@@ -73,6 +73,8 @@ def steps(block, given, n):
 def call(step, values):
     """Makes a call. The place of its fault is the iteration that fails."""
     given = [values[word] if isinstance(word, str) else word for word in step.given]
+    if step.call == SAME:
+        return given[0]
     try:
         return getattr(cvl, step.call)(*given)
     except cvl.Fault as fault:

@@ -11,7 +11,7 @@ import tempfile
 
 import numpy
 
-from flatten.code import GIVES, Call, Check, Inside, Lists, Tuple, Vector, leaves
+from flatten.code import GIVES, SAME, Call, Check, Inside, Lists, Tuple, Vector, leaves
 
 # the places of the arguments that are lengths of segments, for which scripts take a descriptor
 LENGTHS = {call: 1 for call in "add_rez tot_rez min_rez max_rez and_reb ior_reb dis_vez dis_veb".split()}
@@ -147,6 +147,8 @@ class _Writer:
 
     def call(self, call, words, error):
         """Writes a call. Where a number stands for a vector, it becomes one; lengths become a descriptor."""
+        if call == SAME:
+            return words[0]
         if hasattr(self, call):
             return getattr(self, call)(*words)
         if call[-3] == "w":
