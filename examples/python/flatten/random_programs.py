@@ -264,7 +264,7 @@ class Writer:
 
     def function(self):
         """A function of some arguments, which may return early."""
-        kinds, result = [self.pick(*TYPES) for _ in range(self.pick(1, 2, 3))], self.pick(*TYPES)
+        kinds, result = [self.pick(*TYPES, INTS, NEST) for _ in range(self.pick(1, 2, 3))], self.pick(*TYPES, INTS)
         names = {self.name(): kind for kind in kinds}
         name = f"f{len(self.functions)}"
         lines = ["@nested", f"def {name}({', '.join(names)}):"]
@@ -276,6 +276,21 @@ class Writer:
         more, inner = self.block(inner, "    ", 1)
         lines += [*more, f"    return {self.of(result, inner, 3)}"]
         self.functions.append((name, kinds, result))
+        return lines
+
+    def steps(self):
+        """A function of integers each of whose lines fails for some of them: run for all elements of a list, the first error is not that
+        of the first line."""
+        name, names = f"f{len(self.functions)}", {self.name(): INT for _ in range(self.pick(1, 2))}
+        kinds, lines = [INT] * len(names), ["@nested", f"def {name}({', '.join(names)}):"]
+        for _ in range(self.pick(2, 3, 4)):
+            found = self.name()
+            lines.append(f"    {found} = {self.fragile(INT, names, 0)}")
+            if self.random.random() < 0.3:
+                lines[-1:] = [f"    {found} = 1", f"    if {self.of(BOOL, names, 1)}:", f"        {found} = {self.fragile(INT, names, 0)}"]
+            names[found] = INT
+        lines.append(f"    return {self.pick(*names)}")
+        self.functions.append((name, kinds, INT))
         return lines
 
     def recursion(self):
@@ -305,9 +320,9 @@ class Writer:
         """The text of a program, and whether a function in it calls itself."""
         lines, recurs = [], False
         for _ in range(self.pick(0, 1, 1, 2)):
-            is_recursion = self.random.random() < 0.35
-            recurs = recurs or is_recursion
-            lines += [*(self.recursion() if is_recursion else self.function()), ""]
+            make = self.pick(self.recursion, self.function, self.steps)
+            recurs = recurs or make == self.recursion
+            lines += [*make(), ""]
         lines += self.function()
         return "".join(f"{line}\n" for line in lines), recurs
 
@@ -322,7 +337,7 @@ class Writer:
 WAYS = {
     INT: ("arithmetic", "arithmetic", "fragile", "fragile", "fragile", "negative", "small", "index", "index", "length", "reduce", "reduce", "choice", "extreme", "taken", "call", "call"),
     BOOL: ("compare", "compare", "compare", "logic", "logic", "negative", "index", "reduce", "choice", "call"),
-    INTS: ("display", "joined", "slice", "order", "comprehension", "comprehension", "comprehension", "choice", "index", "taken", "call"),
+    INTS: ("display", "joined", "slice", "order", "comprehension", "comprehension", "comprehension", "comprehension", "comprehension", "choice", "index", "taken", "call"),
     BOOLS: ("display", "joined", "slice", "order", "comprehension", "comprehension", "choice"),
     NEST: ("display", "joined", "slice", "comprehension", "comprehension", "choice", "taken"),
 }
