@@ -147,16 +147,59 @@ def with_last(rows):
 
 
 @nested
+def third(x):
+    return [5, 6, 7][x]
+
+
+@nested
+def thirds(a, b, x):
+    return third(a) + 9 // x + third(b)
+
+
+@nested
+def slices(v, ends):
+    return [(v[a:b], v[a:], v[:b], v[::-1], v[: len(v) // 2]) for a, b in ends]
+
+
+@nested
+def slices_of_slices(rows, ends):
+    return [[sum(row[a:b][-2:]) for row in rows] for a, b in ends]
+
+
+@nested
+def in_a_branch(x):
+    a = 9 // (x - 5) if x > 4 else 0
+    return [1, 2, 3][x] + a
+
+
+@nested
+def in_branches(v):
+    return [in_a_branch(x) for x in v]
+
+
+@nested
+def in_a_row(row):
+    quotients = [9 // x for x in row]
+    return quotients[1]
+
+
+@nested
+def in_rows(rows):
+    return [in_a_row(row) for row in rows]
+
+
+@nested
 def of_each(v):
     return [(100 // x) + [5, 7][x] for x in v]
 
 
 class Errors(Limited):
-    def stops(self, kind, line, function, *given):
+    def stops(self, kind, line, function, *given, inside=None):
         try:
             function(*given)
         except kind as error:
             frame = traceback.extract_tb(error.__traceback__)[-1]
+        function = inside or function
         code = function.plain.__code__
         self.assertEqual((frame.lineno - code.co_firstlineno, frame.filename, frame.name), (line, code.co_filename, function.name))
 
@@ -170,6 +213,27 @@ class Errors(Limited):
         self.stops(IndexError, 2, of_each, [1, 2, 0])
         self.stops(ZeroDivisionError, 2, of_each, [1, 0, 2])
         self.stops(ZeroDivisionError, 2, with_last, [[1, 2], [3, 4, 0, 5]])
+
+    def test_calls_side_by_side(self):
+        """They are made together unless something between them may fail."""
+        self.assertEqual(programs.mergesort.listing([1]).count(" = mergesort("), 2)
+        self.assertEqual(thirds(0, 1, 2), 15)
+        self.stops(ZeroDivisionError, 2, thirds, 0, 5, 0)
+        self.stops(IndexError, 2, thirds, 5, 0, 0, inside=third)
+
+    def test_slices(self):
+        ends = [(a, b) for a in range(-5, 6) for b in range(-5, 6)]
+        for v in ([], [1], [1, 2, 3, 4]):
+            self.assertEqual(slices(v, ends), slices.plain(v, ends))
+        rows = [[], [7], [1, 2, 3, 4, 5]]
+        self.assertEqual(slices_of_slices(rows, ends), slices_of_slices.plain(rows, ends))
+
+    def test_iterations_of_blocks(self):
+        """The iteration around a block that fails is that to which the element or the flag belongs."""
+        for line, function, outer, *given in ((3, in_a_branch, in_branches, [0, 3, 1, 5]), (3, in_a_row, in_rows, [[1, 1], [1], [0]])):
+            self.stops(IndexError, line, outer, *given, inside=function)
+        self.stops(ZeroDivisionError, 2, in_branches, [0, 1, 5, 4], inside=in_a_branch)
+        self.stops(ZeroDivisionError, 2, in_rows, [[1, 1], [1, 0], [5]], inside=in_a_row)
 
     def test_examples(self):
         self.assertEqual(doctest.testmod(kinds).failed, 0)

@@ -247,18 +247,25 @@ def tidied(block):
 
 
 def listing(function):
-    """The code of a function and of those that it calls as text, a step a line. Names count from v1."""
-    found, text, names = [function], [], {}
+    """The code of a function and of those that it calls as text, a step a line. Names count from v1; one that is another is that."""
+    found, text, names, others = [function], [], {}, {}
     for one in found:
         parameters = [name for value in one.block.inputs for name in leaves(value)]
         text.append(f"{one.name}({', '.join(parameters)}), {one.block.count} iterations:")
-        text += [*_lines(one.block.steps, "    ", found), f"    return {', '.join(leaves(one.block.result))}"]
-    return re.sub(r"\bv\d+\b", lambda name: names.setdefault(name[0], f"v{len(names) + 1}"), "\n".join(text))
+        text += [*_lines(one.block.steps, "    ", found, others), f"    return {', '.join(leaves(one.block.result))}"]
+
+    def number(word):
+        name = others.get(word[0], word[0])
+        return names.setdefault(name, f"v{len(names) + 1}")
+
+    return re.sub(r"\bv\d+\b", number, "\n".join(text))
 
 
-def _lines(steps, blanks, found):
+def _lines(steps, blanks, found, others):
     for step in steps:
-        if isinstance(step, Call):
+        if isinstance(step, Call) and step.call == SAME:
+            others[step.name] = others.get(step.given[0], step.given[0])
+        elif isinstance(step, Call):
             yield f"{blanks}{step.name} = {step.call} {' '.join(map(str, step.given))}"
         elif isinstance(step, Check):
             yield f"{blanks}{step.error.kind.__name__} at the first of {step.flags}"
@@ -268,5 +275,5 @@ def _lines(steps, blanks, found):
         else:
             of = f"the elements of {step.lengths}" if step.lengths else f"the true of {step.flags}"
             yield f"{blanks}{step.block.count} iterations, {of}:"
-            yield from _lines(step.block.steps, blanks + "    ", found)
+            yield from _lines(step.block.steps, blanks + "    ", found, others)
             yield f"{blanks}    give {', '.join(leaves(step.block.result))} as {', '.join(gives(step))}"

@@ -70,7 +70,8 @@ class Body(Functions):
         """Runs a block for other iterations. It takes the names that its nodes read, as `enter` makes them."""
         block = Block(count.value)
         body = Body(self.program, self.instance, block, single)
-        inner = {name: enter(names[name]) for name in names.keys() & free_names(*nodes)}
+        read = free_names(*nodes)
+        inner = {name: enter(value) for name, value in names.items() if name in read}
         block.inputs = [*inner.values()]
         block.result = compile_block(body, inner)
         if not block.steps and not single:

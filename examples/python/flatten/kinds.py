@@ -5,6 +5,7 @@
     (True, '[int]')
 """
 
+import itertools
 from dataclasses import dataclass
 
 import numpy
@@ -88,27 +89,26 @@ def unify(a, b):
     return a == b
 
 
-def _type_of_elements(values):
-    classes = {int if kind is numpy.int32 else bool if kind is numpy.bool_ else kind for kind in set(map(type, values))}
-    if classes == {int}:
-        return INT
-    if classes == {bool}:
-        return BOOL
-    kind = Unknown()
-    for value in values:
-        if not unify(kind, type_of(value)):
-            raise TypeError(f"a list has elements of the types {kind.found} and {type_of(value)}")
-    return kind
+BASIC = {int: INT, bool: BOOL, numpy.int32: INT, numpy.bool_: BOOL}
 
 
 def type_of(value):
     """The type of a value of Python."""
-    if isinstance(value, (bool, numpy.bool_)):
-        return BOOL
-    if isinstance(value, (int, numpy.int32)):
-        return INT
-    if isinstance(value, tuple):
-        return Tuple(tuple(map(type_of, value)))
-    if isinstance(value, list):
-        return List(_type_of_elements(value))
-    raise TypeError(f"{type(value).__name__} is none of int, bool, list and tuple")
+    return _type_of_all([value])
+
+
+def _type_of_all(values):
+    """The type that all these values have: of all lists at once, that of all their elements."""
+    found = {BASIC.get(kind, kind) for kind in set(map(type, values))}
+    if len(found) > 1:
+        raise TypeError(f"a list has elements of {' and '.join(sorted(getattr(kind, '__name__', str(kind)) for kind in found))}")
+    if not found:
+        return Unknown()
+    [kind] = found
+    if kind is list:
+        return List(_type_of_all(list(itertools.chain.from_iterable(values))))
+    if kind is tuple and len(set(map(len, values))) == 1:
+        return Tuple(tuple(map(_type_of_all, zip(*values))))
+    if not isinstance(kind, Basic):
+        raise TypeError(f"{kind.__name__} is none of int, bool, list, and tuples of one length")
+    return kind

@@ -1,9 +1,10 @@
 """The decorator `nested`: a function of Python that runs as vector calls."""
 
+import array
 import functools
+import itertools
 import types
 
-import cvl
 import numpy
 
 from flatten import run, script
@@ -92,11 +93,11 @@ class Nested:
 def lowered(values, kind):
     """The vectors of a value of each iteration."""
     if kind in (INT, BOOL):
-        return [cvl.as_ints(values, "an argument") if kind == INT else numpy.array(values, bool)]
+        return [numpy.array(array.array("i", values)) if kind == INT else numpy.array(values, bool)]
     if isinstance(kind, TupleKind):
         return [vector for part, of in zip(zip(*values) if values else [[]] * len(kind.parts), kind.parts) for vector in lowered(part, of)]
-    inner = values[0] if len(values) == 1 else [element for value in values for element in value]
-    return [cvl.as_ints([len(value) for value in values]), *lowered(inner, kind.of)]
+    inner = values[0] if len(values) == 1 else list(itertools.chain.from_iterable(values))
+    return [numpy.array([*map(len, values)], numpy.int32), *lowered(inner, kind.of)]
 
 
 def raised(vectors, kind):
