@@ -18,10 +18,10 @@ The page docs/user/flattening.md walks through it. Each module has one idea; rea
     compile   each expression and statement, for all iterations at once
     run       runs code by the package `cvl`, with errors in the order of Python
     script    writes code as a script of the program `cvl`
-    nested    the decorator
+    decorator the decorator, and values of Python as vectors
 """
 
 from flatten.language import Refused
-from flatten.nested import nested
+from flatten.decorator import nested
 
 __all__ = ["Refused", "nested"]

@@ -16,7 +16,7 @@ import sys
 import traceback
 
 from flatten.language import GREATEST, LEAST
-from flatten.nested import Nested, nested
+from flatten.decorator import Nested, nested
 
 # ---- Python, with integers of 32 bits ----
 

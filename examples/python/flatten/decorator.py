@@ -33,15 +33,21 @@ class Nested:
 
     def __call__(self, *given):
         function, instance = self.compile(given)
-        vectors = [vector for value, kind in zip(given, instance.arguments) for vector in lowered([value], final(kind))]
+        return raised(iter(self.run(function, self.vectors(given))), final(instance.result))[0]
+
+    def vectors(self, given):
+        """The vectors of arguments."""
+        instance = self.compile(given)[1]
+        return [vector for value, kind in zip(given, instance.arguments) for vector in lowered([value], final(kind))]
+
+    def run(self, function, vectors):
+        """The vectors of the result, or the error that Python would raise."""
         names = [name for value in function.block.inputs for name in leaves(value)]
         try:
             with run.deep_enough():
-                result = run.run(function.block, dict(zip(names, vectors)), 1)
+                return run.run(function.block, dict(zip(names, vectors)), 1)
         except run.Failed as failed:
             error = failed.error
-        else:
-            return raised(iter(result), final(instance.result))[0]
         raise_at(error)
 
     def compile(self, given, straight=False):
@@ -85,9 +91,7 @@ class Nested:
 
     def script(self, *given):
         """A script of the program `cvl` with the texts of its inputs, for these arguments. Only recursion has none."""
-        function, instance = self.compile(given, straight=True)
-        vectors = [vector for value, kind in zip(given, instance.arguments) for vector in lowered([value], final(kind))]
-        return script.written(function, vectors)
+        return script.written(self.compile(given, straight=True)[0], self.vectors(given))
 
 
 def lowered(values, kind):
