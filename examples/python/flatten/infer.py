@@ -3,7 +3,7 @@ again, so one text serves several types; a call of a function within itself has 
 
 import ast
 
-from flatten.kinds import BOOL, INT, List, Tuple, Unknown, final, known, unify
+from flatten.kinds import BOOL, INT, List, Tuple, Unknown, final, known, take_apart, unify
 from flatten.language import BUILTINS, called
 from flatten.safe import cannot_fail
 
@@ -102,12 +102,9 @@ class Inference:
             return {target.id: kind}
         if not isinstance(target, (ast.Tuple, ast.List)):
             self.refuse(near, "this assigns to a part of a value", "make a new list by a comprehension")
-        kind = known(kind)
-        if isinstance(kind, List):
-            parts = [kind.of] * len(target.elts)
-        else:
-            parts = [Unknown() for _ in target.elts]
-            self.same(near, kind, Tuple(tuple(parts)), "a tuple is taken apart")
+        parts = [Unknown() for _ in target.elts]
+        if not take_apart(kind, parts):
+            self.refuse(near, f"{known(kind)} is taken apart into {len(parts)}", "take apart a list, or a tuple of so many parts")
         return {name: part for node, part in zip(target.elts, parts) for name, part in self.bound(node, part, near).items()}
 
     # ---- expressions ----

@@ -39,9 +39,13 @@ class Tuple:
 
 
 class Unknown:
-    """A type that is not known yet, as that of the elements of `[]`, or that is another one."""
+    """A type that is not known yet, as that of the elements of `[]`, or that is another one. `apart` has the types of the names into which
+    it has been taken apart: it may be a tuple or a list."""
 
     found = None
+
+    def __init__(self):
+        self.apart = []
 
     def __str__(self):
         return "?"
@@ -61,7 +65,9 @@ def final(kind):
         return List(final(kind.of))
     if isinstance(kind, Tuple):
         return Tuple(tuple(map(final, kind.parts)))
-    return INT if isinstance(kind, Unknown) else kind
+    if isinstance(kind, Unknown):
+        return Tuple(tuple(map(final, kind.apart[0]))) if kind.apart else INT
+    return kind
 
 
 def _is_part(unknown, kind):
@@ -81,12 +87,24 @@ def unify(a, b):
         if _is_part(a, b):
             return False
         a.found = b
-        return True
+        return all([take_apart(b, parts) for parts in a.apart])
     if isinstance(a, List) and isinstance(b, List):
         return unify(a.of, b.of)
     if isinstance(a, Tuple) and isinstance(b, Tuple) and len(a.parts) == len(b.parts):
         return all([unify(one, other) for one, other in zip(a.parts, b.parts)])
     return a == b
+
+
+def take_apart(kind, parts):
+    """Makes the types of some names those of the parts of a tuple, or of the elements of a list; returns whether it is one of so many."""
+    kind = known(kind)
+    if isinstance(kind, Unknown):
+        alike = [others for others in kind.apart if len(others) == len(parts)]
+        kind.apart += [] if alike else [parts]
+        return all([unify(one, other) for others in alike for one, other in zip(others, parts)])
+    if isinstance(kind, Tuple) and len(kind.parts) == len(parts):
+        return all([unify(one, other) for one, other in zip(kind.parts, parts)])
+    return isinstance(kind, List) and all([unify(kind.of, part) for part in parts])
 
 
 BASIC = {int: INT, bool: BOOL, numpy.int32: INT, numpy.bool_: BOOL}

@@ -2,7 +2,7 @@
 
 import ast
 
-from flatten.kinds import List, known
+from flatten.kinds import List, Tuple, known
 from flatten.language import called
 
 NEVER = ("len", "list", "sorted", "zip", "enumerate", "reversed", "any", "all")
@@ -24,7 +24,7 @@ def cannot_fail(node, instance, made=()):
         sure = node not in instance.calls and (sure or name == "range" and len(node.args) == 1)
         return sure and all(cannot_fail(part, instance, made) for part in node.args)
     elif isinstance(node, ast.comprehension):
-        sure = isinstance(node.target, ast.Name) or not isinstance(known(instance.kinds[node.target]), List)
+        sure = isinstance(node.target, ast.Name) or isinstance(known(instance.kinds[node.target]), Tuple)
         return sure and all(cannot_fail(part, instance, made) for part in (node.iter, *node.ifs))
     else:
         sure = True
