@@ -174,6 +174,8 @@ class Body(Functions):
         a, b = self.of(node.left, names), self.of(node.right, names)
         if isinstance(self.instance.kind(node), List):
             return self.append(a, b)
+        if self.ordered(node, a).kind == "b":
+            self.instance.function.source.refuse(node, "arithmetic takes integers", "write 1 if x else 0")
         if isinstance(node.op, (ast.FloorDiv, ast.Mod)):
             return self.quotient(node, a, b)
         op = OPERATORS[type(node.op)]
@@ -205,7 +207,7 @@ class Body(Functions):
         return self.call("sub_wuz", Same(0, "z"), value)
 
     def Compare(self, node, names):
-        a, b = self.of(node.left, names), self.of(node.comparators[0], names)
+        a, b = (self.ordered(node, self.of(part, names)) for part in (node.left, node.comparators[0]))
         if self.instance.kind(node.left) == BOOL:
             a, b = (self.call("int_wub", self.vector(value)) for value in (a, b))
         return self.call(COMPARISONS[type(node.ops[0])], a, b)

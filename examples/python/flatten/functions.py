@@ -16,6 +16,12 @@ class Functions(Lift):
     def error(self, node, kind, said):
         return Error(kind, said, node.lineno, self.instance.function)
 
+    def ordered(self, node, value):
+        """An integer or a boolean of each iteration. What was in an empty list may turn out to be something else when all is inferred."""
+        if isinstance(value, (Lists, Whole, Tuple)):
+            self.instance.function.source.refuse(node, "this takes integers or booleans", "compare, sort or reduce a part of each")
+        return value
+
     # ---- elements and slices ----
 
     def element(self, node, value, index):
@@ -68,7 +74,7 @@ class Functions(Lift):
 
     def call_sorted(self, node, value):
         value = self.tight(value)
-        if value.inner.kind == "z":
+        if self.ordered(node, value.inner).kind == "z":
             return Lists(value.lengths, self.call("seg_sort", value.inner, value.lengths))
         numbers = self.call("seg_sort", self.call("int_wub", value.inner), value.lengths)
         return Lists(value.lengths, self.call("boo_wuz", numbers))
@@ -78,7 +84,7 @@ class Functions(Lift):
         if isinstance(value, Whole) and not self.program.straight:
             return self.same(self.reduce(node, Lists(self.call("dis_vuz", value.length, Same(1, "z")), value.inner)))
         name, value = called(node), self.tight(value)
-        elements = value.inner
+        elements = self.ordered(node, value.inner)
         if name == "sum" and elements.kind == "b":
             elements = self.call("int_wub", elements)
         if name == "sum" and not self.instance.function.wraps:

@@ -129,6 +129,9 @@ class Inference:
                 self.refuse(node, "+= changes a list that may have other names", "write x = x + ..")
             self.same(node, left, right, "a list is joined with something else")
             return left
+        if isinstance(node.op, ast.Add) and isinstance(left, Unknown) and isinstance(right, Unknown):
+            self.same(node, left, right, "two types are added")
+            return left
         for kind in (left, right):
             self.same(node, kind, INT, "arithmetic takes integers")
         return INT
