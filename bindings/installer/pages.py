@@ -20,7 +20,7 @@ EXAMPLES = (
     ("examples/c", "examples/c", ("*.c",)),
     ("examples/cpp", "examples/cpp", ("*.cpp",)),
     ("examples/mpi", "examples/mpi", ("*.c", "*.h")),
-    ("examples/python", "examples/python", ("*.py",)),
+    ("examples/python", "examples/python", ("*.py", "flatten/*.py")),
     ("examples/rust", "examples/rust", ("*.rs",)),
     ("examples/fortran", "examples/fortran", ("*.f90",)),
 )

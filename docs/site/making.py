@@ -24,7 +24,7 @@ import specs
 # the pages for users by what a reader wants; all others stand at the end
 SHELVES = {
     "Start": ("install", "tutorial", "script", "segments", "examples", "mistakes"),
-    "Languages": ("programs", "python", "ragged", "rust", "fortran", "parallel"),
+    "Languages": ("programs", "python", "ragged", "flattening", "rust", "fortran", "parallel"),
     "Reference": ("calls", "glossary"),
     "Know": ("performance", "proved", "definitions", "versions", "support"),
 }
