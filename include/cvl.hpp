@@ -9,12 +9,12 @@
  *     cvl::add_suz(a, out);                               into your room `out`, which a loop uses again and again
  *     cvl::add_suz(a, status);  cvl::add_suz(a, out, status);   the same, without exceptions
  *
- * Arguments are spans, made from vectors, arrays, std::span, braces, or a pointer with a length. Booleans are bool side by side, and results
- * of booleans are cvl::Flags. Segments are cvl::Segments, made once from their lengths.
+ * Arguments are spans, made from vectors, arrays, std::span, braces, or a pointer with a length. Booleans are bool side by
+ * side, and results of booleans are cvl::Flags. Segments are cvl::Segments, made once from their lengths.
  *
- * A fault is thrown as cvl::Fault, and refused memory as cvl::NoResources, which is a std::bad_alloc. The forms with a cvl::Status never throw,
- * and do nothing if it has a fault already, so that you may check once after several calls. If exceptions are off, a fault in the other forms
- * ends the program with its message. After a fault your room is as it was.
+ * A fault is thrown as cvl::Fault, and refused memory as cvl::NoResources, which is a std::bad_alloc. The forms with a
+ * cvl::Status never throw, and do nothing if it has a fault already, so that you may check once after several calls. If
+ * exceptions are off, a fault in the other forms ends the program with its message. After a fault your room is as it was.
  *
  * Long calls run on several threads after cvl::set_threads, or on threads of your own while a cvl::OnPool lives.
  */
@@ -108,11 +108,13 @@ T *elements_of(std::remove_reference_t<Elements> &elements) noexcept {
     using OfConstant = std::remove_pointer_t<Pointer<const Found>>;
     constexpr bool is_written = !std::is_const_v<T>;
     if constexpr (is_bits<std::remove_cv_t<Found>>) {
-        static_assert(never<Elements>, "cvl: std::vector<bool> packs its flags into bits, and a call needs bool side by side: use cvl::Flags");
+        static_assert(never<Elements>,
+            "cvl: std::vector<bool> packs its flags into bits, and a call needs bool side by side: use cvl::Flags");
     } else if constexpr (std::is_void_v<Element>) {
         static_assert(never<Elements>, "cvl: the elements do not stand side by side in memory: use std::vector");
     } else if constexpr (!may_be<std::remove_cv_t<Element>, std::remove_cv_t<T>>) {
-        static_assert(never<Elements>, "cvl: the elements have another type than the call takes: std::int32_t for integers, bool for booleans");
+        static_assert(never<Elements>,
+            "cvl: the elements have another type than the call takes: std::int32_t for integers, bool for booleans");
     } else if constexpr (!may_be<Element, T>) {
         static_assert(never<Elements>, "cvl: the room is constant, so a call cannot write into it");
     } else if constexpr (is_written && !std::is_lvalue_reference_v<Elements> && !may_be<OfConstant, T>) {
@@ -128,8 +130,8 @@ T *elements_of(std::remove_reference_t<Elements> &elements) noexcept {
 } // namespace detail
 
 /**
- * Elements side by side that a call reads, or writes if T is not constant. It owns nothing, and is made from vectors, arrays of C and of
- * C++, std::span, and a pointer with a length; one that is read from braces, too. std::span is made from it.
+ * Elements side by side that a call reads, or writes if T is not constant. It owns nothing, and is made from vectors, arrays
+ * of C and of C++, std::span, and a pointer with a length; one that is read from braces, too. std::span is made from it.
  */
 template <class T>
 class span {
@@ -141,8 +143,10 @@ class span {
     constexpr span(T *data, std::size_t size) noexcept : data_(data), size_(size) {}
 
     template <class Elements,
-        std::enable_if_t<detail::has_size<std::remove_reference_t<Elements>> && !std::is_same_v<std::decay_t<Elements>, span>, int> = 0>
-    span(Elements &&elements CVL_LIFETIMEBOUND) noexcept : data_(detail::elements_of<T, Elements>(elements)), size_(std::size(elements)) {}
+        std::enable_if_t<detail::has_size<std::remove_reference_t<Elements>> && !std::is_same_v<std::decay_t<Elements>, span>,
+            int> = 0>
+    span(Elements &&elements CVL_LIFETIMEBOUND) noexcept : data_(detail::elements_of<T, Elements>(elements)),
+        size_(std::size(elements)) {}
 
     template <class Element, std::enable_if_t<std::is_same_v<const Element, T>, int> = 0>
     constexpr span(std::initializer_list<Element> elements CVL_LIFETIMEBOUND) noexcept : size_(elements.size()) {
@@ -184,8 +188,8 @@ using SumRoom = span<std::int64_t>;
 
 
 /**
- * Booleans side by side, which std::vector<bool> does not keep: a result of booleans, or flags of your own. It has bool & as elements and
- * bool * as iterators.
+ * Booleans side by side, which std::vector<bool> does not keep: a result of booleans, or flags of your own. It has bool & as
+ * elements and bool * as iterators.
  */
 class Flags {
   public:
@@ -288,8 +292,8 @@ struct Telling;
 } // namespace detail
 
 /**
- * What forms without exceptions report: whether all calls with it were done, or else the first fault. If it has one, a call with it
- * does nothing and returns an empty result, until you clear it.
+ * What forms without exceptions report: whether all calls with it were done, or else the first fault. If it has one, a call
+ * with it does nothing and returns an empty result, until you clear it.
  */
 class Status {
   public:
@@ -353,8 +357,8 @@ class CVL_VISIBLE NoResources : public std::bad_alloc {
 // ---- threads ----
 
 /**
- * Lets long calls of the process run on so many threads, 1 to 64, the calling one included. Results and faults are the same. If that is no
- * such number, or the system starts no thread more, the error is a std::system_error, and the number stays.
+ * Lets long calls of the process run on so many threads, 1 to 64, the calling one included. Results and faults are the same.
+ * If that is no such number, or the system starts no thread more, the error is a std::system_error, and the number stays.
  */
 inline void set_threads(std::size_t threads, std::error_code &error) noexcept {
     error.assign(cvl_set_threads(threads), std::generic_category());
@@ -457,7 +461,8 @@ CvlStatus run_in_parts(Plain plain, InParts in_parts, Given... given) noexcept {
 
 } // namespace detail
 
-/// Threads of the library that wait for parts of calls, 1 to 64 with the calling one, until this ends. OnPool makes calls run on them.
+/// Threads of the library that wait for parts of calls, 1 to 64 with the calling one, until this ends. OnPool makes calls run
+/// on them.
 class Threads {
   public:
     explicit Threads(std::size_t threads);
@@ -484,13 +489,14 @@ inline Threads::Threads(std::size_t threads) {
 }
 
 /**
- * While it lives, each long call that this thread makes runs in parts on a pool: on Threads, on a CvlPool, or by a function of yours.
+ * While it lives, each long call that this thread makes runs in parts on a pool: on Threads, on a CvlPool, or by a function
+ * of yours.
  *
  *     const cvl::OnPool on(4, [](std::size_t parts, cvl::Part part) { tbb::parallel_for(std::size_t{0}, parts, part); });
  *
- * The function runs part(k) once for each k below `parts`, in any order, on any threads, and returns when all have returned. If it leaves a
- * part out or throws, the calling thread runs the part, or the call is fault 100 with its room as it was. What it throws goes on when the
- * call has ended, out of the forms that throw; the forms with a Status drop it.
+ * The function runs part(k) once for each k below `parts`, in any order, on any threads, and returns when all have returned.
+ * If it leaves a part out or throws, the calling thread runs the part, or the call is fault 100 with its room as it was. What
+ * it throws goes on when the call has ended, out of the forms that throw; the forms with a Status drop it.
  */
 template <class Run>
 class OnPool : public detail::InUse {
@@ -529,15 +535,17 @@ inline void set_threads(std::size_t threads) {
 // ---- segments ----
 
 /**
- * Segments of a vector, made once from their lengths and then used by any calls and threads. They own the lengths, or borrow them.
+ * Segments of a vector, made once from their lengths and then used by any calls and threads. They own the lengths, or borrow
+ * them.
  */
 class Segments {
   public:
     /// No segments.
     Segments() noexcept = default;
 
-    /// Segments of these lengths, of which it keeps a copy, or the vector itself if you move it. Faults: 13 TooLong if there are more than
-    /// CVL_MOST_ELEMENTS; 12 NegativeLength at the first below 0; 13 TooLong if they add up to more than CVL_MOST_ELEMENTS.
+    /// Segments of these lengths, of which it keeps a copy, or the vector itself if you move it. Faults: 13 TooLong if there
+    /// are more than CVL_MOST_ELEMENTS; 12 NegativeLength at the first below 0; 13 TooLong if they add up to more than
+    /// CVL_MOST_ELEMENTS.
     explicit Segments(Ints lengths);
     explicit Segments(std::vector<std::int32_t> &&lengths);
     Segments(std::initializer_list<std::int32_t> lengths) : Segments(Ints(lengths)) {}
@@ -554,9 +562,9 @@ class Segments {
     static Segments borrow(std::initializer_list<std::int32_t>) = delete;
     static Segments borrow(std::initializer_list<std::int32_t>, Status &) = delete;
 
-    /// Segments that start at these offsets, of which the last is the end, as in a matrix of compressed rows. Faults: 13 TooLong if there are
-    /// more than CVL_MOST_ELEMENTS segments; 7 LengthMismatch if there is no offset or the first is not 0; 12 NegativeLength at the first
-    /// segment that ends before it starts.
+    /// Segments that start at these offsets, of which the last is the end, as in a matrix of compressed rows. Faults: 13
+    /// TooLong if there are more than CVL_MOST_ELEMENTS segments; 7 LengthMismatch if there is no offset or the first is not
+    /// 0; 12 NegativeLength at the first segment that ends before it starts.
     static Segments from_offsets(Ints offsets);
     static Segments from_offsets(Ints offsets, Status &status) noexcept;
 
@@ -635,14 +643,17 @@ struct Argument {
     std::int64_t number = 0;
 
     template <class T>
-    Argument(const char *its_name, Extent its_extent, span<T> given, std::uint32_t its_about = 0, const char *its_into = nullptr) noexcept
+    Argument(const char *its_name, Extent its_extent, span<T> given, std::uint32_t its_about = 0,
+        const char *its_into = nullptr) noexcept
         : name(its_name), extent(its_extent), about(its_about), into(its_into), at(given.data()), size(given.size()),
           bytes(given.size() * sizeof(T)), is_room(!std::is_const_v<T>) {
         if constexpr (std::is_same_v<T, const std::int32_t>) numbers = given.data();
     }
-    Argument(const char *its_name, Extent its_extent, std::string_view given, std::uint32_t its_about = 0, const char *its_into = nullptr) noexcept
+    Argument(const char *its_name, Extent its_extent, std::string_view given, std::uint32_t its_about = 0,
+        const char *its_into = nullptr) noexcept
         : Argument(its_name, its_extent, span<const char>(given.data(), given.size()), its_about, its_into) {}
-    Argument(const char *its_name, Extent its_extent, const Segments &given, std::uint32_t its_about = 0, const char *its_into = nullptr) noexcept
+    Argument(const char *its_name, Extent its_extent, const Segments &given, std::uint32_t its_about = 0,
+        const char *its_into = nullptr) noexcept
         : Argument(its_name, its_extent, given.lengths(), its_about | 1u << CVL_NEGATIVE_LENGTH, its_into) {
         is_segments = true, total = given.total();
     }
@@ -756,7 +767,8 @@ struct Telling {
 };
 
 // Reports the fault of a call.
-CVL_COLD inline void tell(Status &status, CvlStatus found, const char *call, Arguments arguments, std::size_t needed = not_told) noexcept {
+CVL_COLD inline void tell(Status &status, CvlStatus found, const char *call, Arguments arguments,
+    std::size_t needed = not_told) noexcept {
     Telling telling = {status};
     telling.tell(found, call == nullptr ? "" : call, needed);
     if (call == nullptr) return;
@@ -811,7 +823,8 @@ bool has_memory([[maybe_unused]] Result &out, [[maybe_unused]] std::size_t size)
         }
 #else
         // a vector without memory would end the program, so the memory is asked for twice
-        void *const asked = size > SIZE_MAX / sizeof *out.data() ? nullptr : ::operator new(size * sizeof *out.data(), std::nothrow);
+        void *const asked = size > SIZE_MAX / sizeof *out.data() ? nullptr : ::operator new(size * sizeof *out.data(),
+            std::nothrow);
         if (asked == nullptr) return false;
         ::operator delete(asked);
         out.resize(size);
@@ -829,12 +842,14 @@ bool fit(Result &out, std::size_t size, const char *call, Status &status) noexce
     return false;
 }
 
-// How long a result is, if the lengths of the arguments agree and none is too long; else its room has no elements, so that the library
-// reports what is wrong, and no memory is asked for.
+// How long a result is, if the lengths of the arguments agree and none is too long; else its room has no elements, so that
+// the library reports what is wrong, and no memory is asked for.
 constexpr std::size_t size_if(bool agree, std::size_t size) noexcept { return agree ? size : 0; }
 
 // How long a result is that as many places have as a count says, or that one has more or less than there are others.
-constexpr std::size_t places(std::int64_t count) noexcept { return count < 0 || count > CVL_MOST_ELEMENTS ? 0 : static_cast<std::size_t>(count); }
+constexpr std::size_t places(std::int64_t count) noexcept {
+    return count < 0 || count > CVL_MOST_ELEMENTS ? 0 : static_cast<std::size_t>(count);
+}
 constexpr std::size_t one_less(std::size_t size) noexcept { return size == 0 ? 0 : size - 1; }
 
 // Whether a count that the library is not given may be one.
@@ -845,7 +860,8 @@ inline bool may_be_count(std::int64_t count, const char *call, Status &status) n
     return false;
 }
 
-// A result whose length the call reports: it is asked for with a room of no elements, by a call without a name, whose fault says nothing.
+// A result whose length the call reports: it is asked for with a room of no elements, by a call without a name, whose fault
+// says nothing.
 template <class Result, class Make>
 Result counted(const char *call, Status &status, Make make) noexcept {
     Result out;
@@ -870,7 +886,8 @@ inline CvlLengths given(const Segments &segments) noexcept { return {segments.le
 
 inline void Segments::check(Status &status) noexcept {
     std::size_t total = 0;
-    const CvlStatus found = detail::run_in_parts(cvl_make_descriptor, cvl_make_descriptor_on, CvlLengths{lengths().data(), size()}, &total);
+    const CvlStatus found = detail::run_in_parts(cvl_make_descriptor, cvl_make_descriptor_on, CvlLengths{lengths().data(),
+        size()}, &total);
     if (found.number == CVL_DONE) {
         total_ = total;
     } else {
@@ -924,7 +941,8 @@ inline Segments Segments::from_offsets(Ints offsets, Status &status) noexcept {
     CvlSegments made = CVL_NO_SEGMENTS;
     const std::size_t size = detail::one_less(offsets.size());
     if (!detail::fit(found.owned_, size > CVL_MOST_ELEMENTS ? 0 : size, "Segments", status)) return found;
-    const CvlStatus told = cvl_segments_from_offsets(offsets.data(), offsets.size(), found.owned_.data(), found.owned_.size(), &made);
+    const CvlStatus told = cvl_segments_from_offsets(offsets.data(), offsets.size(), found.owned_.data(), found.owned_.size(),
+        &made);
     if (told.number == CVL_DONE) {
         found.total_ = static_cast<std::size_t>(offsets[offsets.size() - 1]);
     } else {
@@ -4960,20 +4978,24 @@ inline std::size_t write_bools(Bools a, TextRoom out) {
 }
 
 /**
- * The integers of the lists of a nested text, and the segments that the lists are: "[", any number of lists, "]"; a list is "[", integers as
- * in read_ints, "]". The rooms may be longer than what they hold; how many elements each has is returned.
- * Faults: 13 TooLong if there are more than CVL_MOST_OF_TEXT numbers or lists; else 15 BadInput at the first word or bracket that cannot stand
- * there, or, if the text ends too early, at the number of its words and brackets.
+ * The integers of the lists of a nested text, and the segments that the lists are: "[", any number of lists, "]"; a list is
+ * "[", integers as in read_ints, "]". The rooms may be longer than what they hold; how many elements each has is returned.
+ * Faults: 13 TooLong if there are more than CVL_MOST_OF_TEXT numbers or lists; else 15 BadInput at the first word or bracket
+ * that cannot stand there, or, if the text ends too early, at the number of its words and brackets.
  */
-inline std::pair<std::size_t, std::size_t> seg_read_ints(std::string_view text, IntRoom out, IntRoom lengths, Status &status) noexcept {
+inline std::pair<std::size_t, std::size_t> seg_read_ints(std::string_view text, IntRoom out, IntRoom lengths,
+    Status &status) noexcept {
     std::size_t count = 0, segments = 0;
     if (!status.ok()) return {0, 0};
-    const CvlStatus found = detail::run_in_parts(cvl_seg_read_ints, cvl_seg_read_ints_on, text.data(), text.size(), out.data(), out.size(),
+    const CvlStatus found = detail::run_in_parts(cvl_seg_read_ints, cvl_seg_read_ints_on, text.data(), text.size(),
+        out.data(), out.size(),
         &count, lengths.data(), lengths.size(), &segments);
     if (found.number != CVL_DONE) {
         const bool is_short_of_lengths = found.number == CVL_LENGTH_MISMATCH && lengths.size() < segments;
-        const detail::Argument room(is_short_of_lengths ? "lengths" : "out", detail::Extent::alone, is_short_of_lengths ? lengths : out);
-        detail::tell(status, found, "seg_read_ints", {room, {"text", detail::Extent::alone, text}}, is_short_of_lengths ? segments : count);
+        const detail::Argument room(is_short_of_lengths ? "lengths" : "out", detail::Extent::alone,
+            is_short_of_lengths ? lengths : out);
+        detail::tell(status, found, "seg_read_ints", {room, {"text", detail::Extent::alone, text}},
+            is_short_of_lengths ? segments : count);
     }
     return {count, segments};
 }
@@ -4981,7 +5003,8 @@ inline std::pair<std::size_t, std::size_t> seg_read_ints(std::string_view text, 
     Status status;
     return detail::checked(seg_read_ints(text, out, lengths, status), status);
 }
-[[nodiscard]] inline std::pair<std::vector<std::int32_t>, Segments> seg_read_ints(std::string_view text, Status &status) noexcept {
+[[nodiscard]] inline std::pair<std::vector<std::int32_t>, Segments> seg_read_ints(std::string_view text,
+    Status &status) noexcept {
     std::vector<std::int32_t> out, lengths;
     if (!status.ok()) return {std::move(out), Segments()};
     Status asked;

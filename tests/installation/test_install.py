@@ -441,7 +441,9 @@ class Pages(Tree):
     def test_each_name_is_there(self):
         for name, path in {**self.files, **self.headers, **self.manual, **self.crates}.items():
             if name.endswith((".md", ".h", ".hpp", ".f90", ".1", ".3")):
-                self.assertEqual(self.installed.without(path.read_text()), [], name)
+                # brackets in C++ are no links
+                text = path.read_text().replace("](", "] (") if name.endswith(".hpp") else path.read_text()
+                self.assertEqual(self.installed.without(text), [], name)
 
     def test_a_name_that_is_not_there_is_reported(self):
         wrong = ("see `crates/cvl_c`", "[page](no_page.md)", "run ./install", "(docs/user/no_page.md)", "* examples/c/run does", "[dev](../dev/DECISIONS.md)")
