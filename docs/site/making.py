@@ -23,7 +23,7 @@ import specs
 
 # the pages for users by what a reader wants; all others stand at the end
 SHELVES = {
-    "Start": ("install", "tutorial", "script", "segments", "examples", "mistakes"),
+    "Start": ("tasks", "install", "tutorial", "script", "segments", "examples", "mistakes"),
     "Languages": ("programs", "python", "rust", "fortran", "parallel"),
     "Reference": ("calls", "glossary"),
     "Know": ("performance", "proved", "definitions", "versions", "support"),
