@@ -7,7 +7,7 @@ import reference
 
 HEAD = """# The calls
 
-Look up a call: what it takes and gives, its faults, and an example. The index has each call with what it gives, and the [glossary](glossary.md) with its names in numpy, Thrust, NESL and VCODE. C, Fortran, Python and Rust have [more functions](#functions-that-no-script-calls).
+Look up a call: what it takes and gives, its faults, and an example. The index has each call with what it gives, and the [glossary](glossary.md) with its names in numpy, Thrust, SQL and other libraries. C, Fortran, Python and Rust have [more functions](#functions-that-no-script-calls).
 
 The comment after an `input` shows what it holds. In the pictures a box is an element and a frame a segment; arrows lead from an element to where it goes."""
 

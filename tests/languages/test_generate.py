@@ -17,7 +17,9 @@ TOP = pathlib.Path(__file__).resolve().parents[2]
 sys.path[:0] = [str(TOP / "bindings"), str(TOP / "bindings/generator")]
 
 import call_table
+import elsewhere
 import exports
+import foreign
 import generated
 import in_map
 import limits
@@ -220,6 +222,15 @@ class Places(Folder):
             generate.write(self.top / "repository" / name, "another\n")
             self.assertIn(name, self.run_it("--check"))
             self.run_it()
+
+    def test_names_of_other_libraries_lead_to_calls_and_tasks(self):
+        self.assertEqual(list(elsewhere.differences()), [])
+        wrong = {"numpy": ("", (foreign.Names("cumsum", "sum_suz"), foreign.Names("sort", "sort", "Sort it")))}
+        with mock.patch.object(foreign, "LIBRARIES", wrong):
+            told = list(elsewhere.differences())
+        self.assertEqual(len(told), 2)
+        self.assertIn("sum_suz", told[0])
+        self.assertIn("Sort it", told[1])
 
     def test_what_has_its_text_is_left_alone(self):
         for words, folder in ((), "repository"), ((self.top / "build",), "build"):

@@ -31,6 +31,12 @@ import reference
 
 NARROW = 360
 
+# names of other libraries, and words of the field, by which the search has to find a call among its first three answers
+ELSEWHERE = {
+    "cumsum": "add_suz", "prefix sum": "add_suz", "scatter": "smp_puz", "gather": "bck_puz", "argsort": "order", "bincount": "counts", "unique": "sort",
+    "group by": "combine_permute_int", "reduce_by_key": "add_rez", "nonzero": "pck_luz",
+}  # fmt: skip
+
 # the least contrast of a text, and of one whose letters are large: WCAG 2.1, level AA
 LEAST, LEAST_OF_LARGE = 4.5, 3.0
 
@@ -245,6 +251,11 @@ class Browser(unittest.TestCase):
         self.assertIn("calls/add_rez.html", " ".join(address for _, address in self.found("cvl_add_rez")))
         self.assertIn("examples.html", " ".join(address for _, address in self.found("histogram")))
         self.assertEqual(self.found("qwxyzzy"), [])
+
+    def test_the_search_leads_from_names_elsewhere_to_their_calls(self):
+        for words, call in ELSEWHERE.items():
+            addresses = [urllib.parse.urlsplit(address).path for _, address in self.found(words)[:3]]
+            self.assertIn(f"{SITE.as_uri()[7:]}/calls/{call}.html", addresses, words)
 
     def test_a_search_shows_a_line_with_its_words(self):
         shown = "return [...document.querySelectorAll('ul.search p.line')].map((line) => line.textContent)"
