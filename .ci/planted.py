@@ -19,7 +19,7 @@ EDITS = {
     "calls.check_plain_reading": [("crates/script_cases/generator/calls.py", '"cpy_wuz":', '"copy_wuz":')],
     "calls.check_index": [(CALLS, "| [`div_wuz` `mod_wuz`]", "| [`div_wuz`]")],
     "calls.check_glossary": [("docs/user/glossary.md", "`len_fos`", "`len`")],
-    "calls.check_letters": [(CALLS, "or `f` descriptors;", "or descriptors;")],
+    "calls.check_letters": [("docs/user/sheet.md", "`f` descriptors", "`g` descriptors")],
     "calls.check_without_c": [("include/cvl.h", "len_luz, len_lub and", "len_luz and")],
     "calls.check_without_on": [("docs/user/parallel.md", "`cvl_exact_sum`, `cvl_read_ints_after`", "`cvl_read_ints_after`")],
     "calls.check_starts": [("docs/user/performance.md", "`add_rez`, `smp_puz`", "`add_rez`, `tot_rez`, `smp_puz`")],

@@ -27,6 +27,16 @@ JOINING, OF_FLAGS = ("add", "mul", "min", "max", "and", "ior", "xor"), ("and", "
 
 NO_INPUT = "14 NoSuchInput, without a place; else 13 TooLong, without a place, if the input has more than 4,194,304 tokens"
 
+# The letters of a name behind its operator, by where they stand.
+LETTERS = (
+    ("first", {
+        "w": "elementwise", "s": "scan", "r": "reduce", "p": "permute", "v": "single values to vectors, and back", "l": "library: packs, counts, lengths",
+        "f": "descriptors",
+    }),
+    ("second", {"u": "a flat vector", "e": "each segment", "o": "neither"}),
+    ("third", {"z": "integers", "b": "booleans", "v": "descriptor of a vector", "s": "lengths of segments"}),
+)  # fmt: skip
+
 SECTIONS = (
     Section(
         "Elementwise calls",

@@ -13,7 +13,7 @@ import call_table
 import calls as plain_reading
 import rows
 
-PAGE, SCRIPT, GLOSSARY = "docs/user/calls.md", "docs/user/script.md", "docs/user/glossary.md"
+PAGE, SCRIPT, GLOSSARY, SHEET = (f"docs/user/{name}.md" for name in ("calls", "script", "glossary", "sheet"))
 
 IN_PARTS, COSTS, STARTS = "docs/user/parallel.md", "docs/user/performance.md", "tests/process/resources"
 
@@ -65,10 +65,11 @@ def sentence(page, begin, end):
 
 
 def check_letters():
-    """docs/user/calls.md explains each of the letters that names of calls end in."""
-    shown = re.findall(r"`([a-z])`", sentence(PAGE, "is an operator and three letters:", "So `bck_puz`"))
-    wanted = {letter for name in set(call_table.read(TOP)) - {"input", "nested", "write"} for letter in name[-3:]}
-    yield from held(PAGE, "the names of calls", sorted(set(shown)), sorted(wanted))
+    """docs/user/sheet.md explains each of the letters that names of calls end in, in its place."""
+    shown = [(place, letter) for place, meanings in rows_of(lines_of(SHEET), "## Names") for letter in re.findall(r"`(\w)`", meanings)]
+    ends = {name[-3:] for name in set(call_table.read(TOP)) - {"input", "nested", "write"}}
+    wanted = {(place, end[k]) for end in ends for k, place in enumerate(("first", "second", "third"))}
+    yield from held(SHEET, "the names of calls", sorted(shown), sorted(wanted))
 
 
 def check_without_c():

@@ -24,7 +24,7 @@ def answers(names):
 
 
 @functools.lru_cache
-def _entries():
+def entries_of_calls():
     """The entry of each call, by its name in a script, or of a function."""
     sections = (*reference.of_scripts(), *reference.beside())
     return {name: entry for _, _, found in sections for entry in found for name in entry.calls}
@@ -36,7 +36,7 @@ def anchor(title):
 
 def name_of(call):
     """A call as a page has it: those of programs with the prefix that they have in C."""
-    return call if _entries()[call].said else f"cvl_{call}"
+    return call if entries_of_calls()[call].said else f"cvl_{call}"
 
 
 # ---- the glossary ----
@@ -49,7 +49,7 @@ def _as_code(name):
 def _answer(names):
     """The calls of a row, with a link to their lines or to the first one's entry, and how they differ."""
     shown = " or ".join(", ".join(f"`{name_of(call)}`" for call in calls) for calls in answers(names))
-    entry = _entries()[answers(names)[0][0]]
+    entry = entries_of_calls()[answers(names)[0][0]]
     if names.task:
         shown = f"[{shown}](tasks.md#{anchor(names.task)})"
     elif entry.said:
@@ -121,7 +121,7 @@ def differences():
     for library, (_, rows) in foreign.LIBRARIES.items():
         for names in rows:
             for call in (call for answer in answers(names) for call in answer):
-                if call not in _entries():
+                if call not in entries_of_calls():
                     yield f"bindings/foreign.py names {call} for {names.words} of {library}, which is no call"
             if names.task and names.task not in headings:
                 yield f"bindings/foreign.py leads to {names.task}, which is no task of {TASKS}"

@@ -13,7 +13,7 @@ The comment after an `input` shows what it holds. In the pictures a box is an el
 
 READING = """## Reading an entry
 
-- A name such as `bck_puz` is an operator and three letters: `w` for elementwise, `s` scan, `r` reduce, `p` permute, `v` vectors with single values, `l` library, or `f` descriptors; `u` for flat, `e` for segmented, or `o` for neither; and `z` for integers or `b` for booleans, or of descriptors `v` for a vector or `s` for segments. So `bck_puz` is a back permute of a flat vector of integers.
+- A name is an operator and [three letters](sheet.md#names): `bck_puz` is a back permute (`p`) of a flat vector (`u`) of integers (`z`).
 - `Takes` has the arguments in their order. *Integers* and *booleans* are vectors, an *integer* and a *boolean* single values; *elements* are integers or booleans, by the last letter of the name.
 - A descriptor is the lengths of the segments of a vector; its *total* is their sum. A segmented call does in each segment what the flat call does on a whole vector, and its results lie one after another.
 - If lengths that must match differ, the call stops with fault 7 LengthMismatch, without a place, before any fault under `Faults`. No such line means no further faults. `script.md` has those of any line, which come first.

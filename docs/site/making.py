@@ -25,7 +25,7 @@ import specs
 SHELVES = {
     "Start": ("tasks", "install", "tutorial", "script", "segments", "examples", "mistakes"),
     "Languages": ("programs", "python", "rust", "fortran", "parallel"),
-    "Reference": ("calls", "glossary"),
+    "Reference": ("calls", "sheet", "glossary"),
     "Know": ("performance", "proved", "definitions", "versions", "support"),
 }
 

@@ -17,11 +17,13 @@ TOP = pathlib.Path(__file__).resolve().parents[2]
 sys.path[:0] = [str(TOP / "bindings"), str(TOP / "bindings/generator")]
 
 import call_table
+import cures
 import elsewhere
 import exports
 import foreign
 import generated
 import in_map
+import in_sheet
 import limits
 import packages
 import rows
@@ -231,6 +233,13 @@ class Places(Folder):
         self.assertEqual(len(told), 2)
         self.assertIn("sum_suz", told[0])
         self.assertIn("Sort it", told[1])
+
+    def test_the_cheat_sheet_has_a_cure_for_each_fault_and_fits_a_page(self):
+        self.assertEqual(list(in_sheet.differences()), [])
+        for change, wanted in ({17: None}, "[17]"), ({40: "wait"}, "[40]"), ({12: "`min_wux` of it"}, "min_wux"), ({1: "again and " * 400}, "longer"):
+            with mock.patch.object(in_sheet.cures, "CURES", {n: said for n, said in {**cures.CURES, **change}.items() if said}):
+                [told] = in_sheet.differences()
+            self.assertIn(wanted, told)
 
     def test_what_has_its_text_is_left_alone(self):
         for words, folder in ((), "repository"), ((self.top / "build",), "build"):
