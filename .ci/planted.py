@@ -4,7 +4,7 @@ If the first text is empty, the other one stands at the end of the file, which m
 CALLS, SCRIPT, MANUAL = "docs/user/calls.md", "docs/user/script.md", "docs/man/cvl.1"
 
 # a table of wrong bodies
-PROVED, TABLE = "docs/user/proved.md", "\n## What shows each promise\n\n| Wrong body | Refused by |\n|---|---|\n"
+PROVED, BODIES, TABLE = "docs/user/proved.md", "docs/dev/wrong-bodies.md", "\n## What shows each promise\n\n| Wrong body | Refused by |\n|---|---|\n"
 
 EDITS = {
     "examples.check_examples": [(CALLS, "sum = [22 -5", "sum = [23 -5")],
@@ -47,7 +47,7 @@ EDITS = {
     "source.check_programs": [(".ci/pages/paths.py", '"""The paths', '#!/usr/bin/env python3\n"""The paths')],
     "source.check_columns": [("crates/sharing/src/lib.rt", "", "//" + " long" * 26 + "\n")],
     "promises.check_contracts": [(PROVED, "`run`, `stop_line`", "`run`, `no_such_function`")],
-    "promises.check_promises": [(PROVED, "", f"{TABLE}| a body | `crates/boards/must-fail/no_such.edit` |\n")],
+    "promises.check_promises": [(BODIES, "", f"{TABLE}| a body | `crates/boards/must-fail/no_such.edit` |\n")],
     "promises.check_edits": [("crates/boards/must-fail/unnamed.edit", "", "file: src/lib.rt\n")],
     "promises.check_trusted": [(PROVED, "`rayon`, `strsim`, `thiserror`", "`rayon`, `thiserror`")],
     "promises.check_from_c": [("docs/user/rust.md", "is tested and not proved.", "is proved.")],

@@ -66,9 +66,9 @@ def sentence(page, begin, end):
 
 def check_letters():
     """docs/user/sheet.md explains each of the letters that names of calls end in, in its place."""
-    shown = [(place, letter) for place, meanings in rows_of(lines_of(SHEET), "## Names") for letter in re.findall(r"`(\w)`", meanings)]
+    shown = [f"{place} {letter}" for place, meanings in rows_of(lines_of(SHEET), "## Names") for letter in re.findall(r"`(\w)`", meanings)]
     ends = {name[-3:] for name in set(call_table.read(TOP)) - {"input", "nested", "write"}}
-    wanted = {(place, end[k]) for end in ends for k, place in enumerate(("first", "second", "third"))}
+    wanted = {f"{place} {end[k]}" for end in ends for k, place in enumerate(("first", "second", "third"))}
     yield from held(SHEET, "the names of calls", sorted(shown), sorted(wanted))
 
 
