@@ -23,7 +23,7 @@ import specs
 
 # the pages for users by what a reader wants; all others stand at the end
 SHELVES = {
-    "Start": ("tasks", "install", "tutorial", "script", "segments", "examples", "mistakes"),
+    "Start": ("tasks", "install", "tutorial", "segments", "examples", "script", "mistakes", "troubleshooting"),
     "Languages": ("programs", "python", "rust", "fortran", "parallel"),
     "Reference": ("calls", "sheet", "glossary"),
     "Know": ("performance", "proved", "definitions", "versions", "support"),
