@@ -17,7 +17,7 @@ EDITS = {
     "examples.check_session": [("docs/user/tutorial.md", "$ echo 3 1 7 0 >", "$ echo 3 1 7 >")],
     "calls.check_names": [(CALLS, "### div_wuz mod_wuz", "### div_wuz rem_wuz")],
     "calls.check_plain_reading": [("crates/script_cases/generator/calls.py", '"cpy_wuz":', '"copy_wuz":')],
-    "calls.check_index": [(CALLS, "| [`div_wuz` `mod_wuz`]", "| [`div_wuz`]")],
+    "calls.check_index": [(CALLS, "[`div_wuz`](#div_wuz-mod_wuz)", "[`div_wuz`](#div_wuz)")],
     "calls.check_glossary": [("docs/user/glossary.md", "`len_fos`", "`len`")],
     "calls.check_letters": [("docs/user/sheet.md", "`f` descriptors", "`g` descriptors")],
     "calls.check_without_c": [("include/cvl.h", "len_luz, len_lub and", "len_luz and")],

@@ -38,9 +38,9 @@ def check_plain_reading():
 
 
 def check_index():
-    """The index of docs/user/calls.md has each entry's names, and a link to its heading."""
-    shown = [line[3:].split(") |")[0].replace("`", "") for line in lines_of(PAGE) if line.startswith("| [`")]
-    wanted = [f"{heading}](#{heading.replace(' ', '-')}" for heading in headings()]
+    """The index of docs/user/calls.md has each entry's first name, and a link to its heading."""
+    shown = [link for _, links in rows_of(lines_of(PAGE), "## Index") for link in re.findall(r"\[`(\w+`\]\(#[\w-]+)\)", links)]
+    wanted = [f"{heading.split()[0]}`](#{heading.replace(' ', '-')}" for heading in headings()]
     yield from held(f"{PAGE}, its index", f"{PAGE}, its headings", shown, wanted)
 
 

@@ -7,7 +7,7 @@ import reference
 
 HEAD = """# The calls
 
-Look up a call: what it takes and gives, its faults, and an example. The index has each call with what it gives, and the [glossary](glossary.md) with its names in numpy, Thrust, SQL and other libraries. C, Fortran, Python and Rust have [more functions](#functions-that-no-script-calls).
+Look up a call: what it takes and gives, its faults, and an example. The [cheat sheet](sheet.md) has all names, and the [glossary](glossary.md) those in numpy, Thrust, SQL and other libraries. C, Fortran, Python and Rust have [more functions](#functions-that-no-script-calls).
 
 The comment after an `input` shows what it holds. In the pictures a box is an element and a frame a segment; arrows lead from an element to where it goes."""
 
@@ -36,9 +36,9 @@ def _names(entry):
 
 
 def index(found, leads_to):
-    """A table of entries: their names, each row with a link, and what they give."""
-    lines = [f"| [{_names(entry)}]({leads_to(entry)}) | {entry.title} |" for _, _, section in found for entry in section]
-    return "\n".join(["| Calls | What they give |", "|---|---|", *lines])
+    """A table of sections: of each entry the first name, with a link."""
+    lines = [f"| {title} | {' '.join(f'[`{entry.name}`]({leads_to(entry)})' for entry in section)} |" for title, _, section in found]
+    return "\n".join(["| Section | The first call of each entry |", "|---|---|", *lines])
 
 
 def said(entry):
