@@ -80,7 +80,9 @@ return `${document.documentElement.scrollWidth} pixels: ` + wide.slice(0, 3).map
 UNNAMED = """
 const name = (e) => (e.getAttribute("aria-label") || e.textContent || "").trim();
 const found = [...document.querySelectorAll("a[href], button, summary")].filter((e) => !name(e)).map((e) => e.outerHTML.slice(0, 80));
-found.push(...[...document.querySelectorAll("input")].filter((e) => e.type !== "hidden" && !e.labels?.length && !e.getAttribute("aria-label") && e.type !== "submit").map((e) => e.outerHTML.slice(0, 80)));
+const labelled = (e) => e.labels?.length || e.getAttribute("aria-label") || document.getElementById(e.getAttribute("aria-labelledby"))?.textContent.trim();
+const fields = [...document.querySelectorAll("input")].filter((e) => !["hidden", "submit"].includes(e.type));
+found.push(...fields.filter((e) => !labelled(e)).map((e) => e.outerHTML.slice(0, 80)));
 found.push(...[...document.images].filter((e) => !e.alt).map((e) => e.src));
 const navs = [...document.querySelectorAll("nav")].map((e) => e.getAttribute("aria-label"));
 if (navs.some((e) => !e) || new Set(navs).size < navs.length) found.push("nav: " + navs);
