@@ -1323,8 +1323,8 @@ CVL_CHECKED CvlStatus cvl_bool_scan_after(uint32_t op, bool before, const bool *
 /* ---- calls in parts: families ---- */
 
 /*
- * Most calls in parts need only themselves; these functions are what else a part needs. docs/dev/parts.md says for each call
- * how to cut it, what its parts pass on, and how to join the results; cvl_parallel.h does it for threads.
+ * Most calls in parts need only themselves; these functions are what else a part needs. In the repository docs/dev/parts.md
+ * says for each call how to cut it, what its parts pass on, and how to join the results; cvl_parallel.h does it for threads.
  */
 
 /* The sum of the integers in 64 bits, which always fits. */
