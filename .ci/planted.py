@@ -4,21 +4,22 @@ If the first text is empty, the other one stands at the end of the file, which m
 CALLS, SCRIPT, MANUAL = "docs/user/calls.md", "docs/user/script.md", "docs/man/cvl.1"
 
 # a table of wrong bodies
-PROVED, TABLE = "docs/user/proved.md", "\n## What shows each promise\n\n| Wrong body | Refused by |\n|---|---|\n"
+PROVED, BODIES, TABLE = "docs/user/proved.md", "docs/dev/wrong-bodies.md", "\n## What shows each promise\n\n| Wrong body | Refused by |\n|---|---|\n"
 
 EDITS = {
     "examples.check_examples": [(CALLS, "sum = [22 -5", "sum = [23 -5")],
     "examples.check_runs": [("README.md", "\n    y = [5 0 18]", "\n    y = [5 0 19]")],
     "examples.check_code": [("docs/dev/embedding.md", "pub fn sums<", "pub fn totals<")],
+    "examples.check_tasks": [("docs/user/tasks.md", "### Transpose", "### Turn a matrix")],
     "examples.check_blocks": [("docs/dev/embedding.md", "`crates/embedding/src/memory.rt`", "In memory:")],
     "examples.check_embedding": [("docs/dev/embedding.md", "sums: Ok([4, 2, 8", "sums: Ok([4, 2, 9")],
     "examples.check_inputs": [("crates/script_cases/data/tutorial.cases", "\n10 20 30 40\n== script", "\n10 20 30\n== script")],
     "examples.check_session": [("docs/user/tutorial.md", "$ echo 3 1 7 0 >", "$ echo 3 1 7 >")],
     "calls.check_names": [(CALLS, "### div_wuz mod_wuz", "### div_wuz rem_wuz")],
     "calls.check_plain_reading": [("crates/script_cases/generator/calls.py", '"cpy_wuz":', '"copy_wuz":')],
-    "calls.check_index": [(CALLS, "| [`div_wuz` `mod_wuz`]", "| [`div_wuz`]")],
+    "calls.check_index": [(CALLS, "[`div_wuz`](#div_wuz-mod_wuz)", "[`div_wuz`](#div_wuz)")],
     "calls.check_glossary": [("docs/user/glossary.md", "`len_fos`", "`len`")],
-    "calls.check_letters": [(CALLS, "or `f` descriptors;", "or descriptors;")],
+    "calls.check_letters": [("docs/user/sheet.md", "`f` descriptors", "`g` descriptors")],
     "calls.check_without_c": [("include/cvl.h", "len_luz, len_lub and", "len_luz and")],
     "calls.check_without_on": [("docs/user/parallel.md", "`cvl_exact_sum`, `cvl_read_ints_after`", "`cvl_read_ints_after`")],
     "calls.check_starts": [("docs/user/performance.md", "`add_rez`, `smp_puz`", "`add_rez`, `tot_rez`, `smp_puz`")],
@@ -47,7 +48,7 @@ EDITS = {
     "source.check_programs": [(".ci/pages/paths.py", '"""The paths', '#!/usr/bin/env python3\n"""The paths')],
     "source.check_columns": [("crates/sharing/src/lib.rt", "", "//" + " long" * 26 + "\n")],
     "promises.check_contracts": [(PROVED, "`run`, `stop_line`", "`run`, `no_such_function`")],
-    "promises.check_promises": [(PROVED, "", f"{TABLE}| a body | `crates/boards/must-fail/no_such.edit` |\n")],
+    "promises.check_promises": [(BODIES, "", f"{TABLE}| a body | `crates/boards/must-fail/no_such.edit` |\n")],
     "promises.check_edits": [("crates/boards/must-fail/unnamed.edit", "", "file: src/lib.rt\n")],
     "promises.check_trusted": [(PROVED, "`rayon`, `strsim`, `thiserror`", "`rayon`, `thiserror`")],
     "promises.check_from_c": [("docs/user/rust.md", "is tested and not proved.", "is proved.")],

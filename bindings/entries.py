@@ -27,6 +27,16 @@ JOINING, OF_FLAGS = ("add", "mul", "min", "max", "and", "ior", "xor"), ("and", "
 
 NO_INPUT = "14 NoSuchInput, without a place; else 13 TooLong, without a place, if the input has more than 4,194,304 tokens"
 
+# The letters of a name behind its operator, by where they stand.
+LETTERS = (
+    ("first", {
+        "w": "elementwise", "s": "scan", "r": "reduce", "p": "permute", "v": "single values to vectors, and back", "l": "library: packs, counts, lengths",
+        "f": "descriptors",
+    }),
+    ("second", {"u": "a flat vector", "e": "each segment", "o": "neither"}),
+    ("third", {"z": "integers", "b": "booleans", "v": "descriptor of a vector", "s": "lengths of segments"}),
+)  # fmt: skip
+
 SECTIONS = (
     Section(
         "Elementwise calls",
@@ -68,10 +78,10 @@ SECTIONS = (
     Section(
         "Scans and reduces",
         "An operator's identity changes nothing: 0 for `add`, `ior` and `xor`, 1 for `mul`, 2147483647 for `min`, -2147483648 for `max`, -1 for "
-        "`and`; of booleans T for `and`, and F for `ior` and `xor`. Scans are exclusive: a place has the join of the elements before it, without its own.",
+        "`and`; of booleans T for `and`, and F for `ior` and `xor`. Scans are exclusive: a place has what the elements before it combine to, without its own.",
         (
             Entry(
-                _each(JOINING, "su", OF_FLAGS), "exclusive scan", "At each place all elements before it, joined by the operator; at place 0 the identity.",
+                _each(JOINING, "su", OF_FLAGS), "exclusive scan", "At each place all elements before it, combined by the operator; at place 0 the identity.",
                 ("scan", "Each sum is the one before it, plus the element there"), ("add scan",),
                 shows="Each scan begins with its identity; the last element of `a` counts nowhere.",
             ),
@@ -80,10 +90,10 @@ SECTIONS = (
                 ("scan_segments", "Each sum is the one before it in its segment, plus the element there"), costs=("add scan, segments of 1,000",),
             ),
             Entry(
-                _each(JOINING, "ru", OF_FLAGS), "reduce", "All elements, joined by the operator; the identity if there are none.", costs=("add reduce",),
+                _each(JOINING, "ru", OF_FLAGS), "reduce", "All elements, combined by the operator; the identity if there are none.", costs=("add reduce",),
             ),
             Entry(
-                _each(JOINING, "re", OF_FLAGS), "reduce of each segment", "The elements of each segment, joined; the identity for an empty segment.",
+                _each(JOINING, "re", OF_FLAGS), "reduce of each segment", "The elements of each segment, combined; the identity for an empty segment.",
                 ("reduce_segments", "Each element leads to the sum of its segment"), ("add reduce, segments of 1,000",),
                 shows="The empty segment has the identities: 0, the greatest integer, F.",
             ),
@@ -250,13 +260,13 @@ SECTIONS = (
 # What the functions do that no script calls, by their sections in `table.py`.
 BESIDE = {
     "First senders": "For each place of a result the least place whose index names it, or -1; `select_` only of places whose flag is true.",
-    "Combining permutes": "Join each element with what stands at the place that its index names: sums by key, or the least of each; `counts` counts keys.",
+    "Combining permutes": "Combine each element with the value at the place that its index names: sums by key, or the least of each; `counts` counts keys.",
     "Orders, ranks and sorts": "The places in ascending order of their keys, equal keys in their order; how many keys come before each; the keys.",
     "Slices and merges": "Slices one behind another, by starts and lengths; segments behind segments; the next element of one vector or another, by a flag; the "
     "place of the first true flag, or -1; sums in 64 bits.",
     "Transposes, and integers of a byte": "A matrix stored by rows, transposed; bytes as integers from 0 to 255, and back, or fault 18.",
     "Texts": "Integers read from a text, and vectors written as one.",
-    "Scans in parts, by threads of the caller's": "A scan after what stands before it.",
+    "Scans in parts, by threads of the caller's": "A scan that goes on from a carry.",
     "Calls in parts": "What a part needs if you [cut a call](parallel.md#how-each-call-is-cut) yourself.",
     "Sparse products": "A matrix in rows times a vector, in one pass; `checked_` never wraps.",
 }

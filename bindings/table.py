@@ -294,8 +294,8 @@ OF_FAMILIES = {
         "lengths come first. For many products of one matrix make the lengths once, by cvl_segments_from_offsets.",
     ),
     "calls in parts": (
-        "Most calls in parts need only themselves; these functions are what else a part needs. docs/user/parallel.md says for each call how to cut it, what its "
-        "parts pass on, and how to join the results; cvl_parallel.h does it for threads.",
+        "Most calls in parts need only themselves; these functions are what else a part needs. In the repository docs/dev/parts.md says for each call how to cut it, "
+        "what its parts pass on, and how to join the results; cvl_parallel.h does it for threads.",
     ),
 }
 OF_CALLS = {

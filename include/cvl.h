@@ -213,6 +213,645 @@ int cvl_set_threads(size_t threads);
  */
 size_t cvl_threads(void);
 
+/* ---- place by place: the calls of the table ---- */
+
+/* The wrapped sums. In place: a, b or both. */
+CVL_CHECKED CvlStatus cvl_add_wuz(const int32_t *a, const int32_t *b, int32_t *out, size_t n);
+
+/* The wrapped products. In place: a, b or both. */
+CVL_CHECKED CvlStatus cvl_mul_wuz(const int32_t *a, const int32_t *b, int32_t *out, size_t n);
+
+/* The lesser of each two. In place: a, b or both. */
+CVL_CHECKED CvlStatus cvl_min_wuz(const int32_t *a, const int32_t *b, int32_t *out, size_t n);
+
+/* The greater of each two. In place: a, b or both. */
+CVL_CHECKED CvlStatus cvl_max_wuz(const int32_t *a, const int32_t *b, int32_t *out, size_t n);
+
+/* And, bit by bit. In place: a, b or both. */
+CVL_CHECKED CvlStatus cvl_and_wuz(const int32_t *a, const int32_t *b, int32_t *out, size_t n);
+
+/* Or, bit by bit. In place: a, b or both. */
+CVL_CHECKED CvlStatus cvl_ior_wuz(const int32_t *a, const int32_t *b, int32_t *out, size_t n);
+
+/* Exclusive or, bit by bit. In place: a, b or both. */
+CVL_CHECKED CvlStatus cvl_xor_wuz(const int32_t *a, const int32_t *b, int32_t *out, size_t n);
+
+/* The wrapped differences. In place: a, b or both. */
+CVL_CHECKED CvlStatus cvl_sub_wuz(const int32_t *a, const int32_t *b, int32_t *out, size_t n);
+
+/*
+ * The quotients, truncated toward zero; -2147483648 by -1 is -2147483648. Faults: 8 DivideByZero at the first divisor that is
+ * 0. In place: a, b or both.
+ */
+CVL_CHECKED CvlStatus cvl_div_wuz(const int32_t *a, const int32_t *b, int32_t *out, size_t n);
+
+/*
+ * The remainders of the quotients, with the dividends' signs. Faults: 8 DivideByZero at the first divisor that is 0. In place:
+ * a, b or both.
+ */
+CVL_CHECKED CvlStatus cvl_mod_wuz(const int32_t *a, const int32_t *b, int32_t *out, size_t n);
+
+/*
+ * The elements of a, shifted left by those of b. Faults: 9 ShiftOutOfRange at the first element of b outside 0 to 31. In place:
+ * a, b or both.
+ */
+CVL_CHECKED CvlStatus cvl_lsh_wuz(const int32_t *a, const int32_t *b, int32_t *out, size_t n);
+
+/*
+ * The elements of a, shifted right by those of b, with their signs. Faults: 9 ShiftOutOfRange at the first element of b outside
+ * 0 to 31. In place: a, b or both.
+ */
+CVL_CHECKED CvlStatus cvl_rsh_wuz(const int32_t *a, const int32_t *b, int32_t *out, size_t n);
+
+/* Each bit inverted. In place: a. */
+CVL_CHECKED CvlStatus cvl_not_wuz(const int32_t *a, int32_t *out, size_t n);
+
+/* Each boolean inverted. In place: a. */
+CVL_CHECKED CvlStatus cvl_not_wub(const bool *a, bool *out, size_t n);
+
+/* Each integer copied. In place: a. */
+CVL_CHECKED CvlStatus cvl_cpy_wuz(const int32_t *a, int32_t *out, size_t n);
+
+/* Each boolean copied. In place: a. */
+CVL_CHECKED CvlStatus cvl_cpy_wub(const bool *a, bool *out, size_t n);
+
+/* True if a is greater. */
+CVL_CHECKED CvlStatus cvl_grt_wuz(const int32_t *a, const int32_t *b, bool *CVL_RESTRICT out, size_t n);
+
+/* True if a is less. */
+CVL_CHECKED CvlStatus cvl_les_wuz(const int32_t *a, const int32_t *b, bool *CVL_RESTRICT out, size_t n);
+
+/* True if a is greater, or they are equal. */
+CVL_CHECKED CvlStatus cvl_geq_wuz(const int32_t *a, const int32_t *b, bool *CVL_RESTRICT out, size_t n);
+
+/* True if a is less, or they are equal. */
+CVL_CHECKED CvlStatus cvl_leq_wuz(const int32_t *a, const int32_t *b, bool *CVL_RESTRICT out, size_t n);
+
+/* True if they are equal. */
+CVL_CHECKED CvlStatus cvl_eql_wuz(const int32_t *a, const int32_t *b, bool *CVL_RESTRICT out, size_t n);
+
+/* True if they are not equal. */
+CVL_CHECKED CvlStatus cvl_neq_wuz(const int32_t *a, const int32_t *b, bool *CVL_RESTRICT out, size_t n);
+
+/* Whether both are true. In place: a, b or both. */
+CVL_CHECKED CvlStatus cvl_and_wub(const bool *a, const bool *b, bool *out, size_t n);
+
+/* Whether at least one is true. In place: a, b or both. */
+CVL_CHECKED CvlStatus cvl_ior_wub(const bool *a, const bool *b, bool *out, size_t n);
+
+/* Whether exactly one is true. In place: a, b or both. */
+CVL_CHECKED CvlStatus cvl_xor_wub(const bool *a, const bool *b, bool *out, size_t n);
+
+/*
+ * The element of a if the flag is true, else that of b. flags, a, b and out have n elements. In place: a or b, but not both.
+ */
+CVL_CHECKED CvlStatus cvl_sel_wuz(const bool *flags, const int32_t *a, const int32_t *b, int32_t *out, size_t n);
+CVL_CHECKED CvlStatus cvl_sel_wub(const bool *flags, const bool *a, const bool *b, bool *out, size_t n);
+
+/* 1 for true and 0 for false. */
+CVL_CHECKED CvlStatus cvl_int_wub(const bool *a, int32_t *CVL_RESTRICT out, size_t n);
+
+/* True if the integer is not 0. */
+CVL_CHECKED CvlStatus cvl_boo_wuz(const int32_t *a, bool *CVL_RESTRICT out, size_t n);
+
+/* ---- scans and reduces: the calls of the table ---- */
+
+/* For each integer the sum of those before it, wrapped; 0 at place 0. In place: a. */
+CVL_CHECKED CvlStatus cvl_add_suz(const int32_t *a, int32_t *out, size_t n);
+
+/* The sum of the n integers, wrapped; 0 if there are none. */
+CVL_CHECKED CvlStatus cvl_add_ruz(const int32_t *a, size_t n, int32_t *out) CVL_NONNULL((3));
+
+/* For each integer the product of those before it, wrapped; 1 at place 0. In place: a. */
+CVL_CHECKED CvlStatus cvl_mul_suz(const int32_t *a, int32_t *out, size_t n);
+
+/* The product of the n integers, wrapped; 1 if there are none. */
+CVL_CHECKED CvlStatus cvl_mul_ruz(const int32_t *a, size_t n, int32_t *out) CVL_NONNULL((3));
+
+/* For each integer the least of those before it; 2147483647 at place 0. In place: a. */
+CVL_CHECKED CvlStatus cvl_min_suz(const int32_t *a, int32_t *out, size_t n);
+
+/* The least of the n integers; 2147483647 if there are none. */
+CVL_CHECKED CvlStatus cvl_min_ruz(const int32_t *a, size_t n, int32_t *out) CVL_NONNULL((3));
+
+/* For each integer the greatest of those before it; -2147483648 at place 0. In place: a. */
+CVL_CHECKED CvlStatus cvl_max_suz(const int32_t *a, int32_t *out, size_t n);
+
+/* The greatest of the n integers; -2147483648 if there are none. */
+CVL_CHECKED CvlStatus cvl_max_ruz(const int32_t *a, size_t n, int32_t *out) CVL_NONNULL((3));
+
+/* For each integer those before it joined by and, bit by bit; -1 at place 0. In place: a. */
+CVL_CHECKED CvlStatus cvl_and_suz(const int32_t *a, int32_t *out, size_t n);
+
+/* The n integers joined by and, bit by bit; -1 if there are none. */
+CVL_CHECKED CvlStatus cvl_and_ruz(const int32_t *a, size_t n, int32_t *out) CVL_NONNULL((3));
+
+/* For each integer those before it joined by or, bit by bit; 0 at place 0. In place: a. */
+CVL_CHECKED CvlStatus cvl_ior_suz(const int32_t *a, int32_t *out, size_t n);
+
+/* The n integers joined by or, bit by bit; 0 if there are none. */
+CVL_CHECKED CvlStatus cvl_ior_ruz(const int32_t *a, size_t n, int32_t *out) CVL_NONNULL((3));
+
+/* For each integer those before it joined by exclusive or, bit by bit; 0 at place 0. In place: a. */
+CVL_CHECKED CvlStatus cvl_xor_suz(const int32_t *a, int32_t *out, size_t n);
+
+/* The n integers joined by exclusive or, bit by bit; 0 if there are none. */
+CVL_CHECKED CvlStatus cvl_xor_ruz(const int32_t *a, size_t n, int32_t *out) CVL_NONNULL((3));
+
+/* For each boolean whether all those before it are true; true at place 0. In place: a. */
+CVL_CHECKED CvlStatus cvl_and_sub(const bool *a, bool *out, size_t n);
+
+/* Whether all n booleans are true; true if there are none. */
+CVL_CHECKED CvlStatus cvl_and_rub(const bool *a, size_t n, bool *out) CVL_NONNULL((3));
+
+/* For each boolean whether any of those before it is true; false at place 0. In place: a. */
+CVL_CHECKED CvlStatus cvl_ior_sub(const bool *a, bool *out, size_t n);
+
+/* Whether any of the n booleans is true; false if there are none. */
+CVL_CHECKED CvlStatus cvl_ior_rub(const bool *a, size_t n, bool *out) CVL_NONNULL((3));
+
+/* For each boolean whether an odd number of those before it is true; false at place 0. In place: a. */
+CVL_CHECKED CvlStatus cvl_xor_sub(const bool *a, bool *out, size_t n);
+
+/* Whether an odd number of the n booleans is true; false if there are none. */
+CVL_CHECKED CvlStatus cvl_xor_rub(const bool *a, size_t n, bool *out) CVL_NONNULL((3));
+
+/* ---- sums that never wrap: the calls of the table ---- */
+
+/*
+ * For each integer the sum of those before it. Faults: 18 Overflow at the first place whose sum does not fit 32 bits. In place:
+ * a.
+ */
+CVL_CHECKED CvlStatus cvl_tot_suz(const int32_t *a, int32_t *out, size_t n);
+
+/* The sum of the n integers. Faults: 18 Overflow at 0 if it does not fit 32 bits. */
+CVL_CHECKED CvlStatus cvl_tot_ruz(const int32_t *a, size_t n, int32_t *out) CVL_NONNULL((3));
+
+/* ---- counts, single elements, and vectors of a given length: the calls of the table ---- */
+
+/* The number of true flags, of n. */
+CVL_CHECKED CvlStatus cvl_cnt_lub(const bool *flags, size_t n, int32_t *out) CVL_NONNULL((3));
+
+/* The element of n at the index. Faults: 10 IndexOutOfRange at 0 if the index is below 0, or n or more. */
+CVL_CHECKED CvlStatus cvl_ext_vuz(const int32_t *vector, size_t n, int64_t index, int32_t *out) CVL_NONNULL((4));
+CVL_CHECKED CvlStatus cvl_ext_vub(const bool *vector, size_t n, int64_t index, bool *out) CVL_NONNULL((4));
+
+/*
+ * The vector with the value at the index. vector and out have n elements. Faults: 10 IndexOutOfRange at 0 if the index is below
+ * 0, or n or more.
+ */
+CVL_CHECKED CvlStatus cvl_rep_vuz(const int32_t *vector, int64_t index, int32_t value, int32_t *CVL_RESTRICT out, size_t n);
+CVL_CHECKED CvlStatus cvl_rep_vub(const bool *vector, int64_t index, bool value, bool *CVL_RESTRICT out, size_t n);
+
+/*
+ * count copies of the value; out has count elements. Faults: 12 NegativeLength, without a place, if count is below 0; 13
+ * TooLong if it is above 2147483647.
+ */
+CVL_CHECKED CvlStatus cvl_dis_vuz(int32_t value, int64_t count, int32_t *CVL_RESTRICT out);
+CVL_CHECKED CvlStatus cvl_dis_vub(bool value, int64_t count, bool *CVL_RESTRICT out);
+
+/*
+ * The numbers init + k * stride, wrapped, for k from 0 to count - 1; out has count elements. Faults: 12 NegativeLength, without
+ * a place, if count is below 0; 13 TooLong if it is above 2147483647.
+ */
+CVL_CHECKED CvlStatus cvl_ind_luz(int32_t init, int32_t stride, int64_t count, int32_t *CVL_RESTRICT out);
+
+/* ---- segments: the calls of the table ---- */
+
+/*
+ * Segments come as their lengths, which may be 0. Each call on segments first has these faults, by the lengths: 13 TooLong,
+ * without a place, if there are more than 2147483647; 12 NegativeLength at the first below 0; 13 TooLong, without a place, if
+ * they add up to more than 2147483647.
+ */
+
+/* Whether the numbers are the lengths of segments, and how many elements these have in all. */
+CVL_CHECKED CvlStatus cvl_mke_fov(CvlLengths lengths, size_t *total) CVL_NONNULL((2));
+
+/*
+ * For each integer the sum of those before it in its segment. Faults: 18 Overflow at the first place whose sum does not fit 32
+ * bits. In place: a.
+ */
+CVL_CHECKED CvlStatus cvl_tot_sez(const int32_t *a, CvlLengths lengths, int32_t *out, size_t n);
+
+/*
+ * The sum of each segment. a has n elements, out one for each segment. Faults: 18 Overflow at the first segment whose sum does
+ * not fit 32 bits.
+ */
+CVL_CHECKED CvlStatus cvl_tot_rez(const int32_t *a, size_t n, CvlLengths lengths, int32_t *CVL_RESTRICT out);
+
+/*
+ * The element of each segment at its index, which counts from the segment's start. The vector has n elements, index and out one
+ * for each segment. Faults: 10 IndexOutOfRange at the segment.
+ */
+CVL_CHECKED CvlStatus cvl_ext_vez(const int32_t *vector, size_t n, const int32_t *index, CvlLengths lengths,
+    int32_t *CVL_RESTRICT out);
+CVL_CHECKED CvlStatus cvl_ext_veb(const bool *vector, size_t n, const int32_t *index, CvlLengths lengths,
+    bool *CVL_RESTRICT out);
+
+/*
+ * The vector with the value of each segment at its index, which counts from the segment's start. vector and out have n
+ * elements, index and values one for each segment. Faults: 10 IndexOutOfRange at the segment.
+ */
+CVL_CHECKED CvlStatus cvl_rep_vez(const int32_t *vector, const int32_t *index, const int32_t *values, CvlLengths lengths,
+    int32_t *CVL_RESTRICT out, size_t n);
+CVL_CHECKED CvlStatus cvl_rep_veb(const bool *vector, const int32_t *index, const bool *values, CvlLengths lengths,
+    bool *CVL_RESTRICT out, size_t n);
+
+/*
+ * Copies of each value, as many as its segment has places. There is one value for each segment; out has n elements, the total
+ * of the lengths, else 7 LengthMismatch.
+ */
+CVL_CHECKED CvlStatus cvl_dis_vez(const int32_t *values, CvlLengths lengths, int32_t *CVL_RESTRICT out, size_t n);
+CVL_CHECKED CvlStatus cvl_dis_veb(const bool *values, CvlLengths lengths, bool *CVL_RESTRICT out, size_t n);
+
+/*
+ * The numbers of each segment from its init on, in steps of its stride, wrapped. There are one init and one stride for each
+ * segment; out has n elements, the total of the lengths, else 7 LengthMismatch.
+ */
+CVL_CHECKED CvlStatus cvl_ind_lez(const int32_t *inits, const int32_t *strides, CvlLengths lengths, int32_t *CVL_RESTRICT out,
+    size_t n);
+
+/* ---- scans and reduces of segments: the calls of the table ---- */
+
+/* For each integer the sum of those before it in its segment, wrapped; 0 at the start of a segment. In place: a. */
+CVL_CHECKED CvlStatus cvl_add_sez(const int32_t *a, CvlLengths lengths, int32_t *out, size_t n);
+
+/* The sum of the integers of each segment, wrapped; 0 if it is empty. a has n elements, out one for each segment. */
+CVL_CHECKED CvlStatus cvl_add_rez(const int32_t *a, size_t n, CvlLengths lengths, int32_t *CVL_RESTRICT out);
+
+/* For each integer the product of those before it in its segment, wrapped; 1 at the start of a segment. In place: a. */
+CVL_CHECKED CvlStatus cvl_mul_sez(const int32_t *a, CvlLengths lengths, int32_t *out, size_t n);
+
+/* The product of the integers of each segment, wrapped; 1 if it is empty. a has n elements, out one for each segment. */
+CVL_CHECKED CvlStatus cvl_mul_rez(const int32_t *a, size_t n, CvlLengths lengths, int32_t *CVL_RESTRICT out);
+
+/* For each integer the least of those before it in its segment; 2147483647 at the start of a segment. In place: a. */
+CVL_CHECKED CvlStatus cvl_min_sez(const int32_t *a, CvlLengths lengths, int32_t *out, size_t n);
+
+/* The least of the integers of each segment; 2147483647 if it is empty. a has n elements, out one for each segment. */
+CVL_CHECKED CvlStatus cvl_min_rez(const int32_t *a, size_t n, CvlLengths lengths, int32_t *CVL_RESTRICT out);
+
+/* For each integer the greatest of those before it in its segment; -2147483648 at the start of a segment. In place: a. */
+CVL_CHECKED CvlStatus cvl_max_sez(const int32_t *a, CvlLengths lengths, int32_t *out, size_t n);
+
+/* The greatest of the integers of each segment; -2147483648 if it is empty. a has n elements, out one for each segment. */
+CVL_CHECKED CvlStatus cvl_max_rez(const int32_t *a, size_t n, CvlLengths lengths, int32_t *CVL_RESTRICT out);
+
+/* For each integer those before it in its segment joined by and, bit by bit; -1 at the start of a segment. In place: a. */
+CVL_CHECKED CvlStatus cvl_and_sez(const int32_t *a, CvlLengths lengths, int32_t *out, size_t n);
+
+/* The integers of each segment joined by and, bit by bit; -1 if it is empty. a has n elements, out one for each segment. */
+CVL_CHECKED CvlStatus cvl_and_rez(const int32_t *a, size_t n, CvlLengths lengths, int32_t *CVL_RESTRICT out);
+
+/* For each integer those before it in its segment joined by or, bit by bit; 0 at the start of a segment. In place: a. */
+CVL_CHECKED CvlStatus cvl_ior_sez(const int32_t *a, CvlLengths lengths, int32_t *out, size_t n);
+
+/* The integers of each segment joined by or, bit by bit; 0 if it is empty. a has n elements, out one for each segment. */
+CVL_CHECKED CvlStatus cvl_ior_rez(const int32_t *a, size_t n, CvlLengths lengths, int32_t *CVL_RESTRICT out);
+
+/*
+ * For each integer those before it in its segment joined by exclusive or, bit by bit; 0 at the start of a segment. In place: a.
+ */
+CVL_CHECKED CvlStatus cvl_xor_sez(const int32_t *a, CvlLengths lengths, int32_t *out, size_t n);
+
+/*
+ * The integers of each segment joined by exclusive or, bit by bit; 0 if it is empty. a has n elements, out one for each
+ * segment.
+ */
+CVL_CHECKED CvlStatus cvl_xor_rez(const int32_t *a, size_t n, CvlLengths lengths, int32_t *CVL_RESTRICT out);
+
+/* For each boolean whether all those before it in its segment are true; true at the start of a segment. In place: a. */
+CVL_CHECKED CvlStatus cvl_and_seb(const bool *a, CvlLengths lengths, bool *out, size_t n);
+
+/* Whether all the booleans of each segment are true; true if it is empty. a has n elements, out one for each segment. */
+CVL_CHECKED CvlStatus cvl_and_reb(const bool *a, size_t n, CvlLengths lengths, bool *CVL_RESTRICT out);
+
+/* For each boolean whether any of those before it in its segment is true; false at the start of a segment. In place: a. */
+CVL_CHECKED CvlStatus cvl_ior_seb(const bool *a, CvlLengths lengths, bool *out, size_t n);
+
+/* Whether any of the booleans of each segment is true; false if it is empty. a has n elements, out one for each segment. */
+CVL_CHECKED CvlStatus cvl_ior_reb(const bool *a, size_t n, CvlLengths lengths, bool *CVL_RESTRICT out);
+
+/*
+ * For each boolean whether an odd number of those before it in its segment is true; false at the start of a segment. In place:
+ * a.
+ */
+CVL_CHECKED CvlStatus cvl_xor_seb(const bool *a, CvlLengths lengths, bool *out, size_t n);
+
+/*
+ * Whether an odd number of the booleans of each segment is true; false if it is empty. a has n elements, out one for each
+ * segment.
+ */
+CVL_CHECKED CvlStatus cvl_xor_reb(const bool *a, size_t n, CvlLengths lengths, bool *CVL_RESTRICT out);
+
+/* ---- packs and counts of segments: the calls of the table ---- */
+
+/*
+ * The values whose flag is true, in their order. values and flags have n elements. out needs room for so many; n is always
+ * enough. *count is how many they are, also if out is too short.
+ */
+CVL_CHECKED CvlStatus cvl_pck_luz(const int32_t *values, const bool *flags, size_t n, int32_t *CVL_RESTRICT out, size_t room,
+    size_t *count) CVL_NONNULL((6));
+CVL_CHECKED CvlStatus cvl_pck_lub(const bool *values, const bool *flags, size_t n, bool *CVL_RESTRICT out, size_t room,
+    size_t *count) CVL_NONNULL((6));
+
+/*
+ * The values of each segment whose flag is true, in their order, one segment after another; pck_fov gives the lengths of these
+ * segments. values and flags have n elements. out needs room for so many; n is always enough. *count is how many they are, also
+ * if out is too short.
+ */
+CVL_CHECKED CvlStatus cvl_pck_lez(const int32_t *values, const bool *flags, size_t n, CvlLengths lengths,
+    int32_t *CVL_RESTRICT out, size_t room, size_t *count) CVL_NONNULL((7));
+CVL_CHECKED CvlStatus cvl_pck_leb(const bool *values, const bool *flags, size_t n, CvlLengths lengths, bool *CVL_RESTRICT out,
+    size_t room, size_t *count) CVL_NONNULL((7));
+
+/*
+ * The lengths of the segments of what a pack keeps, or a select permute, 0 for a segment of which nothing is kept. flags has n
+ * elements, out one for each segment.
+ */
+CVL_CHECKED CvlStatus cvl_pck_fov(const bool *flags, size_t n, CvlLengths lengths, int32_t *CVL_RESTRICT out);
+
+/* The number of true flags of each segment. flags has n elements, out one for each segment. */
+CVL_CHECKED CvlStatus cvl_cnt_leb(const bool *flags, size_t n, CvlLengths lengths, int32_t *CVL_RESTRICT out);
+
+/* ---- permutes: the calls of the table ---- */
+
+/*
+ * In a simple, a select and a default permute the index of a place says where its element goes, and no two may go to one place.
+ * 13 TooLong, if the index has more than 2147483647 elements, comes first.
+ */
+
+/*
+ * Each element of the source at its index. source, index and out have n elements. Faults: at the first bad index 10
+ * IndexOutOfRange if it is below 0, or n or more, else 11 IndexRepeated if an earlier one is the same.
+ */
+CVL_CHECKED CvlStatus cvl_smp_puz(const int32_t *source, const int32_t *index, int32_t *CVL_RESTRICT out, size_t n);
+CVL_CHECKED CvlStatus cvl_smp_pub(const bool *source, const int32_t *index, bool *CVL_RESTRICT out, size_t n);
+
+/*
+ * Each element of the source whose flag is true at its index. source, index and flags have n elements; out has m, the number of
+ * true flags, else 7 LengthMismatch. An index whose flag is false is ignored. Faults: at the first bad index 10 IndexOutOfRange
+ * if it is below 0, or the number of true flags or more, else 11 IndexRepeated if an earlier one is the same.
+ */
+CVL_CHECKED CvlStatus cvl_sel_puz(const int32_t *source, const int32_t *index, const bool *flags, size_t n,
+    int32_t *CVL_RESTRICT out, size_t m);
+CVL_CHECKED CvlStatus cvl_sel_pub(const bool *source, const int32_t *index, const bool *flags, size_t n, bool *CVL_RESTRICT out,
+    size_t m);
+
+/*
+ * Each element of the source at its index, and at a place to which none goes its default. source and index have n elements,
+ * defaults and out m, which may be any number. Faults: at the first bad index 10 IndexOutOfRange if it is below 0, or m or
+ * more, else 11 IndexRepeated if an earlier one is the same.
+ */
+CVL_CHECKED CvlStatus cvl_def_puz(const int32_t *source, const int32_t *index, size_t n, const int32_t *defaults,
+    int32_t *CVL_RESTRICT out, size_t m);
+CVL_CHECKED CvlStatus cvl_def_pub(const bool *source, const int32_t *index, size_t n, const bool *defaults,
+    bool *CVL_RESTRICT out, size_t m);
+
+/*
+ * At each place the element of the source at the place's index, which may repeat. The source has n elements, which may be any
+ * number; index and out have m. Faults: 10 IndexOutOfRange at the first index below 0, or n or more.
+ */
+CVL_CHECKED CvlStatus cvl_bck_puz(const int32_t *source, size_t n, const int32_t *index, int32_t *CVL_RESTRICT out, size_t m);
+CVL_CHECKED CvlStatus cvl_bck_pub(const bool *source, size_t n, const int32_t *index, bool *CVL_RESTRICT out, size_t m);
+
+/* ---- permutes of segments: the calls of the table ---- */
+
+/*
+ * Indices count from the start of their segment. The faults by the lengths come first; with two arrays of lengths those by
+ * `lengths` before those by the other, which are as many, else 7 LengthMismatch.
+ */
+
+/*
+ * Each element of the source at its index, which counts from the start of its segment. source, index and out have n elements.
+ * Faults: at the first bad index 10 IndexOutOfRange if it is no place of its segment, else 11 IndexRepeated if an earlier one
+ * of its segment is the same.
+ */
+CVL_CHECKED CvlStatus cvl_smp_pez(const int32_t *source, const int32_t *index, CvlLengths lengths, int32_t *CVL_RESTRICT out,
+    size_t n);
+CVL_CHECKED CvlStatus cvl_smp_peb(const bool *source, const int32_t *index, CvlLengths lengths, bool *CVL_RESTRICT out,
+    size_t n);
+
+/*
+ * Each element of the source whose flag is true at its index in its segment of the result, which is as long as the segment has
+ * true flags. source, index and flags have n elements; out has m, the number of true flags, else 7 LengthMismatch. An index
+ * whose flag is false is ignored. Faults: at the first bad index 10 IndexOutOfRange if it is no place of its segment of the
+ * result, else 11 IndexRepeated if an earlier one of its segment is the same.
+ */
+CVL_CHECKED CvlStatus cvl_sel_pez(const int32_t *source, const int32_t *index, const bool *flags, size_t n, CvlLengths lengths,
+    int32_t *CVL_RESTRICT out, size_t m);
+CVL_CHECKED CvlStatus cvl_sel_peb(const bool *source, const int32_t *index, const bool *flags, size_t n, CvlLengths lengths,
+    bool *CVL_RESTRICT out, size_t m);
+
+/*
+ * Each element of the source at its index in the same segment of the defaults, and at a place to which none goes its default.
+ * source and index have n elements in segments with the lengths; defaults and out have m, in as many segments with the default
+ * lengths. Faults: at the first bad index 10 IndexOutOfRange if it is no place of its segment of the defaults, else 11
+ * IndexRepeated if an earlier one of its segment is the same.
+ */
+CVL_CHECKED CvlStatus cvl_def_pez(const int32_t *source, const int32_t *index, size_t n, const int32_t *defaults,
+    CvlLengths lengths, CvlLengths default_lengths, int32_t *CVL_RESTRICT out, size_t m);
+CVL_CHECKED CvlStatus cvl_def_peb(const bool *source, const int32_t *index, size_t n, const bool *defaults, CvlLengths lengths,
+    CvlLengths default_lengths, bool *CVL_RESTRICT out, size_t m);
+
+/*
+ * At each place the element at the place's index in the same segment of the source; an index may repeat. The source has n
+ * elements in segments with the lengths; index and out have m, in as many segments with the index lengths. Faults: 10
+ * IndexOutOfRange at the first index that is no place of its segment of the source.
+ */
+CVL_CHECKED CvlStatus cvl_bck_pez(const int32_t *source, size_t n, const int32_t *index, CvlLengths lengths,
+    CvlLengths index_lengths, int32_t *CVL_RESTRICT out, size_t m);
+CVL_CHECKED CvlStatus cvl_bck_peb(const bool *source, size_t n, const int32_t *index, CvlLengths lengths,
+    CvlLengths index_lengths, bool *CVL_RESTRICT out, size_t m);
+
+/* ---- booleans that are neither 0 nor 1 ---- */
+
+/* Whether each byte is 0 or 1. */
+bool cvl_are_flags(const bool *flags, size_t flags_len);
+
+/* Changes each byte that is not 0 to 1. */
+void cvl_make_flags(bool *flags, size_t flags_len);
+
+/* ---- descriptors: the calls on segments that take one ---- */
+
+/*
+ * A descriptor names the lengths of segments and how many there are. It is plain memory that owns nothing: you may copy it and
+ * keep it constant, any number of threads may use it at once, and there is nothing to free. Start with CVL_NO_SEGMENTS;
+ * cvl_segments_new fills it. No call writes the lengths or the descriptor.
+ *
+ * The functions from cvl_segments_free to cvl_segments_numbers make descriptors and read them. Each of the others is the family
+ * on segments of its name, with a descriptor for the lengths: cvl_segments_int_scan is cvl_seg_int_scan. Each checks the
+ * lengths anew, so you may change them between calls. A buffer may overlap neither the lengths nor the descriptor. With
+ * CVL_NO_SEGMENTS or a null pointer a call returns 101 NoDescriptor.
+ */
+typedef struct CvlSegments {
+    const int32_t *lengths; /* the caller's, which live as long as the descriptor is used */
+    size_t segments;        /* how many there are */
+    bool some;              /* whether there is a descriptor */
+} CvlSegments;
+
+/* What a descriptor starts as: CvlSegments rows = CVL_NO_SEGMENTS. */
+#define CVL_NO_SEGMENTS {NULL, 0, false}
+
+/* Empties a descriptor; a null pointer is allowed. The lengths stay yours. */
+CvlStatus cvl_segments_free(CvlSegments *segments);
+
+/*
+ * Makes the descriptor of segments with these lengths. After a fault there is none; 102 Overlap leaves it as it was.
+ * Faults: 13 TooLong if there are more than 2147483647 lengths; 12 NegativeLength at the first below 0; 13 TooLong if the total
+ * is more than 2147483647; else 101 NoDescriptor if `segments` is null.
+ */
+CVL_CHECKED CvlStatus cvl_segments_new(CvlLengths lengths, CvlSegments *segments);
+
+/*
+ * Makes the descriptor of segments that start at these offsets, of which the last is the end, as in a matrix of compressed
+ * rows. The lengths go into your buffer, which the descriptor names. After a fault the buffer is as it was, and there is no
+ * descriptor; 102 Overlap leaves both as they were.
+ * Faults: 13 TooLong if there are more than 2147483647 segments; 7 LengthMismatch if there is no offset or the first is not 0;
+ * 12 NegativeLength at the first segment that ends before it starts; 7 LengthMismatch if the buffer does not have one place for
+ * each segment; else 101 NoDescriptor if `segments` is null.
+ */
+CVL_CHECKED CvlStatus cvl_segments_from_offsets(const int32_t *offsets, size_t offsets_len, int32_t *lengths, size_t lengths_len,
+    CvlSegments *segments);
+
+/* How many elements the segments have in all. */
+CVL_CHECKED CvlStatus cvl_segments_total(const CvlSegments *segments, size_t *total);
+
+/*
+ * Where each segment starts, and last where the last one ends.
+ * Faults: those of lengths; 7 LengthMismatch if out does not have one place more than there are segments.
+ */
+CVL_CHECKED CvlStatus cvl_segments_offsets(const CvlSegments *segments, int32_t *out, size_t out_len);
+
+/*
+ * At each place the number of its segment, counted from 0.
+ * Faults: those of lengths; 7 LengthMismatch if out does not have as many places as the segments; 100 NoResources.
+ */
+CVL_CHECKED CvlStatus cvl_segments_numbers(const CvlSegments *segments, int32_t *out, size_t out_len);
+
+CVL_CHECKED CvlStatus cvl_segments_checked_scan(const int32_t *a, size_t a_len, const CvlSegments *segments, int32_t *out,
+    size_t out_len);
+
+CVL_CHECKED CvlStatus cvl_segments_checked_reduce(const int32_t *a, size_t a_len, const CvlSegments *segments, int32_t *out,
+    size_t out_len);
+
+CVL_CHECKED CvlStatus cvl_segments_extract_int(const int32_t *vector, size_t vector_len, const int32_t *index, size_t index_len,
+    const CvlSegments *segments, int32_t *out, size_t out_len);
+
+CVL_CHECKED CvlStatus cvl_segments_extract_bool(const bool *vector, size_t vector_len, const int32_t *index, size_t index_len,
+    const CvlSegments *segments, bool *out, size_t out_len);
+
+CVL_CHECKED CvlStatus cvl_segments_replace_int(const int32_t *vector, size_t vector_len, const int32_t *index, size_t index_len,
+    const int32_t *values, size_t values_len, const CvlSegments *segments, int32_t *out, size_t out_len);
+
+CVL_CHECKED CvlStatus cvl_segments_replace_bool(const bool *vector, size_t vector_len, const int32_t *index, size_t index_len,
+    const bool *values, size_t values_len, const CvlSegments *segments, bool *out, size_t out_len);
+
+CVL_CHECKED CvlStatus cvl_segments_distribute_int(const int32_t *values, size_t values_len, const CvlSegments *segments,
+    int32_t *out, size_t out_len);
+
+CVL_CHECKED CvlStatus cvl_segments_distribute_bool(const bool *values, size_t values_len, const CvlSegments *segments,
+    bool *out, size_t out_len);
+
+CVL_CHECKED CvlStatus cvl_segments_index(const int32_t *inits, size_t inits_len, const int32_t *strides, size_t strides_len,
+    const CvlSegments *segments, int32_t *out, size_t out_len);
+
+CVL_CHECKED CvlStatus cvl_segments_int_scan(uint32_t op, const int32_t *a, size_t a_len, const CvlSegments *segments,
+    int32_t *out, size_t out_len);
+
+CVL_CHECKED CvlStatus cvl_segments_bool_scan(uint32_t op, const bool *a, size_t a_len, const CvlSegments *segments, bool *out,
+    size_t out_len);
+
+CVL_CHECKED CvlStatus cvl_segments_int_reduce(uint32_t op, const int32_t *a, size_t a_len, const CvlSegments *segments,
+    int32_t *out, size_t out_len);
+
+CVL_CHECKED CvlStatus cvl_segments_bool_reduce(uint32_t op, const bool *a, size_t a_len, const CvlSegments *segments, bool *out,
+    size_t out_len);
+
+CVL_CHECKED CvlStatus cvl_segments_pack_int(const int32_t *values, size_t values_len, const bool *flags, size_t flags_len,
+    const CvlSegments *segments, int32_t *out, size_t out_len, size_t *count);
+
+CVL_CHECKED CvlStatus cvl_segments_pack_bool(const bool *values, size_t values_len, const bool *flags, size_t flags_len,
+    const CvlSegments *segments, bool *out, size_t out_len, size_t *count);
+
+CVL_CHECKED CvlStatus cvl_segments_packed_lengths(const bool *flags, size_t flags_len, const CvlSegments *segments,
+    int32_t *out, size_t out_len);
+
+CVL_CHECKED CvlStatus cvl_segments_count(const bool *flags, size_t flags_len, const CvlSegments *segments, int32_t *out,
+    size_t out_len);
+
+CVL_CHECKED CvlStatus cvl_segments_permute_int(const int32_t *source, size_t source_len, const int32_t *index, size_t index_len,
+    const CvlSegments *segments, int32_t *out, size_t out_len);
+
+CVL_CHECKED CvlStatus cvl_segments_permute_bool(const bool *source, size_t source_len, const int32_t *index, size_t index_len,
+    const CvlSegments *segments, bool *out, size_t out_len);
+
+CVL_CHECKED CvlStatus cvl_segments_select_permute_int(const int32_t *source, size_t source_len, const int32_t *index,
+    size_t index_len, const bool *flags, size_t flags_len, const CvlSegments *segments, int32_t *out, size_t out_len);
+
+CVL_CHECKED CvlStatus cvl_segments_select_permute_bool(const bool *source, size_t source_len, const int32_t *index,
+    size_t index_len, const bool *flags, size_t flags_len, const CvlSegments *segments, bool *out, size_t out_len);
+
+CVL_CHECKED CvlStatus cvl_segments_default_permute_int(const int32_t *source, size_t source_len, const int32_t *index,
+    size_t index_len, const int32_t *defaults, size_t defaults_len, const CvlSegments *segments,
+    const CvlSegments *default_segments, int32_t *out, size_t out_len);
+
+CVL_CHECKED CvlStatus cvl_segments_default_permute_bool(const bool *source, size_t source_len, const int32_t *index,
+    size_t index_len, const bool *defaults, size_t defaults_len, const CvlSegments *segments,
+    const CvlSegments *default_segments, bool *out, size_t out_len);
+
+CVL_CHECKED CvlStatus cvl_segments_back_permute_int(const int32_t *source, size_t source_len, const int32_t *index,
+    size_t index_len, const CvlSegments *segments, const CvlSegments *index_segments, int32_t *out, size_t out_len);
+
+CVL_CHECKED CvlStatus cvl_segments_back_permute_bool(const bool *source, size_t source_len, const int32_t *index,
+    size_t index_len, const CvlSegments *segments, const CvlSegments *index_segments, bool *out, size_t out_len);
+
+CVL_CHECKED CvlStatus cvl_segments_first_senders(const int32_t *index, size_t index_len, const CvlSegments *segments,
+    const CvlSegments *result_segments, int32_t *out, size_t out_len);
+
+CVL_CHECKED CvlStatus cvl_segments_select_first_senders(const int32_t *index, size_t index_len, const bool *flags,
+    size_t flags_len, const CvlSegments *segments, const CvlSegments *result_segments, int32_t *out, size_t out_len);
+
+CVL_CHECKED CvlStatus cvl_segments_combine_permute_int(uint32_t op, const int32_t *source, size_t source_len,
+    const int32_t *index, size_t index_len, const CvlSegments *segments, const CvlSegments *result_segments, int32_t *out,
+    size_t out_len);
+
+CVL_CHECKED CvlStatus cvl_segments_combine_permute_bool(uint32_t op, const bool *source, size_t source_len,
+    const int32_t *index, size_t index_len, const CvlSegments *segments, const CvlSegments *result_segments, bool *out,
+    size_t out_len);
+
+CVL_CHECKED CvlStatus cvl_segments_counts(const int32_t *index, size_t index_len, const CvlSegments *segments,
+    const CvlSegments *result_segments, int32_t *out, size_t out_len);
+
+CVL_CHECKED CvlStatus cvl_segments_order(const int32_t *keys, size_t keys_len, const CvlSegments *segments, int32_t *out,
+    size_t out_len);
+
+CVL_CHECKED CvlStatus cvl_segments_rank(const int32_t *keys, size_t keys_len, const CvlSegments *segments, int32_t *out,
+    size_t out_len);
+
+CVL_CHECKED CvlStatus cvl_segments_sort(const int32_t *keys, size_t keys_len, const CvlSegments *segments, int32_t *out,
+    size_t out_len);
+
+CVL_CHECKED CvlStatus cvl_segments_merge_by_flags_int(const bool *flags, size_t flags_len, const int32_t *when_true,
+    size_t when_true_len, const int32_t *when_false, size_t when_false_len, const CvlSegments *segments,
+    const CvlSegments *true_segments, const CvlSegments *false_segments, int32_t *out, size_t out_len);
+
+CVL_CHECKED CvlStatus cvl_segments_merge_by_flags_bool(const bool *flags, size_t flags_len, const bool *when_true,
+    size_t when_true_len, const bool *when_false, size_t when_false_len, const CvlSegments *segments,
+    const CvlSegments *true_segments, const CvlSegments *false_segments, bool *out, size_t out_len);
+
+CVL_CHECKED CvlStatus cvl_segments_first_true(const bool *flags, size_t flags_len, const CvlSegments *segments, int32_t *out,
+    size_t out_len);
+
+CVL_CHECKED CvlStatus cvl_segments_exact_sums(const int32_t *a, size_t a_len, const CvlSegments *segments, int64_t *out,
+    size_t out_len);
+
+CVL_CHECKED CvlStatus cvl_segments_write_ints(const int32_t *a, size_t a_len, const CvlSegments *segments, char *out,
+    size_t out_len, size_t *count);
+
+CVL_CHECKED CvlStatus cvl_segments_write_bools(const bool *a, size_t a_len, const CvlSegments *segments, char *out,
+    size_t out_len, size_t *count);
+
 /* ---- place by place: families ---- */
 
 /* The operator on each two integers at the same place. */
@@ -690,8 +1329,8 @@ CVL_CHECKED CvlStatus cvl_bool_scan_after(uint32_t op, bool before, const bool *
 /* ---- calls in parts: families ---- */
 
 /*
- * Most calls in parts need only themselves; these functions are what else a part needs. docs/user/parallel.md says for each
- * call how to cut it, what its parts pass on, and how to join the results; cvl_parallel.h does it for threads.
+ * Most calls in parts need only themselves; these functions are what else a part needs. In the repository docs/dev/parts.md
+ * says for each call how to cut it, what its parts pass on, and how to join the results; cvl_parallel.h does it for threads.
  */
 
 /* The sum of the integers in 64 bits, which always fits. */
@@ -836,645 +1475,6 @@ CVL_CHECKED CvlStatus cvl_sparse_product_by_offsets(const int32_t *offsets, size
  */
 CVL_CHECKED CvlStatus cvl_checked_sparse_product_by_offsets(const int32_t *offsets, size_t offsets_len, const int32_t *columns,
     size_t columns_len, const int32_t *values, size_t values_len, const int32_t *x, size_t x_len, int32_t *out, size_t out_len);
-
-/* ---- booleans that are neither 0 nor 1 ---- */
-
-/* Whether each byte is 0 or 1. */
-bool cvl_are_flags(const bool *flags, size_t flags_len);
-
-/* Changes each byte that is not 0 to 1. */
-void cvl_make_flags(bool *flags, size_t flags_len);
-
-/* ---- place by place: the calls of the table ---- */
-
-/* The wrapped sums. In place: a, b or both. */
-CVL_CHECKED CvlStatus cvl_add_wuz(const int32_t *a, const int32_t *b, int32_t *out, size_t n);
-
-/* The wrapped products. In place: a, b or both. */
-CVL_CHECKED CvlStatus cvl_mul_wuz(const int32_t *a, const int32_t *b, int32_t *out, size_t n);
-
-/* The lesser of each two. In place: a, b or both. */
-CVL_CHECKED CvlStatus cvl_min_wuz(const int32_t *a, const int32_t *b, int32_t *out, size_t n);
-
-/* The greater of each two. In place: a, b or both. */
-CVL_CHECKED CvlStatus cvl_max_wuz(const int32_t *a, const int32_t *b, int32_t *out, size_t n);
-
-/* And, bit by bit. In place: a, b or both. */
-CVL_CHECKED CvlStatus cvl_and_wuz(const int32_t *a, const int32_t *b, int32_t *out, size_t n);
-
-/* Or, bit by bit. In place: a, b or both. */
-CVL_CHECKED CvlStatus cvl_ior_wuz(const int32_t *a, const int32_t *b, int32_t *out, size_t n);
-
-/* Exclusive or, bit by bit. In place: a, b or both. */
-CVL_CHECKED CvlStatus cvl_xor_wuz(const int32_t *a, const int32_t *b, int32_t *out, size_t n);
-
-/* The wrapped differences. In place: a, b or both. */
-CVL_CHECKED CvlStatus cvl_sub_wuz(const int32_t *a, const int32_t *b, int32_t *out, size_t n);
-
-/*
- * The quotients, truncated toward zero; -2147483648 by -1 is -2147483648. Faults: 8 DivideByZero at the first divisor that is
- * 0. In place: a, b or both.
- */
-CVL_CHECKED CvlStatus cvl_div_wuz(const int32_t *a, const int32_t *b, int32_t *out, size_t n);
-
-/*
- * The remainders of the quotients, with the dividends' signs. Faults: 8 DivideByZero at the first divisor that is 0. In place:
- * a, b or both.
- */
-CVL_CHECKED CvlStatus cvl_mod_wuz(const int32_t *a, const int32_t *b, int32_t *out, size_t n);
-
-/*
- * The elements of a, shifted left by those of b. Faults: 9 ShiftOutOfRange at the first element of b outside 0 to 31. In place:
- * a, b or both.
- */
-CVL_CHECKED CvlStatus cvl_lsh_wuz(const int32_t *a, const int32_t *b, int32_t *out, size_t n);
-
-/*
- * The elements of a, shifted right by those of b, with their signs. Faults: 9 ShiftOutOfRange at the first element of b outside
- * 0 to 31. In place: a, b or both.
- */
-CVL_CHECKED CvlStatus cvl_rsh_wuz(const int32_t *a, const int32_t *b, int32_t *out, size_t n);
-
-/* Each bit inverted. In place: a. */
-CVL_CHECKED CvlStatus cvl_not_wuz(const int32_t *a, int32_t *out, size_t n);
-
-/* Each boolean inverted. In place: a. */
-CVL_CHECKED CvlStatus cvl_not_wub(const bool *a, bool *out, size_t n);
-
-/* Each integer copied. In place: a. */
-CVL_CHECKED CvlStatus cvl_cpy_wuz(const int32_t *a, int32_t *out, size_t n);
-
-/* Each boolean copied. In place: a. */
-CVL_CHECKED CvlStatus cvl_cpy_wub(const bool *a, bool *out, size_t n);
-
-/* True if a is greater. */
-CVL_CHECKED CvlStatus cvl_grt_wuz(const int32_t *a, const int32_t *b, bool *CVL_RESTRICT out, size_t n);
-
-/* True if a is less. */
-CVL_CHECKED CvlStatus cvl_les_wuz(const int32_t *a, const int32_t *b, bool *CVL_RESTRICT out, size_t n);
-
-/* True if a is greater, or they are equal. */
-CVL_CHECKED CvlStatus cvl_geq_wuz(const int32_t *a, const int32_t *b, bool *CVL_RESTRICT out, size_t n);
-
-/* True if a is less, or they are equal. */
-CVL_CHECKED CvlStatus cvl_leq_wuz(const int32_t *a, const int32_t *b, bool *CVL_RESTRICT out, size_t n);
-
-/* True if they are equal. */
-CVL_CHECKED CvlStatus cvl_eql_wuz(const int32_t *a, const int32_t *b, bool *CVL_RESTRICT out, size_t n);
-
-/* True if they are not equal. */
-CVL_CHECKED CvlStatus cvl_neq_wuz(const int32_t *a, const int32_t *b, bool *CVL_RESTRICT out, size_t n);
-
-/* Whether both are true. In place: a, b or both. */
-CVL_CHECKED CvlStatus cvl_and_wub(const bool *a, const bool *b, bool *out, size_t n);
-
-/* Whether at least one is true. In place: a, b or both. */
-CVL_CHECKED CvlStatus cvl_ior_wub(const bool *a, const bool *b, bool *out, size_t n);
-
-/* Whether exactly one is true. In place: a, b or both. */
-CVL_CHECKED CvlStatus cvl_xor_wub(const bool *a, const bool *b, bool *out, size_t n);
-
-/*
- * The element of a if the flag is true, else that of b. flags, a, b and out have n elements. In place: a or b, but not both.
- */
-CVL_CHECKED CvlStatus cvl_sel_wuz(const bool *flags, const int32_t *a, const int32_t *b, int32_t *out, size_t n);
-CVL_CHECKED CvlStatus cvl_sel_wub(const bool *flags, const bool *a, const bool *b, bool *out, size_t n);
-
-/* 1 for true and 0 for false. */
-CVL_CHECKED CvlStatus cvl_int_wub(const bool *a, int32_t *CVL_RESTRICT out, size_t n);
-
-/* True if the integer is not 0. */
-CVL_CHECKED CvlStatus cvl_boo_wuz(const int32_t *a, bool *CVL_RESTRICT out, size_t n);
-
-/* ---- scans and reduces: the calls of the table ---- */
-
-/* For each integer the sum of those before it, wrapped; 0 at place 0. In place: a. */
-CVL_CHECKED CvlStatus cvl_add_suz(const int32_t *a, int32_t *out, size_t n);
-
-/* The sum of the n integers, wrapped; 0 if there are none. */
-CVL_CHECKED CvlStatus cvl_add_ruz(const int32_t *a, size_t n, int32_t *out) CVL_NONNULL((3));
-
-/* For each integer the product of those before it, wrapped; 1 at place 0. In place: a. */
-CVL_CHECKED CvlStatus cvl_mul_suz(const int32_t *a, int32_t *out, size_t n);
-
-/* The product of the n integers, wrapped; 1 if there are none. */
-CVL_CHECKED CvlStatus cvl_mul_ruz(const int32_t *a, size_t n, int32_t *out) CVL_NONNULL((3));
-
-/* For each integer the least of those before it; 2147483647 at place 0. In place: a. */
-CVL_CHECKED CvlStatus cvl_min_suz(const int32_t *a, int32_t *out, size_t n);
-
-/* The least of the n integers; 2147483647 if there are none. */
-CVL_CHECKED CvlStatus cvl_min_ruz(const int32_t *a, size_t n, int32_t *out) CVL_NONNULL((3));
-
-/* For each integer the greatest of those before it; -2147483648 at place 0. In place: a. */
-CVL_CHECKED CvlStatus cvl_max_suz(const int32_t *a, int32_t *out, size_t n);
-
-/* The greatest of the n integers; -2147483648 if there are none. */
-CVL_CHECKED CvlStatus cvl_max_ruz(const int32_t *a, size_t n, int32_t *out) CVL_NONNULL((3));
-
-/* For each integer those before it joined by and, bit by bit; -1 at place 0. In place: a. */
-CVL_CHECKED CvlStatus cvl_and_suz(const int32_t *a, int32_t *out, size_t n);
-
-/* The n integers joined by and, bit by bit; -1 if there are none. */
-CVL_CHECKED CvlStatus cvl_and_ruz(const int32_t *a, size_t n, int32_t *out) CVL_NONNULL((3));
-
-/* For each integer those before it joined by or, bit by bit; 0 at place 0. In place: a. */
-CVL_CHECKED CvlStatus cvl_ior_suz(const int32_t *a, int32_t *out, size_t n);
-
-/* The n integers joined by or, bit by bit; 0 if there are none. */
-CVL_CHECKED CvlStatus cvl_ior_ruz(const int32_t *a, size_t n, int32_t *out) CVL_NONNULL((3));
-
-/* For each integer those before it joined by exclusive or, bit by bit; 0 at place 0. In place: a. */
-CVL_CHECKED CvlStatus cvl_xor_suz(const int32_t *a, int32_t *out, size_t n);
-
-/* The n integers joined by exclusive or, bit by bit; 0 if there are none. */
-CVL_CHECKED CvlStatus cvl_xor_ruz(const int32_t *a, size_t n, int32_t *out) CVL_NONNULL((3));
-
-/* For each boolean whether all those before it are true; true at place 0. In place: a. */
-CVL_CHECKED CvlStatus cvl_and_sub(const bool *a, bool *out, size_t n);
-
-/* Whether all n booleans are true; true if there are none. */
-CVL_CHECKED CvlStatus cvl_and_rub(const bool *a, size_t n, bool *out) CVL_NONNULL((3));
-
-/* For each boolean whether any of those before it is true; false at place 0. In place: a. */
-CVL_CHECKED CvlStatus cvl_ior_sub(const bool *a, bool *out, size_t n);
-
-/* Whether any of the n booleans is true; false if there are none. */
-CVL_CHECKED CvlStatus cvl_ior_rub(const bool *a, size_t n, bool *out) CVL_NONNULL((3));
-
-/* For each boolean whether an odd number of those before it is true; false at place 0. In place: a. */
-CVL_CHECKED CvlStatus cvl_xor_sub(const bool *a, bool *out, size_t n);
-
-/* Whether an odd number of the n booleans is true; false if there are none. */
-CVL_CHECKED CvlStatus cvl_xor_rub(const bool *a, size_t n, bool *out) CVL_NONNULL((3));
-
-/* ---- sums that never wrap: the calls of the table ---- */
-
-/*
- * For each integer the sum of those before it. Faults: 18 Overflow at the first place whose sum does not fit 32 bits. In place:
- * a.
- */
-CVL_CHECKED CvlStatus cvl_tot_suz(const int32_t *a, int32_t *out, size_t n);
-
-/* The sum of the n integers. Faults: 18 Overflow at 0 if it does not fit 32 bits. */
-CVL_CHECKED CvlStatus cvl_tot_ruz(const int32_t *a, size_t n, int32_t *out) CVL_NONNULL((3));
-
-/* ---- counts, single elements, and vectors of a given length: the calls of the table ---- */
-
-/* The number of true flags, of n. */
-CVL_CHECKED CvlStatus cvl_cnt_lub(const bool *flags, size_t n, int32_t *out) CVL_NONNULL((3));
-
-/* The element of n at the index. Faults: 10 IndexOutOfRange at 0 if the index is below 0, or n or more. */
-CVL_CHECKED CvlStatus cvl_ext_vuz(const int32_t *vector, size_t n, int64_t index, int32_t *out) CVL_NONNULL((4));
-CVL_CHECKED CvlStatus cvl_ext_vub(const bool *vector, size_t n, int64_t index, bool *out) CVL_NONNULL((4));
-
-/*
- * The vector with the value at the index. vector and out have n elements. Faults: 10 IndexOutOfRange at 0 if the index is below
- * 0, or n or more.
- */
-CVL_CHECKED CvlStatus cvl_rep_vuz(const int32_t *vector, int64_t index, int32_t value, int32_t *CVL_RESTRICT out, size_t n);
-CVL_CHECKED CvlStatus cvl_rep_vub(const bool *vector, int64_t index, bool value, bool *CVL_RESTRICT out, size_t n);
-
-/*
- * count copies of the value; out has count elements. Faults: 12 NegativeLength, without a place, if count is below 0; 13
- * TooLong if it is above 2147483647.
- */
-CVL_CHECKED CvlStatus cvl_dis_vuz(int32_t value, int64_t count, int32_t *CVL_RESTRICT out);
-CVL_CHECKED CvlStatus cvl_dis_vub(bool value, int64_t count, bool *CVL_RESTRICT out);
-
-/*
- * The numbers init + k * stride, wrapped, for k from 0 to count - 1; out has count elements. Faults: 12 NegativeLength, without
- * a place, if count is below 0; 13 TooLong if it is above 2147483647.
- */
-CVL_CHECKED CvlStatus cvl_ind_luz(int32_t init, int32_t stride, int64_t count, int32_t *CVL_RESTRICT out);
-
-/* ---- segments: the calls of the table ---- */
-
-/*
- * Segments come as their lengths, which may be 0. Each call on segments first has these faults, by the lengths: 13 TooLong,
- * without a place, if there are more than 2147483647; 12 NegativeLength at the first below 0; 13 TooLong, without a place, if
- * they add up to more than 2147483647.
- */
-
-/* Whether the numbers are the lengths of segments, and how many elements these have in all. */
-CVL_CHECKED CvlStatus cvl_mke_fov(CvlLengths lengths, size_t *total) CVL_NONNULL((2));
-
-/*
- * For each integer the sum of those before it in its segment. Faults: 18 Overflow at the first place whose sum does not fit 32
- * bits. In place: a.
- */
-CVL_CHECKED CvlStatus cvl_tot_sez(const int32_t *a, CvlLengths lengths, int32_t *out, size_t n);
-
-/*
- * The sum of each segment. a has n elements, out one for each segment. Faults: 18 Overflow at the first segment whose sum does
- * not fit 32 bits.
- */
-CVL_CHECKED CvlStatus cvl_tot_rez(const int32_t *a, size_t n, CvlLengths lengths, int32_t *CVL_RESTRICT out);
-
-/*
- * The element of each segment at its index, which counts from the segment's start. The vector has n elements, index and out one
- * for each segment. Faults: 10 IndexOutOfRange at the segment.
- */
-CVL_CHECKED CvlStatus cvl_ext_vez(const int32_t *vector, size_t n, const int32_t *index, CvlLengths lengths,
-    int32_t *CVL_RESTRICT out);
-CVL_CHECKED CvlStatus cvl_ext_veb(const bool *vector, size_t n, const int32_t *index, CvlLengths lengths,
-    bool *CVL_RESTRICT out);
-
-/*
- * The vector with the value of each segment at its index, which counts from the segment's start. vector and out have n
- * elements, index and values one for each segment. Faults: 10 IndexOutOfRange at the segment.
- */
-CVL_CHECKED CvlStatus cvl_rep_vez(const int32_t *vector, const int32_t *index, const int32_t *values, CvlLengths lengths,
-    int32_t *CVL_RESTRICT out, size_t n);
-CVL_CHECKED CvlStatus cvl_rep_veb(const bool *vector, const int32_t *index, const bool *values, CvlLengths lengths,
-    bool *CVL_RESTRICT out, size_t n);
-
-/*
- * Copies of each value, as many as its segment has places. There is one value for each segment; out has n elements, the total
- * of the lengths, else 7 LengthMismatch.
- */
-CVL_CHECKED CvlStatus cvl_dis_vez(const int32_t *values, CvlLengths lengths, int32_t *CVL_RESTRICT out, size_t n);
-CVL_CHECKED CvlStatus cvl_dis_veb(const bool *values, CvlLengths lengths, bool *CVL_RESTRICT out, size_t n);
-
-/*
- * The numbers of each segment from its init on, in steps of its stride, wrapped. There are one init and one stride for each
- * segment; out has n elements, the total of the lengths, else 7 LengthMismatch.
- */
-CVL_CHECKED CvlStatus cvl_ind_lez(const int32_t *inits, const int32_t *strides, CvlLengths lengths, int32_t *CVL_RESTRICT out,
-    size_t n);
-
-/* ---- scans and reduces of segments: the calls of the table ---- */
-
-/* For each integer the sum of those before it in its segment, wrapped; 0 at the start of a segment. In place: a. */
-CVL_CHECKED CvlStatus cvl_add_sez(const int32_t *a, CvlLengths lengths, int32_t *out, size_t n);
-
-/* The sum of the integers of each segment, wrapped; 0 if it is empty. a has n elements, out one for each segment. */
-CVL_CHECKED CvlStatus cvl_add_rez(const int32_t *a, size_t n, CvlLengths lengths, int32_t *CVL_RESTRICT out);
-
-/* For each integer the product of those before it in its segment, wrapped; 1 at the start of a segment. In place: a. */
-CVL_CHECKED CvlStatus cvl_mul_sez(const int32_t *a, CvlLengths lengths, int32_t *out, size_t n);
-
-/* The product of the integers of each segment, wrapped; 1 if it is empty. a has n elements, out one for each segment. */
-CVL_CHECKED CvlStatus cvl_mul_rez(const int32_t *a, size_t n, CvlLengths lengths, int32_t *CVL_RESTRICT out);
-
-/* For each integer the least of those before it in its segment; 2147483647 at the start of a segment. In place: a. */
-CVL_CHECKED CvlStatus cvl_min_sez(const int32_t *a, CvlLengths lengths, int32_t *out, size_t n);
-
-/* The least of the integers of each segment; 2147483647 if it is empty. a has n elements, out one for each segment. */
-CVL_CHECKED CvlStatus cvl_min_rez(const int32_t *a, size_t n, CvlLengths lengths, int32_t *CVL_RESTRICT out);
-
-/* For each integer the greatest of those before it in its segment; -2147483648 at the start of a segment. In place: a. */
-CVL_CHECKED CvlStatus cvl_max_sez(const int32_t *a, CvlLengths lengths, int32_t *out, size_t n);
-
-/* The greatest of the integers of each segment; -2147483648 if it is empty. a has n elements, out one for each segment. */
-CVL_CHECKED CvlStatus cvl_max_rez(const int32_t *a, size_t n, CvlLengths lengths, int32_t *CVL_RESTRICT out);
-
-/* For each integer those before it in its segment joined by and, bit by bit; -1 at the start of a segment. In place: a. */
-CVL_CHECKED CvlStatus cvl_and_sez(const int32_t *a, CvlLengths lengths, int32_t *out, size_t n);
-
-/* The integers of each segment joined by and, bit by bit; -1 if it is empty. a has n elements, out one for each segment. */
-CVL_CHECKED CvlStatus cvl_and_rez(const int32_t *a, size_t n, CvlLengths lengths, int32_t *CVL_RESTRICT out);
-
-/* For each integer those before it in its segment joined by or, bit by bit; 0 at the start of a segment. In place: a. */
-CVL_CHECKED CvlStatus cvl_ior_sez(const int32_t *a, CvlLengths lengths, int32_t *out, size_t n);
-
-/* The integers of each segment joined by or, bit by bit; 0 if it is empty. a has n elements, out one for each segment. */
-CVL_CHECKED CvlStatus cvl_ior_rez(const int32_t *a, size_t n, CvlLengths lengths, int32_t *CVL_RESTRICT out);
-
-/*
- * For each integer those before it in its segment joined by exclusive or, bit by bit; 0 at the start of a segment. In place: a.
- */
-CVL_CHECKED CvlStatus cvl_xor_sez(const int32_t *a, CvlLengths lengths, int32_t *out, size_t n);
-
-/*
- * The integers of each segment joined by exclusive or, bit by bit; 0 if it is empty. a has n elements, out one for each
- * segment.
- */
-CVL_CHECKED CvlStatus cvl_xor_rez(const int32_t *a, size_t n, CvlLengths lengths, int32_t *CVL_RESTRICT out);
-
-/* For each boolean whether all those before it in its segment are true; true at the start of a segment. In place: a. */
-CVL_CHECKED CvlStatus cvl_and_seb(const bool *a, CvlLengths lengths, bool *out, size_t n);
-
-/* Whether all the booleans of each segment are true; true if it is empty. a has n elements, out one for each segment. */
-CVL_CHECKED CvlStatus cvl_and_reb(const bool *a, size_t n, CvlLengths lengths, bool *CVL_RESTRICT out);
-
-/* For each boolean whether any of those before it in its segment is true; false at the start of a segment. In place: a. */
-CVL_CHECKED CvlStatus cvl_ior_seb(const bool *a, CvlLengths lengths, bool *out, size_t n);
-
-/* Whether any of the booleans of each segment is true; false if it is empty. a has n elements, out one for each segment. */
-CVL_CHECKED CvlStatus cvl_ior_reb(const bool *a, size_t n, CvlLengths lengths, bool *CVL_RESTRICT out);
-
-/*
- * For each boolean whether an odd number of those before it in its segment is true; false at the start of a segment. In place:
- * a.
- */
-CVL_CHECKED CvlStatus cvl_xor_seb(const bool *a, CvlLengths lengths, bool *out, size_t n);
-
-/*
- * Whether an odd number of the booleans of each segment is true; false if it is empty. a has n elements, out one for each
- * segment.
- */
-CVL_CHECKED CvlStatus cvl_xor_reb(const bool *a, size_t n, CvlLengths lengths, bool *CVL_RESTRICT out);
-
-/* ---- packs and counts of segments: the calls of the table ---- */
-
-/*
- * The values whose flag is true, in their order. values and flags have n elements. out needs room for so many; n is always
- * enough. *count is how many they are, also if out is too short.
- */
-CVL_CHECKED CvlStatus cvl_pck_luz(const int32_t *values, const bool *flags, size_t n, int32_t *CVL_RESTRICT out, size_t room,
-    size_t *count) CVL_NONNULL((6));
-CVL_CHECKED CvlStatus cvl_pck_lub(const bool *values, const bool *flags, size_t n, bool *CVL_RESTRICT out, size_t room,
-    size_t *count) CVL_NONNULL((6));
-
-/*
- * The values of each segment whose flag is true, in their order, one segment after another; pck_fov gives the lengths of these
- * segments. values and flags have n elements. out needs room for so many; n is always enough. *count is how many they are, also
- * if out is too short.
- */
-CVL_CHECKED CvlStatus cvl_pck_lez(const int32_t *values, const bool *flags, size_t n, CvlLengths lengths,
-    int32_t *CVL_RESTRICT out, size_t room, size_t *count) CVL_NONNULL((7));
-CVL_CHECKED CvlStatus cvl_pck_leb(const bool *values, const bool *flags, size_t n, CvlLengths lengths, bool *CVL_RESTRICT out,
-    size_t room, size_t *count) CVL_NONNULL((7));
-
-/*
- * The lengths of the segments of what a pack keeps, or a select permute, 0 for a segment of which nothing is kept. flags has n
- * elements, out one for each segment.
- */
-CVL_CHECKED CvlStatus cvl_pck_fov(const bool *flags, size_t n, CvlLengths lengths, int32_t *CVL_RESTRICT out);
-
-/* The number of true flags of each segment. flags has n elements, out one for each segment. */
-CVL_CHECKED CvlStatus cvl_cnt_leb(const bool *flags, size_t n, CvlLengths lengths, int32_t *CVL_RESTRICT out);
-
-/* ---- permutes: the calls of the table ---- */
-
-/*
- * In a simple, a select and a default permute the index of a place says where its element goes, and no two may go to one place.
- * 13 TooLong, if the index has more than 2147483647 elements, comes first.
- */
-
-/*
- * Each element of the source at its index. source, index and out have n elements. Faults: at the first bad index 10
- * IndexOutOfRange if it is below 0, or n or more, else 11 IndexRepeated if an earlier one is the same.
- */
-CVL_CHECKED CvlStatus cvl_smp_puz(const int32_t *source, const int32_t *index, int32_t *CVL_RESTRICT out, size_t n);
-CVL_CHECKED CvlStatus cvl_smp_pub(const bool *source, const int32_t *index, bool *CVL_RESTRICT out, size_t n);
-
-/*
- * Each element of the source whose flag is true at its index. source, index and flags have n elements; out has m, the number of
- * true flags, else 7 LengthMismatch. An index whose flag is false is ignored. Faults: at the first bad index 10 IndexOutOfRange
- * if it is below 0, or the number of true flags or more, else 11 IndexRepeated if an earlier one is the same.
- */
-CVL_CHECKED CvlStatus cvl_sel_puz(const int32_t *source, const int32_t *index, const bool *flags, size_t n,
-    int32_t *CVL_RESTRICT out, size_t m);
-CVL_CHECKED CvlStatus cvl_sel_pub(const bool *source, const int32_t *index, const bool *flags, size_t n, bool *CVL_RESTRICT out,
-    size_t m);
-
-/*
- * Each element of the source at its index, and at a place to which none goes its default. source and index have n elements,
- * defaults and out m, which may be any number. Faults: at the first bad index 10 IndexOutOfRange if it is below 0, or m or
- * more, else 11 IndexRepeated if an earlier one is the same.
- */
-CVL_CHECKED CvlStatus cvl_def_puz(const int32_t *source, const int32_t *index, size_t n, const int32_t *defaults,
-    int32_t *CVL_RESTRICT out, size_t m);
-CVL_CHECKED CvlStatus cvl_def_pub(const bool *source, const int32_t *index, size_t n, const bool *defaults,
-    bool *CVL_RESTRICT out, size_t m);
-
-/*
- * At each place the element of the source at the place's index, which may repeat. The source has n elements, which may be any
- * number; index and out have m. Faults: 10 IndexOutOfRange at the first index below 0, or n or more.
- */
-CVL_CHECKED CvlStatus cvl_bck_puz(const int32_t *source, size_t n, const int32_t *index, int32_t *CVL_RESTRICT out, size_t m);
-CVL_CHECKED CvlStatus cvl_bck_pub(const bool *source, size_t n, const int32_t *index, bool *CVL_RESTRICT out, size_t m);
-
-/* ---- permutes of segments: the calls of the table ---- */
-
-/*
- * Indices count from the start of their segment. The faults by the lengths come first; with two arrays of lengths those by
- * `lengths` before those by the other, which are as many, else 7 LengthMismatch.
- */
-
-/*
- * Each element of the source at its index, which counts from the start of its segment. source, index and out have n elements.
- * Faults: at the first bad index 10 IndexOutOfRange if it is no place of its segment, else 11 IndexRepeated if an earlier one
- * of its segment is the same.
- */
-CVL_CHECKED CvlStatus cvl_smp_pez(const int32_t *source, const int32_t *index, CvlLengths lengths, int32_t *CVL_RESTRICT out,
-    size_t n);
-CVL_CHECKED CvlStatus cvl_smp_peb(const bool *source, const int32_t *index, CvlLengths lengths, bool *CVL_RESTRICT out,
-    size_t n);
-
-/*
- * Each element of the source whose flag is true at its index in its segment of the result, which is as long as the segment has
- * true flags. source, index and flags have n elements; out has m, the number of true flags, else 7 LengthMismatch. An index
- * whose flag is false is ignored. Faults: at the first bad index 10 IndexOutOfRange if it is no place of its segment of the
- * result, else 11 IndexRepeated if an earlier one of its segment is the same.
- */
-CVL_CHECKED CvlStatus cvl_sel_pez(const int32_t *source, const int32_t *index, const bool *flags, size_t n, CvlLengths lengths,
-    int32_t *CVL_RESTRICT out, size_t m);
-CVL_CHECKED CvlStatus cvl_sel_peb(const bool *source, const int32_t *index, const bool *flags, size_t n, CvlLengths lengths,
-    bool *CVL_RESTRICT out, size_t m);
-
-/*
- * Each element of the source at its index in the same segment of the defaults, and at a place to which none goes its default.
- * source and index have n elements in segments with the lengths; defaults and out have m, in as many segments with the default
- * lengths. Faults: at the first bad index 10 IndexOutOfRange if it is no place of its segment of the defaults, else 11
- * IndexRepeated if an earlier one of its segment is the same.
- */
-CVL_CHECKED CvlStatus cvl_def_pez(const int32_t *source, const int32_t *index, size_t n, const int32_t *defaults,
-    CvlLengths lengths, CvlLengths default_lengths, int32_t *CVL_RESTRICT out, size_t m);
-CVL_CHECKED CvlStatus cvl_def_peb(const bool *source, const int32_t *index, size_t n, const bool *defaults, CvlLengths lengths,
-    CvlLengths default_lengths, bool *CVL_RESTRICT out, size_t m);
-
-/*
- * At each place the element at the place's index in the same segment of the source; an index may repeat. The source has n
- * elements in segments with the lengths; index and out have m, in as many segments with the index lengths. Faults: 10
- * IndexOutOfRange at the first index that is no place of its segment of the source.
- */
-CVL_CHECKED CvlStatus cvl_bck_pez(const int32_t *source, size_t n, const int32_t *index, CvlLengths lengths,
-    CvlLengths index_lengths, int32_t *CVL_RESTRICT out, size_t m);
-CVL_CHECKED CvlStatus cvl_bck_peb(const bool *source, size_t n, const int32_t *index, CvlLengths lengths,
-    CvlLengths index_lengths, bool *CVL_RESTRICT out, size_t m);
-
-/* ---- descriptors: the calls on segments that take one ---- */
-
-/*
- * A descriptor names the lengths of segments and how many there are. It is plain memory that owns nothing: you may copy it and
- * keep it constant, any number of threads may use it at once, and there is nothing to free. Start with CVL_NO_SEGMENTS;
- * cvl_segments_new fills it. No call writes the lengths or the descriptor.
- *
- * The functions from cvl_segments_free to cvl_segments_numbers make descriptors and read them. Each of the others is the family
- * on segments of its name, with a descriptor for the lengths: cvl_segments_int_scan is cvl_seg_int_scan. Each checks the
- * lengths anew, so you may change them between calls. A buffer may overlap neither the lengths nor the descriptor. With
- * CVL_NO_SEGMENTS or a null pointer a call returns 101 NoDescriptor.
- */
-typedef struct CvlSegments {
-    const int32_t *lengths; /* the caller's, which live as long as the descriptor is used */
-    size_t segments;        /* how many there are */
-    bool some;              /* whether there is a descriptor */
-} CvlSegments;
-
-/* What a descriptor starts as: CvlSegments rows = CVL_NO_SEGMENTS. */
-#define CVL_NO_SEGMENTS {NULL, 0, false}
-
-/* Empties a descriptor; a null pointer is allowed. The lengths stay yours. */
-CvlStatus cvl_segments_free(CvlSegments *segments);
-
-/*
- * Makes the descriptor of segments with these lengths. After a fault there is none; 102 Overlap leaves it as it was.
- * Faults: 13 TooLong if there are more than 2147483647 lengths; 12 NegativeLength at the first below 0; 13 TooLong if the total
- * is more than 2147483647; else 101 NoDescriptor if `segments` is null.
- */
-CVL_CHECKED CvlStatus cvl_segments_new(CvlLengths lengths, CvlSegments *segments);
-
-/*
- * Makes the descriptor of segments that start at these offsets, of which the last is the end, as in a matrix of compressed
- * rows. The lengths go into your buffer, which the descriptor names. After a fault the buffer is as it was, and there is no
- * descriptor; 102 Overlap leaves both as they were.
- * Faults: 13 TooLong if there are more than 2147483647 segments; 7 LengthMismatch if there is no offset or the first is not 0;
- * 12 NegativeLength at the first segment that ends before it starts; 7 LengthMismatch if the buffer does not have one place for
- * each segment; else 101 NoDescriptor if `segments` is null.
- */
-CVL_CHECKED CvlStatus cvl_segments_from_offsets(const int32_t *offsets, size_t offsets_len, int32_t *lengths, size_t lengths_len,
-    CvlSegments *segments);
-
-/* How many elements the segments have in all. */
-CVL_CHECKED CvlStatus cvl_segments_total(const CvlSegments *segments, size_t *total);
-
-/*
- * Where each segment starts, and last where the last one ends.
- * Faults: those of lengths; 7 LengthMismatch if out does not have one place more than there are segments.
- */
-CVL_CHECKED CvlStatus cvl_segments_offsets(const CvlSegments *segments, int32_t *out, size_t out_len);
-
-/*
- * At each place the number of its segment, counted from 0.
- * Faults: those of lengths; 7 LengthMismatch if out does not have as many places as the segments; 100 NoResources.
- */
-CVL_CHECKED CvlStatus cvl_segments_numbers(const CvlSegments *segments, int32_t *out, size_t out_len);
-
-CVL_CHECKED CvlStatus cvl_segments_checked_scan(const int32_t *a, size_t a_len, const CvlSegments *segments, int32_t *out,
-    size_t out_len);
-
-CVL_CHECKED CvlStatus cvl_segments_checked_reduce(const int32_t *a, size_t a_len, const CvlSegments *segments, int32_t *out,
-    size_t out_len);
-
-CVL_CHECKED CvlStatus cvl_segments_extract_int(const int32_t *vector, size_t vector_len, const int32_t *index, size_t index_len,
-    const CvlSegments *segments, int32_t *out, size_t out_len);
-
-CVL_CHECKED CvlStatus cvl_segments_extract_bool(const bool *vector, size_t vector_len, const int32_t *index, size_t index_len,
-    const CvlSegments *segments, bool *out, size_t out_len);
-
-CVL_CHECKED CvlStatus cvl_segments_replace_int(const int32_t *vector, size_t vector_len, const int32_t *index, size_t index_len,
-    const int32_t *values, size_t values_len, const CvlSegments *segments, int32_t *out, size_t out_len);
-
-CVL_CHECKED CvlStatus cvl_segments_replace_bool(const bool *vector, size_t vector_len, const int32_t *index, size_t index_len,
-    const bool *values, size_t values_len, const CvlSegments *segments, bool *out, size_t out_len);
-
-CVL_CHECKED CvlStatus cvl_segments_distribute_int(const int32_t *values, size_t values_len, const CvlSegments *segments,
-    int32_t *out, size_t out_len);
-
-CVL_CHECKED CvlStatus cvl_segments_distribute_bool(const bool *values, size_t values_len, const CvlSegments *segments,
-    bool *out, size_t out_len);
-
-CVL_CHECKED CvlStatus cvl_segments_index(const int32_t *inits, size_t inits_len, const int32_t *strides, size_t strides_len,
-    const CvlSegments *segments, int32_t *out, size_t out_len);
-
-CVL_CHECKED CvlStatus cvl_segments_int_scan(uint32_t op, const int32_t *a, size_t a_len, const CvlSegments *segments,
-    int32_t *out, size_t out_len);
-
-CVL_CHECKED CvlStatus cvl_segments_bool_scan(uint32_t op, const bool *a, size_t a_len, const CvlSegments *segments, bool *out,
-    size_t out_len);
-
-CVL_CHECKED CvlStatus cvl_segments_int_reduce(uint32_t op, const int32_t *a, size_t a_len, const CvlSegments *segments,
-    int32_t *out, size_t out_len);
-
-CVL_CHECKED CvlStatus cvl_segments_bool_reduce(uint32_t op, const bool *a, size_t a_len, const CvlSegments *segments, bool *out,
-    size_t out_len);
-
-CVL_CHECKED CvlStatus cvl_segments_pack_int(const int32_t *values, size_t values_len, const bool *flags, size_t flags_len,
-    const CvlSegments *segments, int32_t *out, size_t out_len, size_t *count);
-
-CVL_CHECKED CvlStatus cvl_segments_pack_bool(const bool *values, size_t values_len, const bool *flags, size_t flags_len,
-    const CvlSegments *segments, bool *out, size_t out_len, size_t *count);
-
-CVL_CHECKED CvlStatus cvl_segments_packed_lengths(const bool *flags, size_t flags_len, const CvlSegments *segments,
-    int32_t *out, size_t out_len);
-
-CVL_CHECKED CvlStatus cvl_segments_count(const bool *flags, size_t flags_len, const CvlSegments *segments, int32_t *out,
-    size_t out_len);
-
-CVL_CHECKED CvlStatus cvl_segments_permute_int(const int32_t *source, size_t source_len, const int32_t *index, size_t index_len,
-    const CvlSegments *segments, int32_t *out, size_t out_len);
-
-CVL_CHECKED CvlStatus cvl_segments_permute_bool(const bool *source, size_t source_len, const int32_t *index, size_t index_len,
-    const CvlSegments *segments, bool *out, size_t out_len);
-
-CVL_CHECKED CvlStatus cvl_segments_select_permute_int(const int32_t *source, size_t source_len, const int32_t *index,
-    size_t index_len, const bool *flags, size_t flags_len, const CvlSegments *segments, int32_t *out, size_t out_len);
-
-CVL_CHECKED CvlStatus cvl_segments_select_permute_bool(const bool *source, size_t source_len, const int32_t *index,
-    size_t index_len, const bool *flags, size_t flags_len, const CvlSegments *segments, bool *out, size_t out_len);
-
-CVL_CHECKED CvlStatus cvl_segments_default_permute_int(const int32_t *source, size_t source_len, const int32_t *index,
-    size_t index_len, const int32_t *defaults, size_t defaults_len, const CvlSegments *segments,
-    const CvlSegments *default_segments, int32_t *out, size_t out_len);
-
-CVL_CHECKED CvlStatus cvl_segments_default_permute_bool(const bool *source, size_t source_len, const int32_t *index,
-    size_t index_len, const bool *defaults, size_t defaults_len, const CvlSegments *segments,
-    const CvlSegments *default_segments, bool *out, size_t out_len);
-
-CVL_CHECKED CvlStatus cvl_segments_back_permute_int(const int32_t *source, size_t source_len, const int32_t *index,
-    size_t index_len, const CvlSegments *segments, const CvlSegments *index_segments, int32_t *out, size_t out_len);
-
-CVL_CHECKED CvlStatus cvl_segments_back_permute_bool(const bool *source, size_t source_len, const int32_t *index,
-    size_t index_len, const CvlSegments *segments, const CvlSegments *index_segments, bool *out, size_t out_len);
-
-CVL_CHECKED CvlStatus cvl_segments_first_senders(const int32_t *index, size_t index_len, const CvlSegments *segments,
-    const CvlSegments *result_segments, int32_t *out, size_t out_len);
-
-CVL_CHECKED CvlStatus cvl_segments_select_first_senders(const int32_t *index, size_t index_len, const bool *flags,
-    size_t flags_len, const CvlSegments *segments, const CvlSegments *result_segments, int32_t *out, size_t out_len);
-
-CVL_CHECKED CvlStatus cvl_segments_combine_permute_int(uint32_t op, const int32_t *source, size_t source_len,
-    const int32_t *index, size_t index_len, const CvlSegments *segments, const CvlSegments *result_segments, int32_t *out,
-    size_t out_len);
-
-CVL_CHECKED CvlStatus cvl_segments_combine_permute_bool(uint32_t op, const bool *source, size_t source_len,
-    const int32_t *index, size_t index_len, const CvlSegments *segments, const CvlSegments *result_segments, bool *out,
-    size_t out_len);
-
-CVL_CHECKED CvlStatus cvl_segments_counts(const int32_t *index, size_t index_len, const CvlSegments *segments,
-    const CvlSegments *result_segments, int32_t *out, size_t out_len);
-
-CVL_CHECKED CvlStatus cvl_segments_order(const int32_t *keys, size_t keys_len, const CvlSegments *segments, int32_t *out,
-    size_t out_len);
-
-CVL_CHECKED CvlStatus cvl_segments_rank(const int32_t *keys, size_t keys_len, const CvlSegments *segments, int32_t *out,
-    size_t out_len);
-
-CVL_CHECKED CvlStatus cvl_segments_sort(const int32_t *keys, size_t keys_len, const CvlSegments *segments, int32_t *out,
-    size_t out_len);
-
-CVL_CHECKED CvlStatus cvl_segments_merge_by_flags_int(const bool *flags, size_t flags_len, const int32_t *when_true,
-    size_t when_true_len, const int32_t *when_false, size_t when_false_len, const CvlSegments *segments,
-    const CvlSegments *true_segments, const CvlSegments *false_segments, int32_t *out, size_t out_len);
-
-CVL_CHECKED CvlStatus cvl_segments_merge_by_flags_bool(const bool *flags, size_t flags_len, const bool *when_true,
-    size_t when_true_len, const bool *when_false, size_t when_false_len, const CvlSegments *segments,
-    const CvlSegments *true_segments, const CvlSegments *false_segments, bool *out, size_t out_len);
-
-CVL_CHECKED CvlStatus cvl_segments_first_true(const bool *flags, size_t flags_len, const CvlSegments *segments, int32_t *out,
-    size_t out_len);
-
-CVL_CHECKED CvlStatus cvl_segments_exact_sums(const int32_t *a, size_t a_len, const CvlSegments *segments, int64_t *out,
-    size_t out_len);
-
-CVL_CHECKED CvlStatus cvl_segments_write_ints(const int32_t *a, size_t a_len, const CvlSegments *segments, char *out,
-    size_t out_len, size_t *count);
-
-CVL_CHECKED CvlStatus cvl_segments_write_bools(const bool *a, size_t a_len, const CvlSegments *segments, char *out,
-    size_t out_len, size_t *count);
 
 #ifdef __cplusplus
 }

@@ -6,7 +6,7 @@
  * The calls here are calls of cvl.h in a second form, with `_on` after the name and a pool before the arguments:
  * cvl_add_wuz_on(&pool, a, b, out, n) for cvl_add_wuz(a, b, out, n), and cvl_int2_on(&pool, ..) for cvl_int2(..). Such a call cuts
  * long vectors into parts, which the pool runs. Status, place and buffers are those of the plain call. Short vectors, faults, and
- * calls without memory for parts go to the plain call. docs/user/parallel.md says how each call is cut.
+ * calls without memory for parts go to the plain call. In the repository docs/dev/parts.md says how each call is cut.
  *
  * Pools of one thread and of POSIX threads are here, and one of OpenMP is in cvl_openmp.h.
  */

@@ -15,7 +15,7 @@ import rows
 
 CPP = "docs/user/cpp.md"
 
-PAGE, SCRIPT, GLOSSARY = "docs/user/calls.md", "docs/user/script.md", "docs/user/glossary.md"
+PAGE, SCRIPT, GLOSSARY, SHEET = (f"docs/user/{name}.md" for name in ("calls", "script", "glossary", "sheet"))
 
 IN_PARTS, COSTS, STARTS = "docs/user/parallel.md", "docs/user/performance.md", "tests/process/resources"
 
@@ -40,9 +40,9 @@ def check_plain_reading():
 
 
 def check_index():
-    """The index of docs/user/calls.md has each entry's names, and a link to its heading."""
-    shown = [line[3:].split(") |")[0].replace("`", "") for line in lines_of(PAGE) if line.startswith("| [`")]
-    wanted = [f"{heading}](#{heading.replace(' ', '-')}" for heading in headings()]
+    """The index of docs/user/calls.md has each entry's first name, and a link to its heading."""
+    shown = [link for _, links in rows_of(lines_of(PAGE), "## Index") for link in re.findall(r"\[`(\w+`\]\(#[\w-]+)\)", links)]
+    wanted = [f"{heading.split()[0]}`](#{heading.replace(' ', '-')}" for heading in headings()]
     yield from held(f"{PAGE}, its index", f"{PAGE}, its headings", shown, wanted)
 
 
@@ -74,10 +74,11 @@ def sentence(page, begin, end):
 
 
 def check_letters():
-    """docs/user/calls.md explains each of the letters that names of calls end in."""
-    shown = re.findall(r"`([a-z])`", sentence(PAGE, "is an operator and three letters:", "So `bck_puz`"))
-    wanted = {letter for name in set(call_table.read(TOP)) - {"input", "nested", "write"} for letter in name[-3:]}
-    yield from held(PAGE, "the names of calls", sorted(set(shown)), sorted(wanted))
+    """docs/user/sheet.md explains each of the letters that names of calls end in, in its place."""
+    shown = [f"{place} {letter}" for place, meanings in rows_of(lines_of(SHEET), "## Names") for letter in re.findall(r"`(\w)`", meanings)]
+    ends = {name[-3:] for name in set(call_table.read(TOP)) - {"input", "nested", "write"}}
+    wanted = {f"{place} {end[k]}" for end in ends for k, place in enumerate(("first", "second", "third"))}
+    yield from held(SHEET, "the names of calls", sorted(shown), sorted(wanted))
 
 
 def check_without_c():

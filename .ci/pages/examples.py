@@ -5,7 +5,10 @@ import re
 from pages.texts import CASES, TOP, blocks_of, held, indented_behind, lines_of, text_of
 
 # pages whose examples are the cases of a file
-PAGES_OF_CASES = {"calls": "reference", "segments": "segments", "mistakes": "mistakes", "tutorial": "tutorial"}
+PAGES_OF_CASES = {"calls": "reference", "segments": "segments", "mistakes": "mistakes", "tutorial": "tutorial", "tasks": "tasks"}
+
+# the tasks that users look for, the program that has their lines in C, and the page that leads to each
+TASKS, TASKS_IN_C, FINDER = "docs/user/tasks.md", "examples/c/tasks.c", "docs/user/README.md"
 
 PAGES_WITH_RUNS = ("README.md", "docs/user/README.md", "docs/user/examples.md")
 
@@ -35,29 +38,29 @@ def cases_of(file):
 
 
 def examples_of(page):
-    """The examples of a page: under each heading the first block of no other language is a script, and those below `writes` and `stops
+    """The examples of a page: under a heading the first block of no other language is a script, and those below `writes` and `stops
     with` are its text and its stop."""
     blocks = {number: (language, block) for language, number, block in blocks_of(page)}
     inside = {number + k for number, (_, block) in blocks.items() for k in range(1, len(block) + 1)}
-    shown, in_case, part = [], False, ""
+    shown, heading, part = [], "", ""
     for number, line in enumerate(page):
         if number in inside:
             continue
         if line.startswith("## "):
-            in_case = False
+            heading = ""
         elif line.startswith("### "):
-            shown.append(f"== case {line}")
-            in_case, part = True, "script"
+            heading, part = line, "script"
         elif line in ("writes", "stops with"):
             part = "text" if line == "writes" else "stop"
-        elif number in blocks and blocks[number][0] == "" and in_case and part:
+        elif number in blocks and blocks[number][0] == "" and heading and part:
+            shown += [f"== case {heading}"] if part == "script" else []
             shown += [f"== {part}", *blocks[number][1]]
             part = ""
     return shown
 
 
 def check_examples():
-    """The examples of docs/user/calls.md, segments.md, mistakes.md and tutorial.md are the cases of their files."""
+    """The examples of docs/user/calls.md, segments.md, mistakes.md, tutorial.md and tasks.md are the cases of their files."""
     for name, cases in PAGES_OF_CASES.items():
         page, file = f"docs/user/{name}.md", f"{CASES}/{cases}.cases"
         wanted = [line.replace("== case ", "== case ### ", 1) if line.startswith("== case ") else line for line in cases_of(file)]
@@ -128,6 +131,21 @@ def check_code():
             if named:
                 yield from stands_in(path, named, block)
             named, last = "", number + len(block) + 2
+
+
+def check_tasks():
+    """The lines in C of each task stand in the program that runs them; and the finder leads to each task, and names calls of it."""
+    page, finder = lines_of(TASKS), text_of(FINDER)
+    for language, _, block in blocks_of(page):
+        if language == "c":
+            yield from stands_in(TASKS, TASKS_IN_C, [f"    {line}" for line in block])
+    sections = dict(part.partition("\n")[::2] for part in text_of(TASKS).split("\n### ")[1:])
+    shown = dict(re.findall(r"^\| \[([^]]+)\]\(tasks\.md#[\w-]+\) \| (.*) \|$", finder, re.M))
+    yield from held(FINDER, TASKS, list(shown), list(sections))
+    for title, calls in shown.items():
+        for name in re.findall(r"`(?:cvl_)?(\w+)`", calls):
+            if name not in sections.get(title, ""):
+                yield f"{FINDER} names {name} for the task {title}, and {TASKS} does not"
 
 
 def check_blocks():

@@ -1,5 +1,5 @@
-"""docs/user/proved.md: the functions and laws that its table of crates names are theirs; what refuses each wrong body is there, and each
-must-fail edit stands in the table; and the crates of the kit that the proofs trust are listed."""
+"""docs/user/proved.md: the functions and laws that its table of crates names are theirs. docs/dev/wrong-bodies.md: what refuses each wrong
+body is there, and each must-fail edit stands in the table; and the crates of the kit that the proofs trust are listed."""
 
 import re
 import sys
@@ -11,7 +11,9 @@ sys.path.append(str(TOP / "bindings"))
 
 import about
 
-PAGE, CRATES, HEADING = "docs/user/proved.md", "## Proved, crate by crate", "## What shows each promise"
+PAGE, CRATES = "docs/user/proved.md", "## Proved, crate by crate"
+
+BODIES, HEADING = "docs/dev/wrong-bodies.md", "## What shows each promise"
 
 
 def has_test(text, name):
@@ -57,7 +59,7 @@ def is_there(reference):
 
 def rows():
     """The number of each row of the table, its wrong body, and what refuses it: the words of code in its last column."""
-    page, inside = lines_of(PAGE), False
+    page, inside = lines_of(BODIES), False
     for number, (line, below) in enumerate(zip(page, [*page[1:], ""]), 1):
         if line.startswith("## "):
             inside = line == HEADING
@@ -83,10 +85,10 @@ def check_promises():
     """Each row names what refuses its wrong body, and that is there."""
     for number, body, references in rows():
         if not references:
-            yield f"{PAGE}:{number} names nothing that refuses this: {body}"
+            yield f"{BODIES}:{number} names nothing that refuses this: {body}"
         for reference in references:
             if not is_there(reference):
-                yield f"{PAGE}:{number} {reference}, which should refuse this, is not there: {body}"
+                yield f"{BODIES}:{number} {reference}, which should refuse this, is not there: {body}"
 
 
 def check_edits():
@@ -94,7 +96,7 @@ def check_edits():
     named = {reference for _, _, references in rows() for reference in references}
     for edit in sorted(str(path.relative_to(TOP)) for path in TOP.glob("crates/*/must-fail/*.edit")):
         if edit not in named:
-            yield f"{PAGE} does not name {edit} below {HEADING}"
+            yield f"{BODIES} does not name {edit} below {HEADING}"
 
 
 # names of crates.txt that stand for the standard library

@@ -7,13 +7,13 @@ import reference
 
 HEAD = """# The calls
 
-Look up a call: what it takes and gives, its faults, and an example. The index has each call with what it gives, and the [glossary](glossary.md) with its names in numpy, Thrust, NESL and VCODE. C, Fortran, Python and Rust have [more functions](#functions-that-no-script-calls).
+Look up a call: what it takes and gives, its faults, and an example. The [cheat sheet](sheet.md) has all names, and the [glossary](glossary.md) those in numpy, Thrust, SQL and other libraries. C, Fortran, Python and Rust have [more functions](#functions-that-no-script-calls).
 
 The comment after an `input` shows what it holds. In the pictures a box is an element and a frame a segment; arrows lead from an element to where it goes."""
 
 READING = """## Reading an entry
 
-- A name such as `bck_puz` is an operator and three letters: `w` for elementwise, `s` scan, `r` reduce, `p` permute, `v` vectors with single values, `l` library, or `f` descriptors; `u` for flat, `e` for segmented, or `o` for neither; and `z` for integers or `b` for booleans, or of descriptors `v` for a vector or `s` for segments. So `bck_puz` is a back permute of a flat vector of integers.
+- A name is an operator and [three letters](sheet.md#names): `bck_puz` is a back permute (`p`) of a flat vector (`u`) of integers (`z`).
 - `Takes` has the arguments in their order. *Integers* and *booleans* are vectors, an *integer* and a *boolean* single values; *elements* are integers or booleans, by the last letter of the name.
 - A descriptor is the lengths of the segments of a vector; its *total* is their sum. A segmented call does in each segment what the flat call does on a whole vector, and its results lie one after another.
 - If lengths that must match differ, the call stops with fault 7 LengthMismatch, without a place, before any fault under `Faults`. No such line means no further faults. `script.md` has those of any line, which come first.
@@ -36,9 +36,9 @@ def _names(entry):
 
 
 def index(found, leads_to):
-    """A table of entries: their names, each row with a link, and what they give."""
-    lines = [f"| [{_names(entry)}]({leads_to(entry)}) | {entry.title} |" for _, _, section in found for entry in section]
-    return "\n".join(["| Calls | What they give |", "|---|---|", *lines])
+    """A table of sections: of each entry the first name, with a link."""
+    lines = [f"| {title} | {' '.join(f'[`{entry.name}`]({leads_to(entry)})' for entry in section)} |" for title, _, section in found]
+    return "\n".join(["| Section | The first call of each entry |", "|---|---|", *lines])
 
 
 def said(entry):

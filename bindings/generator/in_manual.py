@@ -5,6 +5,7 @@ import re
 import textwrap
 
 import about
+import elsewhere
 import in_c
 import reference
 import rows
@@ -168,6 +169,18 @@ def _said(entry, of_section, shape):
     return [*own, *([shape] if shape else [])]
 
 
+def _purpose(entry):
+    """What it gives, with the words by which one looks for it elsewhere, so that `man -k` finds them."""
+    found = elsewhere.searched(entry.calls)
+    return f"{entry.title} ({', '.join(found)})" if found else entry.title
+
+
+def _elsewhere(entry):
+    found = elsewhere.said(entry.calls)
+    if found:
+        yield from (".PP", *_sentences(f"Elsewhere: {found}"))
+
+
 def _entry(entry, said):
     """The page of an entry, with what its section says."""
     name, row = f"cvl_{entry.name}", entry.rows[0]
@@ -176,8 +189,9 @@ def _entry(entry, said):
     shape = " ".join(filter(None, [row.family.shape, row.family.told]))
     homes = sorted({_homes()[found.name] for found in entry.families} - {name})
     lines = [
-        *_head(name, entry.title, (*others, *families)), *_synopsis([*map(in_c.declaration, entry.rows), *families.values()]),
-        ".SH DESCRIPTION", *_first(_paragraphs(_said(entry, said, shape))), *_described(entry), *_of_families(entry, families),
+        *_head(name, _purpose(entry), (*others, *families)), *_synopsis([*map(in_c.declaration, entry.rows), *families.values()]),
+        ".SH DESCRIPTION", *_first(_paragraphs(_said(entry, said, shape))), *_described(entry),
+        *_of_families(entry, families), *_elsewhere(entry),
         ".SH RETURN VALUE", *_sentences("A CvlStatus: 0 if the call is done, or the number of the first fault and its place, and then nothing is written."),
         *([".PP", *_sentences(f"Faults: {faults}")] if faults else []), ".PP", *_sentences(f"In place: {rows.in_place_words(row.family) or 'no, 102 Overlap.'}"),
         ".PP", ".BR cvl (3)", "has the faults that all calls share, and their order.", *_see(["cvl", *homes]),

@@ -4,6 +4,7 @@ and operators."""
 import re
 import textwrap
 
+import elsewhere
 import packages
 import rows
 import table
@@ -159,7 +160,8 @@ def _purpose(call):
 def _docstring(call):
     """The lines of a description, the first one without what stands before it."""
     lines = textwrap.wrap(_purpose(call), WIDTH - 4)
-    for said, text in (("Faults", _in_python(call.faults)), ("In place", call.in_place_words)):
+    others = elsewhere.said([call.name], name=str)
+    for said, text in (("Faults", _in_python(call.faults)), ("In place", call.in_place_words), ("Elsewhere", others)):
         lines += ["", *textwrap.wrap(f"{said}: {text}", WIDTH - 4)] if text else []
     code, wanted = _example(call)
     return [*lines, "", ">>> import cvl, numpy", *(f">>> {line}" for line in code), wanted]

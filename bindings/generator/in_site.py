@@ -8,6 +8,7 @@ import re
 import sys
 
 import about
+import elsewhere
 import entries
 import in_c
 import in_calls
@@ -159,6 +160,15 @@ def _see_also(entry):
     return [f"See also: {found}."] if found else []
 
 
+def _elsewhere(entry):
+    """What its calls are elsewhere; the search finds the entry by each of these names, and the list of all names has them."""
+    found = elsewhere.said(entry.calls, lambda word: f"`{word}`")
+    index = ", ".join(elsewhere.searched(entry.calls))
+    links = ", ".join(f"[{title}](../tasks.md#{elsewhere.anchor(title)})" for title in elsewhere.tasks(entry.calls))
+    shown = [*([f"**Elsewhere:** {found}"] if found else []), *([f"**Used to:** {links}."] if links else [])]
+    return [*([f"```{{index}} {index}\n```"] if index else []), "\n\n".join(shown)] if shown else []
+
+
 def entry_page(entry):
     """The page of an entry."""
     title = _capital(entry.title)
@@ -168,7 +178,7 @@ def entry_page(entry):
     what = [f"**Takes:** {entry.takes}. **Gives:** {entry.gives}."] if entry.said else []
     pictures = [text.replace("](pictures/", "](../pictures/") for text in in_calls.picture(entry)]
     parts = [
-        f"# {title}", _names(entry), said, *pictures, _signatures(signatures.of_entry(entry)),
+        f"# {title}", _names(entry), said, *_elsewhere(entry), *pictures, _signatures(signatures.of_entry(entry)),
         "## Lengths and faults", *what, *lengths, *_faults(entry), *_examples(entry), *_costs(entry), "## Calls", *calls, *_of_families(entry),
     ]
     return "\n\n".join([*parts, *_see_also(entry)]) + "\n"
@@ -258,7 +268,7 @@ def index_page():
     head = in_calls.HEAD.split("\n\n")
     parts = [
         head[0], "Look up any call: how you write it in each language, what it takes and gives, its faults, an example, and its cost beside a loop. "
-        "The [glossary](glossary.md) has the names of numpy, Thrust, NESL and VCODE beside each; the search finds each call by its name.",
+        "The [glossary](glossary.md) goes by the names of other libraries; the search finds each call by its name and by those.",
         "## Index", _index(scripts), "## Beside the calls of scripts",
         "C, Fortran, Python and Rust have more functions:", _index(beside),
         "C has in addition [what all calls share](calls/all-calls.md), [threads](calls/threads.md) and [descriptors](calls/descriptors-in-c.md).",

@@ -23,9 +23,9 @@ import specs
 
 # the pages for users by what a reader wants; all others stand at the end
 SHELVES = {
-    "Start": ("install", "tutorial", "script", "segments", "examples", "mistakes"),
-    "Languages": ("programs", "python", "ragged", "flattening", "rust", "fortran", "parallel"),
-    "Reference": ("calls", "glossary"),
+    "Start": ("tasks", "install", "tutorial", "segments", "examples", "script", "mistakes", "troubleshooting"),
+    "Languages": ("programs", "cpp", "python", "ragged", "flattening", "rust", "fortran", "parallel"),
+    "Reference": ("calls", "sheet", "glossary"),
     "Know": ("performance", "proved", "definitions", "versions", "support"),
 }
 

@@ -17,9 +17,13 @@ TOP = pathlib.Path(__file__).resolve().parents[2]
 sys.path[:0] = [str(TOP / "bindings"), str(TOP / "bindings/generator")]
 
 import call_table
+import cures
+import elsewhere
 import exports
+import foreign
 import generated
 import in_map
+import in_sheet
 import limits
 import packages
 import rows
@@ -233,6 +237,22 @@ class Places(Folder):
             generate.write(self.top / "repository" / name, "another\n")
             self.assertIn(name, self.run_it("--check"))
             self.run_it()
+
+    def test_names_of_other_libraries_lead_to_calls_and_tasks(self):
+        self.assertEqual(list(elsewhere.differences()), [])
+        wrong = {"numpy": ("", (foreign.Names("cumsum", "sum_suz"), foreign.Names("sort", "sort", "Sort it")))}
+        with mock.patch.object(foreign, "LIBRARIES", wrong):
+            told = list(elsewhere.differences())
+        self.assertEqual(len(told), 2)
+        self.assertIn("sum_suz", told[0])
+        self.assertIn("Sort it", told[1])
+
+    def test_the_cheat_sheet_has_a_cure_for_each_fault_and_fits_a_page(self):
+        self.assertEqual(list(in_sheet.differences()), [])
+        for change, wanted in ({17: None}, "[17]"), ({40: "wait"}, "[40]"), ({12: "`min_wux` of it"}, "min_wux"), ({1: "again and " * 400}, "longer"):
+            with mock.patch.object(in_sheet.cures, "CURES", {n: said for n, said in {**cures.CURES, **change}.items() if said}):
+                [told] = in_sheet.differences()
+            self.assertIn(wanted, told)
 
     def test_what_has_its_text_is_left_alone(self):
         for words, folder in ((), "repository"), ((self.top / "build",), "build"):

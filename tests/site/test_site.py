@@ -19,6 +19,7 @@ import urllib.parse
 
 from selenium import webdriver
 from selenium.webdriver.common.by import By
+from selenium.webdriver.common.keys import Keys
 from selenium.webdriver.support.ui import WebDriverWait
 
 sys.dont_write_bytecode = True
@@ -30,6 +31,12 @@ import making
 import reference
 
 NARROW = 360
+
+# names of other libraries, and words of the field, by which the search has to find a call among its first three answers
+ELSEWHERE = {
+    "cumsum": "add_suz", "prefix sum": "add_suz", "scatter": "smp_puz", "gather": "bck_puz", "argsort": "order", "bincount": "counts", "unique": "sort",
+    "group by": "combine_permute_int", "reduce_by_key": "add_rez", "nonzero": "pck_luz",
+}  # fmt: skip
 
 # the least contrast of a text, and of one whose letters are large: WCAG 2.1, level AA
 LEAST, LEAST_OF_LARGE = 4.5, 3.0
@@ -67,6 +74,26 @@ const width = document.documentElement.clientWidth;
 if (document.documentElement.scrollWidth <= width && document.body.scrollWidth <= width) return "";
 const wide = [...document.body.querySelectorAll("*")].filter((e) => e.getBoundingClientRect().right > width + 1);
 return `${document.documentElement.scrollWidth} pixels: ` + wide.slice(0, 3).map((e) => e.tagName + "." + e.className).join(" ");
+"""
+
+# what a screen reader would find without a name, and headings that leave a level out
+UNNAMED = """
+const name = (e) => (e.getAttribute("aria-label") || e.textContent || "").trim();
+const found = [...document.querySelectorAll("a[href], button, summary")].filter((e) => !name(e)).map((e) => e.outerHTML.slice(0, 80));
+const labelled = (e) => e.labels?.length || e.getAttribute("aria-label") || document.getElementById(e.getAttribute("aria-labelledby"))?.textContent.trim();
+const fields = [...document.querySelectorAll("input")].filter((e) => !["hidden", "submit"].includes(e.type));
+found.push(...fields.filter((e) => !labelled(e)).map((e) => e.outerHTML.slice(0, 80)));
+found.push(...[...document.images].filter((e) => !e.alt).map((e) => e.src));
+const navs = [...document.querySelectorAll("nav")].map((e) => e.getAttribute("aria-label"));
+if (navs.some((e) => !e) || new Set(navs).size < navs.length) found.push("nav: " + navs);
+if (document.querySelectorAll("main").length !== 1 || document.querySelectorAll("h1").length !== 1) found.push("main or h1");
+if (!document.documentElement.lang || !document.title) found.push("lang or title");
+let level = 1;
+for (const e of document.querySelectorAll("main h1, main h2, main h3, main h4, main h5")) {
+    if (+e.tagName[1] > level + 1) found.push(e.tagName + " " + e.textContent);
+    level = +e.tagName[1];
+}
+return found;
 """
 
 NOT_SHOWN = "return [...document.images].filter((image) => !image.complete || image.naturalWidth === 0).map((image) => image.src);"
@@ -213,6 +240,7 @@ class Browser(unittest.TestCase):
             self.open(page, NARROW)
             self.assertEqual(self.browser.execute_script(TOO_WIDE), "", page)
             self.assertEqual(self.browser.execute_script(NOT_SHOWN), [], page)
+            self.assertEqual(self.browser.execute_script(UNNAMED), [], page)
             self.pale(page)
         self.assertEqual([url for url in self.asked() if not url.startswith(("file:", "data:"))], [])
         self.assertEqual([entry for entry in self.browser.get_log("browser") if entry["level"] == "SEVERE"], [])
@@ -228,6 +256,51 @@ class Browser(unittest.TestCase):
             self.open("index.html", scheme=scheme)
             grounds.append(self.browser.execute_script("return getComputedStyle(document.body).backgroundColor"))
         self.assertEqual(grounds, ["rgb(255, 255, 255)", "rgb(20, 23, 27)"])
+
+    def test_keys_lead_past_the_list_of_pages_to_the_page(self):
+        self.open("tasks.html")
+        seen = []
+        for _ in range(4):
+            webdriver.ActionChains(self.browser).send_keys(Keys.TAB).perform()
+            focused = self.browser.switch_to.active_element
+            seen.append(focused.get_attribute("class") or focused.get_attribute("name") or focused.tag_name)
+            self.assertNotEqual(self.browser.execute_script("return getComputedStyle(document.activeElement).outlineStyle"), "none", seen)
+        self.assertEqual(seen, ["skip", "home", "q", "button"])
+        self.browser.find_element(By.CSS_SELECTOR, "a.skip").send_keys(Keys.ENTER)
+        self.assertEqual(self.browser.switch_to.active_element.tag_name, "main")
+        webdriver.ActionChains(self.browser).send_keys(Keys.TAB).perform()
+        self.assertTrue(self.browser.execute_script("return document.querySelector('main').contains(document.activeElement)"))
+
+    def test_a_long_page_has_its_contents_beside_it(self):
+        self.open("tasks.html", 1500)
+        links = self.browser.find_elements(By.CSS_SELECTOR, "nav.here a")
+        [link] = [link for link in links if link.text == "Transpose"]
+        link.click()
+        self.assertLess(self.browser.execute_script("return document.querySelector('#transpose').getBoundingClientRect().top"), 100)
+        self.open("calls/cpy_wuz.html", 700)
+        self.assertFalse(any(link.is_displayed() for link in self.browser.find_elements(By.CSS_SELECTOR, "nav.here a")))
+
+    def test_a_button_copies_what_one_types(self):
+        self.open("tasks.html")
+        self.browser.execute_script("navigator.clipboard.writeText = async (text) => { window.copied = text; };")
+        for words, wanted in (("add_rez(v, rows)", "cvl.add_rez(v, rows).tolist()\n"), ("must(cvl_add_rez", "must(cvl_add_rez(v, 5, rows, sums));\n")):
+            block = next(block for block in self.browser.find_elements(By.CSS_SELECTOR, "div.highlight") if words in block.text)
+            button = block.find_element(By.CSS_SELECTOR, "button.copy")
+            self.browser.execute_script("arguments[0].focus()", button)
+            button.send_keys(Keys.ENTER)
+            WebDriverWait(self.browser, 5).until(lambda browser: button.text == "Copied")
+            self.assertEqual(self.browser.execute_script("return window.copied"), wanted)
+
+    def test_pictures_are_dark_in_the_night(self):
+        filters = []
+        for scheme in ("light", "dark"):
+            self.open("calls/add_suz.html", scheme=scheme)
+            filters.append(self.browser.execute_script("return getComputedStyle(document.querySelector('main img')).filter"))
+        self.assertEqual(filters, ["none", "invert(0.92) hue-rotate(180deg)"])
+
+    def test_next_follows_the_tutorial(self):
+        for page, following in (("index", "tasks"), ("tutorial", "segments"), ("segments", "examples")):
+            self.assertEqual(PAGES[f"{page}.html"].beside["next"], f"{following}.html")
 
     def found(self, words):
         """What a search finds: titles, with the addresses."""
@@ -245,6 +318,11 @@ class Browser(unittest.TestCase):
         self.assertIn("calls/add_rez.html", " ".join(address for _, address in self.found("cvl_add_rez")))
         self.assertIn("examples.html", " ".join(address for _, address in self.found("histogram")))
         self.assertEqual(self.found("qwxyzzy"), [])
+
+    def test_the_search_leads_from_names_elsewhere_to_their_calls(self):
+        for words, call in ELSEWHERE.items():
+            addresses = [urllib.parse.urlsplit(address).path for _, address in self.found(words)[:3]]
+            self.assertIn(f"{SITE.as_uri()[7:]}/calls/{call}.html", addresses, words)
 
     def test_a_search_shows_a_line_with_its_words(self):
         shown = "return [...document.querySelectorAll('ul.search p.line')].map((line) => line.textContent)"

@@ -1142,6 +1142,11 @@ class Names(Limited):
         self.assertIn("The wrapped sums.", pydoc.plain(pydoc.render_doc(cvl.add_wuz)))
         self.assertNotIn("method of", pydoc.plain(pydoc.render_doc(cvl.add_wuz)))
 
+    def test_help_has_the_names_of_other_libraries(self):
+        words = {"cumsum": "add_suz", "prefix sum": "add_suz", "scatter": "smp_puz", "argsort": "order", "bincount": "counts", "unique": "sort"}
+        for word, name in words.items():
+            self.assertIn(word, pydoc.plain(pydoc.render_doc(getattr(cvl, name))))
+
     def test_faults_are_value_errors_with_constants(self):
         with self.assertRaises(ValueError) as caught:
             cvl.div_wuz(ints(1), ints(0))

@@ -1,0 +1,25 @@
+"""What to do about each fault, by its number: for the cheat sheet. The names of the faults come from the definitions and from `table.py`."""
+
+CURES = {
+    1: "one call a line, without parentheses: name inner results first",
+    2: "look the name up: not each family has each operator",
+    3: "give what the call's entry takes; one on segments takes its descriptor last",
+    4: "bind the name on a line before; true and false are `T` and `F`",
+    5: "`dis_vuz 7 n` makes a vector of a number, `mke_fov` a descriptor, `int_wub` integers",
+    6: "digits, with `-` before them, from -2147483648 to 2147483647",
+    7: "after a pack cut by `pck_fov`; offsets are no lengths: `cvl_segments_from_offsets`",
+    8: "divide by `max_wuz` of the divisor and 1, or pack what divides",
+    9: "shift by 0 to 31; to the other side by the other call",
+    10: "count from 0, in segments from their start; pack what leaves the vector",
+    11: "`cvl_combine_permute_int` adds up, `cvl_counts` counts, `cvl_first_senders` picks one",
+    12: "`max_wuz` of the lengths and 0",
+    13: "split it: 4,194,304 elements in a script, 2,147,483,647 in a program",
+    14: "inputs count from 1; name their files behind the script",
+    15: "whole numbers between white space; lists of lists by `nested`",
+    16: "bind a name again, such as `t`, where the old value is not read any more",
+    17: "cut the script in two: the second reads what the first writes",
+    18: "scale down, or `cvl_seg_exact_sums`, of 64 bits; `add` instead of `tot` wraps",
+    100: "give it memory: shorter vectors, or calls in place",
+    101: "make the descriptor first: `cvl_segments_new`",
+    102: "give the result a buffer of its own, if the call does not say \"In place\"",
+}
