@@ -64,7 +64,8 @@ def _stub(folder, library, found):
     """Makes a library of these names."""
     source, script = folder / f"{library}.s", folder / f"{library}.map"
     source.write_text("".join(f"{line}\n" for line in _assembled(found)))
-    script.write_text("".join(f"GLIBC_{'.'.join(map(str, version))} {{}};\n" for version in sorted({number(name.version) for name in found})))
+    versions = sorted({number(name.version) for name in found})
+    script.write_text("".join(f"GLIBC_{'.'.join(map(str, version))} {{}};\n" for version in versions))
     hidden = ["-Wl,--no-undefined", f"-Wl,-soname,{library}", f"-Wl,--version-script={script}"]
     archive.run(*archive.program("CC"), "-shared", "-nostdlib", *hidden, "-o", folder / library, source)
 

@@ -119,7 +119,8 @@ class Said(unittest.TestCase):
         self.assertEqual([said[0].startswith("numpy 1.23"), *said[1:]], [True, "no headers", "there is no C compiler no-such-compiler"])
 
     def test_pip_shows_what_is_missing_and_no_traceback(self):
-        with mock.patch.object(package, "check", mock.Mock(side_effect=package.Missing("no headers"))), self.assertRaises(SystemExit) as caught:
+        fails = mock.Mock(side_effect=package.Missing("no headers"))
+        with mock.patch.object(package, "check", fails), self.assertRaises(SystemExit) as caught:
             package.build_wheel("a folder")
         self.assertRegex(str(caught.exception.code), r"^cvl 1\..* cannot be built here:\nno headers$")
 
