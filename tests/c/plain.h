@@ -581,7 +581,7 @@ static void put_all(const Row *row, bool odd, void **p) {
 
 /* Holds what a call wrote against the plain loops. */
 static void compare(const Row *row, const char *call) {
-    const int32_t before = is_bool(call) ? 1 : 5;
+    const int32_t before = is_bool(call) ? 1 : 9;
     stands_before = strstr(row->name, "_scan_after") != NULL ? &before : NULL;
     const size_t made = read_plainly(call);
     const size_t written = !has(row, ROOM_FOR_TEXT) ? 0 : write_text(wanted, is_bool(call), by_segments(call));
