@@ -171,8 +171,10 @@ MOST_OF_TEXT = 4194304
 # The most bytes of its stack that a thread needs for a call: what tests/c/stack.c measures stays below it.
 MOST_STACK = 32768
 
-# The exports that only the driver calls: the steps of orders and sorts in parts.
-STEPS = ("placed_from", "key_block", "placed_block", "gather_keys", "gather_placed", "places_of")
+# The exports that only the driver calls: the steps of orders, of sorts, and of sums by place, in parts.
+STEPS = (
+    "placed_from", "key_block", "placed_block", "gather_keys", "gather_placed", "places_of", "add_sums", "sums_from_ints", "ints_from_sums",
+)
 
 # The families that steps of other calls in parts make.
 STEP_FAMILIES = ("int_scan_after", "bool_scan_after", "seg_int_scan", "seg_bool_scan")
@@ -508,6 +510,7 @@ LONG_ROOM = Fault((13,), "13 TooLong, also if out is too long", False)
 NOT_AS_MANY = Fault((7,), "7 LengthMismatch if source and index differ in length", False)
 SUMS_OF_SENT = Fault(
     (7,), "7 LengthMismatch if source and index differ in length, or the lengths do not add up to them, or the result lengths to out", False)
+GREAT_SUM = Fault((18,), "18 Overflow at the first place that held a sum below -2^62, or 2^62 or more", False)
 BAD_SLICE = Fault((10,), "10 IndexOutOfRange at the first segment that starts below 0 or ends behind the source", False, "starts")
 SUMS_OF_BOTH = Fault((7,), "7 LengthMismatch if the lengths do not add up to a, or the other lengths to b", False)
 SUMS_OF_SIDES = Fault(
@@ -809,6 +812,40 @@ FAMILIES = (
         }[kind],
     ),
     family(
+        "combine_checked_int", "combining permutes", (ints("source"), indices(), over("ints")),
+        "At each place of out what stands there, plus each integer whose index names the place. The sum may leave 32 bits on the way, and has to fit them at the "
+        "end. out may have any number of places. While it runs, the call takes 8 bytes for each place of out.",
+        faults=(LONG_ROOM, NOT_AS_MANY, BAD_NAMED, OVERFLOW_AT_PLACE), asks=True, cut=("combine", "n"),
+        example={"source": "5 2147483647 7 -2147483647", "index": "2 0 2 0", "out_before": "100 200 300", "out": "100 200 312"},
+    ),
+    family(
+        "combine_exact_sums", "combining permutes", (ints("source"), indices(), over("sums")),
+        "At each place of out, of 64 bits, the sum that stands there, plus each integer whose index names the place: it is exact. out may have any number of "
+        "places.",
+        faults=(LONG_ROOM, NOT_AS_MANY, GREAT_SUM, BAD_NAMED), cut=("combine", "n"),
+        example={"source": "2147483647 6 2147483647", "index": "1 0 1", "out_before": "0 0 300", "out": "6 4294967294 300"},
+    ),
+    family(
+        "seg_combine_checked_int", "combining permutes", (ints("source"), indices(), lengths(), lengths("result_lengths", "m"), over("ints")),
+        "At each place of each segment of out what stands there, plus each integer of the same segment whose index names the place. The sum may leave 32 bits on "
+        "the way, and has to fit them at the end. While it runs, the call takes 8 bytes for each place of out.",
+        limit=None, faults=(SUMS_OF_SENT, BAD_NAMED_IN_SEGMENT, OVERFLOW_AT_PLACE), asks=True, cut=("segments", "n"), over_ranks=JOINED_ELEMENTS,
+        example={
+            "source": "5 6 7 8 9", "index": "1 1 0 3 0", "lengths": "2 0 3", "result_lengths": "2 1 4", "out_before": "0 0 0 0 0 0 10",
+            "out": "0 11 0 16 0 0 18",
+        },
+    ),
+    family(
+        "seg_combine_exact_sums", "combining permutes", (ints("source"), indices(), lengths(), lengths("result_lengths", "m"), over("sums")),
+        "At each place of each segment of out, of 64 bits, the sum that stands there, plus each integer of the same segment whose index names the place: it is "
+        "exact.",
+        limit=None, faults=(SUMS_OF_SENT, GREAT_SUM, BAD_NAMED_IN_SEGMENT), cut=("segments", "n"), over_ranks=JOINED_ELEMENTS,
+        example={
+            "source": "2147483647 2147483647 7", "index": "1 1 0", "lengths": "2 1", "result_lengths": "2 2", "out_before": "1 2 3 4",
+            "out": "1 4294967296 10 4",
+        },
+    ),
+    family(
         "seg_counts", "combining permutes", (indices(), lengths(), lengths("result_lengths", "m"), room("ints", "m")),
         "For each place of each segment of the result how many indices of the same segment name it.",
         limit=None, faults=(SUMS_OF_RESULT, BAD_NAMED_IN_SEGMENT), cut=("segments", "n"), over_ranks=COUNTED_THERE,
@@ -1097,6 +1134,14 @@ FAMILIES = (
                 "op": "XOR", "source": "true true true", "index": "2 0 2", "lowest": "2", "out_len": "1", "out_before": "true", "out": "true", "named": "2",
             },
         }[kind],
+    ),
+    family(
+        "combine_exact_sums_range", "calls in parts", (ints("source"), indices(), lowest(), over("sums", "range"), told("named")),
+        "One range of exact sums by place: the out_len sums from place `lowest` on, each plus the integers whose index names it. named is how many indices name a "
+        "place of the range. Each part has another range, and all of source and index. If all parts together named index_len, the ranges are those of "
+        "cvl_combine_exact_sums; else an index is out of range, which that call reports. The place of a fault counts from the start of the whole result.",
+        over_ranks=NO_PARTS, faults=(COMBINE_RANGE_FAULTS[0], GREAT_SUM, *COMBINE_RANGE_FAULTS[1:]),
+        example={"source": "5 6 7 8", "index": "2 0 2 1", "lowest": "1", "out_len": "2", "out_before": "200 300", "out": "208 312", "named": "3"},
     ),
     family(
         "counts_range", "calls in parts", (indices(), lowest(), room("ints", "range"), told("named")),

@@ -820,6 +820,12 @@ CVL_CHECKED CvlStatus cvl_segments_combine_permute_bool(uint32_t op, const bool 
     const int32_t *index, size_t index_len, const CvlSegments *segments, const CvlSegments *result_segments, bool *out,
     size_t out_len);
 
+CVL_CHECKED CvlStatus cvl_segments_combine_checked_int(const int32_t *source, size_t source_len, const int32_t *index,
+    size_t index_len, const CvlSegments *segments, const CvlSegments *result_segments, int32_t *out, size_t out_len);
+
+CVL_CHECKED CvlStatus cvl_segments_combine_exact_sums(const int32_t *source, size_t source_len, const int32_t *index,
+    size_t index_len, const CvlSegments *segments, const CvlSegments *result_segments, int64_t *out, size_t out_len);
+
 CVL_CHECKED CvlStatus cvl_segments_counts(const int32_t *index, size_t index_len, const CvlSegments *segments,
     const CvlSegments *result_segments, int32_t *out, size_t out_len);
 
@@ -1146,6 +1152,40 @@ CVL_CHECKED CvlStatus cvl_seg_combine_permute_bool(uint32_t op, const bool *sour
     size_t index_len, CvlLengths lengths, CvlLengths result_lengths, bool *out, size_t out_len);
 
 /*
+ * At each place of out what stands there, plus each integer whose index names the place. The sum may leave 32 bits on the way,
+ * and has to fit them at the end. out may have any number of places. While it runs, the call takes 8 bytes for each place of
+ * out. Faults: 10 IndexOutOfRange at the first index that is no place of the result; 18 Overflow at the first place whose sum
+ * does not fit 32 bits.
+ */
+CVL_CHECKED CvlStatus cvl_combine_checked_int(const int32_t *source, size_t source_len, const int32_t *index, size_t index_len,
+    int32_t *out, size_t out_len);
+
+/*
+ * At each place of out, of 64 bits, the sum that stands there, plus each integer whose index names the place: it is exact. out
+ * may have any number of places. Faults: 18 Overflow at the first place that held a sum below -2^62, or 2^62 or more; 10
+ * IndexOutOfRange at the first index that is no place of the result.
+ */
+CVL_CHECKED CvlStatus cvl_combine_exact_sums(const int32_t *source, size_t source_len, const int32_t *index, size_t index_len,
+    int64_t *out, size_t out_len);
+
+/*
+ * At each place of each segment of out what stands there, plus each integer of the same segment whose index names the place.
+ * The sum may leave 32 bits on the way, and has to fit them at the end. While it runs, the call takes 8 bytes for each place of
+ * out. Faults: 10 IndexOutOfRange at the first index that is no place of its segment of the result; 18 Overflow at the first
+ * place whose sum does not fit 32 bits.
+ */
+CVL_CHECKED CvlStatus cvl_seg_combine_checked_int(const int32_t *source, size_t source_len, const int32_t *index,
+    size_t index_len, CvlLengths lengths, CvlLengths result_lengths, int32_t *out, size_t out_len);
+
+/*
+ * At each place of each segment of out, of 64 bits, the sum that stands there, plus each integer of the same segment whose
+ * index names the place: it is exact. Faults: 18 Overflow at the first place that held a sum below -2^62, or 2^62 or more; 10
+ * IndexOutOfRange at the first index that is no place of its segment of the result.
+ */
+CVL_CHECKED CvlStatus cvl_seg_combine_exact_sums(const int32_t *source, size_t source_len, const int32_t *index,
+    size_t index_len, CvlLengths lengths, CvlLengths result_lengths, int64_t *out, size_t out_len);
+
+/*
  * For each place of each segment of the result how many indices of the same segment name it. Faults: 10 IndexOutOfRange at the
  * first index that is no place of its segment of the result.
  */
@@ -1407,6 +1447,16 @@ CVL_CHECKED CvlStatus cvl_combine_permute_int_range(uint32_t op, const int32_t *
  */
 CVL_CHECKED CvlStatus cvl_combine_permute_bool_range(uint32_t op, const bool *source, size_t source_len, const int32_t *index,
     size_t index_len, size_t lowest, bool *out, size_t out_len, size_t *named);
+
+/*
+ * One range of exact sums by place: the out_len sums from place `lowest` on, each plus the integers whose index names it. named
+ * is how many indices name a place of the range. Each part has another range, and all of source and index. If all parts
+ * together named index_len, the ranges are those of cvl_combine_exact_sums; else an index is out of range, which that call
+ * reports. The place of a fault counts from the start of the whole result. Faults: 13 TooLong, by the index, and if the range
+ * ends behind place 2147483647; 18 Overflow at the first place that held a sum below -2^62, or 2^62 or more.
+ */
+CVL_CHECKED CvlStatus cvl_combine_exact_sums_range(const int32_t *source, size_t source_len, const int32_t *index,
+    size_t index_len, size_t lowest, int64_t *out, size_t out_len, size_t *named);
 
 /*
  * One range of the counts by place: how many indices name each of the out_len places from place `lowest` on, and as named how

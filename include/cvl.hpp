@@ -2026,6 +2026,42 @@ inline void seg_combine_permute_bool(const char *call, std::uint32_t op, Bools s
         {"result_segments", Extent::m, result_segments}, {"out", Extent::m, out}});
 }
 
+inline void combine_checked_int(const char *call, Ints source, Ints index, IntRoom out, Status &status) noexcept {
+    if (!status.ok()) return;
+    const CvlStatus found = run_in_parts(cvl_combine_checked_int, cvl_combine_checked_int_on, source.data(), source.size(),
+        index.data(), index.size(), out.data(), out.size());
+    if (found.number != CVL_DONE) tell(status, found, call, {{"source", Extent::n, source},
+        {"index", Extent::n, index, about(CVL_INDEX_OUT_OF_RANGE, CVL_TOO_LONG), "out"}, {"out", Extent::m, out}});
+}
+
+inline void combine_exact_sums(const char *call, Ints source, Ints index, SumRoom out, Status &status) noexcept {
+    if (!status.ok()) return;
+    const CvlStatus found = run_in_parts(cvl_combine_exact_sums, cvl_combine_exact_sums_on, source.data(), source.size(),
+        index.data(), index.size(), out.data(), out.size());
+    if (found.number != CVL_DONE) tell(status, found, call, {{"source", Extent::n, source},
+        {"index", Extent::n, index, about(CVL_INDEX_OUT_OF_RANGE, CVL_TOO_LONG), "out"}, {"out", Extent::m, out}});
+}
+
+inline void seg_combine_checked_int(const char *call, Ints source, Ints index, const Segments &segments,
+    const Segments &result_segments, IntRoom out, Status &status) noexcept {
+    if (!status.ok()) return;
+    const CvlStatus found = run_in_parts(cvl_seg_combine_checked_int, cvl_seg_combine_checked_int_on, source.data(),
+        source.size(), index.data(), index.size(), given(segments), given(result_segments), out.data(), out.size());
+    if (found.number != CVL_DONE) tell(status, found, call, {{"source", Extent::n, source},
+        {"index", Extent::n, index, about(CVL_INDEX_OUT_OF_RANGE)}, {"segments", Extent::n, segments},
+        {"result_segments", Extent::m, result_segments}, {"out", Extent::m, out}});
+}
+
+inline void seg_combine_exact_sums(const char *call, Ints source, Ints index, const Segments &segments,
+    const Segments &result_segments, SumRoom out, Status &status) noexcept {
+    if (!status.ok()) return;
+    const CvlStatus found = run_in_parts(cvl_seg_combine_exact_sums, cvl_seg_combine_exact_sums_on, source.data(),
+        source.size(), index.data(), index.size(), given(segments), given(result_segments), out.data(), out.size());
+    if (found.number != CVL_DONE) tell(status, found, call, {{"source", Extent::n, source},
+        {"index", Extent::n, index, about(CVL_INDEX_OUT_OF_RANGE)}, {"segments", Extent::n, segments},
+        {"result_segments", Extent::m, result_segments}, {"out", Extent::m, out}});
+}
+
 inline void seg_counts(const char *call, Ints index, const Segments &segments, const Segments &result_segments, IntRoom out,
     Status &status) noexcept {
     if (!status.ok()) return;
@@ -2592,6 +2628,17 @@ inline std::size_t combine_permute_bool_range(const char *call, std::uint32_t op
     std::size_t named = 0;
     const CvlStatus found = run(cvl_combine_permute_bool_range, op, source.data(), source.size(), index.data(), index.size(),
         lowest, out.data(), out.size(), &named);
+    if (found.number != CVL_DONE) tell(status, found, call, {{"source", Extent::n, source},
+        {"index", Extent::n, index, about(CVL_TOO_LONG)}, {"out", Extent::range, out}});
+    return found.number == CVL_DONE ? named : 0;
+}
+
+inline std::size_t combine_exact_sums_range(const char *call, Ints source, Ints index, std::size_t lowest, SumRoom out,
+    Status &status) noexcept {
+    if (!status.ok()) return 0;
+    std::size_t named = 0;
+    const CvlStatus found = run(cvl_combine_exact_sums_range, source.data(), source.size(), index.data(), index.size(), lowest,
+        out.data(), out.size(), &named);
     if (found.number != CVL_DONE) tell(status, found, call, {{"source", Extent::n, source},
         {"index", Extent::n, index, about(CVL_TOO_LONG)}, {"out", Extent::range, out}});
     return found.number == CVL_DONE ? named : 0;
@@ -4524,6 +4571,60 @@ inline void seg_combine_permute_bool(Operator op, Bools source, Ints index, cons
     detail::check(status);
 }
 
+/// At each place of out what stands there, plus each integer whose index names the place. The sum may leave 32 bits on the way,
+/// and has to fit them at the end. out may have any number of places. While it runs, the call takes 8 bytes for each place of
+/// out. Faults: 10 IndexOutOfRange at the first index that is no place of the result; 18 Overflow at the first place whose sum
+/// does not fit 32 bits.
+inline void combine_checked_int(Ints source, Ints index, IntRoom out, Status &status) noexcept {
+    detail::combine_checked_int("combine_checked_int", source, index, out, status);
+}
+inline void combine_checked_int(Ints source, Ints index, IntRoom out) {
+    Status status;
+    cvl::combine_checked_int(source, index, out, status);
+    detail::check(status);
+}
+
+/// At each place of out, of 64 bits, the sum that stands there, plus each integer whose index names the place: it is exact. out
+/// may have any number of places. Faults: 18 Overflow at the first place that held a sum below -2^62, or 2^62 or more; 10
+/// IndexOutOfRange at the first index that is no place of the result.
+inline void combine_exact_sums(Ints source, Ints index, SumRoom out, Status &status) noexcept {
+    detail::combine_exact_sums("combine_exact_sums", source, index, out, status);
+}
+inline void combine_exact_sums(Ints source, Ints index, SumRoom out) {
+    Status status;
+    cvl::combine_exact_sums(source, index, out, status);
+    detail::check(status);
+}
+
+/// At each place of each segment of out what stands there, plus each integer of the same segment whose index names the place.
+/// The sum may leave 32 bits on the way, and has to fit them at the end. While it runs, the call takes 8 bytes for each place
+/// of out. Faults: 10 IndexOutOfRange at the first index that is no place of its segment of the result; 18 Overflow at the
+/// first place whose sum does not fit 32 bits.
+inline void seg_combine_checked_int(Ints source, Ints index, const Segments &segments, const Segments &result_segments,
+    IntRoom out, Status &status) noexcept {
+    detail::seg_combine_checked_int("seg_combine_checked_int", source, index, segments, result_segments, out, status);
+}
+inline void seg_combine_checked_int(Ints source, Ints index, const Segments &segments, const Segments &result_segments,
+    IntRoom out) {
+    Status status;
+    cvl::seg_combine_checked_int(source, index, segments, result_segments, out, status);
+    detail::check(status);
+}
+
+/// At each place of each segment of out, of 64 bits, the sum that stands there, plus each integer of the same segment whose
+/// index names the place: it is exact. Faults: 18 Overflow at the first place that held a sum below -2^62, or 2^62 or more; 10
+/// IndexOutOfRange at the first index that is no place of its segment of the result.
+inline void seg_combine_exact_sums(Ints source, Ints index, const Segments &segments, const Segments &result_segments,
+    SumRoom out, Status &status) noexcept {
+    detail::seg_combine_exact_sums("seg_combine_exact_sums", source, index, segments, result_segments, out, status);
+}
+inline void seg_combine_exact_sums(Ints source, Ints index, const Segments &segments, const Segments &result_segments,
+    SumRoom out) {
+    Status status;
+    cvl::seg_combine_exact_sums(source, index, segments, result_segments, out, status);
+    detail::check(status);
+}
+
 /// For each place of each segment of the result how many indices of the same segment name it. Faults: 10 IndexOutOfRange at the
 /// first index that is no place of its segment of the result.
 [[nodiscard]] inline std::vector<std::int32_t> seg_counts(Ints index, const Segments &segments, const Segments &result_segments,
@@ -5226,6 +5327,19 @@ inline std::size_t combine_permute_bool_range(Operator op, Bools source, Ints in
 inline std::size_t combine_permute_bool_range(Operator op, Bools source, Ints index, std::size_t lowest, BoolRoom out) {
     Status status;
     return detail::checked(cvl::combine_permute_bool_range(op, source, index, lowest, out, status), status);
+}
+
+/// One range of exact sums by place: the out_len sums from place `lowest` on, each plus the integers whose index names it.
+/// named is how many indices name a place of the range. Each part has another range, and all of source and index. If all parts
+/// together named index_len, the ranges are those of combine_exact_sums; else an index is out of range, which that call
+/// reports. The place of a fault counts from the start of the whole result. Faults: 13 TooLong, by the index, and if the range
+/// ends behind place 2147483647; 18 Overflow at the first place that held a sum below -2^62, or 2^62 or more.
+inline std::size_t combine_exact_sums_range(Ints source, Ints index, std::size_t lowest, SumRoom out, Status &status) noexcept {
+    return detail::combine_exact_sums_range("combine_exact_sums_range", source, index, lowest, out, status);
+}
+inline std::size_t combine_exact_sums_range(Ints source, Ints index, std::size_t lowest, SumRoom out) {
+    Status status;
+    return detail::checked(cvl::combine_exact_sums_range(source, index, lowest, out, status), status);
 }
 
 /// One range of the counts by place: how many indices name each of the out_len places from place `lowest` on, and as named how

@@ -251,6 +251,20 @@ CVL_CHECKED CvlStatus cvl_seg_combine_permute_int_on(const CvlPool *pool, uint32
     const int32_t *index, size_t index_len, CvlLengths lengths, CvlLengths result_lengths, int32_t *out, size_t out_len);
 CVL_CHECKED CvlStatus cvl_seg_combine_permute_bool_on(const CvlPool *pool, uint32_t op, const bool *source, size_t source_len,
     const int32_t *index, size_t index_len, CvlLengths lengths, CvlLengths result_lengths, bool *out, size_t out_len);
+
+/*
+ * Cut at places, and each part joins in a room of its own; with many places the room is cut, and each part reads all indices.
+ */
+CVL_CHECKED CvlStatus cvl_combine_checked_int_on(const CvlPool *pool, const int32_t *source, size_t source_len,
+    const int32_t *index, size_t index_len, int32_t *out, size_t out_len);
+CVL_CHECKED CvlStatus cvl_combine_exact_sums_on(const CvlPool *pool, const int32_t *source, size_t source_len,
+    const int32_t *index, size_t index_len, int64_t *out, size_t out_len);
+
+/* Cut between segments. */
+CVL_CHECKED CvlStatus cvl_seg_combine_checked_int_on(const CvlPool *pool, const int32_t *source, size_t source_len,
+    const int32_t *index, size_t index_len, CvlLengths lengths, CvlLengths result_lengths, int32_t *out, size_t out_len);
+CVL_CHECKED CvlStatus cvl_seg_combine_exact_sums_on(const CvlPool *pool, const int32_t *source, size_t source_len,
+    const int32_t *index, size_t index_len, CvlLengths lengths, CvlLengths result_lengths, int64_t *out, size_t out_len);
 CVL_CHECKED CvlStatus cvl_seg_counts_on(const CvlPool *pool, const int32_t *index, size_t index_len, CvlLengths lengths,
     CvlLengths result_lengths, int32_t *out, size_t out_len);
 

@@ -27,7 +27,7 @@ PHRASES = [re.compile(phrase) for phrase in (
     r"(?:if (?:it|the index|(?P<value>count)) is )?below 0", r"above 255", r"(?P<bound>n|m|the number of true flags) or more",
     r"if an earlier one (?:of its segment )?is the same",
     r"(?:if it|that) is no place of (?P<within>the result|its segment(?: of the \w+)?)",
-    r"that starts below 0", r"ends behind the (?P<read>source)", r"if it (?:is above (?P<most>\d+)|does not fit 32 bits)",
+    r"that starts below 0", r"that held a sum below -2\^62, or 2\^62 or more", r"ends behind the (?P<read>source)", r"if it (?:is above (?P<most>\d+)|does not fit 32 bits)",
     # lengths
     r"(?:also )?if (?P<alike>\w+ and \w+) differ in length",
     r"(?:if )?the (?P<total>(?:\w+ )?lengths (?:do not add up )?to (?:the )?\w+(?:'s)?)",
@@ -106,7 +106,7 @@ def has_item(row, said):
     kinds = {found.kind for found in row.operands if found.role in ("reads", "room")}
     return {
         "index": operand(row, "index"), "column": operand(row, "columns"), "row": operand(row, "columns"), "segment": row.cuts,
-        "word": "text" in kinds, "integer": "bytes" in kinds, "place": "scan" in row.family.name,
+        "word": "text" in kinds, "integer": "bytes" in kinds, "place": "scan" in row.family.name or any(found.over for found in row.operands),
     }[said]  # fmt: skip
 
 

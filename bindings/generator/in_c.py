@@ -235,7 +235,8 @@ def short_names():
 
 TYPES = {
     "&[i32]": "const int32_t *", "&[u8]": "const bool *", "&[bool]": "const bool *", "&mut [i32]": "int32_t *", "&mut [u8]": "bool *",
-    "&mut [bool]": "bool *", "&[u32]": "const uint32_t *", "&mut [u32]": "uint32_t *", "&[Placed]": "const CvlPlaced *", "&mut [Placed]": "CvlPlaced *", "&mut [i64]": "int64_t *", "&mut i32": "int32_t *", "&mut i64": "int64_t *", "&mut bool": "bool *",
+    "&mut [bool]": "bool *", "&[u32]": "const uint32_t *", "&mut [u32]": "uint32_t *", "&[Placed]": "const CvlPlaced *", "&mut [Placed]": "CvlPlaced *",
+    "&[i64]": "const int64_t *", "&mut [i64]": "int64_t *", "&mut i32": "int32_t *", "&mut i64": "int64_t *", "&mut bool": "bool *",
     "&mut usize": "size_t *", "u32": "uint32_t ", "i32": "int32_t ", "i64": "int64_t ", "usize": "size_t ", "bool": "bool ",
 }
 

@@ -178,7 +178,7 @@ KINDS = {
     ("reads", "ints"): "INTS", ("reads", "flags"): "FLAGS", ("reads", "bytes"): "BYTES", ("reads", "text"): "TEXT", ("lengths", "ints"): "LENGTHS",
     ("operator", "size"): "OPERATOR", ("value", "int"): "INT", ("value", "flag"): "FLAG", ("value", "sum"): "SUM",
     ("value", "size"): "SIZE", ("place", "int"): "WIDE", ("count", "int"): "WIDE", ("room", "ints"): "ROOM_INTS",
-    ("room", "flags"): "ROOM_FLAGS", ("room", "marks"): "ROOM_MARKS",
+    ("room", "flags"): "ROOM_FLAGS", ("room", "marks"): "ROOM_MARKS", ("room", "sums"): "ROOM_SUMS",
 }  # fmt: skip
 EXTENTS = ("n", "m", "both", "segments", "count", "trues", "falses", "total", "offsets")
 TYPES = {"ints": "int32_t", "flags": "bool", "bytes": "uint8_t", "text": "char", "marks": "uint32_t", "sums": "int64_t"}
@@ -434,7 +434,7 @@ _Bytes = TypeVar("_Bytes", bound=Bytes)
 _Sums = TypeVar("_Sums", bound=Sums)
 '''
 TAKEN = {
-    "ints": "Ints", "flags": "Flags", "bytes": "Bytes", "text": "Text", "marks": "Marks", "int": "SupportsIndex", "sum": "SupportsIndex",
+    "ints": "Ints", "flags": "Flags", "bytes": "Bytes", "text": "Text", "marks": "Marks", "sums": "Sums", "int": "SupportsIndex", "sum": "SupportsIndex",
     "size": "SupportsIndex", "flag": "Union[bool, numpy.bool_]",
 }  # fmt: skip
 SPREAD = {"ints": "Union[Ints, SupportsIndex]", "flags": "Union[Flags, bool, numpy.bool_]"}

@@ -191,6 +191,7 @@ class Family:
             "OF_BOOLS": self.of_bools, "AT_PLACE": any(o.role == "place" for o in self.operands),
             "TOGETHER": any(len(names) > 1 for names in self.family.in_place), "MERGES": not self.lengths and any(o.extent == "falses" for o in self.operands),
             "APPENDS": any(o.extent == "both" for o in self.operands), "TURNS": any(o.use == "row_count" for o in self.operands),
+            "ADDS": self.room is not None and self.room.over and not self.family.operators,
         }
         return [word for word, is_so in said.items() if is_so]
 

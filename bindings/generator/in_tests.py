@@ -14,7 +14,7 @@ READ = {
 WRITTEN = {
     ("ints", "n"): "ROOM_FOR_INTS", ("ints", "segments"): "ROOM_FOR_SEGMENT_INTS", ("ints", "trues"): "ROOM_FOR_TRUE_INTS",
     ("flags", "n"): "ROOM_FOR_FLAGS", ("flags", "segments"): "ROOM_FOR_SEGMENT_FLAGS", ("flags", "trues"): "ROOM_FOR_TRUE_FLAGS",
-    ("sums", "segments"): "ROOM_FOR_SEGMENT_SUMS", ("ints", "both"): "ROOM_FOR_BOTH_INTS", ("flags", "both"): "ROOM_FOR_BOTH_FLAGS",
+    ("sums", "n"): "ROOM_FOR_SUMS", ("sums", "segments"): "ROOM_FOR_SEGMENT_SUMS", ("ints", "both"): "ROOM_FOR_BOTH_INTS", ("flags", "both"): "ROOM_FOR_BOTH_FLAGS",
     ("bytes", "n"): "ROOM_FOR_BYTES", ("text", "n"): "ROOM_FOR_TEXT", ("marks", "n"): "ROOM_FOR_MARKS", ("marks", "trues"): "ROOM_FOR_TRUE_MARKS",
 }  # fmt: skip
 SINGLE = {"int": "ONE_INT", "flag": "ONE_FLAG", "sum": "ONE_SUM", "size": "ONE_COUNT"}

@@ -116,11 +116,17 @@ static CvlStatus name_senders(CvlCall *c, Sending *s) {
     return status;
 }
 
+/* Elements are added to the room without wrapping: to sums of 64 bits, or to integers that have to fit 32 bits at the end. */
+static bool adds_up(const CvlCall *c) { return (c->family->row.is & CVL_ADDS) != 0; }
+static bool has_sums(const CvlCall *c) { return adds_up(c) && cvl_room_size(c) == sizeof(int64_t); }
+
 /* Joins what the rank gets with what stands in its room, or counts it. */
 static CvlStatus combine_received(CvlCall *c, Sending *s) {
     const CvlSlot out = c->in[CVL_AS_OUT];
     if (are_places_enough(c)) return cvl_counts(s->got_places, s->received, c->aside, out.number);
     if (out.number > 0) memcpy(c->aside, out.at, out.number * cvl_room_size(c));
+    if (has_sums(c)) return cvl_combine_exact_sums(s->got, s->received, s->got_places, s->received, c->aside, out.number);
+    if (adds_up(c)) return cvl_combine_checked_int(s->got, s->received, s->got_places, s->received, c->aside, out.number);
     if (cvl_has_bools(c)) cvl_make_flags(c->aside, out.number);
     if (cvl_has_bools(c)) return cvl_combine_permute_bool(c->op, s->got, s->received, s->got_places, s->received, c->aside, out.number);
     return cvl_combine_permute_int(c->op, s->got, s->received, s->got_places, s->received, c->aside, out.number);
@@ -213,11 +219,22 @@ static CvlStatus send_and_write(CvlCall *c, Sending *s, bool in_order) {
 
 static bool is_of_index(CvlStatus status) { return status.number == CVL_INDEX_OUT_OF_RANGE || status.number == CVL_INDEX_REPEATED; }
 
+/* Whether the sums that stand in the rooms of all ranks may grow: none is sent to them. */
+static bool may_grow(CvlCall *c) {
+    const CvlSlot out = c->in[CVL_AS_OUT];
+    const int32_t none = 0;
+    if (!has_sums(c)) return 1;
+    c->status = cvl_combine_exact_sums(&none, 0, &none, 0, (int64_t *)out.at, out.number);
+    return cvl_agree(c, out.number);
+}
+
 /*
- * Sends in the order of bins. If an index is bad, sends once more in the order of the vector, by which the ranks find the first bad one.
+ * Sends in the order of bins. If an index is bad, sends once more in the order of the vector, by which the ranks find the first bad one. If
+ * elements are combined, all indices are right by then, and only a sum of the room can be at fault.
  */
 static void exchange(CvlCall *c, Sending *s) {
-    const size_t n = c->in[CVL_AS_INDEX].number;
+    const size_t n = c->in[CVL_AS_INDEX].number, at_fault = c->combines ? c->in[CVL_AS_OUT].number : n;
+    if (!may_grow(c)) return;
     cvl_offsets(c->ranks, c->in[CVL_AS_OUT].number);
     cvl_take_bins(c, &s->bins);
     find_places(c, s);
@@ -226,7 +243,7 @@ static void exchange(CvlCall *c, Sending *s) {
     if (may_repeat(c) && s->out_of_range >= 0) cvl_say(c, cvl_status(CVL_INDEX_OUT_OF_RANGE, s->out_of_range));
     if (!cvl_agree(c, n)) return;
     send_and_write(c, s, 0);
-    if (cvl_agree(c, n) || !is_of_index(c->status)) return;
+    if (cvl_agree(c, at_fault) || !is_of_index(c->status)) return;
     const CvlStatus own = send_and_write(c, s, 1);
     if (!cvl_agree(c, n) && is_of_index(c->status)) find_first(c, s, own);
 }

@@ -43,7 +43,7 @@ typedef enum Holds {
     LENGTHS, TRUE_LENGTHS, FALSE_LENGTHS, OFFSETS, DESCRIPTOR, TRUE_DESCRIPTOR, FALSE_DESCRIPTOR, TEXT, NESTED_TEXT,
     /* what is written */
     ROOM_FOR_INTS, ROOM_FOR_FLAGS, ROOM_FOR_BOTH_INTS, ROOM_FOR_BOTH_FLAGS, ROOM_FOR_TRUE_INTS, ROOM_FOR_TRUE_FLAGS, ROOM_FOR_SEGMENT_INTS, ROOM_FOR_SEGMENT_FLAGS,
-    ROOM_FOR_SEGMENT_SUMS, ROOM_FOR_BYTES,
+    ROOM_FOR_SUMS, ROOM_FOR_SEGMENT_SUMS, ROOM_FOR_BYTES,
     ROOM_FOR_OFFSETS, ROOM_FOR_MARKS, ROOM_FOR_TRUE_MARKS, ROOM_FOR_TEXT, ONE_INT, ONE_FLAG, ONE_SUM, ONE_COUNT, NEW_DESCRIPTOR
 } Holds;
 
@@ -104,6 +104,7 @@ static Array array_of(Holds holds) {
     case ROOM_FOR_TEXT: return (Array){1, text_room};
     case ONE_INT: return (Array){of_int, 1};
     case ONE_FLAG: return (Array){1, 1};
+    case ROOM_FOR_SUMS: return (Array){sizeof(int64_t), n};
     case ROOM_FOR_SEGMENT_SUMS: return (Array){sizeof(int64_t), segments};
     case ONE_SUM: return (Array){sizeof(int64_t), 1};
     case ONE_COUNT: return (Array){sizeof(size_t), 1};

@@ -277,9 +277,9 @@ static void fill_row_offsets(int32_t *offsets, size_t count, size_t entries) {
 /* The indices of first senders or combining permutes, most times each a place of its segment of the result; those whose flag is false are no
  * places. */
 static void fill_senders(const Row *row, Given *g) {
-    const bool selects = kind_of(row, 1) == FLAG, combines = row->model == COMBINE_PERMUTE || row->model == SEG_COMBINE_PERMUTE || row->model == COMBINE_PERMUTE_RANGE;
-    const size_t out = operand(row, WRITES), many = g->len[combines];
-    int32_t *index = (int32_t *)g->at[combines];
+    const bool selects = kind_of(row, 1) == FLAG;
+    const size_t out = operand(row, WRITES), from_place = combines(row->model) ? 1 : 0, many = g->len[from_place];
+    int32_t *index = (int32_t *)g->at[from_place];
     if (has_negative(g, row)) return;
     const Cuts from = cuts_of(row, g, 0, many), to = cuts_of(row, g, 1, g->len[out] + (extent_of(row, out) == OF_RANGE ? below(9) : 0));
     for (size_t s = 0; s < from.count && s < to.count; s++) {
@@ -386,6 +386,20 @@ static void fill_seconds(uint32_t fault, int32_t *ints, size_t count) {
     for (size_t bad = chance(3) ? 1 + below(3) : 0; bad > 0 && count > 0; bad--) ints[below(count)] = shifts ? (chance(2) ? 32 : -1) : 0;
 }
 
+/* Sums that stand in a room before, of which each may grow; then sometimes some at the bounds of those, and beyond. */
+static void fill_sums(unsigned char *at, size_t count, bool small) {
+    static const int64_t bounds[] = {((int64_t)1 << 62) - 1, -((int64_t)1 << 62), (int64_t)1 << 62, -((int64_t)1 << 62) - 1, INT64_MAX, INT64_MIN};
+    int64_t sum;
+    for (size_t j = 0; j < count; j++) {
+        sum = small ? (int64_t)below(19) - 9 : any_int() * ((int64_t)1 << 30) + any_int();
+        memcpy(at + j * sizeof sum, &sum, sizeof sum);
+    }
+    for (size_t other = chance(3) ? 1 + below(3) : 0; other > 0 && count > 0; other--) {
+        sum = bounds[below(chance(2) ? 2 : 6)];
+        memcpy(at + below(count) * sizeof sum, &sum, sizeof sum);
+    }
+}
+
 static void fill(const Row *row, Given *g, size_t k, size_t n, size_t m) {
     int32_t *ints = (int32_t *)g->at[k];
     unsigned char *bytes = (unsigned char *)g->at[k];
@@ -393,6 +407,7 @@ static void fill(const Row *row, Given *g, size_t k, size_t n, size_t m) {
     /* a combining permute of booleans is cut only if those in the room are 0 and 1 */
     const bool joins = (row->model == COMBINE_PERMUTE || row->model == COMBINE_PERMUTE_RANGE) && role_of(row, k) == WRITES && kind_of(row, k) == FLAG;
     for (size_t j = 0; j < g->len[k] && joins && plain; j++) bytes[j] = (unsigned char)below(2);
+    if (role_of(row, k) == WRITES && kind_of(row, k) == SUM && adds_up(row->model)) fill_sums(bytes, g->len[k], small);
     if (role_of(row, k) == CUTS) fill_lengths(ints, g->len[k], extent_of(row, k) == OF_N || extent_of(row, k) == OF_TOTAL ? n : m);
     if (role_of(row, k) != READS) return;
     for (size_t j = 0; j < g->len[k] && kind_of(row, k) == INT; j++) ints[j] = small ? (int32_t)below(19) - 9 : any_int();
@@ -458,7 +473,7 @@ static uint32_t operator_for(const Row *row, uint32_t from) {
 }
 
 static void make(const Row *row, Given *g) {
-    const bool few_places = (row->model == COMBINE_PERMUTE || row->model == COUNTS) && chance(2);
+    const bool few_places = (combines(row->model) || row->model == COUNTS) && chance(2);
     const size_t n = few_places || chance(9) ? below(MOST_PLACES / 4) : below(14);
     const size_t m = few_places ? 1 + below(n / 8) : chance(3) ? below(14) : n + below(5);
     const size_t segments = chance(9) ? 0 : 1 + below(chance(4) ? 40 : 5), count = count_of(row), marks = operand_of(row, WRITES, WORD);
@@ -484,7 +499,7 @@ static void make(const Row *row, Given *g) {
     }
     if (row->model >= PERMUTE && row->model <= SEG_BACK_PERMUTE) fill_indices(row, g, n, m);
     if (row->model == SEG_EXTRACT || row->model == SEG_REPLACE || row->model == PERMUTE_RANGE || row->model == SELECT_PERMUTE_RANGE) fill_indices(row, g, n, n);
-    if (row->model >= FIRST_SENDERS && row->model <= SEG_COUNTS) fill_senders(row, g);
+    if (row->model >= FIRST_SENDERS && row->model <= COMBINE_EXACT_SUMS_RANGE) fill_senders(row, g);
     if (row->model == GATHER_SEGMENTS) fill_starts(row, g);
     if (row->model == SEG_MERGE_BY_FLAGS) fill_sides(row, g);
     if (row->model == TRANSPOSE) fill_matrix(g);

@@ -69,6 +69,7 @@ static size_t memory_of(const Row *row, const char *call) {
     const size_t item = is_bool(call) ? 1 : sizeof(int32_t), descriptors = descriptors_of(row, call), marks = (n + 31) / 32 * sizeof(uint32_t);
     if (strstr(row->name, "_range") != NULL) return 0; /* a part of a permute has the caller's marks */
     if (orders(call)) return memory_of_keys(call);
+    if (begins(call, "cmc")) return descriptors + sizeof(int64_t) * n; /* the sums, before they are known to fit */
     if (strstr(row->name, "exact_sums") != NULL) return 0; /* without a fault they are written into the room */
     if (begins(call, "smp")) return descriptors + (by_segments(call) ? longest : marks);
     if (begins(call, "sel_p")) return descriptors + sizeof(uint32_t) * trues;
@@ -87,9 +88,10 @@ static size_t memory_of_keys_in_parts(const char *call) {
 
 /* Whether a call in parts keeps what stood in its room. */
 static bool keeps_room(const Row *row, const char *call) {
+    if (begins(call, "cm")) return by_segments(call) || begins(call, "cmc");
     if (strstr(row->name, "exact_sums") != NULL) return true;
     if (!by_segments(call)) return begins(call, "fst") || (call[4] == 'p' && !begins(call, "bck"));
-    return call[4] == 'p' || begins(call, "ext") || begins(call, "rep") || begins(call, "prd") || begins(call, "fst") || begins(call, "cmb") ||
+    return call[4] == 'p' || begins(call, "ext") || begins(call, "rep") || begins(call, "prd") || begins(call, "fst") ||
         begins(call, "nmd") || begins(call, "mrg") || begins(call, "gth") || begins(call, "app") || begins(call, "ftr") || orders(call);
 }
 
@@ -108,6 +110,7 @@ static size_t memory_in_parts(const Row *row, const char *call) {
     if (has(row, TEXT)) return (text_length + PARTS) / 2 * sizeof(int32_t);
     if (orders(call) && !by_segments(call)) return memory_of_keys_in_parts(call);
     if (!keeps_room(row, call)) return 0;
+    if (begins(call, "cmc") && !by_segments(call)) return sizeof(int64_t) * n; /* the sums of all ranges */
     if (has(row, OFFSETS)) return bytes_of(room) + sizeof(int32_t) * segments; /* the rows' lengths, too */
     if (!has_marks) return bytes_of(room);
     return (bytes_of(room) + 3) / 4 * 4 + sizeof(uint32_t) * (array_of(room).count / 32 + PARTS);

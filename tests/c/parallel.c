@@ -167,6 +167,12 @@ static bool is_white(char byte) { return byte == ' ' || byte == '\t' || byte == 
     FEW(X, ADD) FEW(X, MUL) FEW(X, MIN) FEW(X, MAX) FEW(X, AND) FEW(X, IOR) FEW(X, XOR)                                        \
     X(transpose, cvl_transpose_int, in.a, in.n, in.rows, in.n / in.rows, r->ints, in.n)                                        \
     X(transpose_bools, cvl_transpose_bool, in.p, in.n, in.rows, in.n / in.rows, r->bools, in.n)                                \
+    X(combine_checked, cvl_combine_checked_int, in.small, in.n, in.default_index, in.n, r->ints, in.m)                         \
+    X(combine_checked_few, cvl_combine_checked_int, in.small, in.n, in.few_index, in.n, r->ints, in.few)                       \
+    X(combine_overflow_few, cvl_combine_checked_int, in.a, in.n, in.few_index, in.n, r->ints, in.few)                          \
+    X(combine_overflow, cvl_combine_checked_int, in.a, in.n, in.default_index, in.n, r->ints, in.m)                            \
+    X(seg_combine_checked, cvl_seg_combine_checked_int, in.small, in.n, in.seg_default_index, in.n, BY(in.lengths, in.segments), \
+      BY(in.wide, in.segments), r->ints, in.m)                                                                                 \
     X(seg_combine, cvl_seg_combine_permute_int, CVL_MUL, in.a, in.n, in.seg_default_index, in.n, BY(in.lengths, in.segments),  \
       BY(in.wide, in.segments), r->ints, in.m)                                                                                 \
     X(seg_combine_bools, cvl_seg_combine_permute_bool, CVL_XOR, in.p, in.n, in.seg_default_index, in.n, BY(in.lengths, in.segments), \

@@ -307,10 +307,10 @@ static size_t send_first(const char *call) {
 /* The range of all places that have a sender, of which there are as many as true flags. */
 static size_t send_first_flagged(const char *call) { return send_first(call) == n ? trues_in(0, n) : 0; }
 
-/* Each group of the room is as long as that of the index. The bytes of the room are one another's before. */
+/* Each group of the room is as long as that of the index. The bytes of the room are one another's before; sums there may grow. */
 static size_t combine(const char *call) {
     int32_t before;
-    memset(&before, UNTOUCHED, sizeof before);
+    memset(&before, begins(call, "cmx") ? 1 : UNTOUCHED, sizeof before);
     for (size_t k = 0; k < n; k++) wanted[k] = is_bool(call) ? 1 : before;
     for (size_t g = 0; g < groups(by_segments(call)); g++) {
         int32_t *const there = wanted + from(by_segments(call), g);
@@ -424,6 +424,7 @@ static const struct Reading {
     {"sel", "w", chosen}, {"sel", "p", send_flagged}, {"smp", "p", send}, {"def", "p", send}, {"bck", "p", gather}, {"pck", "l", pack},
     {"pck", "f", count_trues}, {"cnt", "l", count_trues}, {"ext", "v", extract}, {"rep", "v", replace}, {"dis", "v", distribute},
     {"ind", "l", number}, {"fst", "l", send_first}, {"fsr", "l", send_first_flagged}, {"cmb", "l", combine},
+    {"cmc", "l", combine}, {"cmx", "l", combine},
     {"nmd", "l", count_named}, {"ord", "l", order}, {"rnk", "l", order}, {"srt", "l", order}, {"gth", "l", gather_slices}, {"app", "l", append},
     {"mrg", "l", merge}, {"trn", "l", transpose}, {"ftr", "l", find_true}, {"mke", "f", total}, {"off", "f", tell_offsets},
     {"len", "f", tell_lengths}, {"num", "f", tell_numbers}, {"prd", "r", multiply}, {"", "w", place_by_place}, {"", "s", scan},
@@ -452,6 +453,7 @@ static const char *const calls_of_exports[][2] = {
     {"select_permute_bool_range", "sel_pub"}, {"first_senders", "fst_luz"}, {"select_first_senders", "fst_luz"},
     {"first_senders_range", "fst_luz"}, {"select_first_senders_range", "fsr_luz"}, {"combine_permute_int", "cmb_luz"},
     {"combine_permute_bool", "cmb_lub"}, {"counts", "nmd_luz"}, {"combine_permute_int_range", "cmb_luz"}, {"combine_permute_bool_range", "cmb_lub"},
+    {"combine_checked_int", "cmc_luz"}, {"combine_exact_sums", "cmx_luz"}, {"combine_exact_sums_range", "cmx_luz"},
     {"counts_range", "nmd_luz"}, {"order", "ord_luz"}, {"rank", "rnk_luz"}, {"sort", "srt_luz"},
     {"gather_segments_int", "gth_lez"}, {"gather_segments_bool", "gth_leb"}, {"append_segments_int", "app_lez"}, {"append_segments_bool", "app_leb"},
     {"merge_by_flags_int", "mrg_luz"}, {"merge_by_flags_bool", "mrg_lub"}, {"first_true", "ftr_luz"}, {"exact_sums", "tot_ruz"},
@@ -489,9 +491,10 @@ static void name_call(const Row *row, char *call) {
 
 static unsigned char *memory[MOST_ARRAYS];
 
-/* What each byte of a room is before a call. A boolean that a call joins with others is true, by 1 or by any byte but 0. */
+/* What each byte of a room is before a call. A boolean that a call joins with others is true, by 1 or by any byte but 0; a sum may grow. */
 static int byte_before(const Row *row, Holds holds, bool odd) {
     if (holds == NEW_DESCRIPTOR) return 0;
+    if (holds == ROOM_FOR_SUMS) return 1;
     return holds == ROOM_FOR_FLAGS && strstr(row->name, "combine") != NULL && !odd ? 1 : UNTOUCHED;
 }
 

@@ -912,6 +912,50 @@ static void combining_permutes_of_segments(void) {
     FAULT(cvl_seg_counts(index, 5, S(lengths, 3), S(widths, 3), ints, 6), CVL_LENGTH_MISMATCH, -1);
 }
 
+/* Integers whose sums may leave 32 bits on the way. The room holds 77 at each place before. */
+static void combining_permutes_of_checked_sums(void) {
+    const int32_t *source = I(INT32_MAX, 6, 7, -INT32_MAX), *index = I(2, 0, 2, 2), *lengths = I(2, 0, 2), *widths = I(2, 0, 3);
+    const size_t many = (size_t)CVL_MOST_ELEMENTS + 1;
+    INTS_OF_COPIES(1, cvl_combine_checked_int(source, 4, index, 4, ints, 3), 83, 77, 84);
+    INTS(cvl_combine_checked_int(I(INT32_MAX - 77, INT32_MIN), 2, I(0, 1), 2, ints, 2), INT32_MAX, INT32_MIN + 77);
+    INTS(cvl_combine_checked_int(NULL, 0, NULL, 0, ints, 2), 77, 77);
+    FAULT(cvl_combine_checked_int(NULL, 0, NULL, 0, NULL, 0), CVL_DONE, -1);
+    FAULT(cvl_combine_checked_int(I(INT32_MAX - 76, 1, INT32_MAX - 76), 3, I(2, 1, 1), 3, ints, 3), CVL_OVERFLOW, 1);
+    FAULT(cvl_combine_checked_int(I(INT32_MIN, -78), 2, I(1, 1), 2, ints, 3), CVL_OVERFLOW, 1);
+    FAULT(cvl_combine_checked_int(I(INT32_MAX, 1), 2, I(0, 3), 2, ints, 3), CVL_INDEX_OUT_OF_RANGE, 1);
+    FAULT(cvl_combine_checked_int(source, 4, I(0, 9, 0), 3, ints, 2), CVL_LENGTH_MISMATCH, -1);
+    FAULT(cvl_combine_checked_int(source, 4, index, 3, too_many_ints, many), CVL_TOO_LONG, -1);
+    FAULT(cvl_combine_checked_int(source, 4, index, 4, (int32_t *)(uintptr_t)(source + 1), 3), CVL_OVERLAP, -1);
+    INTS_OF_COPIES(1, cvl_seg_combine_checked_int(I(0, 6, 7, -INT32_MAX), 4, I(1, 0, 2, 2), 4, S(lengths, 3), S(widths, 3), ints, 5), 83, 77, 77, 77, -INT32_MAX + 84);
+    FAULT(cvl_seg_combine_checked_int(source, 4, I(1, 0, 2, 3), 4, S(lengths, 3), S(widths, 3), ints, 5), CVL_INDEX_OUT_OF_RANGE, 3);
+    FAULT(cvl_seg_combine_checked_int(source, 4, I(1, 0, 2, 2), 4, S(lengths, 3), S(widths, 3), ints, 4), CVL_LENGTH_MISMATCH, -1);
+}
+
+static void combining_permutes_into_sums(void) {
+    static const char call[] = "cvl_combine_exact_sums";
+    const int64_t half = INT64_C(1) << 62, before[] = {half - 1, -half, 77}, wanted[] = {half + INT32_MAX - 1, -half + INT32_MIN, 77};
+    const int32_t *source = I(INT32_MAX, INT32_MIN), *index = I(0, 1), *lengths = I(1, 1), *widths = I(2, 1);
+    int64_t sums[3];
+    memcpy(sums, before, sizeof sums);
+    tells(call, cvl_combine_exact_sums(source, 2, I(0, 3), 2, sums, 3), CVL_INDEX_OUT_OF_RANGE, 1);
+    tells(call, cvl_combine_exact_sums(source, 2, index, 1, sums, 3), CVL_LENGTH_MISMATCH, -1);
+    sums[1] = -half - 1;
+    tells(call, cvl_combine_exact_sums(source, 2, I(0, 3), 2, sums, 3), CVL_OVERFLOW, 1);
+    sums[1] = half;
+    tells(call, cvl_combine_exact_sums(source, 2, index, 2, sums, 3), CVL_OVERFLOW, 1);
+    sums[1] = -half;
+    if (memcmp(sums, before, sizeof sums) != 0) fail(call, "a sum was written");
+    refusing = 1;
+    const CvlStatus status = cvl_combine_exact_sums(source, 2, index, 2, sums, 3);
+    refusing = 0;
+    tells(call, status, CVL_DONE, -1);
+    if (memcmp(sums, wanted, sizeof sums) != 0) fail(call, "other sums");
+    memcpy(sums, before, sizeof sums);
+    tells("cvl_seg_combine_exact_sums", cvl_seg_combine_exact_sums(source, 2, I(1, 0), 2, S(lengths, 2), S(widths, 2), sums, 3), CVL_DONE, -1);
+    if (sums[0] != half - 1 || sums[1] != INT32_MAX - half || sums[2] != 77 + (int64_t)INT32_MIN) fail("cvl_seg_combine_exact_sums", "other sums");
+    tells("cvl_seg_combine_exact_sums", cvl_seg_combine_exact_sums(source, 2, I(1, 1), 2, S(lengths, 2), S(widths, 2), sums, 3), CVL_INDEX_OUT_OF_RANGE, 1);
+}
+
 static void orders_ranks_and_sorts(void) {
     const int32_t *keys = I(3, 1, 2, 1), *extremes = I(0, INT32_MIN, INT32_MAX, -1, 1);
     const size_t many = (size_t)CVL_MOST_ELEMENTS + 1;
@@ -1914,6 +1958,8 @@ int main(void) {
     first_senders_of_segments();
     combining_permutes();
     combining_permutes_over_odd_booleans();
+    combining_permutes_of_checked_sums();
+    combining_permutes_into_sums();
     combining_permutes_of_segments();
     orders_ranks_and_sorts();
     orders_ranks_and_sorts_of_segments();

@@ -291,6 +291,7 @@ static void fill(Case *c, int k) {
     const int style = (int)below(c->style == SHORT ? 3 : 4), unclean = one_in(4), narrows = strcmp(c->tried->name, "bytes_from_ints") == 0;
     for (size_t j = 0; j < c->whole[k].number; j++) {
         if (o->kind == INTS) ((int32_t *)c->whole[k].at)[j] = narrows && !one_in(9) ? (int32_t)below(256) : number(style);
+        else if (o->kind == SUMS) ((int64_t *)c->whole[k].at)[j] = below(200) == 0 ? INT64_MAX : number(style) * (style == 2 ? INT64_C(1) << 31 : 1);
         else if (o->kind == BYTES) ((uint8_t *)c->whole[k].at)[j] = (uint8_t)below(256);
         else ((uint8_t *)c->whole[k].at)[j] = (uint8_t)(one_in(2) ? 0 : unclean ? 1 + below(255) : 1);
     }

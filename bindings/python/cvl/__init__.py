@@ -29,7 +29,8 @@ A call without a value raises `Fault`; `cvl.faults` has the numbers:
 Long calls run on several threads after `set_threads(4)`, or inside `with cvl.threads(4):`.
 
 `read_ints` and `write_ints` read and write texts. `first_senders` finds the first of several places that name one place.
-`combine_permute_int` adds up by key, and `counts` counts keys. `order`, `rank` and `sort` put keys in order. `exact_sum`, and names
+`combine_exact_sums` adds up by key in 64 bits; `combine_checked_int` and `combine_permute_int` in 32, where the first reports a sum that
+does not fit, and the second wraps. `counts` counts keys. `order`, `rank` and `sort` put keys in order. `exact_sum`, and names
 that end in `_after` or `_range`, are for calls in parts.
 """
 

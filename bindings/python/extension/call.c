@@ -7,7 +7,8 @@ static PyObject *out_keyword;
 
 static const Operand out_ints = {"out", KIND_ROOM_INTS, EXTENT_NONE, NULL}, out_flags = {"out", KIND_ROOM_FLAGS, EXTENT_NONE, NULL},
     out_bytes = {"out", KIND_ROOM_BYTES, EXTENT_NONE, NULL}, out_sums = {"out", KIND_ROOM_SUMS, EXTENT_NONE, NULL},
-    over_ints = {"out", KIND_ROOM_INTS, EXTENT_M, NULL}, over_flags = {"out", KIND_ROOM_FLAGS, EXTENT_M, NULL};
+    over_ints = {"out", KIND_ROOM_INTS, EXTENT_M, NULL}, over_flags = {"out", KIND_ROOM_FLAGS, EXTENT_M, NULL},
+    over_sums = {"out", KIND_ROOM_SUMS, EXTENT_M, NULL};
 
 int cvl_keywords_ready(void) {
     out_keyword = PyUnicode_InternFromString("out");
@@ -25,7 +26,7 @@ int cvl_keywords_ready(void) {
 static int takes_out(const Family *family) { return family->gives <= GIVES_FRONT_FLAGS || family->gives == GIVES_READ; }
 
 /* Whether the room holds what stands before. Then the caller has to give one, also by its place. */
-static int is_over(const Family *family) { return family->gives == GIVES_OVER_INTS || family->gives == GIVES_OVER_FLAGS; }
+static int is_over(const Family *family) { return family->gives >= GIVES_OVER_INTS && family->gives <= GIVES_OVER_SUMS; }
 
 const Operand *cvl_out_of(const Family *family) {
     switch (family->gives) {
@@ -35,6 +36,7 @@ const Operand *cvl_out_of(const Family *family) {
     case GIVES_SUMS: return &out_sums;
     case GIVES_OVER_INTS: return &over_ints;
     case GIVES_OVER_FLAGS: return &over_flags;
+    case GIVES_OVER_SUMS: return &over_sums;
     default: return &out_ints;
     }
 }
@@ -300,7 +302,8 @@ static PyObject *result(Frame *frame, PyObject **bound, PyObject *out) {
     case GIVES_BYTES:
     case GIVES_SUMS:
     case GIVES_OVER_INTS:
-    case GIVES_OVER_FLAGS: return array_result(frame, out);
+    case GIVES_OVER_FLAGS:
+    case GIVES_OVER_SUMS: return array_result(frame, out);
     case GIVES_FRONT_INTS:
     case GIVES_FRONT_FLAGS: return front_result(frame, out);
     case GIVES_SEGMENTS: return fill(frame, NULL) ? cvl_segments_of(frame->room.held) : NULL;

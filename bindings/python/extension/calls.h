@@ -82,6 +82,7 @@ typedef enum Gives {
     GIVES_SUMS,
     GIVES_OVER_INTS, /* the caller's room, which holds what stands before */
     GIVES_OVER_FLAGS,
+    GIVES_OVER_SUMS,
     GIVES_FRONT_INTS, /* one that may be shorter than the room, and whose elements are counted */
     GIVES_FRONT_FLAGS,
     GIVES_INT, /* one value */

@@ -22,7 +22,7 @@ static const Word extents[] = {
 /* What a call gives: one value, or an array, which may stand in the caller's room. */
 static const Word results[] = {
     {"one", GIVES_INT}, {"ints", GIVES_INTS}, {"flags", GIVES_FLAGS}, {"bytes", GIVES_BYTES}, {"sums", GIVES_SUMS},
-    {"over_ints", GIVES_OVER_INTS}, {"over_flags", GIVES_OVER_FLAGS}, {"front_ints", GIVES_FRONT_INTS},
+    {"over_ints", GIVES_OVER_INTS}, {"over_flags", GIVES_OVER_FLAGS}, {"over_sums", GIVES_OVER_SUMS}, {"front_ints", GIVES_FRONT_INTS},
     {"front_flags", GIVES_FRONT_FLAGS}, {NULL, 0},
 };
 

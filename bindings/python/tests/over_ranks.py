@@ -132,6 +132,13 @@ def sums_by_key(w):
     for operator in (2**32, -1, 2**70):
         assert raised(w.ranks.combine_permute_int, operator, w.own, keys, sums) == (2, None), operator
     assert w.rank or sums.tolist() == wanted
+    large = w.own * numpy.int32(10**8)
+    exact = numpy.full(w.on_first(2), 100, dtype=numpy.int64)
+    assert w.ranks.combine_exact_sums(large, keys, exact) is exact
+    assert w.rank or exact.tolist() == [100 + 10**8 * (total - 100) for total in wanted]
+    assert w.ranks.combine_checked_int(w.own, keys, sums) is sums
+    assert w.rank or sums.tolist() == [2 * total - 100 for total in wanted]
+    assert raised(w.ranks.combine_checked_int, large, keys, sums) == (18, next(k for k in (0, 1) if 10**8 * (wanted[k] - 100) >= 2**31 - 1000))
     counts = w.ranks.counts(keys, length=w.on_first(2))
     assert w.rank or counts.tolist() == [int((WHOLE % 2 == k).sum()) for k in (0, 1)]
 

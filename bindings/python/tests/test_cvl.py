@@ -1015,6 +1015,24 @@ class CombiningPermutes(Limited):
             self.assertIs(cvl.combine_permute_int(op=number, source=self.source, index=self.index, out=room), room)
             self.assertEqual(room.tolist(), combined(operator, self.source, self.index, self.before))
 
+    def test_without_wrapping(self):
+        source = numpy.abs(self.source) * numpy.int32(2 * 10**8)
+        room, sums = self.before.copy(), self.before.astype(numpy.int64)
+        wanted = combined(int.__add__, source, self.index, self.before)
+        self.assertIs(cvl.combine_exact_sums(source, self.index, sums), sums)
+        self.assertEqual(sums.tolist(), wanted)
+        self.assertTrue(max(wanted) >= 2**31)
+        with self.assertRaises(cvl.Fault) as caught:
+            cvl.combine_checked_int(source, self.index, room)
+        first = next(place for place, total in enumerate(wanted) if not -(2**31) <= total < 2**31)
+        self.assertEqual((caught.exception.number, caught.exception.place, room.tolist()), (18, first, self.before.tolist()))
+        there_and_back = numpy.concatenate([source, -source])
+        self.assertIs(cvl.combine_checked_int(there_and_back, numpy.tile(self.index, 2), room), room)
+        self.assertEqual(room.tolist(), self.before.tolist())
+        self.assertEqual(cvl.seg_combine_checked_int(ints(1, 2, 3), ints(1, 0, 0), ints(1, 2), ints(2, 1), ints(5, 6, 7)).tolist(), [5, 7, 12])
+        halves = numpy.array([5, 6, 7])
+        self.assertEqual(cvl.seg_combine_exact_sums(ints(1, 2, 2**31 - 1), ints(1, 0, 0), ints(1, 2), ints(2, 1), halves).tolist(), [5, 7, 2**31 + 8])
+
     def test_of_booleans(self):
         source, room = self.source > 0, self.before > 0
         wanted = combined(int.__xor__, source, self.index, room)
@@ -1049,6 +1067,10 @@ class CombiningPermutes(Limited):
             (lambda: cvl.combine_permute_int(add, one, (room := ints(0, 0))[:1], room), 102, None, "out and index share memory"),
             (lambda: cvl.seg_combine_permute_int(add, one, one, ints(1), ints(2), ints(7)), 7, None, "len(out) is 1, and has to be 2"),
             (lambda: cvl.seg_combine_permute_int(add, one, ints(2), ints(1), ints(2), ints(7, 7)), 10, 0, "index[0] is 2"),
+            (lambda: cvl.combine_checked_int(ints(most, 1, 1), ints(1, 1, 0), ints(most, 0, 0)), 18, 0, None),
+            (lambda: cvl.combine_checked_int(ints(most, 1), ints(0, 3), ints(7, 7, 7)), 10, 1, "index[1] is 3, and the result has 3 elements"),
+            (lambda: cvl.combine_exact_sums(one, ints(0), numpy.array([2**62])), 18, 0, None),
+            (lambda: cvl.combine_exact_sums(one, ints(2), numpy.zeros(2, numpy.int64)), 10, 0, "index[0] is 2, and the result has 2 elements"),
             (lambda: cvl.counts(one, -1), 12, None, "count is -1"),
             (lambda: cvl.counts(one, most + 1), 13, None, None),
             (lambda: cvl.counts(ints(0, 3), 3), 10, 1, "index[1] is 3, and the result has 3 elements"),

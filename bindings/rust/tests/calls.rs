@@ -528,6 +528,13 @@ fn elements_are_combined_with_what_stands_there() {
     assert_eq!((told(unequal), &out), ((7, None), &wanted));
     let unknown = cvl::combine_permute_bool(cvl::Operator::Add, &[true], &[0], &mut [true]).unwrap_err();
     assert_eq!(told(unknown), (2, None));
+    let mut sums = [1, 2, 3];
+    cvl::combine_exact_sums(&[i32::MAX, i32::MAX], &[1, 1], &mut sums).unwrap();
+    assert_eq!(sums, [1, 2 * i64::from(i32::MAX) + 2, 3]);
+    let mut few = [i32::MAX, 0];
+    cvl::combine_checked_int(&[1, -1], &[0, 0], &mut few).unwrap();
+    let overflow = cvl::combine_checked_int(&[i32::MAX, 1, 1], &[1, 1, 0], &mut few).unwrap_err();
+    assert_eq!((told(overflow), few), ((18, Some(0)), [i32::MAX, 0]));
     assert_eq!(told(cvl::counts(&[0, 3, 4], 3).unwrap_err()), (10, Some(1)));
     assert_eq!(told(cvl::counts(&index, -1).unwrap_err()), (12, None));
     assert_eq!(cvl::counts(&[0, 2, 0], 4).unwrap(), [2, 0, 1, 0]);

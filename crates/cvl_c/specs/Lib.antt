@@ -1,3 +1,4 @@
 pub mod ByLengths
 pub mod Combines
+pub mod CombineSums
 pub mod Keys

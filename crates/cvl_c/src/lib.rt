@@ -8,6 +8,7 @@
 mod byte_widths;
 mod checked_sums;
 mod combine_ranges;
+mod combine_sums;
 mod combines;
 mod descriptors;
 mod elements;

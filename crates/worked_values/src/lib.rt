@@ -9,6 +9,7 @@
 
 pub mod byte_values;
 pub mod checked_sums;
+pub mod combined_sums;
 pub mod combines;
 pub mod descriptors;
 pub mod distributes;

@@ -109,6 +109,20 @@ static void combine_few_bools(size_t n) {
     (void)cvl_combine_permute_bool_on(&pool, CVL_XOR, bools[n], n, others[n], n, bool_room[1], 1);
 }
 
+static void combine_checked(size_t n) { (void)cvl_combine_checked_int_on(&pool, ints[n], n, others[n], n, room[n], n); }
+static void combine_checked_few(size_t n) { (void)cvl_combine_checked_int_on(&pool, ints[n], n, others[n], n, room[1], 1); }
+
+static int64_t sums_room[6];
+
+static void combine_sums(size_t n) {
+    writes_sums(sums_room, n);
+    (void)cvl_combine_exact_sums_on(&pool, ints[n], n, others[n], n, sums_room, n);
+}
+static void combine_sums_few(size_t n) {
+    writes_sums(sums_room, 1);
+    (void)cvl_combine_exact_sums_on(&pool, ints[n], n, others[n], n, sums_room, 1);
+}
+
 /*
  * Indices that fall, but for one. The room is cut where sorted ones say, so that their numbers have to be known: of any numbers each order
  * would be followed, and none would say that a part ends behind its beginning.
@@ -122,16 +136,20 @@ static void put_indices(size_t n) {
 
 static void combine_known_ints(size_t n) { put_indices(n), combine_ints(n); }
 static void combine_known_bools(size_t n) { put_indices(n), combine_bools(n); }
+static void combine_known_checked(size_t n) { put_indices(n), combine_checked(n); }
+static void combine_known_sums(size_t n) { put_indices(n), combine_sums(n); }
 
 void combines(void) {
     static const int32_t odds[] = {INT32_MIN, 0, 2, INT32_MAX};
     fill_ints(room);
     fill(5, 1);
     each_length(combine_few_ints, 1, 0), each_length(combine_few_bools, 1, 0), each_length(count_few, 1, 0);
+    each_length(combine_checked_few, 1, 0), each_length(combine_sums_few, 1, 0);
     for (size_t k = 0; k < sizeof odds / sizeof *odds; k++) {
         odd = odds[k];
         fill(5, 1);
         each_length(combine_known_ints, 1, 0);
+        each_length(combine_known_checked, 1, 0), each_length(combine_known_sums, 1, 0);
         clean_room = 1;
         each_length(combine_known_bools, 1, 0);
         clean_room = 0;

@@ -39,6 +39,10 @@ void reads_bytes(const bool *bytes, size_t count);
     assigns \nothing; */
 void reads_marks(const uint32_t *marks, size_t count);
 
+/*@ requires count == 0 || \initialized(sums + (0 .. count - 1));
+    assigns \nothing; */
+void reads_sums(const int64_t *sums, size_t count);
+
 /*@ requires count == 0 || \initialized(placed + (0 .. count - 1));
     assigns \nothing; */
 void reads_placed(const CvlPlaced *placed, size_t count);
@@ -58,6 +62,10 @@ static inline void writes_ints(int32_t *out, size_t count) {
 
 static inline void writes_marks(uint32_t *out, size_t count) {
     for (size_t k = 0; k < count; k++) out[k] = Frama_C_unsigned_int_interval(0, UINT32_MAX);
+}
+
+static inline void writes_sums(int64_t *out, size_t count) {
+    for (size_t k = 0; k < count; k++) out[k] = Frama_C_long_interval(INT64_MIN, INT64_MAX);
 }
 
 static inline void writes_placed(CvlPlaced *out, size_t count) {

@@ -1,0 +1,2 @@
+mod Longs
+mod Passed

@@ -1,0 +1,4 @@
+pub mod LongSums
+pub mod LongLaws
+pub mod LongFolds
+pub mod RoomSums
