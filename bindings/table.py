@@ -98,6 +98,15 @@ MOST_STACK = 32768
 # The exports that only the driver calls: the steps of orders and sorts in parts.
 STEPS = ("placed_from", "key_block", "placed_block", "gather_keys", "gather_placed", "places_of")
 
+# A step of a call in parts.
+#
+#   kind      "looks", "tells", "joins" or "fills": see CvlStepKind in bindings/c/rows.h
+#   calls     the family that it calls; nothing if it is the call's own
+#   operator  its operator, if it is not the call's
+#   operands  where each operand comes from that is not the call's own under its name: the name of another one, or a role and a way to cut
+#             it (CvlAs and CvlBy in bindings/c/rows.h, without their prefixes)
+Step = namedtuple("Step", "kind calls operator operands")
+
 # The faults that calls share.
 TOO_LONG = Fault((13,), "13 TooLong", False)
 SUM_OF_N = Fault((7,), "7 LengthMismatch if the lengths do not add up to n", False)
@@ -1536,3 +1545,26 @@ CALLS = (
         {"source": "true false false false true", "index": "1 1 1 2", "lengths": "2 0 3", "index_lengths": "3 0 1", "out": "false false false true"},
     ),
 )
+
+
+# ---- calls in parts ----
+
+def step(kind, calls=None, operator=None, **operands):
+    return Step(kind, calls, operator, operands)
+
+
+def steps_of(cut, kind):
+    """The steps of a way in parts, on elements of a kind, "int" or "bool"; nothing if the way has none yet."""
+    nothing, one, place = ("NOTHING", "NONE"), ("ONE", "NONE"), ("AT_PLACE", "NONE")
+    each_sum, all_sums, all_before = ("SUMS", "PART"), ("SUMS", "NONE"), ("BEFORE", "NONE")
+    before = ("BEFORE", {"int": "INT", "bool": "FLAG"}[kind])
+    return {
+        "places": (step("looks", out=nothing), step("fills")),
+        "replace": (step("fills", f"{kind}1", "CPY", a="vector"), step("joins", f"distribute_{kind}", count=one, out=place)),
+        "reduce": (step("tells", f"{kind}_reduce", out=each_sum), step("joins", f"{kind}_reduce", a=all_sums)),
+        "scan": (
+            step("tells", f"{kind}_reduce", out=each_sum), step("joins", f"{kind}_scan", a=all_sums, out=all_before),
+            step("fills", f"{kind}_scan_after", before=before),
+        ),
+        "count": (step("tells", "count", out=each_sum), step("joins", "int_reduce", "ADD", a=all_sums)),
+    }.get(cut, ())
