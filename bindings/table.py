@@ -102,7 +102,8 @@ NO_PARTS = OverRanks(None, "a part of a call: a rank makes it alone")
 #
 #   said        what a page says of it
 #   over_ranks  how such a family goes over ranks, where it does not say it itself
-#   runs        the function that runs the parts, cvl_NAME_in_parts; nothing if it is not cut, or its rows come by offsets
+#   runs        the function that runs the parts, cvl_NAME_in_parts, where cvl_steps_in_parts runs those that `steps_of` lists; nothing if it is
+#               not cut, or its rows come by offsets
 #   least       the prefix of the least lengths that pay
 #   any_bytes   whether what the parts call takes any bytes as flags, so that only those of a mask are copied
 Cut = namedtuple("Cut", "said over_ranks runs least any_bytes", defaults=(None, None, "LEAST_SHARED", False))
@@ -113,10 +114,10 @@ PIECES = "cut inside segments; the pieces of a cut segment are joined"
 BEFORE = "each rank goes on from what stands before it in its segment"
 JOINED_AT_START = "the pieces of a segment are joined where it starts"
 CUTS = {
-    "places": Cut("cut at places", OWN_PLACES, "places"),
-    "reduce": Cut("cut at places; the parts' reduces are joined", OverRanks("reduce", "the ranks' reduces are joined"), "reduce"),
+    "places": Cut("cut at places", OWN_PLACES, "steps"),
+    "reduce": Cut("cut at places; the parts' reduces are joined", OverRanks("reduce", "the ranks' reduces are joined"), "steps"),
     "scan": Cut(
-        "cut at places; each part goes on from the reduces before it", OverRanks("scan", "each rank goes on from the reduces before it"), "scan",
+        "cut at places; each part goes on from the reduces before it", OverRanks("scan", "each rank goes on from the reduces before it"), "steps",
     ),
     "checked_reduce": Cut(
         "cut at places; the parts' exact sums are added", OverRanks("checked_reduce", "the ranks' exact sums are added"), "checked_reduce",
@@ -125,7 +126,7 @@ CUTS = {
         "cut at places; each part goes on from the exact sums before it",
         OverRanks("checked_scan", "each rank goes on from the exact sums before it"), "checked_scan",
     ),
-    "count": Cut("cut at places; the parts' counts are added", OverRanks("count", "the ranks' counts are added", named=True), "count"),
+    "count": Cut("cut at places; the parts' counts are added", OverRanks("count", "the ranks' counts are added", named=True), "steps"),
     "pack": Cut("cut at places; each part's elements go behind those of the parts before", KEPT_ELEMENTS, "pack"),
     "whole": Cut("not cut"),
     "ranges": Cut("the result is cut; each part reads all indices", SENT_ELEMENTS, "ranges", any_bytes=True),
@@ -145,7 +146,7 @@ CUTS = {
     "rank": Cut(DIGITS, OverRanks("rank", "keys go to the ranks of the sorted vector, and their ranks back", named=True), "rank"),
     "sort": Cut(DIGITS, OverRanks("sort", "keys go to the ranks of the sorted vector, which is spread as out is", spread=True), "sort"),
     "merge": Cut("cut at places; each part goes on in both vectors behind those that the flags before it take", SPREAD_SIDES, "merge"),
-    "replace": Cut("the copy is cut at places", OverRanks("replace", "the rank that has the place writes it"), "replace"),
+    "replace": Cut("the copy is cut at places", OverRanks("replace", "the rank that has the place writes it"), "steps"),
     "lengths": Cut("the lengths are cut; the parts' totals are added", OverRanks("lengths", "the ranks' totals are added", named=True), "lengths"),
     "seg_scan": Cut(IN_SEGMENTS, OverRanks("seg_scan", BEFORE), "seg_scan"),
     "seg_checked_scan": Cut(IN_SEGMENTS, OverRanks("seg_checked_scan", BEFORE), "seg_checked_scan"),
@@ -178,6 +179,15 @@ STEPS = (
 
 # The families that steps of other calls in parts make.
 STEP_FAMILIES = ("int_scan_after", "bool_scan_after", "seg_int_scan", "seg_bool_scan")
+
+# A step of a call in parts.
+#
+#   kind      "looks", "tells", "joins" or "fills": see CvlStepKind in bindings/c/rows.h
+#   calls     the family that it calls; nothing if it is the call's own
+#   operator  its operator, if it is not the call's
+#   operands  where each operand comes from that is not the call's own under its name: the name of another one, or a role and a way to cut
+#             it (CvlAs and CvlBy in bindings/c/rows.h, without their prefixes)
+Step = namedtuple("Step", "kind calls operator operands")
 
 # The faults that calls share.
 TOO_LONG = Fault((13,), "13 TooLong", False)
@@ -1731,3 +1741,26 @@ CALLS = (
         {"source": "true false false false true", "index": "1 1 1 2", "lengths": "2 0 3", "index_lengths": "3 0 1", "out": "false false false true"},
     ),
 )
+
+
+# ---- calls in parts ----
+
+def step(kind, calls=None, operator=None, **operands):
+    return Step(kind, calls, operator, operands)
+
+
+def steps_of(cut, kind):
+    """The steps of a way in parts, on elements of a kind, "int" or "bool"; nothing if the way has none yet."""
+    nothing, one, place = ("NOTHING", "NONE"), ("ONE", "NONE"), ("AT_PLACE", "NONE")
+    each_sum, all_sums, all_before = ("SUMS", "PART"), ("SUMS", "NONE"), ("BEFORE", "NONE")
+    before = ("BEFORE", {"int": "INT", "bool": "FLAG"}[kind])
+    return {
+        "places": (step("looks", out=nothing), step("fills")),
+        "replace": (step("fills", f"{kind}1", "CPY", a="vector"), step("joins", f"distribute_{kind}", count=one, out=place)),
+        "reduce": (step("tells", f"{kind}_reduce", out=each_sum), step("joins", f"{kind}_reduce", a=all_sums)),
+        "scan": (
+            step("tells", f"{kind}_reduce", out=each_sum), step("joins", f"{kind}_scan", a=all_sums, out=all_before),
+            step("fills", f"{kind}_scan_after", before=before),
+        ),
+        "count": (step("tells", "count", out=each_sum), step("joins", "int_reduce", "ADD", a=all_sums)),
+    }.get(cut, ())

@@ -264,8 +264,9 @@ static CvlStatus copies_part(CvlWork *w, size_t k) {
 bool cvl_make_all(const CvlPool *pool, CvlWork *w) {
     const CvlRow *const row = w->row;
     size_t bytes = 0;
-    if (next_copied(row, 0) == row->operands || cvl_step(pool, w, CVL_READS, flags_part)) return 1;
-    if (w->left_out) return 0;
+    if (w->made || next_copied(row, 0) == row->operands) return 1;
+    w->made = cvl_step(pool, w, CVL_READS, flags_part);
+    if (w->made || w->left_out) return w->made;
     for (size_t j = next_copied(row, 0); j < row->operands; j = next_copied(row, j + 1)) bytes += w->in[row->operand[j].as].number;
     w->copies = malloc(bytes);
     if (w->copies == NULL || !cvl_step(pool, w, CVL_COPIES, copies_part)) return 0;
@@ -274,6 +275,7 @@ bool cvl_make_all(const CvlPool *pool, CvlWork *w) {
         w->in[row->operand[j].as].at = copy;
         copy += w->in[row->operand[j].as].number;
     }
+    w->made = 1;
     return 1;
 }
 

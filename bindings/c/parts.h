@@ -15,6 +15,12 @@ typedef union CvlItem {
     bool flag;
 } CvlItem;
 
+/* What a step tells of each part, or what stands before each one: integers, or booleans. */
+typedef struct CvlRecord {
+    int32_t ints[CVL_MOST_PARTS];
+    bool flags[CVL_MOST_PARTS];
+} CvlRecord;
+
 typedef CvlStatus (*CvlStepPart)(CvlWork *work, size_t part);
 
 /* A call in parts. Each step writes the fields of its own part, and reads what earlier steps wrote. */
@@ -32,12 +38,16 @@ struct CvlWork {
     int64_t head_totals[CVL_MOST_PARTS];
     int64_t reached[CVL_MOST_PARTS];
     size_t counts[CVL_MOST_PARTS]; /* how many elements each part gives */
+    CvlRecord of_parts;            /* what a step tells of each part */
+    CvlRecord before_parts;        /* and what stands before each one */
     CvlStatus told;                /* what the call returns if its parts are done */
     bool left_out;                 /* whether the pool left a part out */
     char *kept;                    /* what stood in the room before, if it may have to be put back, or the parts' texts */
     bool *copies;                  /* copies of flags that are neither 0 nor 1 */
+    bool made;                     /* whether the flags are 0 and 1, and need no other look */
     /* the call */
     const CvlRow *row;
+    const CvlStepRow *step; /* the step that is run */
     uint32_t op;
     CvlSlot in[CVL_ROLES];    /* its arguments, by what they are to it */
     const int32_t *lengths;   /* those that it is cut by */
@@ -161,17 +171,12 @@ CVL_HIDDEN CvlPiece cvl_piece(const CvlWork *w, size_t k);
  * that keep them ----
  */
 
-/* Each part is a range of places; all parts look for the faults of elements before one is written. */
-/*@ assigns *w, rooms, made; */
-CVL_HIDDEN bool cvl_places_in_parts(const CvlPool *pool, CvlWork *w);
-CVL_HIDDEN bool cvl_replace_in_parts(const CvlPool *pool, CvlWork *w);
-CVL_HIDDEN bool cvl_reduce_in_parts(const CvlPool *pool, CvlWork *w);
+/* Runs the steps of the call's row. */
 /*@ requires w->parts <= CVL_MOST_PARTS;
     assigns *w, rooms, made; */
-CVL_HIDDEN bool cvl_scan_in_parts(const CvlPool *pool, CvlWork *w);
+CVL_HIDDEN bool cvl_steps_in_parts(const CvlPool *pool, CvlWork *w);
 CVL_HIDDEN bool cvl_checked_reduce_in_parts(const CvlPool *pool, CvlWork *w);
 CVL_HIDDEN bool cvl_checked_scan_in_parts(const CvlPool *pool, CvlWork *w);
-CVL_HIDDEN bool cvl_count_in_parts(const CvlPool *pool, CvlWork *w);
 CVL_HIDDEN bool cvl_pack_in_parts(const CvlPool *pool, CvlWork *w);
 CVL_HIDDEN bool cvl_lengths_in_parts(const CvlPool *pool, CvlWork *w);
 /*@ assigns *w, rooms, kept, made;

@@ -19,6 +19,8 @@ typedef enum CvlAs {
     CVL_AS_LENGTHS, CVL_AS_OTHER_LENGTHS, CVL_AS_THIRD_LENGTHS, CVL_AS_OFFSETS, /* lengths that the call is cut by, others, and offsets of rows */
     CVL_AS_VALUE, CVL_AS_STRIDE, CVL_AS_PLACE, CVL_AS_COUNT, CVL_AS_LOWEST, CVL_AS_ROWS, CVL_AS_COLUMNS, /* numbers */
     CVL_AS_OUT, CVL_AS_MARKS, CVL_AS_TOLD, CVL_AS_OTHER_OUT, CVL_AS_OTHER_TOLD, /* what is written */
+    CVL_AS_SUMS, CVL_AS_BEFORE,                  /* the records of a call in parts: a number for each part */
+    CVL_AS_ONE, CVL_AS_AT_PLACE, CVL_AS_NOTHING, /* the number 1, the element of the room at the place, and no array */
     CVL_ROLES
 } CvlAs;
 
@@ -30,8 +32,14 @@ typedef enum CvlRelation {
     CVL_FROM_LOWEST /* places from the other one on */
 } CvlRelation;
 
-/* Where the parts of an operand begin: the boundaries in CvlWork of this name; or each part has the whole. */
-typedef enum CvlBy { CVL_BY_NONE, CVL_BY_FROM, CVL_BY_FIRST, CVL_BY_START, CVL_BY_OTHER, CVL_BY_THIRD } CvlBy;
+/*
+ * Where the parts of an operand begin: the boundaries in CvlWork of this name; or each part has the whole; or it has its own place of a
+ * record, or the number that stands there.
+ */
+typedef enum CvlBy {
+    CVL_BY_NONE, CVL_BY_FROM, CVL_BY_FIRST, CVL_BY_START, CVL_BY_OTHER, CVL_BY_THIRD,
+    CVL_BY_PART, CVL_BY_INT, CVL_BY_FLAG
+} CvlBy;
 
 /* How a call uses an operand. */
 enum {
@@ -77,6 +85,27 @@ typedef struct CvlWork CvlWork;
 
 enum { CVL_MOST_OPERANDS = 7 };
 
+/* What a step of a call in parts does. */
+typedef enum CvlStepKind {
+    CVL_LOOKS,  /* each part looks for faults of its elements, without a room, if the operator has some */
+    CVL_TELLS,  /* each part writes its place of a record */
+    CVL_JOINS,  /* made once, on the records of all parts */
+    CVL_FILLS   /* each part writes its range of the room */
+} CvlStepKind;
+
+/* The operator of a step, if it is the call's. */
+enum { CVL_OP_OF_CALL = 255 };
+
+/* A step: the function that calls its export, and what a part has of each operand, of which only `as`, `size` and `by` are set. */
+typedef struct CvlStepRow {
+    CvlOperand operand[CVL_MOST_OPERANDS];
+    unsigned char operands;
+    unsigned char kind;     /* CvlStepKind */
+    unsigned char op;       /* the number of an operator, or CVL_OP_OF_CALL */
+    unsigned char on_flags; /* whether its export takes flags of the call only as 0 and 1 */
+    CvlStatus (*make)(uint32_t op, const CvlSlot *s);
+} CvlStepRow;
+
 struct CvlRow {
     CvlOperand operand[CVL_MOST_OPERANDS];
     unsigned char operands;
@@ -89,6 +118,8 @@ struct CvlRow {
     size_t least, each;     /* from how many elements on the call is cut, or 0; and how many each part has at least */
     CvlStatus (*make)(uint32_t op, const CvlSlot *s);
     bool (*in_parts)(const CvlPool *pool, CvlWork *w); /* runs the parts, or null */
+    const CvlStepRow *step;   /* its steps, in order, */
+    size_t steps;             /* and how many, where cvl_steps_in_parts runs them */
     const CvlRow *by_lengths; /* of rows that come by offsets: the family of rows that come by lengths */
 };
 

@@ -1,6 +1,27 @@
 /* Calls in parts on segments: cut at places, and the pieces of a cut segment are joined; or cut between segments. */
 #include "parts.h"
 
+CvlStatus cvl_reduce_of(const CvlWork *w, size_t from, size_t to, CvlItem *sum) {
+    if (cvl_of_bools(w)) return cvl_proved_bool_reduce(w->op, CVL_BOOLS(w, CVL_AS_A, from), to - from, &sum->flag);
+    return cvl_proved_int_reduce(w->op, CVL_INTS(w, CVL_AS_A, from), to - from, &sum->number);
+}
+
+CvlStatus cvl_join_of(const CvlWork *w, CvlItem first, CvlItem second, CvlItem *joined) {
+    if (cvl_of_bools(w)) {
+        const bool flags[2] = {first.flag, second.flag};
+        return cvl_proved_bool_reduce(w->op, flags, 2, &joined->flag);
+    }
+    const int32_t numbers[2] = {first.number, second.number};
+    return cvl_proved_int_reduce(w->op, numbers, 2, &joined->number);
+}
+
+CvlStatus cvl_scan_range(const CvlWork *w, CvlItem before, size_t from, size_t to) {
+    const CvlRow *const row = cvl_of_bools(w) ? &cvl_bool_scan_after_row : &cvl_int_scan_after_row;
+    const CvlSlot number = {NULL, cvl_of_bools(w) ? before.flag : (size_t)before.number};
+    const CvlSlot s[] = {number, cvl_range(w, CVL_AS_A, from, to), cvl_range(w, CVL_AS_OUT, from, to)};
+    return row->make(w->op, s);
+}
+
 /* ---- scans: what stands before a part is the join since the last start ---- */
 
 /* What the elements of the part since its last start join to, or all of them if none starts. */

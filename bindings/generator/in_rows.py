@@ -181,6 +181,11 @@ class Family:
         return items is not None and items.kind in ("flags", "flag")
 
     @property
+    def steps(self):
+        """The steps of its parts."""
+        return table.steps_of(self.cut, "bool" if self.of_bools else "int")
+
+    @property
     def words(self):
         """What is so of the family."""
         by_elements = self.room is not None and self.room.extent in ("trues", "room") and not self.reads_text
@@ -228,9 +233,41 @@ def row_of(found):
         made += f", .by_lengths = &cvl_{family.by_lengths}_row"
     elif found.is_cut:
         made += f", .in_parts = cvl_{table.CUTS[found.cut].runs}_in_parts"
+    if found.steps:
+        made += f", .step = {found.name}_steps, .steps = {len(found.steps)}"
     static = "" if found.name in table.STEP_FAMILIES else "static "
     head = f"{static}const CvlRow cvl_{found.name}_row = {{\n    .operand = {{"
     return "\n".join([head, *(operand_row(found, k) for k in range(len(found.operands))), "    },", *(indented(f"{line}") for line in [*lines, made + ","]), "};"])
+
+
+# ---- the steps of a call in parts ----
+
+
+def taken(found, step, called, k):
+    """What a part has of an operand of what a step calls: its role, and by which boundaries it is cut."""
+    name = called.operands[k].name
+    source = step.operands.get(name, name)
+    if isinstance(source, tuple):
+        return source
+    j = found.place(lambda o: o.name == source)
+    if step.calls is None:
+        return found.role(j), found.by(j)
+    return found.role(j), "FROM" if found.operands[j].extent == found.extent or found.operands[j].role == "lengths" else "NONE"
+
+
+def step_row(found, step):
+    called = found if step.calls is None else Family(rows.FAMILIES[step.calls])
+    takes = [taken(found, step, called, k) for k in range(len(called.operands))]
+    operands = [f"{{.as = CVL_AS_{role}, .size = {called.size(k)}, .by = CVL_BY_{by}}}" for k, (role, by) in enumerate(takes)]
+    roles = {found.role(k) for k in range(len(found.operands))}
+    on_flags = any(operand.copied and role in roles for operand, (role, _) in zip(called.operands, takes))
+    op = f"CVL_{step.operator}" if step.operator else "CVL_OP_OF_CALL"
+    said = f".operands = {len(operands)}, .kind = CVL_{step.kind.upper()}, .op = {op}, .on_flags = {int(on_flags)}, .make = make_{called.name}"
+    return "\n".join([indented("{.operand = {"), *(indented(f"{operand},", 2) for operand in operands), indented(f"}}, {said}}},")])
+
+
+def steps_table(found):
+    return "\n".join([f"static const CvlStepRow {found.name}_steps[] = {{", *(step_row(found, step) for step in found.steps), "};"])
 
 
 # ---- the function that calls the exports of a family ----
@@ -325,6 +362,7 @@ def calls_file():
         "public function, which hands its arguments to the driver by the row of its family.",
         rows.NOTE,
     )
-    blocks = [block for found in families for block in (make_function(found), row_of(found))]
+    blocks = [make_function(found) for found in families]
+    blocks += [block for found in families for block in ([steps_table(found)] if found.steps else []) + [row_of(found)]]
     blocks += [fault_names(), *("\n".join(found) for found in (map(function, whole), map(function_on, in_parts), map(segments_function, in_c.on_segments())))]
     return "\n\n".join([f'{head}\n#include "driver.h"\n#include "parts.h"', *blocks]) + "\n"

@@ -1,4 +1,7 @@
-/* flat.c: calls in parts on whole vectors, and permutes: flat_parts.c, range_parts.c, combine_parts.c and what they take of cut.c. */
+/*
+ * flat.c: calls in parts on whole vectors, and permutes: steps.c, flat_parts.c, range_parts.c, combine_parts.c and what they take of
+ * cut.c.
+ */
 #include "drivers.h"
 
 static int32_t number;

@@ -1,0 +1,141 @@
+/* Calls in parts whose rows name their steps: what a part has of each operand, and the order of the steps. */
+#include "parts.h"
+
+/* ---- what a part has ---- */
+
+/* How many places a part has, or the number of a progression at its first place. */
+/*@ requires \valid_read(w) && \valid_read(o) && o->as < CVL_ROLES && k < CVL_MOST_PARTS && w->from[k] <= w->from[k + 1];
+    assigns \nothing;
+    ensures o->as == CVL_AS_COUNT ==> \result.number == w->from[k + 1] - w->from[k]; */
+static CvlSlot number_of_part(const CvlWork *w, const CvlOperand *o, size_t k) {
+    CvlSlot slot = w->in[o->as];
+    if (o->as == CVL_AS_COUNT) slot.number = w->from[k + 1] - w->from[k];
+    else slot.number += w->from[k] * w->in[CVL_AS_STRIDE].number;
+    return slot;
+}
+
+/* Where part k begins by some boundaries; in a record it has its own place. */
+/*@ logic integer begins{L}(CvlWork *w, integer by, integer k) =
+      by == CVL_BY_PART ? k : by == CVL_BY_FROM ? w->from[k] : by == CVL_BY_FIRST ? w->first[k] : by == CVL_BY_START ? w->start[k] :
+      by == CVL_BY_THIRD ? w->third[k] : w->other[k]; */
+/*@ requires \valid_read(w);
+    assigns \nothing;
+    ensures \valid_read(\result + (0 .. CVL_MOST_PARTS));
+    ensures by != CVL_BY_PART ==> \forall integer k; 0 <= k <= CVL_MOST_PARTS ==> \result[k] == begins(w, by, k); */
+const size_t *cvl_boundaries(const CvlWork *w, CvlBy by) {
+    switch (by) {
+    case CVL_BY_FROM: return w->from;
+    case CVL_BY_FIRST: return w->first;
+    case CVL_BY_START: return w->start;
+    case CVL_BY_THIRD: return w->third;
+    default: return w->other;
+    }
+}
+
+/*@ requires \valid_read(w) && k <= CVL_MOST_PARTS;
+    assigns \nothing;
+    ensures \result == begins(w, by, k); */
+static size_t begin_of(const CvlWork *w, CvlBy by, size_t k) { return by == CVL_BY_PART ? k : cvl_boundaries(w, by)[k]; }
+
+/* The number that stands before a part, in a record of integers or of booleans. */
+/*@ requires \valid_read(w) && k < CVL_MOST_PARTS;
+    assigns \nothing;
+    ensures \result == (by == CVL_BY_FLAG ? (size_t)w->before_parts.flags[k] : (size_t)w->before_parts.ints[k]); */
+static size_t number_before(const CvlWork *w, CvlBy by, size_t k) {
+    return by == CVL_BY_FLAG ? (size_t)w->before_parts.flags[k] : (size_t)w->before_parts.ints[k];
+}
+
+/* What a part has of an operand. */
+/*@ predicate is_before(integer by) = by == CVL_BY_INT || by == CVL_BY_FLAG; */
+/*@ requires \valid_read(w) && \valid_read(o) && o->as < CVL_ROLES && k < CVL_MOST_PARTS;
+    requires !is_before(o->by) ==> begins(w, o->by, k) <= begins(w, o->by, k + 1) <= CVL_MOST_ELEMENTS;
+    requires w->from[k] <= w->from[k + 1] <= CVL_MOST_ELEMENTS;
+    assigns \nothing;
+    ensures o->by == CVL_BY_NONE ==> \result.at == w->in[o->as].at && \result.number == w->in[o->as].number;
+    ensures o->by != CVL_BY_NONE && !is_before(o->by) && o->size > 0 ==> \result.number == begins(w, o->by, k + 1) - begins(w, o->by, k);
+    ensures o->by != CVL_BY_NONE && !is_before(o->by) && o->size > 0 ==>
+      \result.at == (char *)w->in[o->as].at + begins(w, o->by, k) * o->size;
+    ensures o->by != CVL_BY_NONE && !is_before(o->by) && o->size == 0 && o->as == CVL_AS_COUNT ==>
+      \result.number == w->from[k + 1] - w->from[k];
+    ensures o->by == CVL_BY_INT ==> \result.number == (size_t)w->before_parts.ints[k];
+    ensures o->by == CVL_BY_FLAG ==> \result.number == (size_t)w->before_parts.flags[k]; */
+static CvlSlot slot_of_part(const CvlWork *w, const CvlOperand *o, size_t k) {
+    CvlSlot slot = w->in[o->as];
+    if (o->by == CVL_BY_NONE) return slot;
+    if (o->by == CVL_BY_INT || o->by == CVL_BY_FLAG) {
+        slot.number = number_before(w, o->by, k);
+        return slot;
+    }
+    if (o->size == 0) return number_of_part(w, o, k);
+    const size_t from = begin_of(w, o->by, k), to = begin_of(w, o->by, k + 1);
+    /*@ assert from * o->size <= CVL_MOST_ELEMENTS * 255; */
+    /*@ assert from <= to <= CVL_MOST_ELEMENTS; */
+    slot.at = (const char *)slot.at + from * o->size;
+    slot.number = to - from;
+    return slot;
+}
+
+CvlStatus cvl_make_part(CvlWork *w, size_t k) {
+    CvlSlot s[CVL_MOST_OPERANDS];
+    for (size_t j = 0; j < w->row->operands; j++) s[j] = slot_of_part(w, &w->row->operand[j], k);
+    return w->row->make(w->op, s);
+}
+
+/* ---- steps ---- */
+
+/* What a part does in the step; of a step that is made once, all of it. */
+static CvlStatus step_part(CvlWork *w, size_t k) {
+    const CvlStepRow *const step = w->step;
+    CvlSlot s[CVL_MOST_OPERANDS];
+    for (size_t j = 0; j < step->operands; j++) s[j] = slot_of_part(w, &step->operand[j], k);
+    const CvlStatus status = step->make(step->op == CVL_OP_OF_CALL ? w->op : step->op, s);
+    return step->kind == CVL_LOOKS ? cvl_looked(status) : status;
+}
+
+/* The records of a call, as operands of its steps. */
+/*@ assigns w->in[0 .. CVL_ROLES - 1];
+    ensures w->parts == \old(w->parts); */
+static void hold_records(CvlWork *w) {
+    const CvlSlot out = w->in[CVL_AS_OUT], nothing = {NULL, 0}, one = {NULL, 1};
+    CvlSlot sums = {w->of_parts.ints, w->parts}, before = {w->before_parts.ints, w->parts};
+    if (cvl_of_bools(w)) sums.at = w->of_parts.flags, before.at = w->before_parts.flags;
+    w->in[CVL_AS_SUMS] = sums, w->in[CVL_AS_BEFORE] = before, w->in[CVL_AS_ONE] = one, w->in[CVL_AS_NOTHING] = nothing;
+    if (!(w->row->is & CVL_AT_PLACE)) return;
+    w->in[CVL_AS_AT_PLACE].at = (const char *)out.at + w->in[CVL_AS_PLACE].number * cvl_size(w);
+    w->in[CVL_AS_AT_PLACE].number = 1;
+}
+
+/* Makes a step once. */
+/*@ assigns *w, rooms;
+    ensures w->parts == \old(w->parts); */
+static bool join_records(CvlWork *w) { return step_part(w, 0).number == CVL_DONE; }
+
+/*
+ * Runs the step, and answers whether it is done. One that looks for faults that the operator does not have is left out. Flags are copied
+ * before an export takes them only as 0 and 1, or a part writes.
+ */
+/*@ requires w->parts <= CVL_MOST_PARTS;
+    assigns *w, rooms, made;
+    ensures w->parts == \old(w->parts);
+    ensures \old(w->step->kind) == CVL_LOOKS || \old(w->step->kind) == CVL_TELLS ==> rooms == \old(rooms); */
+static bool run_step(const CvlPool *pool, CvlWork *w) {
+    const CvlStepRow *const step = w->step;
+    const unsigned char kind = step->kind, on_flags = step->on_flags;
+    if (kind == CVL_LOOKS && !(w->row->faulty >> w->op & 1)) return 1;
+    if (kind == CVL_JOINS) return join_records(w);
+    if ((on_flags || kind == CVL_FILLS) && !cvl_make_all(pool, w)) return 0;
+    return cvl_step(pool, w, kind == CVL_FILLS ? CVL_WRITES : CVL_READS, step_part);
+}
+
+/* Each step begins once all parts of the one before are done. */
+bool cvl_steps_in_parts(const CvlPool *pool, CvlWork *w) {
+    hold_records(w);
+    w->told = cvl_done();
+    /*@ loop invariant w->parts == \at(w->parts, Pre);
+        loop assigns j, *w, rooms, made; */
+    for (size_t j = 0; j < w->row->steps; j++) {
+        w->step = &w->row->step[j];
+        if (!run_step(pool, w)) return 0;
+    }
+    return 1;
+}

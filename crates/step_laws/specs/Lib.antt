@@ -1,0 +1,4 @@
+pub mod CountSteps
+pub mod FlatSteps
+pub mod Parts
+pub mod Steps

@@ -1,0 +1,7 @@
+//! Laws of calls in parts, as the steps that `bindings/c/steps.c` runs, each a function that takes and gives nothing and whose
+//! contract is the law: if each part of each step was run once, in any order within a step, and each step after the one before,
+//! then the room and what is told are the call's. A step is what its export is proved to do.
+#![tactic(auto)]
+
+pub mod counts;
+pub mod scans;
