@@ -1,7 +1,8 @@
 """Runs code by the package `cvl`.
 
-The first error is the one that Python would raise: of the first iteration that fails. All iterations go through a step together, so a
-later step may fail in an earlier iteration. So if one fails, those before it run again, alone; if one of these fails, it is the first.
+The first error is the one that Python would raise: of the first iteration that fails. All iterations go through a step
+together, so a later step may fail in an earlier iteration. So if one fails, those before it run again, alone; if one of these
+fails, it is the first.
 """
 
 import contextlib
