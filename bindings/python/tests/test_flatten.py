@@ -16,6 +16,7 @@ import shutil
 import subprocess
 import sys
 import tempfile
+import threading
 import traceback
 import unittest
 
@@ -143,6 +144,16 @@ def later(v):
 
 
 @nested
+def counted(n):
+    return 0 if n == 0 else 1 + counted(n - 1)
+
+
+@nested
+def for_ever(x):
+    return for_ever(x)
+
+
+@nested
 def with_last(rows):
     return [[100 // x + row[-1] for x in row] for row in rows]
 
@@ -236,6 +247,26 @@ class Errors(Limited):
         self.stops(IndexError, 3, in_rows, [[1, 1], [1], [0]], inside=in_a_row)
         self.stops(ZeroDivisionError, 2, in_branches, [0, 1, 5, 4], inside=in_a_branch)
         self.stops(ZeroDivisionError, 2, in_rows, [[1, 1], [1, 0], [5]], inside=in_a_row)
+
+    def test_deep_recursion(self):
+        before = sys.getrecursionlimit()
+        found = []
+        threads = [threading.Thread(target=lambda: found.append(counted(300))) for _ in range(8)]
+        for thread in threads:
+            thread.start()
+        for thread in threads:
+            thread.join()
+        self.assertEqual((found, sys.getrecursionlimit()), ([300] * 8, before))
+        self.assertRaises(RecursionError, for_ever, 1)
+        self.assertEqual(sys.getrecursionlimit(), before)
+
+    def test_wrong_arguments(self):
+        for given in ([1.5], "ab", [[1], 2], None, [(1,), (1, 2)]):
+            self.assertRaises(TypeError, programs.quicksort, given)
+        self.assertRaises(TypeError, programs.quicksort)
+        self.assertRaises(TypeError, programs.quicksort, [1], [2])
+        self.assertRaisesRegex(Refused, "len takes a list: int and", programs.matrix_product, [1], [2])
+        self.assertRaisesRegex(OSError, "write it into a file", exec, "@nested\ndef f(v): return v", {"nested": nested})
 
     def test_examples(self):
         self.assertEqual(doctest.testmod(kinds).failed, 0)

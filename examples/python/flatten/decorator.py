@@ -45,7 +45,7 @@ class Nested:
         """The vectors of the result, or the error that Python would raise."""
         names = [name for value in function.block.inputs for name in leaves(value)]
         try:
-            with run.deep_enough():
+            with run.DeepEnough():
                 return run.run(function.block, dict(zip(names, vectors)), 1)
         except run.Failed as failed:
             error = failed.error

@@ -55,7 +55,10 @@ class Source:
     """The text of a function: its tree, with the lines and columns of its file."""
 
     def __init__(self, function):
-        lines, first = inspect.getsourcelines(function)
+        try:
+            lines, first = inspect.getsourcelines(function)
+        except OSError:
+            raise OSError(f"the text of {function.__name__} is not kept here; write it into a file") from None
         text = textwrap.dedent("".join(lines))
         self.file, self.lines, self.first = function.__code__.co_filename, lines, first
         self.indent = len(lines[0]) - len(lines[0].lstrip())
