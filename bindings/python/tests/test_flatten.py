@@ -1,6 +1,6 @@
-"""The compiler of examples/python/flatten: its programs beside their plain forms, programs at random as vector calls and as scripts
-beside Python, the lines of errors, and what it refuses. It runs where the package is installed; CVL_PROGRAM names the program `cvl`, else
-it is that of the checkout. With a number it compares so many programs at random.
+"""The compiler of examples/python/flatten: its programs beside their plain forms, programs at random as vector calls and as
+scripts beside Python, the lines of errors, and what it refuses. It runs where the package is installed; CVL_PROGRAM names the
+program `cvl`, else it is that of the checkout. With a number it compares so many programs at random.
 
     python3 -m unittest test_flatten
     python3 test_flatten.py 100000
@@ -16,6 +16,7 @@ import shutil
 import subprocess
 import sys
 import tempfile
+import threading
 import traceback
 import unittest
 
@@ -49,7 +50,8 @@ def both_ways(edges):
 def inputs(drawn, n):
     """The thirteen programs, each with arguments at random: the second number is about how long they are."""
     entries, row_count = numbers(drawn, n, n + 1), n // 3
-    yield programs.sparse_product, [numbers(drawn, drawn.randrange(4), n) if n else [] for _ in range(row_count)], entries, entries, numbers(drawn, n + 1, 99, -99)
+    rows = [numbers(drawn, drawn.randrange(4), n) if n else [] for _ in range(row_count)]
+    yield programs.sparse_product, rows, entries, entries, numbers(drawn, n + 1, 99, -99)
     yield programs.matrix_product, [numbers(drawn, 4, 99, -99) for _ in range(n // 4)], [numbers(drawn, 3, 99) for _ in range(4)]
     yield programs.quicksort, numbers(drawn, n, 50, -50)
     yield programs.mergesort, numbers(drawn, n, 50, -50)
@@ -142,6 +144,16 @@ def later(v):
 
 
 @nested
+def counted(n):
+    return 0 if n == 0 else 1 + counted(n - 1)
+
+
+@nested
+def for_ever(x):
+    return for_ever(x)
+
+
+@nested
 def with_last(rows):
     return [[100 // x + row[-1] for x in row] for row in rows]
 
@@ -201,7 +213,8 @@ class Errors(Limited):
             frame = traceback.extract_tb(error.__traceback__)[-1]
         function = inside or function
         code = function.plain.__code__
-        self.assertEqual((frame.lineno - code.co_firstlineno, frame.filename, frame.name), (line, code.co_filename, function.name))
+        self.assertEqual((frame.lineno - code.co_firstlineno, frame.filename, frame.name), (line, code.co_filename,
+        function.name))
 
     def test_lines(self):
         self.stops(ZeroDivisionError, 3, inverse, [[1], [2, 0], [0]])
@@ -230,18 +243,40 @@ class Errors(Limited):
 
     def test_iterations_of_blocks(self):
         """The iteration around a block that fails is that to which the element or the flag belongs."""
-        for line, function, outer, *given in ((3, in_a_branch, in_branches, [0, 3, 1, 5]), (3, in_a_row, in_rows, [[1, 1], [1], [0]])):
-            self.stops(IndexError, line, outer, *given, inside=function)
+        self.stops(IndexError, 3, in_branches, [0, 3, 1, 5], inside=in_a_branch)
+        self.stops(IndexError, 3, in_rows, [[1, 1], [1], [0]], inside=in_a_row)
         self.stops(ZeroDivisionError, 2, in_branches, [0, 1, 5, 4], inside=in_a_branch)
         self.stops(ZeroDivisionError, 2, in_rows, [[1, 1], [1, 0], [5]], inside=in_a_row)
+
+    def test_deep_recursion(self):
+        before = sys.getrecursionlimit()
+        found = []
+        threads = [threading.Thread(target=lambda: found.append(counted(300))) for _ in range(8)]
+        for thread in threads:
+            thread.start()
+        for thread in threads:
+            thread.join()
+        self.assertEqual((found, sys.getrecursionlimit()), ([300] * 8, before))
+        self.assertRaises(RecursionError, for_ever, 1)
+        self.assertEqual(sys.getrecursionlimit(), before)
+
+    def test_wrong_arguments(self):
+        for given in ([1.5], "ab", [[1], 2], None, [(1,), (1, 2)]):
+            self.assertRaises(TypeError, programs.quicksort, given)
+        self.assertRaises(TypeError, programs.quicksort)
+        self.assertRaises(TypeError, programs.quicksort, [1], [2])
+        self.assertRaisesRegex(Refused, "len takes a list: int and", programs.matrix_product, [1], [2])
+        self.assertRaisesRegex(OSError, "write it into a file", exec, "@nested\ndef f(v): return v", {"nested": nested})
 
     def test_examples(self):
         self.assertEqual(doctest.testmod(kinds).failed, 0)
 
     def test_numbers_of_32_bits(self):
         least, greatest = -(2**31), 2**31 - 1
-        values = (0, 1, -1, 2, -2, 3, 46341, -46341, 65536, -65536, least + 1, least, greatest - 1, greatest)
-        for op in ("a + b", "a - b", "a * b", "a // b", "a % b", "-a", "a + 7", "-7 - a", "a * 3", "a * -3", "a // -1", "a % -5", "sum([a, b])"):
+        values = 0, 1, -1, 2, -2, 3, 46341, -46341, 65536, -65536
+        values += *range(least, least + 9), *range(greatest - 8, greatest + 1)
+        of_one = "-a", "a + 7", "-7 - a", "a * 3", "a * -3", "a // -1", "a % -5"
+        for op in ("a + b", "a - b", "a * b", "a // b", "a % b", "sum([a, b])", *of_one):
             text = f"def f(a, b):\n    return {op}\n"
             checked, wraps, plainly = nested(made(text)), nested(made(text), wraps=True), made(text)
             for a in values:
@@ -268,9 +303,9 @@ REFUSED = (
     ("    return v + 1", 2, 12, "a list is joined with something else: [int] and int; make them the same"),
     ("    return sum(v) and True", 2, 12, "a condition has another type: int and bool; make them the same"),
     ("    return w", 2, 12, "w has no value on each way to here; give it one before, or as an argument"),
-    ("    if len(v) > 1: w = 1\n    return w", 3, 12, "w has no value on each way to here; give it one before, or as an argument"),
+    ("    if len(v) > 1: w = 1\n    return w", 3, 12, "w has no value on each way to here; give it one before"),
     ("    return print(v)", 2, 12, "print is no nested function; decorate it, or call one of len, sorted, "),
-    ("    return any(1 // x > 0 for x in v)", 2, 12, "any may stop before an element that fails; compute all of them: put the elements into [..]"),
+    ("    return any(1 // x > 0 for x in v)", 2, 12, "any may stop before an element that fails; compute all of them: put the"),
     ("    v += [1]\n    return v", 2, 5, "+= changes a list that may have other names; write x = x + .."),
     ("    return [v, 1]", 2, 16, "elements of a list differ: int and [int]; make them the same"),
 )
@@ -310,7 +345,8 @@ class Page(Limited):
     def test_divmod(self):
         """What the page says adds a function to the compiler."""
         page = (TOP / "docs/user/flattening.md").read_text()
-        infer, functions = (re.sub("^   ", "", block, flags=re.M) for block in re.findall(r"^   ```python\n(.*?)^   ```", page, re.M | re.S))
+        blocks = re.findall(r"^   ```python\n(.*?)^   ```", page, re.M | re.S)
+        infer, functions = (re.sub("^   ", "", block, flags=re.M) for block in blocks)
         with tempfile.TemporaryDirectory() as folder:
             copy = pathlib.Path(shutil.copytree(TOP / "examples/python/flatten", pathlib.Path(folder, "flatten")))
             language = (copy / "language.py").read_text()

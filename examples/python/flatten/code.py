@@ -1,16 +1,16 @@
 """The code of a program: lists of vector calls, each of which binds a new name, and blocks of them that run for iterations.
 
-A value of n iterations is made of vectors. An integer of each iteration is one vector of n elements; a list of each is the n lengths and
-all elements one behind another, which may be lists again. So a list of lists of each iteration is two vectors of lengths and one of
-elements, whatever the lists are.
+A value of n iterations is made of vectors. An integer of each iteration is one vector of n elements; a list of each is the n
+lengths and all elements one behind another, which may be lists again. So a list of lists of each iteration is two vectors of
+lengths and one of elements, whatever the lists are.
 """
 
 import re
 from dataclasses import dataclass, field
 from typing import Optional, Union
 
-# each call that the compiler uses, by what it gives: a vector of integers or of booleans, a single integer or a single boolean. All are
-# functions of `cvl`. script.py makes those without three letters at their end out of others.
+# each call that the compiler uses, by what it gives: a vector of integers or of booleans, a single integer or a single boolean.
+# All are functions of `cvl`. script.py makes those without three letters at their end out of others.
 CALLS = {
     "z": """add_wuz sub_wuz mul_wuz div_wuz mod_wuz rsh_wuz min_wuz max_wuz and_wuz xor_wuz sel_wuz int_wub
         add_suz add_rez tot_rez min_rez max_rez bck_puz ext_vez pck_luz dis_vuz dis_vez ind_luz ind_lez
@@ -58,8 +58,8 @@ class Vector:
 
 @dataclass(frozen=True)
 class Lists:
-    """A list of each iteration. Its elements lie one behind another, or else begin at `starts`, so that lists may be left out, taken
-    twice or cut without a copy of their elements."""
+    """A list of each iteration. Its elements lie one behind another, or else begin at `starts`, so that lists may be left out,
+    taken twice or cut without a copy of their elements."""
 
     lengths: Vector
     inner: "Value"
@@ -96,7 +96,8 @@ def leaves(value):
 
 
 def stays(value):
-    """The names of the vectors that are the same, whichever iterations of a value are left out: the elements of lists with starts."""
+    """The names of the vectors that are the same, whichever iterations of a value are left out: the elements of lists with
+    starts."""
     if isinstance(value, Tuple):
         return [name for part in value.parts for name in stays(part)]
     if isinstance(value, Lists):
@@ -174,8 +175,8 @@ class Block:
 
 @dataclass
 class Inside:
-    """Runs a block for iterations within those of the code around it: for each element of its lists, which have these lengths, or for
-    those whose flag is true. Without iterations the block does not run, and gives empty vectors."""
+    """Runs a block for iterations within those of the code around it: for each element of its lists, which have these lengths,
+    or for those whose flag is true. Without iterations the block does not run, and gives empty vectors."""
 
     block: Block
     result: Value
@@ -247,7 +248,8 @@ def tidied(block):
 
 
 def listing(function):
-    """The code of a function and of those that it calls as text, a step a line. Names count from v1; one that is another is that."""
+    """The code of a function and of those that it calls as text, a step a line. Names count from v1; one that is another is
+    that."""
     found, text, names, others = [function], [], {}, {}
     for one in found:
         parameters = [name for value in one.block.inputs for name in leaves(value)]

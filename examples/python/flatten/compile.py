@@ -1,7 +1,7 @@
 """Compiles a function to lifted form: the code of each expression computes it for all iterations at once.
 
-A comprehension is a block that runs for all elements of all its lists; what it reads from outside is spread over them. A condition is
-two blocks, each for its own iterations. A call of a function runs it once for all iterations.
+A comprehension is a block that runs for all elements of all its lists; what it reads from outside is spread over them. A
+condition is two blocks, each for its own iterations. A call of a function runs it once for all iterations.
 """
 
 import ast
@@ -17,7 +17,8 @@ from flatten.language import LEAST, assigned, called, free_names, may_return, re
 from flatten.safe import cannot_fail, side_by_side
 
 OPERATORS = {ast.Add: "add", ast.Sub: "sub", ast.Mult: "mul"}
-COMPARISONS = {ast.Lt: "les_wuz", ast.LtE: "leq_wuz", ast.Gt: "grt_wuz", ast.GtE: "geq_wuz", ast.Eq: "eql_wuz", ast.NotEq: "neq_wuz"}
+COMPARISONS = {ast.Lt: "les_wuz", ast.LtE: "leq_wuz", ast.Gt: "grt_wuz", ast.GtE: "geq_wuz"}
+COMPARISONS |= {ast.Eq: "eql_wuz", ast.NotEq: "neq_wuz"}
 
 
 def compiled(function, kinds, straight=False):
@@ -28,8 +29,8 @@ def compiled(function, kinds, straight=False):
 
 
 class Program:
-    """The functions of a program, each compiled once for each form of its arguments, and the names of all its vectors. In `straight` code
-    blocks run even without iterations, as in a script."""
+    """The functions of a program, each compiled once for each form of its arguments, and the names of all its vectors. In
+    `straight` code blocks run even without iterations, as in a script."""
 
     def __init__(self, straight):
         self.names, self.functions = (f"v{k}" for k in itertools.count(1)), {}
@@ -45,7 +46,8 @@ class Program:
         return Vector(next(self.names), "b" if kind == BOOL else "z")
 
     def function(self, instance, given, single):
-        """The code of an instance for values of the form of those given. It may call itself, so it is noted before it is compiled."""
+        """The code of an instance for values of the form of those given. It may call itself, so it is noted before it is
+        compiled."""
         key = instance, tuple(map(form, given)), single
         if key not in self.functions:
             parameters = [renamed(value, self.names) for value in given]
@@ -81,14 +83,15 @@ class Body(Functions):
         return result
 
     def where(self, names, nodes, flags, compile_block):
-        """Runs a block for the iterations whose flag is true. If there is one iteration, the block runs for this or does not run."""
+        """Runs a block for the iterations whose flag is true. If there is one iteration, the block runs for this or does not
+        run."""
         single = self.single and not self.program.straight
         enter = (lambda value: value) if single else (lambda value: self.pack(value, flags))
         return self.inside(names, nodes, enter, self.call("cnt_lub", flags), compile_block, single, flags=flags.name)
 
     def branch(self, names, flags, sides):
-        """Two blocks, for the iterations whose flag is true and for the others, and both results put together. A side is what its block
-        reads, and what compiles it."""
+        """Two blocks, for the iterations whose flag is true and for the others, and both results put together. A side is what
+        its block reads, and what compiles it."""
         flags = self.vector(flags)
         ways = [self.where(names, nodes, way, make) for way, (nodes, make) in zip((flags, self.call("not_wub", flags)), sides)]
         return self.merge(flags, *ways)
@@ -138,7 +141,8 @@ class Body(Functions):
             begin = self.offsets(value)
             places = [self.call("add_wuz", begin, Same(k, "z")) for k in range(len(target.elts))]
             value = Tuple(tuple(self.take(value.inner, place) for place in places))
-        return {name: part for node, each in zip(target.elts, value.parts) for name, part in self.assign(node, each, near).items()}
+        parts = (self.assign(node, part, near) for node, part in zip(target.elts, value.parts))
+        return {name: part for found in parts for name, part in found.items()}
 
     # ---- expressions ----
 
@@ -235,8 +239,8 @@ class Body(Functions):
     GeneratorExp = ListComp
 
     def walk(self, node, generators, names):
-        """The list that a comprehension makes by these of its generators: a block for all elements of the first. The others make a list in
-        each of these iterations, and the lists of one iteration are joined."""
+        """The list that a comprehension makes by these of its generators: a block for all elements of the first. The others
+        make a list in each of these iterations, and the lists of one iteration are joined."""
         first, rest = generators[0], generators[1:]
         source = self.tight(self.of(first.iter, names))
 
@@ -250,7 +254,10 @@ class Body(Functions):
         outer = {name: value for name, value in names.items() if name not in bound_by(first.target)}
         count = self.call("add_ruz", source.lengths)
         nodes = nodes_of(node, first.ifs, rest)
-        result = self.inside(outer, nodes, lambda value: self.spread(value, source.lengths), count, compile_block, lengths=source.lengths.name)
+        def enter(value):
+            return self.spread(value, source.lengths)
+
+        result = self.inside(outer, nodes, enter, count, compile_block, lengths=source.lengths.name)
         if first.ifs or rest:
             return Lists(self.call("add_rez", result.lengths, source.lengths), result.inner)
         return Lists(source.lengths, result)

@@ -16,7 +16,8 @@ from flatten.language import read
 
 
 def nested(function=None, *, wraps=False):
-    """Makes a function run as vector calls. With `wraps=True` numbers wrap at 32 bits, else one that does not fit is an `OverflowError`."""
+    """Makes a function run as vector calls. With `wraps=True` numbers wrap at 32 bits, else one that does not fit is an
+    `OverflowError`."""
     if function is None:
         return lambda function: Nested(function, wraps)
     return Nested(function, wraps)
@@ -44,7 +45,7 @@ class Nested:
         """The vectors of the result, or the error that Python would raise."""
         names = [name for value in function.block.inputs for name in leaves(value)]
         try:
-            with run.deep_enough():
+            with run.DeepEnough():
                 return run.run(function.block, dict(zip(names, vectors)), 1)
         except run.Failed as failed:
             error = failed.error
@@ -65,7 +66,8 @@ class Nested:
 
     def variables(self):
         """What stands around the function and is named in it."""
-        return {name: cell.cell_contents for name, cell in zip(self.function.__code__.co_freevars, self.function.__closure__ or ())}
+        cells = self.function.__closure__ or ()
+        return {name: cell.cell_contents for name, cell in zip(self.function.__code__.co_freevars, cells)}
 
     @property
     def plain(self):
@@ -74,7 +76,8 @@ class Nested:
     def plainly(self, made):
         """The function as it stands, calling those as they stand that it calls. `made` has those that have been made so."""
         if self not in made:
-            names, cells = dict(self.function.__globals__), {name: types.CellType(value) for name, value in self.variables().items()}
+            names = dict(self.function.__globals__)
+            cells = {name: types.CellType(value) for name, value in self.variables().items()}
             made[self] = types.FunctionType(self.function.__code__, names, self.name, None, tuple(cells.values()))
             names.update({name: value.plainly(made) for name, value in names.items() if isinstance(value, Nested)})
             for name, value in self.variables().items():
@@ -99,7 +102,8 @@ def lowered(values, kind):
     if kind in (INT, BOOL):
         return [numpy.array(array.array("i", values)) if kind == INT else numpy.array(values, bool)]
     if isinstance(kind, TupleKind):
-        return [vector for part, of in zip(zip(*values) if values else [[]] * len(kind.parts), kind.parts) for vector in lowered(part, of)]
+        parts = zip(*values) if values else [[]] * len(kind.parts)
+        return [vector for part, of in zip(parts, kind.parts) for vector in lowered(part, of)]
     inner = values[0] if len(values) == 1 else list(itertools.chain.from_iterable(values))
     return [numpy.array([*map(len, values)], numpy.int32), *lowered(inner, kind.of)]
 

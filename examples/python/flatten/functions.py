@@ -6,20 +6,23 @@ from flatten.code import Error, Lists, Same, Tuple, Whole, of_kind
 from flatten.language import called
 from flatten.lift import Lift
 
-REDUCES = {("sum", "z"): "add_rez", ("min", "z"): "min_rez", ("max", "z"): "max_rez", ("min", "b"): "and_reb", ("max", "b"): "ior_reb"}
-REDUCES |= {("any", "b"): "ior_reb", ("all", "b"): "and_reb"}
+REDUCES = {("sum", "z"): "add_rez", ("min", "z"): "min_rez", ("max", "z"): "max_rez"}
+REDUCES |= {("min", "b"): "and_reb", ("max", "b"): "ior_reb", ("any", "b"): "ior_reb", ("all", "b"): "and_reb"}
 
 
 class Functions(Lift):
-    """Writes the calls of a block. A method `call_NAME` is the function NAME of Python, for the node that calls it and its arguments."""
+    """Writes the calls of a block. A method `call_NAME` is the function NAME of Python, for the node that calls it and its
+    arguments."""
 
     def error(self, node, kind, said):
         return Error(kind, said, node.lineno, self.instance.function)
 
     def ordered(self, node, value):
-        """An integer or a boolean of each iteration. What was in an empty list may turn out to be something else when all is inferred."""
+        """An integer or a boolean of each iteration. What was in an empty list may turn out to be something else when all is
+        inferred."""
         if isinstance(value, (Lists, Whole, Tuple)):
-            self.instance.function.source.refuse(node, "this takes integers or booleans", "compare, sort or reduce a part of each")
+            instead = "compare, sort or reduce a part of each"
+            self.instance.function.source.refuse(node, "this takes integers or booleans", instead)
         return value
 
     # ---- elements and slices ----
@@ -31,7 +34,8 @@ class Functions(Lift):
         if isinstance(value, Whole):
             return self.take(value.inner, index, error)
         if value.starts is None:
-            return self.each(value.inner, lambda vector: self.call(of_kind("ext_vez", vector.kind), vector, index, length, error=error))
+            calls = {kind: of_kind("ext_vez", kind) for kind in "zb"}
+            return self.each(value.inner, lambda vector: self.call(calls[vector.kind], vector, index, length, error=error))
         outside = self.call("ior_wub", self.call("les_wuz", index, Same(0, "z")), self.call("geq_wuz", index, length))
         self.check(outside, error)
         return self.take(value.inner, self.call("add_wuz", value.starts, index))
@@ -80,7 +84,8 @@ class Functions(Lift):
         return Lists(value.lengths, self.call("boo_wuz", numbers))
 
     def reduce(self, node, value):
-        """A sum, the least, the greatest, any or all of each list. If one list is the same in all iterations, it is reduced once."""
+        """A sum, the least, the greatest, any or all of each list. If one list is the same in all iterations, it is reduced
+        once."""
         if isinstance(value, Whole) and not self.program.straight:
             return self.same(self.reduce(node, Lists(self.call("dis_vuz", value.length, Same(1, "z")), value.inner)))
         name, value = called(node), self.tight(value)

@@ -1,5 +1,6 @@
-"""The types of each expression of a function, for the types of its arguments. A function that is called with other types is inferred
-again, so one text serves several types; a call of a function within itself has the types of the call around it, if they agree."""
+"""The types of each expression of a function, for the types of its arguments. A function that is called with other types is
+inferred again, so one text serves several types; a call of a function within itself has the types of the call around it, if
+they agree."""
 
 import ast
 
@@ -148,7 +149,8 @@ class Inference:
         left, right = self.of(node.left, names), self.of(node.comparators[0], names)
         self.same(node, left, right, "two types are compared")
         if isinstance(known(left), (List, Tuple)):
-            self.refuse(node, "lists and tuples have no comparison", "compare their parts, as by all([x == y for x, y in zip(v, w)])")
+            instead = "compare their parts, as by all([x == y for x, y in zip(v, w)])"
+            self.refuse(node, "lists and tuples have no comparison", instead)
         return BOOL
 
     def IfExp(self, node, names):
@@ -253,7 +255,8 @@ class Inference:
 
     def call_any(self, node, given):
         if isinstance(node.args[0], ast.GeneratorExp) and not cannot_fail(node.args[0], self.instance):
-            self.refuse(node, f"{called(node)} may stop before an element that fails", "compute all of them: put the elements into [..]")
+            instead = "compute all of them: put the elements into [..]"
+            self.refuse(node, f"{called(node)} may stop before an element that fails", instead)
         self.same(node, self.one_list(node, given), BOOL, f"{called(node)} takes booleans")
         return BOOL
 

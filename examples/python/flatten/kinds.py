@@ -1,4 +1,5 @@
-"""The types of the language: integers, booleans, lists and tuples of these. A type that is not known yet becomes known by `unify`.
+"""The types of the language: integers, booleans, lists and tuples of these. A type that is not known yet becomes known by
+`unify`.
 
     >>> empty = List(Unknown())
     >>> unify(empty, List(INT)), str(empty)
@@ -39,8 +40,8 @@ class Tuple:
 
 
 class Unknown:
-    """A type that is not known yet, as that of the elements of `[]`, or that is another one. `apart` has the types of the names into which
-    it has been taken apart: it may be a tuple or a list."""
+    """A type that is not known yet, as that of the elements of `[]`, or that is another one. `apart` has the types of the names
+    into which it has been taken apart: it may be a tuple or a list."""
 
     found = None
 
@@ -96,7 +97,8 @@ def unify(a, b):
 
 
 def take_apart(kind, parts):
-    """Makes the types of some names those of the parts of a tuple, or of the elements of a list; returns whether it is one of so many."""
+    """Makes the types of some names those of the parts of a tuple, or of the elements of a list; returns whether it is one of
+    so many."""
     kind = known(kind)
     if isinstance(kind, Unknown):
         alike = [others for others in kind.apart if len(others) == len(parts)]

@@ -1,4 +1,5 @@
-"""The language: which Python a nested function may be written in. All else is refused, with its line, its column and what to write."""
+"""The language: which Python a nested function may be written in. All else is refused, with its line, its column and what to
+write."""
 
 import ast
 import inspect
@@ -54,7 +55,10 @@ class Source:
     """The text of a function: its tree, with the lines and columns of its file."""
 
     def __init__(self, function):
-        lines, first = inspect.getsourcelines(function)
+        try:
+            lines, first = inspect.getsourcelines(function)
+        except OSError:
+            raise OSError(f"the text of {function.__name__} is not kept here; write it into a file") from None
         text = textwrap.dedent("".join(lines))
         self.file, self.lines, self.first = function.__code__.co_filename, lines, first
         self.indent = len(lines[0]) - len(lines[0].lstrip())
@@ -82,7 +86,8 @@ def read(function):
 
 
 class _Longhand(ast.NodeTransformer):
-    """Writes out what is short for something else: `x += 1`, `a < b < c` and `if a if b`; makes `-1` a number, and leaves annotations out."""
+    """Writes out what is short for something else: `x += 1`, `a < b < c` and `if a if b`; makes `-1` a number, and leaves
+    annotations out."""
 
     def visit_arg(self, node):
         node.annotation = None
@@ -90,8 +95,9 @@ class _Longhand(ast.NodeTransformer):
 
     def visit_UnaryOp(self, node):
         self.generic_visit(node)
-        if isinstance(node.op, ast.USub) and isinstance(node.operand, ast.Constant) and type(node.operand.value) is int and node.operand.value > 0:
-            return ast.copy_location(ast.Constant(-node.operand.value), node)
+        number = node.operand.value if isinstance(node.operand, ast.Constant) else None
+        if isinstance(node.op, ast.USub) and type(number) is int and number > 0:
+            return ast.copy_location(ast.Constant(-number), node)
         return node
 
     def visit_comprehension(self, node):
@@ -121,7 +127,8 @@ def _check(source, node, near, outer=None):
     """Refuses what the language does not have, in a node and below it. `near` is the last node above that has a place."""
     near = node if hasattr(node, "lineno") else near
     if not isinstance(node, ALLOWED):
-        source.refuse(near, f"{type(node).__name__} is not in the language", INSTEAD.get(type(node), "see docs/user/flattening.md"))
+        instead = INSTEAD.get(type(node), "see docs/user/flattening.md")
+        source.refuse(near, f"{type(node).__name__} is not in the language", instead)
     if isinstance(node, ast.Constant):
         _check_constant(source, node)
     elif isinstance(node, ast.arguments):
@@ -176,7 +183,8 @@ def _walks(outer, node):
 
 def returns(body):
     """Whether statements return on each way."""
-    return any(isinstance(line, ast.Return) or isinstance(line, ast.If) and returns(line.body) and returns(line.orelse) for line in body)
+    ends = (isinstance(line, ast.If) and returns(line.body) and returns(line.orelse) for line in body)
+    return any(isinstance(line, ast.Return) for line in body) or any(ends)
 
 
 def may_return(body):

@@ -16,8 +16,8 @@ class Lift:
     # ---- calls ----
 
     def call(self, call, *given, error=None):
-        """Writes a call, unless the block has made it, and returns what it gives. An elementwise call takes numbers, too, if one argument
-        is a vector."""
+        """Writes a call, unless the block has made it, and returns what it gives. An elementwise call takes numbers, too, if
+        one argument is a vector."""
         if call[-3] == "w" and not any(isinstance(value, Vector) for value in given):
             at = 1 if call.startswith("sel") else 0
             given = [self.vector(value) if k == at else value for k, value in enumerate(given)]
@@ -33,7 +33,8 @@ class Lift:
         self.block.steps.append(Check(self.vector(flags).name, error))
 
     def again(self, value):
-        """A value by other names. If iterations fail, a block leaves elements out of what it walks, and not of a list that it indexes."""
+        """A value by other names. If iterations fail, a block leaves elements out of what it walks, and not of a list that it
+        indexes."""
         other = renamed(value, self.names)
         self.block.steps += [Call(name, SAME, [old]) for name, old in zip(leaves(other), leaves(value))]
         return other
@@ -155,8 +156,8 @@ class Lift:
     # ---- numbers ----
 
     def floor(self, a, b, error, is_quotient):
-        """`a // b` or `a % b` as in Python. Calls divide toward zero, so the quotient is one less if there is a remainder of another
-        sign than the divisor. By a power of two, bits are shifted out or left."""
+        """`a // b` or `a % b` as in Python. Calls divide toward zero, so the quotient is one less if there is a remainder of
+        another sign than the divisor. By a power of two, bits are shifted out or left."""
         if b.is_written and b.value > 0 and b.value & (b.value - 1) == 0:
             bits = b.value.bit_length() - 1 if is_quotient else b.value - 1
             return self.call("rsh_wuz" if is_quotient else "and_wuz", a, Same(bits, "z"))

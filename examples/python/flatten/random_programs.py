@@ -132,7 +132,8 @@ class Writer:
         numbers = [name for name, has in names.items() if has == INT] or ["2"]
         lists = [name for name, has in names.items() if has == INTS] or ["[1, 2]"]
         x, y, v = self.pick(*numbers), self.pick(*numbers), self.pick(*lists)
-        return self.pick(f"(9 // {x})", f"({x} % {y})", f"[5, 6, 7][{x}]", f"{v}[{x}]", f"max({v}[{x}:])", f"({x} * 999999999)", f"{v}[-1]")
+        quotients, elements = (f"(9 // {x})", f"({x} % {y})"), (f"[5, 6, 7][{x}]", f"{v}[{x}]", f"{v}[-1]")
+        return self.pick(*quotients, *elements, f"max({v}[{x}:])", f"({x} * 999999999)")
 
     def negative(self, kind, names, depth):
         return f"(-{self.of(INT, names, depth)})" if kind == INT else f"(not {self.of(BOOL, names, depth)})"
@@ -206,7 +207,8 @@ class Writer:
             return name, f"range({self.small(INT, names, depth)}, {self.small(INT, names, depth)}, {step})", {name: INT}
         if way == "zip":
             other, second = self.pick(INTS, BOOLS, NEST), self.name()
-            return f"{name}, {second}", f"zip({text}, {self.of(other, names, depth)})", {name: ELEMENT[kind], second: ELEMENT[other]}
+            text = f"zip({text}, {self.of(other, names, depth)})"
+            return f"{name}, {second}", text, {name: ELEMENT[kind], second: ELEMENT[other]}
         if way == "enumerate":
             place = self.name()
             return f"{place}, {name}", f"enumerate({text})", {place: INT, name: ELEMENT[kind]}
@@ -279,15 +281,16 @@ class Writer:
         return lines
 
     def steps(self):
-        """A function of integers each of whose lines fails for some of them: run for all elements of a list, the first error is not that
-        of the first line."""
+        """A function of integers each of whose lines fails for some of them: run for all elements of a list, the first error is
+        not that of the first line."""
         name, names = f"f{len(self.functions)}", {self.name(): INT for _ in range(self.pick(1, 2))}
         kinds, lines = [INT] * len(names), ["@nested", f"def {name}({', '.join(names)}):"]
         for _ in range(self.pick(2, 3, 4)):
             found = self.name()
             lines.append(f"    {found} = {self.fragile(INT, names, 0)}")
             if self.random.random() < 0.3:
-                lines[-1:] = [f"    {found} = 1", f"    if {self.of(BOOL, names, 1)}:", f"        {found} = {self.fragile(INT, names, 0)}"]
+                lines[-1:] = [f"    {found} = 1", f"    if {self.of(BOOL, names, 1)}:"]
+                lines.append(f"        {found} = {self.fragile(INT, names, 0)}")
             names[found] = INT
         lines.append(f"    return {self.pick(*names)}")
         self.functions.append((name, kinds, INT))
@@ -335,11 +338,12 @@ class Writer:
 
 
 WAYS = {
-    INT: ("arithmetic", "arithmetic", "fragile", "fragile", "fragile", "negative", "small", "index", "index", "length", "reduce", "reduce", "choice", "extreme", "taken", "call", "call"),
-    BOOL: ("compare", "compare", "compare", "logic", "logic", "negative", "index", "reduce", "choice", "call"),
-    INTS: ("display", "joined", "slice", "order", "comprehension", "comprehension", "comprehension", "comprehension", "comprehension", "choice", "index", "taken", "call"),
-    BOOLS: ("display", "joined", "slice", "order", "comprehension", "comprehension", "choice"),
-    NEST: ("display", "joined", "slice", "comprehension", "comprehension", "choice", "taken"),
+    INT: ("arithmetic", "arithmetic", "fragile", "fragile", "fragile", "negative", "small", "index", "index", "length",
+    "reduce", "reduce", "choice", "extreme", "taken", "call", "call"), BOOL: ("compare", "compare", "compare", "logic", "logic",
+    "negative", "index", "reduce", "choice", "call"), INTS: ("display", "joined", "slice", "order", "comprehension",
+    "comprehension", "comprehension", "comprehension", "comprehension", "choice", "index", "taken", "call"), BOOLS: ("display",
+    "joined", "slice", "order", "comprehension", "comprehension", "choice"), NEST: ("display", "joined", "slice",
+    "comprehension", "comprehension", "choice", "taken"),
 }
 
 
@@ -375,17 +379,18 @@ def compare(seed, run_script=None):
     """Compares one program; returns what its runs were, or raises an `AssertionError` that shows it."""
     program, seen = Program(seed), collections.Counter()
     for given in program.inputs:
+        shown = f"{program.text}\n{program.name}{tuple(given)}\n   "
         wanted, found = program.wanted(given), program.found(given)
-        assert found == wanted, f"{program.text}\n{program.name}{tuple(given)}\n    {found}\nand in Python\n    {wanted}"
+        assert found == wanted, f"{shown} {found}\nand in Python\n    {wanted}"
         seen[wanted[1] if wanted[0] == "stops" else "a value"] += 1
         if run_script and not program.recurs:
             script = program.nested.script(*given)
             printed, stopped = run_script(script)
             if wanted[0] == "gives":
-                result = None if stopped else program.nested.value(given, script.vectors(printed))
-                assert result == wanted[1], f"{program.text}\n{program.name}{tuple(given)}\n    {result} {stopped}\nand in Python\n    {wanted}\n{script.text}"
+                result = stopped or program.nested.value(given, script.vectors(printed))
+                assert result == wanted[1], f"{shown} {result}\nand in Python\n    {wanted}\n{script.text}"
             else:
-                assert stopped, f"{program.text}\n{program.name}{tuple(given)}\n    the script stops nowhere\n    {wanted}"
+                assert stopped, f"{shown} the script stops nowhere\nand in Python\n    {wanted}"
                 script.error(stopped)
             seen["a script"] += 1
     return seen

@@ -1,11 +1,12 @@
 """Runs code by the package `cvl`.
 
-The first error is the one that Python would raise: of the first iteration that fails. All iterations go through a step together, so a
-later step may fail in an earlier iteration. So if one fails, those before it run again, alone; if one of these fails, it is the first.
+The first error is the one that Python would raise: of the first iteration that fails. All iterations go through a step
+together, so a later step may fail in an earlier iteration. So if one fails, those before it run again, alone; if one of these
+fails, it is the first.
 """
 
-import contextlib
 import sys
+import threading
 
 import cvl
 import numpy
@@ -18,15 +19,23 @@ DTYPES = {"z": numpy.int32, "b": bool}
 CALLS_EACH = 12
 
 
-@contextlib.contextmanager
-def deep_enough():
-    """Functions may call one another as deeply as Python's own do."""
-    before = sys.getrecursionlimit()
-    sys.setrecursionlimit(CALLS_EACH * before)
-    try:
-        yield
-    finally:
-        sys.setrecursionlimit(before)
+class DeepEnough:
+    """While some thread runs code, functions may call one another as deeply as Python's own do."""
+
+    lock, running, before = threading.Lock(), 0, 0
+
+    def __enter__(self):
+        with self.lock:
+            if DeepEnough.running == 0:
+                DeepEnough.before = sys.getrecursionlimit()
+                sys.setrecursionlimit(CALLS_EACH * self.before)
+            DeepEnough.running += 1
+
+    def __exit__(self, *_):
+        with self.lock:
+            DeepEnough.running -= 1
+            if DeepEnough.running == 0:
+                sys.setrecursionlimit(self.before)
 
 
 class Failed(Exception):

@@ -56,8 +56,8 @@ def _always(node):
 
 
 def side_by_side(node, instance):
-    """The calls of one function in an expression that may be made together: nothing that Python computes between them can fail, so the
-    first error is the same."""
+    """The calls of one function in an expression that may be made together: nothing that Python computes between them can fail,
+    so the first error is the same."""
     calls = [part for part in _always(node) if part in instance.calls]
     alike = len(calls) > 1 and len({instance.calls[call] for call in calls}) == 1
     arguments = (argument for call in calls for argument in call.args)

@@ -1,7 +1,7 @@
 """Writes code as a script of the program `cvl`, with its inputs.
 
-A script runs from its first line to its last, so blocks run even without iterations, and functions stand where they are called; a function
-that calls itself has no script. Calls that scripts do not have are made of others.
+A script runs from its first line to its last, so blocks run even without iterations, and functions stand where they are called;
+a function that calls itself has no script. Calls that scripts do not have are made of others.
 """
 
 import pathlib
@@ -30,7 +30,7 @@ class Script:
     def run(self, program):
         """Runs the script by a program `cvl`: what it prints, and what it says where it stops."""
         with tempfile.TemporaryDirectory() as folder:
-            files = [pathlib.Path(folder, "script.cvl"), *(pathlib.Path(folder, f"{k}.txt") for k in range(1, len(self.inputs) + 1))]
+            files = [pathlib.Path(folder, name) for name in ("script.cvl", *(f"{k}.txt" for k in range(len(self.inputs))))]
             for file, text in zip(files, (self.text, *self.inputs)):
                 file.write_text(text)
             done = subprocess.run([program, *files], capture_output=True, text=True)
@@ -93,7 +93,8 @@ class _Writer:
     # ---- arguments ----
 
     def parameter(self, value, given, is_outer=True):
-        """Binds what an argument is made of to inputs. The length of a list is that of what it holds; those of lists in it are an input."""
+        """Binds what an argument is made of to inputs. The length of a list is that of what it holds; those of lists in it are
+        an input."""
         if isinstance(value, Tuple):
             for part in value.parts:
                 self.parameter(part, given, is_outer)
