@@ -251,6 +251,8 @@ class Ragged(Methods):
     def _beside(self, other: Any) -> Any:
         """What stands beside the values: those of rows of the same lengths, each number of an array for its row, or a number."""
         if type(other) is not Ragged:
+            if type(other) is numpy.ndarray and other.dtype.char == "i" and other.shape == (len(self),) and other.flags.carray:
+                return dis_vez(other, self._segments)
             if is_number(other):
                 return other[()] if type(other) is numpy.ndarray else other
             other = self._as_operand(other)
@@ -270,14 +272,14 @@ class Ragged(Methods):
 
     def _as_index(self, index: Any) -> Any:
         """The same, without booleans."""
-        found = index if is_number(index) or isinstance(index, Ragged) else self._as_operand(index)
-        if is_bool(found) or type(found) is Ragged and is_bool(found._flat()):
+        found = index if type(index) is Ragged or is_number(index) else self._as_operand(index)
+        if is_bool(found._flat() if type(found) is Ragged else found):
             raise TypeError("an index is no boolean; write r.filter(mask)")
         return found
 
     def _as_rows(self, other: Any) -> Ragged:
         """Rows, as many as these; one number a row is a row of one."""
-        found = other if isinstance(other, Ragged) or is_number(other) else self._as_operand(other)
+        found = other if type(other) is Ragged or is_number(other) else self._as_operand(other)
         if type(found) is not Ragged:
             each = found if isinstance(found, numpy.ndarray) else numpy.full(len(self), found, bool if is_bool(found) else INT)
             found = Ragged._new(each, cut(dis_vuz(1, len(each))))

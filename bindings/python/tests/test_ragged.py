@@ -170,6 +170,9 @@ class OfArrow(Refusing):
             producer = Producer(self.of_ints(valid=valid, nulls=nulls))
             self.refused(ValueError, "row 1 is null, and a Ragged has no missing values", Ragged, producer)
         self.assertEqual(Ragged(Producer(self.of_ints(valid=valid, nulls=-1, offset=2, length=1))).tolist(), [[4, 1, 5]])
+        for offset, length, row in ((1, 2, 0), (0, 2, 1)):
+            producer = Producer(self.of_ints(valid=valid, nulls=1, offset=offset, length=length))
+            self.refused(ValueError, f"row {row} is null", Ragged, producer)
         self.assertEqual(Ragged(Producer(self.of_ints(valid=bits([True] * 3), nulls=-1))).tolist(), ROWS)
         node = self.of_ints((2, 4, 5))
         node.children[0].buffers[0], node.children[0].nulls = bits([False, True, True, True, False]), 2
