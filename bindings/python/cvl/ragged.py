@@ -11,7 +11,7 @@ from cvl import _arrow, _building, _shown, faults
 from cvl._elementwise import Operation, changed, is_bool, two
 from cvl._methods import OPERATIONS, UNARY, Methods, joined_at
 from cvl._rows import from_end
-from cvl.calls import bck_puz, dis_veb, dis_vez, dis_vuz, gather_segments_bool, gather_segments_int, ind_lez, ind_luz, pck_luz
+from cvl.calls import bck_puz, dis_veb, dis_vez, dis_vub, dis_vuz, gather_segments_bool, gather_segments_int, ind_lez, ind_luz, pck_luz
 from cvl.conversions import INT, as_ints
 from cvl.fault import Fault
 from cvl.segments import Segments, cut
@@ -281,8 +281,9 @@ class Ragged(Methods):
         """Rows, as many as these; one number a row is a row of one."""
         found = other if type(other) is Ragged or is_number(other) else self._as_operand(other)
         if type(found) is not Ragged:
-            each = found if isinstance(found, numpy.ndarray) else numpy.full(len(self), found, bool if is_bool(found) else INT)
-            found = Ragged._new(each, cut(dis_vuz(1, len(each))))
+            if type(found) is not numpy.ndarray or found.ndim == 0:
+                found = (dis_vub if is_bool(found) else dis_vuz)(found, len(self))
+            found = Ragged._new(found, cut(dis_vuz(1, len(found))))
         return found
 
     def _as_many(self, other: Ragged) -> Ragged:
