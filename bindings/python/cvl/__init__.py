@@ -8,6 +8,12 @@ into `out`.
     >>> cvl.add_suz(a).tolist()
     [0, 3, 4, 8, 9]
 
+Rows that differ in length are a `Ragged`, with numpy's operators and names; `cvl.cumsum`, `cvl.groupby` and others take flat arrays:
+
+    >>> r = cvl.Ragged([[3, 1], [], [4, 1, 5]])
+    >>> (r * 10).sum().tolist()
+    [40, 0, 100]
+
 Segments cut a vector, for any number of calls:
 
     >>> rows = cvl.Segments([2, 0, 3])

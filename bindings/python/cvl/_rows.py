@@ -29,7 +29,7 @@ def _of_kind(values: Any, of_ints: Any, of_flags: Any) -> Any:
 
 def same_kind(a: Any, b: Any) -> Tuple[Any, Any]:
     """Both as booleans if they are, else as integers."""
-    return (a, b) if is_bool(a) and is_bool(b) else (ints(a), ints(b))
+    return (a, b) if is_bool(a) == is_bool(b) else (ints(a), ints(b))
 
 
 # ---- of each row ----

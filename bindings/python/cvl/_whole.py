@@ -34,7 +34,7 @@ def _chosen(rows: Any, mask: Any, a: Any, b: Any) -> Any:
 def where(mask: Any, a: Any, b: Any) -> Ragged:
     deepest = None
     for one in (mask, a, b):
-        if isinstance(one, ragged.Ragged) and (deepest is None or one.depth > deepest.depth):
+        if type(one) is ragged.Ragged and (deepest is None or one.depth > deepest.depth):
             deepest = one
     if deepest is None:
         raise TypeError("where takes a Ragged; numpy.where takes arrays")

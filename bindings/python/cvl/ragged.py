@@ -11,7 +11,7 @@ from cvl import _arrow, _building, _shown, faults
 from cvl._elementwise import Operation, changed, is_bool, two
 from cvl._methods import OPERATIONS, UNARY, Methods, joined_at
 from cvl._rows import from_end
-from cvl.calls import bck_puz, dis_veb, dis_vez, dis_vuz, gather_segments_bool, gather_segments_int, ind_lez, ind_luz, pck_luz
+from cvl.calls import bck_puz, dis_veb, dis_vez, dis_vub, dis_vuz, gather_segments_bool, gather_segments_int, ind_lez, ind_luz, pck_luz
 from cvl.conversions import INT, as_ints
 from cvl.fault import Fault
 from cvl.segments import Segments, cut
@@ -251,6 +251,8 @@ class Ragged(Methods):
     def _beside(self, other: Any) -> Any:
         """What stands beside the values: those of rows of the same lengths, each number of an array for its row, or a number."""
         if type(other) is not Ragged:
+            if type(other) is numpy.ndarray and other.dtype.char == "i" and other.shape == (len(self),) and other.flags.carray:
+                return dis_vez(other, self._segments)
             if is_number(other):
                 return other[()] if type(other) is numpy.ndarray else other
             other = self._as_operand(other)
@@ -270,17 +272,18 @@ class Ragged(Methods):
 
     def _as_index(self, index: Any) -> Any:
         """The same, without booleans."""
-        found = index if is_number(index) or isinstance(index, Ragged) else self._as_operand(index)
-        if is_bool(found) or type(found) is Ragged and is_bool(found._flat()):
+        found = index if type(index) is Ragged or is_number(index) else self._as_operand(index)
+        if is_bool(found._flat() if type(found) is Ragged else found):
             raise TypeError("an index is no boolean; write r.filter(mask)")
         return found
 
     def _as_rows(self, other: Any) -> Ragged:
         """Rows, as many as these; one number a row is a row of one."""
-        found = other if isinstance(other, Ragged) or is_number(other) else self._as_operand(other)
+        found = other if type(other) is Ragged or is_number(other) else self._as_operand(other)
         if type(found) is not Ragged:
-            each = found if isinstance(found, numpy.ndarray) else numpy.full(len(self), found, bool if is_bool(found) else INT)
-            found = Ragged._new(each, cut(dis_vuz(1, len(each))))
+            if type(found) is not numpy.ndarray or found.ndim == 0:
+                found = (dis_vub if is_bool(found) else dis_vuz)(found, len(self))
+            found = Ragged._new(found, cut(dis_vuz(1, len(found))))
         return found
 
     def _as_many(self, other: Ragged) -> Ragged:

@@ -170,6 +170,9 @@ class OfArrow(Refusing):
             producer = Producer(self.of_ints(valid=valid, nulls=nulls))
             self.refused(ValueError, "row 1 is null, and a Ragged has no missing values", Ragged, producer)
         self.assertEqual(Ragged(Producer(self.of_ints(valid=valid, nulls=-1, offset=2, length=1))).tolist(), [[4, 1, 5]])
+        for offset, length, row in ((1, 2, 0), (0, 2, 1)):
+            producer = Producer(self.of_ints(valid=valid, nulls=1, offset=offset, length=length))
+            self.refused(ValueError, f"row {row} is null", Ragged, producer)
         self.assertEqual(Ragged(Producer(self.of_ints(valid=bits([True] * 3), nulls=-1))).tolist(), ROWS)
         node = self.of_ints((2, 4, 5))
         node.children[0].buffers[0], node.children[0].nulls = bits([False, True, True, True, False]), 2
@@ -178,7 +181,8 @@ class OfArrow(Refusing):
         self.assertEqual(Ragged(Producer(node)).tolist(), [[4, 1]])
 
     def test_refused_and_released(self):
-        longer, floats, wide = self.of_ints((0, 2, 9)), Node("g", 1, [None, numpy.ones(1)]), Node("l", 1, [None, numpy.ones(1, int)])
+        longer, floats = self.of_ints((0, 2, 9)), Node("g", 1, [None, numpy.ones(1)])
+        wide = Node("l", 1, [None, numpy.ones(1, int)])
         coded = Node("i", 1, [None, ints(0)], dictionary=Node("u", 0, []))
 
         def of_one(child):
@@ -480,6 +484,27 @@ class Operators(Refusing):
             (TypeError, "elements are int32 or bool, and not int64; write r.flatten().astype('int64')", lambda: r.astype(int)),
         ):
             self.refused(error, said, call)
+
+    def test_each_method_refuses_each_kind_of_bad_input(self):
+        r, no_numbers = Ragged(ROWS), ("a", None, 1.5, {}, object(), 2**40, -(2**40), [0.5] * 3, [2**40] * 3, ["a"] * 3, [None] * 3)
+        no_rows = ([1, 2], [[1, 2], [3]], Ragged([[1, 2], [3]]), Ragged([[[1]]]), numpy.ones((2, 2, 2), int))
+        masked = numpy.ma.array([1, 2, 3], mask=[True, False, False])
+        for name, call in (
+            *((sign, getattr(r, f"__{sign}__")) for sign in ("add", "rsub", "mul", "floordiv", "mod", "and", "xor", "lt", "ge", "iadd")),
+            *((name, getattr(r, name)) for name in ("take", "filter", "append", "repeat", "groupby")),
+            *((f"{name} to", lambda index, name=name: getattr(r, name)(index, 1)) for name in ("add_at", "minimum_at", "xor_at")),
+            *((f"{name} of", lambda values, name=name: getattr(r, name)([0, 0, 0], values)) for name in ("add_at", "maximum_at")),
+            ("where", lambda other: Ragged.where(r > 1, r, other)),
+        ):  # fmt: skip
+            for bad in (*no_numbers, *no_rows, masked):
+                with self.assertRaises((TypeError, ValueError, OverflowError), msg=f"{name} {bad!r}"):
+                    if call(bad) is NotImplemented:
+                        raise TypeError
+        for call in (r.min, r.max, r.bincount, r.shift, lambda fill: r.shift(1, fill), lambda to: r[to], lambda to: r.astype(to)):
+            for bad in ("a", 1.5, {}, object(), [0.5], masked):
+                with self.assertRaises((TypeError, ValueError, IndexError), msg=f"{call} {bad!r}"):
+                    call(bad)
+        self.assertEqual(r.tolist(), ROWS)
 
     def test_what_is_joined_stays_at_a_fault(self):
         r = Ragged(ROWS)
