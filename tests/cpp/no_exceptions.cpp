@@ -1,4 +1,4 @@
-// A program without exceptions: calls by a status, memory that is refused, and a fault that nobody looks at, which ends the program.
+// A program without exceptions: calls by a status, and a fault that nobody looks at, which ends the program.
 #include "trying.hpp"
 
 #include <csignal>
