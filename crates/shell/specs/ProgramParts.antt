@@ -109,7 +109,7 @@ ExplainsFiles A script inputs before after status (inl starved) told = told ≡ 
 ExplainsFiles A script inputs before after status (inr (inl (reads, closes))) told =
     let run = closes.works in
     ExplainsStop inputs run.script run.inputs (end_of closes.answer closes.finishes.flushed) told
-ExplainsFiles A script inputs before after status (inr (inr (failed, name, why, missed))) told = told ≡ Some (explained_failure name why)
+ExplainsFiles A script inputs before after status (inr (inr (failed, name, why, reads, stops, tells))) told = told ≡ Some (explained_failure name why)
 
 -- the same as without explanations, and then the explanation
 pub record RunsAndExplains (A : Type 0) (script : Text) (inputs : List Text) (before after : Seen) (status : ℕ) : Type 0 where

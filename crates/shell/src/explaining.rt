@@ -84,9 +84,9 @@ pub(crate) fn miss<A: Memory, H: Host>(
     requires empty { room.items ≡ [] }
     requires fits { length (unreadable_line unread.name.now) ≤ vec_capacity room }
     ensures plain { explain ≡ false →
-        Tells (Some (unreadable_line unread.name.now)) (H.seen host.old) (H.seen host.new) }
+        Tells (Some (unreadable_line unread.entry.name.now)) (H.seen host.old) (H.seen host.new) }
     ensures explaining { explain ≡ true →
-        MissesAndExplains unread.name.now unread.why (H.seen host.old) (H.seen host.new) }
+        MissesAndExplains unread.entry.name.now unread.entry.why (H.seen host.old) (H.seen host.new) }
     ensures status { result ≡ 3 }
 {
     tell_unreadable(unread.name, room, host);
