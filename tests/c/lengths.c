@@ -3,8 +3,9 @@
  * and with one in the last places, and holds what it answers and writes against plain loops. Nested texts that are read end at 4,194,304 elements,
  * and more are told. Then some calls on 2,147,483,647 booleans, the most of a vector, and on one more, of which nothing may be read; faults in
  * the last places of as many integers, zeros that the system has at hand, of which a page alone is written; and a text of as many words, and of
- * one more, whose bytes are one page, mapped again and again. It takes up to 6 GB of memory. It prints what differs, and its status is then 1. `tests/c/run lengths` builds and runs it; the functions
- * are those of calls.h, and the loops those of plain.h. One of the lengths may be named alone.
+ * one more, whose bytes are one piece of memory, mapped again and again. It takes up to 6 GB of memory. It prints what differs, and its status
+ * is then 1. `tests/c/run lengths` builds and runs it; the functions are those of calls.h, and the loops those of plain.h. One length may be
+ * named alone, with which four threads read the texts.
  */
 #define _GNU_SOURCE
 #include "far.h"
@@ -253,12 +254,12 @@ static char *far_text(size_t bytes, char word, size_t piece) {
     return found;
 }
 
-static void most_words(void) {
+static void most_words(size_t least_threads) {
     const size_t most = CVL_MOST_ELEMENTS, piece = (size_t)1 << 24;
     char *const text = far_text(2 * (most + 1), 'x', piece);
     int32_t number = 7;
     size_t count = 7;
-    for (size_t threads = 1; threads <= THREADS; threads += THREADS - 1) {
+    for (size_t threads = least_threads; threads <= THREADS; threads += THREADS - 1) {
         if (cvl_set_threads(threads) != 0) abort();
         check("the first of as many words", is(cvl_read_ints(text, 2 * most, &number, 1, &count), CVL_BAD_INPUT, 0));
         check("one word more", is(cvl_read_ints(text, 2 * (most + 1), &number, 1, &count), CVL_TOO_LONG, -1));
@@ -275,7 +276,7 @@ int main(int words, char **word) {
     setvbuf(stdout, NULL, _IONBF, 0);
     make_arrays(longest_one, longest_one / SEGMENT + 10);
     for (size_t k = 0; k < sizeof all / sizeof *all && named == 0; k++) each_call(all[k]);
-    if (named > 0 && named < CVL_MOST_ELEMENTS) each_call(named);
-    else most_of_all(), last_places(), most_words();
+    if (named > 0 && named < CVL_MOST_ELEMENTS) each_call(named), most_words(THREADS);
+    else most_of_all(), last_places(), most_words(1);
     return failed ? EXIT_FAILURE : EXIT_SUCCESS;
 }

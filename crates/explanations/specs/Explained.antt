@@ -2,8 +2,8 @@
 -- and what bound them, and what is wrong. It knows neither tiles nor workers.
 -- Source: this library's program.
 use Rattle.std.specs.Prelude.{ℕ, zero, suc, ℤ, Bool, true, false, ◌&&◌, ◌++◌, nat_lt}
-use Rattle.std.specs.Prelude.{List, [], ◌∷◌, codes, length, map, slice_get, if◌then◌else◌}
-use Rattle.std.specs.Prelude.{Option, Some, None, unwrap_or, Result, Ok, Err}
+use Rattle.std.specs.Prelude.{List, [], codes, length, map, if◌then◌else◌}
+use Rattle.std.specs.Prelude.{Option, Some, None, Result, Ok, Err}
 use Rattle.std.specs.Fmt.{decimal}
 use Rattle.std.specs.Option.{option_and_then}
 use Rattle.cvl_base.specs.declared.call.Arg.{Arg}

@@ -1,16 +1,22 @@
 -- What a host shows, and what its calls do with it. A sink is a host that has only standard output.
 -- Source: this library's program.
 use Rattle.std.specs.Prelude.{◌≡◌, ◌⊎◌, ℕ, ◌+◌, ◌<◌, Bool, true, false, ◌&&◌, ◌||◌, List, [], ◌∷◌, ◌++◌, length, take, Option, Some, None}
-use Rattle.std.specs.Prelude.{option_map}
+use Rattle.std.specs.Prelude.{Result, Ok, Err, Vec, option_map}
+use Rattle.script_runs.specs.declared.read_failure.ReadFailure.{ReadFailure}
 
--- a file was asked for by its name, and gave these bytes; none if it could not be read
+-- a file was asked for by its name, and gave these bytes, or could not be read for this reason
 pub record Read : Type 0 where
   pub name : List ℕ
-  pub bytes : Option (List ℕ)
+  pub bytes : Result (List ℕ) ReadFailure
 
--- a file with this name and these bytes; none if it cannot be read
-abbrev pub read_of : List ℕ → Option (List ℕ) → Read
+-- a file with this name, and what a read of it gave
+abbrev pub read_of : List ℕ → Result (List ℕ) ReadFailure → Read
 read_of name bytes = record { name = name; bytes = bytes }
+
+-- the bytes of the vector that a read returned, or why it failed
+abbrev pub bytes_read : {A : Type 0} → Result (Vec ℕ A) ReadFailure → Result (List ℕ) ReadFailure
+bytes_read (Ok file) = Ok file.items
+bytes_read (Err why) = Err why
 
 -- what a host shows: the bytes that standard output and standard error took and the files that were read, if it records these; how often a
 -- put and a flush failed; whether standard output is flushed, and whether it was when standard error last took a message; and whether

@@ -14,14 +14,15 @@ use Rattle.vector_handles.specs.declared.input.Input.{Input}
 use Rattle.script_runs.specs.Ends.{AtEnd, AtFault, EndsAs, Runs, failures_in, with_answer}
 use Rattle.script_runs.specs.Hosts.{Read, Seen, Shows, Tells, read_of, with_flush, with_reads}
 use Rattle.script_runs.specs.Meaning.{from_line, lines_of, meaning, names_left}
+use Rattle.script_runs.specs.declared.read_failure.ReadFailure.{ReadFailure}
 use Rattle.script_runs.specs.declared.stop.Stop.{Stop}
 use Rattle.script_runs.specs.declared.stop.Stop.TheVariants as stop
 use Rattle.script_runs.proofs.Shown.{nothing_answered, reads_both, shows_answer, shows_flush, shows_nothing_read, shows_on, shows_same, tells_after}
 use Rattle.explanations.specs.Explained.{explained, names_of_script}
-use Rattle.shell.specs.ProgramParts.{ClosesAndExplains, EndsBy, ExplainsFiles, Finishes, PutsShown, ReadsInputs, RunsAndExplains, RunsOrMisses, StarvesAndExplains, text_or_line}
-use Rattle.shell.specs.Programs.{ExplainsStop, ExplainsWork, IsAsked, Says, SaysWhy, Performs, PerformsAndExplains, PerformsAsAsked, RunsFiles, StopsAt, Works}
+use Rattle.shell.specs.ProgramParts.{ClosesAndExplains, EndsBy, ExplainsFiles, Finishes, MissesAndExplains, PutsShown, ReadsInputs, RunsAndExplains, RunsOrMisses, StarvesAndExplains, text_or_line}
+use Rattle.shell.specs.Programs.{ExplainsStop, ExplainsWork, IsAsked, Says, SaysWhy, Performs, PerformsAndExplains, PerformsAsAsked, StopsAt, Works}
 use Rattle.shell.specs.Programs.{end_of, ended, refused, status_of, unreadable, unreadable_line}
-use Rattle.shell.proofs.Performed.{finishes_after, performs_files}
+use Rattle.shell.proofs.Performed.{finishes_after}
 
 -- ---- runs
 
@@ -115,18 +116,20 @@ module _ {A : Type 0} where
       → RunsAndExplains A script names before after status
   starved_explained script names before after status h = record { mid = h.0; runs = inl h.1; told = Some _; explains = refl; tells = h.2 }
 
-  pub missed_explained : (script : Text) (names : List Text) (name : Text) (reads : List Read) (before after : Seen) → StopsAt (script ∷ names) reads name
-      → Tells (Some (unreadable_line name)) (with_reads reads before) after → RunsAndExplains A script names before after 3
-  missed_explained script names name reads before after stops tells =
-      record { mid = after; runs = inr (inr (refl, name, reads, stops, tells)); told = None; explains = refl; tells = shows_same after }
+  pub missed_explained : (script : Text) (names : List Text) (name : Text) (why : ReadFailure) (reads : List Read) (before middle after : Seen) (status : ℕ)
+      → StopsAt (script ∷ names) reads name why → Shows (with_reads reads before) middle → MissesAndExplains name why middle after → status ≡ 3
+      → RunsAndExplains A script names before after status
+  missed_explained script names name why reads before middle after status stops shown h failed =
+      let line = tells_after (Some (unreadable_line name)) (with_reads reads before) middle h.0 shown h.1 in
+      record { mid = h.0; runs = inr (inr (failed, name, why, reads, stops, line)); told = Some _; explains = refl; tells = h.2 }
 
   -- the script and its inputs are read, and it is run and explained
   pub files_explained : (script : Text) (names : List Text) (bytes : List ℕ) (inputs : List (Input A)) (before first middle after : Seen) (status : ℕ)
-      → Shows (with_reads (read_of script (Some bytes) ∷ []) before) first → ReadsInputs names first inputs middle
+      → Shows (with_reads (read_of script (Ok bytes) ∷ []) before) first → ReadsInputs names first inputs middle
       → ClosesAndExplains A names bytes inputs middle after status → RunsAndExplains A script names before after status
   files_explained script names bytes inputs before first middle after status opened read h =
-      let reads = read_of script (Some bytes) ∷ read.0 in
-      let shown = reads_both (read_of script (Some bytes) ∷ []) read.0 before first middle opened read.2 in
+      let reads = read_of script (Ok bytes) ∷ read.0 in
+      let shown = reads_both (read_of script (Ok bytes) ∷ []) read.0 before first middle opened read.2 in
       let closed = h.closes in
       record {
         mid = h.mid;
@@ -222,17 +225,17 @@ module _ {A : Type 0} where
             explains = inr explains;
             tells = h.tells;
           }
-      go (inr (inr missed)) none = record {
+      go (inr (inr (failed, name, why, reads, stops, tells))) explains = record {
         mid = h.mid;
         performs = record {
-          end = unreadable missed.1;
-          told = Some (unreadable_line missed.1);
-          comes = (taken, script, named, missed.2, missed.3, missed.4);
+          end = unreadable name why;
+          told = Some (unreadable_line name);
+          comes = (taken, script, named, reads, stops, tells);
           says = refl;
-          status_is = missed.0;
+          status_is = failed;
         };
         told = h.told;
-        explains = none;
+        explains = explains;
         tells = h.tells;
       }
       go (inr (inl (reads, closed))) explains = record {

@@ -1,5 +1,5 @@
 -- How the parts of the program come together.
-use Rattle.std.proofs.Common.{◌≡◌, ◌∙◌, ℕ, List, [], ◌∷◌, Option, Some, Result, Err, refl, ap, subst, inl, inr}
+use Rattle.std.proofs.Common.{◌≡◌, ◌∙◌, ℕ, List, [], ◌∷◌, Option, Some, Result, Ok, Err, refl, ap, subst, inl, inr}
 use Rattle.clap.specs.Words.{Text, fault_of}
 use Rattle.command_line.specs.Command.{cvl}
 use Rattle.command_line.specs.Reads.{inputs_given, script_given}
@@ -10,6 +10,7 @@ use Rattle.shell.specs.ProgramParts.{Closes, EndsBy, Finishes, ReadsInputs, Runs
 use Rattle.shell.specs.Programs.{Performs, RunsFiles, Says, StopsAt, Works, end_of, ended, status_of, unreadable, unreadable_line}
 use Rattle.script_runs.specs.Meaning.{meaning}
 use Rattle.vector_handles.specs.declared.input.Input.{Input}
+use Rattle.script_runs.specs.declared.read_failure.ReadFailure.{ReadFailure}
 use Rattle.script_runs.specs.declared.stop.Stop.{Stop}
 use Rattle.script_runs.specs.declared.stop.Stop.TheVariants as stop
 
@@ -47,11 +48,11 @@ closes Does before middle after status written answer done shown ends = record {
 
 -- the script and its inputs are read, and it is run
 pub runs_files : (A : Type 0) (script : Text) (names : List Text) (bytes : List ℕ) (inputs : List (Input A)) (before first middle after : Seen) (status : ℕ)
-    → Shows (with_reads (read_of script (Some bytes) ∷ []) before) first → ReadsInputs names first inputs middle
+    → Shows (with_reads (read_of script (Ok bytes) ∷ []) before) first → ReadsInputs names first inputs middle
     → Closes (EndsAs (meaning bytes inputs)) middle after status → RunsOrMisses A script names before after status
 runs_files A script names bytes inputs before first middle after status opened read closed =
-    let shown = reads_both (read_of script (Some bytes) ∷ []) read.0 before first middle opened read.2 in
-    let reads = read_of script (Some bytes) ∷ read.0 in
+    let shown = reads_both (read_of script (Ok bytes) ∷ []) read.0 before first middle opened read.2 in
+    let reads = read_of script (Ok bytes) ∷ read.0 in
     inr (inl (
       reads,
       closes (RunsFiles A script names reads) (with_reads reads before) (with_answer closed.written closed.answer middle) after status closed.written closed.answer
@@ -60,9 +61,10 @@ runs_files A script names bytes inputs before first middle after status opened r
     ))
 
 -- a file cannot be read
-pub misses : (A : Type 0) (script : Text) (names : List Text) (name : Text) (reads : List Read) (before after : Seen) → StopsAt (script ∷ names) reads name
-    → Tells (Some (unreadable_line name)) (with_reads reads before) after → RunsOrMisses A script names before after 3
-misses A script names name reads before after stops tells = inr (inr (refl, name, reads, stops, tells))
+pub misses : (A : Type 0) (script : Text) (names : List Text) (name : Text) (why : ReadFailure) (reads : List Read) (before after : Seen) (status : ℕ)
+    → StopsAt (script ∷ names) reads name why → Tells (Some (unreadable_line name)) (with_reads reads before) after → status ≡ 3
+    → RunsOrMisses A script names before after status
+misses A script names name why reads before after status stops tells failed = inr (inr (failed, name, why, reads, stops, tells))
 
 performs : (A : Type 0) (words : List Text) (reads : List Read) (before after : Seen) (status : ℕ) → Closes (Works A words reads) (with_reads reads before) after status
     → Performs A words before after status
@@ -103,10 +105,10 @@ performs_files A words script inputs before after status taken named given (inr 
       works = inr (inr (taken, script, named, rw (← given) closed.works));
       finishes = closed.finishes;
     })
-performs_files A words script inputs before after status taken named given (inr (inr h)) = record {
-  end = unreadable h.1;
-  told = Some (unreadable_line h.1);
-  comes = (taken, script, named, h.2, rw (← given) h.3, h.4);
+performs_files A words script inputs before after status taken named given (inr (inr (failed, name, why, reads, stops, tells))) = record {
+  end = unreadable name why;
+  told = Some (unreadable_line name);
+  comes = (taken, script, named, reads, rw (← given) stops, tells);
   says = refl;
-  status_is = h.0;
+  status_is = failed;
 }

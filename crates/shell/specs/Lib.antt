@@ -7,6 +7,7 @@ pub use Rattle.script_runs.specs.Meaning
 pub use Rattle.script_runs.specs.MemSinks
 pub mod ProgramParts
 pub mod Programs
+pub mod ReadFailures
 pub use Rattle.script_runs.specs.Sinks
 pub use Rattle.script_runs.specs.StopTexts
 pub mod Streams

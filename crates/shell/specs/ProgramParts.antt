@@ -1,6 +1,6 @@
 -- What the parts of the program do on its host.
 -- Source: this library's program.
-use Rattle.std.specs.Prelude.{◌≡◌, ◌⊎◌, ℕ, ◌≤◌, Bool, List, ◌∷◌, Option, Some, None, Result, Ok, Err, Vec, length}
+use Rattle.std.specs.Prelude.{◌≡◌, ◌⊎◌, ℕ, ◌≤◌, Bool, List, ◌∷◌, Option, Some, Result, Ok, Err, Vec, length}
 use Rattle.std.proofs.Common.{inl, inr}
 use Rattle.std.specs.List.{All}
 use Rattle.clap.specs.Words.{Text}
@@ -12,6 +12,8 @@ use Rattle.explained_calls.specs.Sentences.{indented}
 use Rattle.explanations.specs.Explained.{memory_words}
 use Rattle.shell.specs.Programs.{ExplainsStop, GaveInputs, IsShown, SaysWhy, RunsFiles, Says, Starves, StopsAt}
 use Rattle.shell.specs.Programs.{end_of, ended, no_memory_line, status_of, unreadable_line}
+use Rattle.shell.specs.ReadFailures.{explained_failure}
+use Rattle.script_runs.specs.declared.read_failure.ReadFailure.{ReadFailure}
 use Rattle.script_runs.specs.declared.stop.Stop.{Stop}
 use Rattle.script_runs.specs.declared.stop.Stop.TheVariants as stop
 
@@ -58,17 +60,17 @@ abbrev pub ReadsInputs : {A : Type 0} → List Text → Seen → List (Input A) 
 ReadsInputs names before inputs after =
     (reads : List Read) × GaveInputs names reads inputs × Shows (with_reads reads before) after
 
--- one of the files cannot be read
-abbrev pub Misses : List Text → Seen → Text → Seen → Type 0
-Misses names before name after =
-    (reads : List Read) × StopsAt names reads name × Shows (with_reads reads before) after
+-- one of the files cannot be read, for this reason
+abbrev pub Misses : List Text → Seen → Text → ReadFailure → Seen → Type 0
+Misses names before name why after =
+    (reads : List Read) × StopsAt names reads name why × Shows (with_reads reads before) after
 
 -- there is no memory for what must be ready, or a script runs over its inputs, or the first of their files that cannot be read is reported
 abbrev pub RunsOrMisses : Type 0 → Text → List Text → Seen → Seen → ℕ → Type 0
 RunsOrMisses A script inputs before after status =
     Finishes (Err (stop.NoResources 0)) before after status
     ⊎ (((reads : List Read) × Closes (RunsFiles A script inputs reads) (with_reads reads before) after status)
-    ⊎ ((status ≡ 3) × (name : Text) × (reads : List Read) × StopsAt (script ∷ inputs) reads name
+    ⊎ ((status ≡ 3) × (name : Text) × (why : ReadFailure) × (reads : List Read) × StopsAt (script ∷ inputs) reads name why
     × Tells (Some (unreadable_line name)) (with_reads reads before) after))
 
 -- an explanation, or the line in its place if memory for it is refused
@@ -95,14 +97,20 @@ pub record ClosesAndExplains
   pub explains : ExplainsStop files script inputs (end_of closes.answer closes.finishes.flushed) told
   pub tells : Tells told mid after
 
--- about the very script and inputs that were read and run
+-- a file that cannot be read is reported, and why is explained
+abbrev pub MissesAndExplains : Text → ReadFailure → Seen → Seen → Type 0
+MissesAndExplains name why before after =
+    (mid : Seen) × Tells (Some (unreadable_line name)) before mid × Tells (Some (explained_failure name why)) mid after
+
+-- about the very script and inputs that were read and run, or the file that could not be read
 abbrev pub ExplainsFiles : (A : Type 0) (script : Text) (inputs : List Text) (before after : Seen) (status : ℕ)
     → RunsOrMisses A script inputs before after status → Option (List ℕ) → Type 0
 ExplainsFiles A script inputs before after status (inl starved) told = told ≡ Some (indented memory_words)
 ExplainsFiles A script inputs before after status (inr (inl (reads, closes))) told =
     let run = closes.works in
     ExplainsStop inputs run.script run.inputs (end_of closes.answer closes.finishes.flushed) told
-ExplainsFiles A script inputs before after status (inr (inr missed)) told = told ≡ None
+ExplainsFiles A script inputs before after status (inr (inr (failed, name, why, reads, stops, tells))) told =
+    told ≡ Some (explained_failure name why)
 
 -- the same as without explanations, and then the explanation
 pub record RunsAndExplains (A : Type 0) (script : Text) (inputs : List Text) (before after : Seen) (status : ℕ) : Type 0 where

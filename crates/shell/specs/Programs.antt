@@ -1,6 +1,7 @@
 -- How the program ends: what it writes, which files it reads, its status, and its message on standard error.
 -- Source: this library's program.
-use Rattle.std.specs.Prelude.{◌≡◌, ◌⊎◌, ℕ, Bool, true, false, List, [], ◌∷◌, ◌++◌, map, codes, Option, Some, None, IsSome, Result, Ok, Err}
+use Rattle.std.specs.Prelude.{◌≡◌, ◌⊎◌, ℕ, Bool, true, false, List, [], ◌∷◌, ◌++◌, map, codes, Option, Some, None, IsSome}
+use Rattle.std.specs.Prelude.{Result, Ok, Err, IsOk}
 use Rattle.std.proofs.Common.{inl, inr}
 use Rattle.std.specs.List.{All, AllZip, list_all}
 use Rattle.std.specs.Str.{is_utf8}
@@ -17,14 +18,16 @@ use Rattle.script_runs.specs.Ends.{EndsAs, with_answer}
 use Rattle.script_runs.specs.Hosts.{Read, Seen, Tells, read_of, with_flush, with_reads}
 use Rattle.script_runs.specs.Meaning.{meaning}
 use Rattle.script_runs.specs.StopTexts.{stop_line}
+use Rattle.script_runs.specs.declared.read_failure.ReadFailure.{ReadFailure}
 use Rattle.script_runs.specs.declared.stop.Stop.{Stop}
 use Rattle.script_runs.specs.declared.stop.Stop.TheVariants as stop
+use Rattle.shell.specs.ReadFailures.{explained_failure}
 
--- how it ends: with its work done or stopped, with its command line refused, or with a file that cannot be read
+-- how it ends: with its work done or stopped, with its command line refused, or with a file that cannot be read, and why
 pub data End : Type 0 where
   ended : Option Stop → End
   refused : End
-  unreadable : Text → End
+  unreadable : Text → ReadFailure → End
 
 -- the status of the program for a stop
 abbrev pub stop_status : Stop → ℕ
@@ -37,7 +40,7 @@ abbrev pub status_of : End → ℕ
 status_of (ended None) = 0
 status_of (ended (Some why)) = stop_status why
 status_of refused = 2
-status_of (unreadable name) = 3
+status_of (unreadable name why) = 3
 
 -- the line for a file that cannot be read
 abbrev pub unreadable_line : Text → List ℕ
@@ -48,7 +51,7 @@ abbrev pub Says : End → Option (List ℕ) → Type 0
 Says (ended None) told = told ≡ None
 Says (ended (Some why)) told = told ≡ Some (stop_line why)
 Says refused told = IsSome told
-Says (unreadable name) told = told ≡ Some (unreadable_line name)
+Says (unreadable name why) told = told ≡ Some (unreadable_line name)
 
 -- the work's own stop; else a flush that failed is a failed write
 abbrev pub end_of : Result (Unit {0}) Stop → Bool → Option Stop
@@ -61,7 +64,7 @@ end_of (Ok done) false = Some (stop.WriteFailed 0)
 module _ {A : Type 0} where
   -- the input is the very bytes that the read gave
   abbrev pub Gave : Read → Input A → Type 0
-  Gave read (Bytes bytes) = read.bytes ≡ Some bytes.items
+  Gave read (Bytes bytes) = read.bytes ≡ Ok bytes.items
   Gave read (Vector numbers) = ⊥
 
   -- the files of these names are read, each once and in this order, and gave the inputs
@@ -69,13 +72,13 @@ module _ {A : Type 0} where
     pub in_order : map (λ read. read.name) reads ≡ names
     pub given : AllZip Gave reads inputs
 
--- the files of the names are read, each once and in this order, up to this one, the first that could not be read
-pub record StopsAt (names : List Text) (reads : List Read) (name : Text) : Type 0 where
+-- the files of the names are read, each once and in this order, up to this one, the first that could not be read, for this reason
+pub record StopsAt (names : List Text) (reads : List Read) (name : Text) (why : ReadFailure) : Type 0 where
   pub before : List Read
   pub after : List Text
   pub in_order : names ≡ map (λ read. read.name) before ++ name ∷ after
-  pub last : reads ≡ before ++ read_of name None ∷ []
-  pub given : All (λ read. IsSome read.bytes) before
+  pub last : reads ≡ before ++ read_of name (Err why) ∷ []
+  pub given : All (λ read. IsOk read.bytes) before
 
 -- ---- the work: what it reads, what it writes on standard output, and its answer
 
@@ -98,7 +101,7 @@ pub record RunsFiles
   pub script : List ℕ
   pub input_reads : List Read
   pub inputs : List (Input A)
-  pub script_first : reads ≡ read_of script_name (Some script) ∷ input_reads
+  pub script_first : reads ≡ read_of script_name (Ok script) ∷ input_reads
   pub then_inputs : GaveInputs input_names input_reads inputs
   pub ends : EndsAs (meaning script inputs) written answer
 
@@ -122,9 +125,9 @@ Comes A words before told after (ended end) =
 Comes A words before told after refused =
     (kind : ErrorKind) × IsAmong kind (fault_of cvl words) × (IsAsked kind → ⊥)
     × Tells told before after
-Comes A words before told after (unreadable name) =
+Comes A words before told after (unreadable name why) =
     (fault_of cvl words ≡ []) × (script : Text) × (script_given words ≡ Some script)
-    × (reads : List Read) × StopsAt (script ∷ inputs_given words) reads name
+    × (reads : List Read) × StopsAt (script ∷ inputs_given words) reads name why
     × Tells told (with_reads reads before) after
 
 -- the program ran on these words: what its host shows before and after, and the status
@@ -172,7 +175,7 @@ abbrev pub ExplainsEnd : (A : Type 0) (words : List Text) (before : Seen) (first
 ExplainsEnd A words before first after (ended end) (reads, written, answer, flushed, works, is, tells) told =
     ExplainsWork A words reads written answer works end told
 ExplainsEnd A words before first after refused comes told = told ≡ None
-ExplainsEnd A words before first after (unreadable name) comes told = told ≡ None
+ExplainsEnd A words before first after (unreadable name why) comes told = told ≡ Some (explained_failure name why)
 
 -- the program ran on these words as without explanations, and then standard error gets the explanation
 pub record PerformsAndExplains (A : Type 0) (words : List Text) (before after : Seen) (status : ℕ) : Type 0 where

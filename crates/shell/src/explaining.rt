@@ -1,6 +1,6 @@
 //! Runs that explain why they stopped.
 
-ghost use Rattle.std.specs.Prelude.{◌≡◌, ◌^◌, ◌<◌, ◌-◌, ◌≤◌, [], List, Some, Err, length, true, false};
+ghost use Rattle.std.specs.Prelude.{◌≡◌, ◌^◌, ◌<◌, ◌-◌, ◌≤◌, [], List, Some, Err, length, true, false, vec_capacity};
 ghost use Rattle.clap.specs.Walk.{texts};
 ghost use Rattle.clap.specs.Words.{Text};
 ghost use Rattle.cvl_base.specs.Limits.{most_script_bytes};
@@ -8,11 +8,15 @@ ghost use Rattle.vector_handles.specs.declared.input.Input.{Input};
 ghost use Rattle.script_runs.specs.Hosts.{Tells};
 ghost use Rattle.script_runs.specs.declared.stop.Stop.TheVariants as stop;
 ghost use Rattle.explanations.specs.Explained.{explained};
-ghost use Rattle.shell.specs.ProgramParts.{ClosesAndExplains, Finishes, StarvesAndExplains, TellsStop, text_or_line};
+ghost use Rattle.shell.specs.ProgramParts.{ClosesAndExplains, Finishes, MissesAndExplains, StarvesAndExplains};
+ghost use Rattle.shell.specs.ProgramParts.{TellsStop, text_or_line};
+ghost use Rattle.shell.specs.Programs.{unreadable_line};
 
-use crate::endings::{FINE, close, finish, status_of};
+use crate::endings::{FAILED, FINE, close, finish, status_of, tell_unreadable};
+use crate::files::Unread;
 use crate::host::Host;
 use crate::programs::STARVED;
+use crate::read_failures::explained_failure;
 use command_line::Words;
 use crew::Gate;
 use cvl_base::limits::MOST_SCRIPT_BYTES;
@@ -68,6 +72,28 @@ pub(crate) fn starve<H: Host>(explain: bool, host: &mut H) -> u8
         host.put_error(MEMORY);
     }
     status
+}
+
+/// Reports a file that cannot be read, explains why if that is asked for, and returns the status. The line fits into `room`.
+pub(crate) fn miss<A: Memory, H: Host>(
+    explain: bool,
+    unread: Unread<'_>,
+    room: Vec<u8, A>,
+    host: &mut H,
+) -> u8
+    requires empty { room.items ≡ [] }
+    requires fits { length (unreadable_line unread.name.now) ≤ vec_capacity room }
+    ensures plain { explain ≡ false →
+        Tells (Some (unreadable_line unread.entry.name.now)) (H.seen host.old) (H.seen host.new) }
+    ensures explaining { explain ≡ true →
+        MissesAndExplains unread.entry.name.now unread.entry.why (H.seen host.old) (H.seen host.new) }
+    ensures status { result ≡ 3 }
+{
+    tell_unreadable(unread.name, room, host);
+    if explain {
+        host.put_error(explained_failure(unread.name, unread.why));
+    }
+    FAILED
 }
 
 /// Reports and explains that the script is too long, and returns the status.

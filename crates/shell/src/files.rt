@@ -10,6 +10,7 @@ use crate::host::Host;
 use crate::whole_files::FileRoom;
 use command_line::Words;
 use cvl_base::{Config, Memory, NoResources};
+use script_runs::ReadFailure;
 use std::thread::Threads;
 use vector_handles::Input;
 
@@ -18,6 +19,13 @@ use vector_handles::Input;
 pub(crate) struct Room<A: Memory> {
     pub(crate) inputs: Vec<Input<A>, A>,
     pub(crate) line: Vec<u8, A>,
+}
+
+/// A file that cannot be read, and why.
+#[derive(Clone, Copy)]
+pub(crate) struct Unread<'a> {
+    pub(crate) name: &'a str,
+    pub(crate) why: ReadFailure,
 }
 
 /// The bytes of the longest name.
@@ -48,7 +56,7 @@ pub(crate) fn room_for<A: Memory>(alloc: A, words: &Words<'_>) -> Result<Room<A>
     })
 }
 
-/// Reads the inputs in order, or names the first that cannot be read.
+/// Reads the inputs in order, up to the first that cannot be read.
 pub(crate) fn read_inputs<'a, R: Threads + Sync, A: Memory, H: Host>(
     rt: &R,
     alloc: A,
@@ -56,19 +64,19 @@ pub(crate) fn read_inputs<'a, R: Threads + Sync, A: Memory, H: Host>(
     names: &[&'a str],
     room: Vec<Input<A>, A>,
     host: &mut H,
-) -> Result<Vec<Input<A>, A>, &'a str>
+) -> Result<Vec<Input<A>, A>, Unread<'a>>
     requires empty { room.items ≡ [] }
     requires fits { length names.now ≤ vec_capacity room }
     ensures read { IfOk result (λ inputs.
         ReadsInputs (texts names.now) (H.seen host.old) inputs.items (H.seen host.new)) }
-    ensures missed { IfErr result (λ name.
-        Misses (texts names.now) (H.seen host.old) name.now (H.seen host.new)) }
+    ensures missed { IfErr result (λ unread.
+        Misses (texts names.now) (H.seen host.old) unread.name.now unread.why (H.seen host.new)) }
 {
     let mut inputs = room;
     for name in names {
         match host.read_file(name, FileRoom::new(rt, alloc, config)) {
-            None => return Err(name),
-            Some(bytes) => inputs.push_reserved(Input::Bytes(bytes)),
+            Err(why) => return Err(Unread { name, why }),
+            Ok(bytes) => inputs.push_reserved(Input::Bytes(bytes)),
         }
     }
     Ok(inputs)

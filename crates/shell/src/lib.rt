@@ -8,6 +8,7 @@ pub mod host;
 pub mod process;
 mod process_words;
 pub mod programs;
+mod read_failures;
 pub mod stream_host;
 pub mod whole_files;
 
@@ -17,8 +18,8 @@ pub use host::Host;
 pub use process::{SystemFiles, run_process, run_words};
 pub use programs::{program, program_gated};
 pub use script_runs::{
-    Gate, MemSink, OpenGate, Point, Sink, SinkFault, Stop, mem_sink, put_stop, run, run_gated,
-    runs, sink, stop,
+    Gate, MemSink, OpenGate, Point, ReadFailure, Sink, SinkFault, Stop, mem_sink, put_stop, run,
+    run_gated, runs, sink, stop,
 };
 pub use stream_host::{ReadFiles, StreamHost};
 pub use whole_files::FileRoom;

@@ -7,10 +7,11 @@ use crate::endings::{COMMAND_LINE, FAILED, tell_stop};
 use crate::host::Host;
 use crate::process_words::{are_texts, borrowed, process_words};
 use crate::programs::program;
+use crate::read_failures::failure_of;
 use crate::stream_host::ReadFiles;
 use crate::whole_files::FileRoom;
 use cvl_base::Memory;
-use script_runs::Stop;
+use script_runs::{ReadFailure, Stop};
 use std::fs;
 use std::fs::File;
 use std::rt::{Env, Files};
@@ -38,10 +39,12 @@ impl<R: Files> ReadFiles for SystemFiles<'_, R> {
         &mut self,
         name: &str,
         room: FileRoom<'_, T, A>,
-    ) -> Option<Vec<u8, A>> {
+    ) -> Result<Vec<u8, A>, ReadFailure> {
         let expected = expected_bytes(self.rt, name);
-        let mut file = File::open(self.rt, name).ok()?;
-        room.read_whole(&mut file, expected)
+        match File::open(self.rt, name) {
+            Err(error) => Err(failure_of(error.kind())),
+            Ok(mut file) => room.read_whole(&mut file, expected),
+        }
     }
 }
 

@@ -8,9 +8,9 @@ ghost use Rattle.shell.specs.ProgramParts.{Closes, ClosesAndExplains, PutsShown}
 ghost use Rattle.shell.specs.ProgramParts.{RunsAndExplains, RunsOrMisses, TellsSome};
 ghost use Rattle.shell.specs.Programs.{PerformsAsAsked};
 
-use crate::endings::{COMMAND_LINE, FAILED, finish, tell_stop, tell_unreadable};
-use crate::explaining::{run_explained, starve};
-use crate::files::{read_inputs, room_for};
+use crate::endings::{COMMAND_LINE, finish, tell_stop};
+use crate::explaining::{miss, run_explained, starve};
+use crate::files::{Unread, read_inputs, room_for};
 use crate::host::Host;
 use crate::whole_files::FileRoom;
 use clap::error::ErrorKind;
@@ -109,11 +109,11 @@ fn run_files<R: Threads + Sync, A: Memory, H: Host, G: Gate>(
         return starve(words.explain, host);
     };
     match host.read_file(words.script, FileRoom::new(rt, alloc, words.config)) {
-        None => {
-            tell_unreadable(words.script, room.line, host);
-            FAILED
+        Err(why) => {
+            let name = words.script;
+            miss(words.explain, Unread { name, why }, room.line, host)
         }
-        Some(text) => match read_inputs(
+        Ok(text) => match read_inputs(
             rt,
             alloc,
             words.config,
@@ -121,10 +121,7 @@ fn run_files<R: Threads + Sync, A: Memory, H: Host, G: Gate>(
             room.inputs,
             host,
         ) {
-            Err(name) => {
-                tell_unreadable(name, room.line, host);
-                FAILED
-            }
+            Err(unread) => miss(words.explain, unread, room.line, host),
             Ok(inputs) => run_inputs(rt, alloc, words, text.as_slice(), inputs, host, gate),
         },
     }
@@ -141,10 +138,10 @@ fn run_files<R: Threads + Sync, A: Memory, H: Host, G: Gate>(
 /// which are made ready before the first read. It is `line 0: write failed` if that text cannot be written or the flush fails;
 /// but a run that stopped by itself keeps its own line and status.
 ///
-/// With `--explain`, an explanation of the stop follows on standard error, as [`explain`](crate::explain) gives it; nothing else
-/// changes, and a run that does not stop takes no more memory. If memory for the explanation is refused, the line
-/// `cvl: no memory to explain this` stands in its place: only that of a script's fault takes memory. Nothing is explained of help
-/// and the version, nor if there is no memory for the words, since then it is not known that they ask for it.
+/// With `--explain`, an explanation of the stop follows on standard error, as [`explain`](crate::explain) gives it, or of why a
+/// file cannot be read; nothing else changes, and a run that does not stop takes no more memory. If memory for the explanation is
+/// refused, the line `cvl: no memory to explain this` stands in its place: only that of a script's fault takes memory. Nothing is
+/// explained of help and the version, nor if there is no memory for the words, since then it is not known that they ask for it.
 ///
 /// There is always a message: a stop's line takes no memory, and that of a file has its room before the first read. Without
 /// memory for clap's text of a refused command line, it is `line 0: no resources`.

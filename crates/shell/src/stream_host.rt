@@ -1,14 +1,14 @@
 //! A host over a reader of files and two writers.
 
-ghost use Rattle.std.specs.Prelude.{◌≡◌, ◌∷◌, [], true, false, option_map};
+ghost use Rattle.std.specs.Prelude.{◌≡◌, ◌∷◌, [], true, false};
 ghost use denote.Param.Send.{IsSync};
-ghost use Rattle.script_runs.specs.Hosts.{IsTold, read_of, with_more};
+ghost use Rattle.script_runs.specs.Hosts.{IsTold, bytes_read, read_of, with_more};
 ghost use Rattle.shell.specs.Streams.{WritesWhole};
 
 use crate::host::Host;
 use crate::whole_files::FileRoom;
 use cvl_base::Memory;
-use script_runs::{Sink, SinkFault};
+use script_runs::{ReadFailure, Sink, SinkFault};
 use std::io::Write;
 use std::thread::Threads;
 
@@ -20,7 +20,7 @@ pub trait ReadFiles {
     /// The reads so far; none if the reader does not record them.
     ghost reads: { Self → Option (List Read) };
 
-    /// The whole of a file; none if it cannot be read or memory for it is refused. Either is a read.
+    /// The whole of a file, or why it cannot be read. Either is a read.
     ///
     /// `room` reads it, and takes the number of bytes that the file should have, if that is known.
     // A clause too says that the runtime may be shared, since a bound of a method is assumed of the calling thread alone.
@@ -28,10 +28,10 @@ pub trait ReadFiles {
         &mut self,
         name: &str,
         room: FileRoom<'_, R, A>,
-    ) -> Option<Vec<u8, A>>
+    ) -> Result<Vec<u8, A>, ReadFailure>
         requires { IsSync R.row }
         ensures { IsTold
-            (with_more (read_of name.now (option_map (λ file. file.items) result) ∷ []) (reads self.old))
+            (with_more (read_of name.now (bytes_read result) ∷ []) (reads self.old))
             (reads self.new) };
 }
 
@@ -135,7 +135,7 @@ impl<F: ReadFiles, O: Write, E: Write> Host for StreamHost<F, O, E> {
         &mut self,
         name: &str,
         room: FileRoom<'_, R, A>,
-    ) -> Option<Vec<u8, A>> {
+    ) -> Result<Vec<u8, A>, ReadFailure> {
         self.files.read_file(name, room)
     }
 

@@ -1,10 +1,12 @@
 //! Files that are read whole, into memory that several threads touch ahead of the bytes.
 
-ghost use Rattle.std.specs.Prelude.{◌≡◌, ◌+◌, ◌-◌, ◌^◌, ◌<◌, ◌≤◌, List, Option, ℕ, IfSome, IsTrue, length, max, min, take};
+ghost use Rattle.std.specs.Prelude.{◌≡◌, ◌+◌, ◌-◌, ◌^◌, ◌<◌, ◌≤◌, List, Option, ℕ, IfOk, IfSome, IsTrue, length, max, min, take};
 ghost use Rattle.std.specs.Io.KnownBytes.{Consumes, IsAtEnd};
 
+use crate::read_failures::failure_of;
 use cvl_base::Config;
 use fresh::extend_by_copies;
+use script_runs::ReadFailure;
 use sharing::threads_clearing;
 use std::alloc::Allocator;
 use std::io::{ErrorKind, Read};
@@ -14,26 +16,30 @@ use std::thread::Threads;
 const FIRST_STEP: usize = 1_048_576;
 
 /// Reads into a room from this place on, until the room is full, the file ends, or a read is interrupted. Returns how many places
-/// are filled, and whether the file ended; none if a read fails.
-fn fill<F: Read>(file: &mut F, room: &mut [u8], from: usize) -> Option<(usize, bool)>
+/// are filled, and whether the file ended; or why a read failed.
+fn fill<F: Read>(
+    file: &mut F,
+    room: &mut [u8],
+    from: usize,
+) -> Result<(usize, bool), ReadFailure>
     requires { from ≤ length room.old }
-    ensures within { IfSome result (λ r. (from ≤ r.0) × (r.0 ≤ length room.new)) }
-    ensures bytes { IfSome result (λ r. (before : Option (List ℕ))
+    ensures within { IfOk result (λ r. (from ≤ r.0) × (r.0 ≤ length room.new)) }
+    ensures bytes { IfOk result (λ r. (before : Option (List ℕ))
         → Consumes before (F.remaining file.old) (take from room.old)
         → Consumes before (F.remaining file.new) (take r.0 room.new)) }
-    ensures end { IfSome result (λ r. IsTrue r.1 → IsAtEnd (F.remaining file.new)) }
+    ensures end { IfOk result (λ r. IsTrue r.1 → IsAtEnd (F.remaining file.new)) }
 {
     let mut filled = from;
     while filled < room.len() {
         let (_, left) = room.split_at_mut(filled);
         match file.read(left) {
-            Ok(0) => return Some((filled, true)),
+            Ok(0) => return Ok((filled, true)),
             Ok(count) => filled += count,
             Err(error) if error.kind() == ErrorKind::Interrupted => break,
-            Err(_) => return None,
+            Err(error) => return Err(failure_of(error.kind())),
         }
     }
-    Some((filled, false))
+    Ok((filled, false))
 }
 
 /// How many more bytes of memory to ask for after so many bytes of those expected were read: one more than are left, which shows
@@ -69,29 +75,40 @@ impl<'a, R: Threads + Sync, A: Allocator> FileRoom<'a, R, A> {
         FileRoom { rt, alloc, config }
     }
 
-    /// All bytes left in a file, of which `expected` are expected; none if a read fails, or there is no memory for them.
+    /// All bytes left in a file, of which `expected` are expected; or why a read failed, also for want of memory.
     // `read_to_end` repeats an interrupted read.
-    pub fn read_whole<F: Read>(self, file: &mut F, expected: usize) -> Option<Vec<u8, A>>
-        ensures { IfSome result (λ bytes. IfSome (F.remaining file.old) (λ left. bytes.items ≡ left)) }
+    pub fn read_whole<F: Read>(
+        self,
+        file: &mut F,
+        expected: usize,
+    ) -> Result<Vec<u8, A>, ReadFailure>
+        ensures { IfOk result (λ bytes. IfSome (F.remaining file.old) (λ left. bytes.items ≡ left)) }
     {
         let (mut bytes, at_end) = self.read_expected(file, expected)?;
-        if !at_end {
-            file.read_to_end(&mut bytes).ok()?;
+        if at_end {
+            return Ok(bytes);
         }
-        Some(bytes)
+        match file.read_to_end(&mut bytes) {
+            Ok(_) => Ok(bytes),
+            Err(error) => Err(failure_of(error.kind())),
+        }
     }
 
     /// Reads the expected bytes, as far as several threads pay and memory is granted, and returns whether the file has ended.
     // Asks for a mebibyte, and then at once for all that is expected: memory that isn't written costs nothing, while a block that
     // grows is copied.
-    fn read_expected<F: Read>(self, file: &mut F, expected: usize) -> Option<(Vec<u8, A>, bool)>
-        ensures bytes { IfSome result (λ r. Consumes (F.remaining file.old) (F.remaining file.new) r.0.items) }
-        ensures end { IfSome result (λ r. IsTrue r.1 → IsAtEnd (F.remaining file.new)) }
+    fn read_expected<F: Read>(
+        self,
+        file: &mut F,
+        expected: usize,
+    ) -> Result<(Vec<u8, A>, bool), ReadFailure>
+        ensures bytes { IfOk result (λ r. Consumes (F.remaining file.old) (F.remaining file.new) r.0.items) }
+        ensures end { IfOk result (λ r. IsTrue r.1 → IsAtEnd (F.remaining file.new)) }
     {
         let FileRoom { rt, alloc, config } = self;
         let mut bytes = Vec::new(alloc);
         if threads_clearing(config, expected).get() < 2 {
-            return Some((bytes, false));
+            return Ok((bytes, false));
         }
         let mut step = next_step(0, expected);
         while step > 0 {
@@ -109,10 +126,10 @@ impl<'a, R: Threads + Sync, A: Allocator> FileRoom<'a, R, A> {
             let (filled, at_end) = fill(file, bytes.as_mut_slice(), read)?;
             bytes.truncate(filled);
             if at_end || filled < read + step {
-                return Some((bytes, at_end));
+                return Ok((bytes, at_end));
             }
             step = next_step(filled, expected);
         }
-        Some((bytes, false))
+        Ok((bytes, false))
     }
 }

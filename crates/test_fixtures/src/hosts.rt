@@ -3,7 +3,7 @@
 ghost use Rattle.std.specs.Prelude.{◌≡◌};
 
 use cvl_base::{Memory, NoResources};
-use shell::{FileRoom, ReadFiles, StreamHost};
+use shell::{FileRoom, ReadFailure, ReadFiles, StreamHost};
 use std::alloc::{AllocError, Global};
 use std::io::{Error, ErrorKind, Result as IoResult, Write};
 use std::thread::Threads;
@@ -11,6 +11,23 @@ use vector_handles::Input;
 
 /// Names of files, each with its bytes.
 pub type Files<'a> = &'a [(&'a str, &'a str)];
+
+/// Names of files that cannot be read, each with the reason; no other file has a name that is not in the table of files.
+const UNREADABLE: &[(&str, ReadFailure)] = &[
+    ("folder", ReadFailure::IsADirectory),
+    ("shut", ReadFailure::PermissionDenied),
+    ("broken", ReadFailure::Other),
+];
+
+/// Why a file that is not in the table cannot be read.
+fn failure_of(name: &str) -> ReadFailure {
+    for (unreadable, why) in UNREADABLE {
+        if *unreadable == name {
+            return *why;
+        }
+    }
+    ReadFailure::NotFound
+}
 
 /// Files in memory, with no claim about what was read.
 #[derive(Drop)]
@@ -27,13 +44,13 @@ impl ReadFiles for TableFiles<'_> {
         &mut self,
         name: &str,
         room: FileRoom<'_, R, A>,
-    ) -> Option<Vec<u8, A>> {
+    ) -> Result<Vec<u8, A>, ReadFailure> {
         for (file, text) in self.files {
             if *file == name {
                 return room.read_whole(&mut text.as_bytes(), text.len());
             }
         }
-        None
+        Err(failure_of(name))
     }
 }
 

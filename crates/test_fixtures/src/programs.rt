@@ -26,18 +26,24 @@ const MEMORY: &str = ": no resources
   memory ran out: try shorter vectors, bind fewer names, or allow the process more memory
 ";
 
+/// What stands behind the line of a file for which there is no memory, if the command line asks for explanations.
+const NO_ROOM: &str = "
+  memory ran out: give cvl a shorter file, or allow the process more memory
+";
+
 /// What stands behind the line of another stop if there is no memory for its explanation.
 const UNEXPLAINED: &[u8] = b"cvl: no memory to explain this\n";
 
 /// Whether a run ended so for want of memory: it says so, and has written a beginning of the text.
 fn is_starved(host: &Host<'_>, status: u8, row: &Row<'_>) -> bool {
     let told = host.errors.taken.as_slice();
-    let end = if asks_why(row) {
-        MEMORY
+    let (end, unread) = if asks_why(row) {
+        (MEMORY, NO_ROOM)
     } else {
-        ": no resources\n"
+        (": no resources\n", "\n")
     };
-    let is_told = told.starts_with(b"cannot read ") || told.ends_with(end.as_bytes());
+    let is_told = told.ends_with(end.as_bytes())
+        || told.starts_with(b"cannot read ") && told.ends_with(unread.as_bytes());
     status == 3 && is_told && row.1.as_bytes().starts_with(&host.output.taken)
 }
 

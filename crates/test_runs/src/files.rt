@@ -2,9 +2,11 @@
 
 use cvl_base::{Config, Memory};
 use refusing_memory::Refusing;
-use shell::FileRoom;
+use shell::{FileRoom, ReadFailure};
 use std::alloc::{AllocError, Global};
-use std::io::ErrorKind::{Interrupted, PermissionDenied};
+use std::io::ErrorKind::{
+    BrokenPipe, Interrupted, IsADirectory, NotFound, OutOfMemory, PermissionDenied,
+};
 use std::io::{Error, ErrorKind, Read, Result as IoResult};
 use std::test::Fail;
 use std::thread::Threads;
@@ -74,6 +76,10 @@ const ROWS: &[Row] = &[
     (LONG, 700_000, LONG, Some((4, PermissionDenied)), ANY),
     (LONG, 700_000, 0, Some((2, PermissionDenied)), ANY),
     (LONG, 700_000, 1_048_576, Some((4, PermissionDenied)), ANY),
+    (LONG, 700_000, LONG, Some((1, IsADirectory)), ANY),
+    (LONG, 700_000, 0, Some((2, OutOfMemory)), ANY),
+    (LONG, 700_000, LONG, Some((4, NotFound)), ANY),
+    (LONG, 700_000, 0, Some((2, BrokenPipe)), ANY),
 ];
 
 /// The bytes of the longest file. No two consecutive thousands are the same.
@@ -85,7 +91,20 @@ fn long_file(alloc: Global) -> Result<Vec<u8>, AllocError> {
     Ok(bytes)
 }
 
-/// Whether the whole of a file is read that begins like this one and is as long as the row says.
+/// Why a file cannot be read in which a read fails; none if that read is made again.
+fn failure_by(kind: ErrorKind) -> Option<ReadFailure> {
+    match kind {
+        Interrupted => None,
+        NotFound => Some(ReadFailure::NotFound),
+        IsADirectory => Some(ReadFailure::IsADirectory),
+        PermissionDenied => Some(ReadFailure::PermissionDenied),
+        OutOfMemory => Some(ReadFailure::NoResources),
+        _ => Some(ReadFailure::Other),
+    }
+}
+
+/// Whether the whole of a file is read that begins like this one and is as long as the row says, or the failure is that of its
+/// read.
 fn is_read<R: Threads + Sync, A: Memory>(rt: &R, heap: A, longest: &[u8], row: &Row) -> bool {
     let (length, a_read, expected, fails, _) = *row;
     let (file, _) = longest.split_at(length.min(longest.len()));
@@ -96,9 +115,13 @@ fn is_read<R: Threads + Sync, A: Memory>(rt: &R, heap: A, longest: &[u8], row: &
         fails,
     };
     let config = Config::new(4096, 3).unwrap();
+    let failure = match fails {
+        Some((_, kind)) => failure_by(kind),
+        None => None,
+    };
     match FileRoom::new(rt, heap, config).read_whole(&mut reader, expected) {
-        Some(bytes) => bytes.as_slice() == file,
-        None => false,
+        Ok(bytes) => failure.is_none() && bytes.as_slice() == file,
+        Err(why) => failure == Some(why),
     }
 }
 
@@ -107,8 +130,7 @@ fn read_whole(rt: HostRuntime) -> Result<(), Fail> {
     let longest = long_file(rt.alloc())?;
     for row in ROWS {
         let heap = Refusing::none(rt.alloc());
-        let fails = matches!(row.3, Some((_, PermissionDenied)));
-        let is_right = is_read(&rt, &heap, &longest, row) != fails;
+        let is_right = is_read(&rt, &heap, &longest, row);
         assert!(rt;
             is_right && heap.bytes() <= row.4,
             "{} {} {}",

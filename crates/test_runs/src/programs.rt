@@ -94,6 +94,27 @@ const SUMMED: &str =
 
 pub const NO_FILE: &str = "cannot read nofile\n";
 
+/// The messages about files that cannot be read, each with its explanation.
+const WHY_NO_FILE: &str = "cannot read nofile
+  no such file: check the spelling, and the folder in which cvl was started
+";
+
+const WHY_NO_DASH: &str = "cannot read -
+  no such file: to read standard input, write /dev/stdin
+";
+
+const WHY_FOLDER: &str = "cannot read folder
+  it is a folder: name a file in it
+";
+
+const WHY_SHUT: &str = "cannot read shut
+  permission denied: you may not read the file, or not enter a folder on the way to it
+";
+
+const WHY_BROKEN: &str = "cannot read broken
+  the system reports an error: it may be a socket, a loop of links, or on a disk that fails
+";
+
 /// The recipes, and the message about a line of sight without a place.
 const PRODUCT: &str = "cvl --tile 2 --workers 3 sparse_matvec lengths columns values x";
 
@@ -144,6 +165,13 @@ const ROWS: &[Row] = &[
     ("cvl nest --explain numbers", "", NO_NEST, 1),
     ("cvl --explain read_nest numbers", "", READ_NO_NEST, 1),
     ("cvl --explain scan numbers", SCANNED, "", 0),
+    ("cvl --explain nofile", "", WHY_NO_FILE, 3),
+    ("cvl scan numbers nofile shut --explain", "", WHY_NO_FILE, 3),
+    ("cvl --explain scan -", "", WHY_NO_DASH, 3),
+    ("cvl --explain folder numbers", "", WHY_FOLDER, 3),
+    ("cvl --explain scan shut folder", "", WHY_SHUT, 3),
+    ("cvl --explain scan broken", "", WHY_BROKEN, 3),
+    ("cvl scan folder", "", "cannot read folder\n", 3),
     // help, the version, and command lines that are refused
     ("cvl -h", HELP, "", 0),
     ("cvl --help", HELP, "", 0),
@@ -173,6 +201,7 @@ const FAILING: &[(Failing, Row)] = &[
     (Flush, ("cvl late numbers", GIVEN, LATE, 1)),
     (Errors(7), ("cvl late numbers", GIVEN, "line 3:", 1)),
     (Errors(6), ("cvl nofile", "", "cannot", 3)),
+    (Errors(22), ("cvl --explain nofile", "", "cannot read nofile\n  n", 3)),
     (Writes(0, 76), (SUMS, SUMMED, "", 0)),
     (Writes(1, 39), (SUMS, SUMMED, "", 0)),
     (Writes(28, 4), (SUMS, SUMMED, "", 0)),

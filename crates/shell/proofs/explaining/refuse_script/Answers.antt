@@ -1,4 +1,4 @@
-use Rattle.std.proofs.Common.{Some, refl}
+use Rattle.std.proofs.Common.{refl}
 use Rattle.cvl_base.specs.declared.fault.FaultNo.TheVariants.{ScriptTooLong}
 use Rattle.cvl_base.specs.Faults.{fault}
 use Rattle.script_runs.specs.declared.stop.Stop.TheVariants as stop

@@ -1,4 +1,4 @@
-use Rattle.std.proofs.Common.{[], Some, refl, arith}
+use Rattle.std.proofs.Common.{Some, refl, arith}
 use Rattle.clap.specs.Walk.{texts}
 use Rattle.script_runs.specs.declared.stop.Stop.TheVariants as stop
 use Rattle.shell.proofs.Explained.{stops_and_explains}

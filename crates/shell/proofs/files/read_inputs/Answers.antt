@@ -1,4 +1,4 @@
-use Rattle.std.proofs.Common.{◌+◌, ◌++◌, ◌∷◌, [], Some, None, take, drop, length, ap, refl, arith}
+use Rattle.std.proofs.Common.{◌+◌, ◌++◌, ◌∷◌, [], Ok, Err, take, drop, length, ap, refl, arith}
 use Rattle.std.specs.List.{slice_index_or}
 use Rattle.std.proofs.lemmas.List.{length-append, map_more, take_all}
 use Rattle.clap.specs.Walk.{texts}
@@ -17,13 +17,14 @@ loop-name-init g c = record {
   room = c.requires.fits;
 }
 
-pub returns-in-None-clause-missed : goal.returns-in-None-clause-missed
-returns-in-None-clause-missed g c =
+pub returns-in-Err-clause-missed : goal.returns-in-Err-clause-missed
+returns-in-Err-clause-missed g c =
     let i = c.loop-name.name-index in
     let reads = c.loop-name.invariant.reads in (
-      reads ++ read_of _ None ∷ [],
-      stops_after (texts c.args.names.now) (texts (take i c.args.names.now)) (texts (drop (i + 1) c.args.names.now)) reads _ _ (names_at c.args.names.now i _ (omega arith)) c.loop-name.invariant.gave,
-      reads_both _ _ _ _ _ c.loop-name.invariant.shown c.in-None.ensures,
+      reads ++ read_of _ (Err c.in-Err.why) ∷ [],
+      stops_after (texts c.args.names.now) (texts (take i c.args.names.now)) (texts (drop (i + 1) c.args.names.now)) reads _ _ c.in-Err.why
+          (names_at c.args.names.now i _ (omega arith)) c.loop-name.invariant.gave,
+      reads_both _ _ _ _ _ c.loop-name.invariant.shown c.in-Err.ensures,
     )
 
 pub loop-name-preserved : goal.loop-name-preserved
@@ -33,9 +34,9 @@ loop-name-preserved g c =
     let names = map_more (λ s. s.now) c.args.names.now i (record { ref_ptr = (0, 0); now = [] }) (omega arith) in
     let pushed = c.push_reserved.ensures.items in
     record {
-      reads = c.loop-name.invariant.reads ++ read_of name (Some c.in-Some.bytes.items) ∷ [];
-      gave = rw (names, pushed) (gave_more _ _ _ _ _ (Bytes c.in-Some.bytes) c.loop-name.invariant.gave refl);
-      shown = reads_both _ _ _ _ _ c.loop-name.invariant.shown c.in-Some.ensures;
+      reads = c.loop-name.invariant.reads ++ read_of name (Ok c.in-Ok.bytes.items) ∷ [];
+      gave = rw (names, pushed) (gave_more _ _ _ _ _ (Bytes c.in-Ok.bytes) c.loop-name.invariant.gave refl);
+      shown = reads_both _ _ _ _ _ c.loop-name.invariant.shown c.in-Ok.ensures;
       count = rw (pushed, length-append) (omega (arith, c.loop-name.invariant.count));
       room = omega (arith, c.loop-name.invariant.room, c.push_reserved.ensures.capacity);
     }

@@ -1,4 +1,4 @@
-use Rattle.std.proofs.Common.{[], Some, refl, inl, arith, vec_capacity}
+use Rattle.std.proofs.Common.{[], Some, arith, vec_capacity}
 use Rattle.clap.specs.Walk.{texts}
 use Rattle.script_runs.proofs.Shown.{reads_both, tells_after}
 use Rattle.shell.specs.Programs.{unreadable_line}
@@ -7,30 +7,41 @@ use Rattle.shell.proofs.Explained.{files_explained, missed_explained, starved_ex
 use Rattle.shell.proofs.Performed.{misses, runs_files}
 use Rattle.shell.proofs.programs.run_files.Goals as goal
 
-pub tell_unreadable-requires-clause-fits : goal.tell_unreadable-requires-clause-fits
-tell_unreadable-requires-clause-fits g c κs within = c.in-Ok.ensures.line_fits 0 [] (omega arith)
+pub miss-requires-clause-fits : goal.miss-requires-clause-fits
+miss-requires-clause-fits g c κs within = c.in-Ok.ensures.line_fits 0 [] (omega arith)
 
-pub tell_unreadable-requires-in-Err-clause-fits : goal.tell_unreadable-requires-in-Err-clause-fits
-tell_unreadable-requires-in-Err-clause-fits g c κs within =
-    let missed = rw c.as_slice.ensures.value at c.in-Err.ensures.missed in
-    missed_fits (vec_capacity c.in-Ok.room.line) c.args.words.now.script.now (texts c.args.words.now.inputs.items) missed.0 c.in-Err.name.now missed.1 c.in-Ok.ensures.line_fits
-
-pub returns-in-None : goal.returns-in-None
-returns-in-None g c =
-    let script = c.args.words.now.script.now in
-    let names = texts c.args.words.now.inputs.items in
-    let stops = stops_first script names in
-    let tells = tells_after (Some (unreadable_line script)) _ _ _ c.in-None.ensures c.tell_unreadable.ensures in
-    record { plain = λ no. misses g.row.A.Denot script names _ _ _ _ stops tells; explaining = λ yes. missed_explained script names _ _ _ _ stops tells }
+pub miss-requires-in-Err-read_inputs-clause-fits : goal.miss-requires-in-Err-read_inputs-clause-fits
+miss-requires-in-Err-read_inputs-clause-fits g c κs within =
+    let unread = c.in-Err-read_inputs.unread in
+    let missed = rw c.as_slice.ensures.value at c.in-Err-read_inputs.ensures.missed in
+    missed_fits (vec_capacity c.in-Ok.room.line) c.args.words.now.script.now (texts c.args.words.now.inputs.items) missed.0 unread.name.now unread.why missed.1
+    c.in-Ok.ensures.line_fits
 
 pub returns-in-Err : goal.returns-in-Err
 returns-in-Err g c =
-    let missed = rw c.as_slice.ensures.value at c.in-Err.ensures.missed in
     let script = c.args.words.now.script.now in
     let names = texts c.args.words.now.inputs.items in
-    let stops = stops_later script c.in-Some.text.items names missed.0 c.in-Err.name.now missed.1 in
-    let tells = tells_after (Some (unreadable_line c.in-Err.name.now)) _ _ _ (reads_both _ missed.0 _ _ _ c.in-Some.ensures missed.2) c.tell_unreadable-in-Err.ensures in
-    record { plain = λ no. misses g.row.A.Denot script names _ _ _ _ stops tells; explaining = λ yes. missed_explained script names _ _ _ _ stops tells }
+    let stops = stops_first script names c.in-Err.why in
+    let told = c.miss.ensures in
+    record {
+      plain = λ no. misses g.row.A.Denot script names _ _ _ _ _ c.miss.result stops (tells_after (Some (unreadable_line script)) _ _ _ c.in-Err.ensures (told.plain no)) told.status;
+      explaining = λ yes. missed_explained script names _ _ _ _ _ _ c.miss.result stops c.in-Err.ensures (told.explaining yes) told.status;
+    }
+
+pub returns-in-Err-read_inputs : goal.returns-in-Err-read_inputs
+returns-in-Err-read_inputs g c =
+    let unread = c.in-Err-read_inputs.unread in
+    let missed = rw c.as_slice.ensures.value at c.in-Err-read_inputs.ensures.missed in
+    let script = c.args.words.now.script.now in
+    let names = texts c.args.words.now.inputs.items in
+    let stops = stops_later script c.in-Ok-read_file.text.items names missed.0 unread.name.now unread.why missed.1 in
+    let shown = reads_both _ missed.0 _ _ _ c.in-Ok-read_file.ensures missed.2 in
+    let told = c.miss-in-Err-read_inputs.ensures in
+    record {
+      plain = λ no. misses g.row.A.Denot script names _ _ _ _ _ c.miss-in-Err-read_inputs.result stops
+          (tells_after (Some (unreadable_line unread.name.now)) _ _ _ shown (told.plain no)) told.status;
+      explaining = λ yes. missed_explained script names _ _ _ _ _ _ c.miss-in-Err-read_inputs.result stops shown (told.explaining yes) told.status;
+    }
 
 pub returns-in-Ok-read_inputs : goal.returns-in-Ok-read_inputs
 returns-in-Ok-read_inputs g c =
@@ -40,8 +51,8 @@ returns-in-Ok-read_inputs g c =
     let script = c.args.words.now.script.now in
     let names = texts c.args.words.now.inputs.items in
     record {
-      plain = λ no. runs_files g.row.A.Denot script names c.in-Some.text.items c.in-Ok-read_inputs.inputs.items _ _ _ _ c.run_inputs.result c.in-Some.ensures read (closed no);
-      explaining = λ yes. files_explained script names c.in-Some.text.items c.in-Ok-read_inputs.inputs.items _ _ _ _ c.run_inputs.result c.in-Some.ensures read (explained yes);
+      plain = λ no. runs_files g.row.A.Denot script names c.in-Ok-read_file.text.items c.in-Ok-read_inputs.inputs.items _ _ _ _ c.run_inputs.result c.in-Ok-read_file.ensures read (closed no);
+      explaining = λ yes. files_explained script names c.in-Ok-read_file.text.items c.in-Ok-read_inputs.inputs.items _ _ _ _ c.run_inputs.result c.in-Ok-read_file.ensures read (explained yes);
     }
 
 pub returns-in_default-clause-explaining : goal.returns-in_default-clause-explaining
