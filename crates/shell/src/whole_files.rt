@@ -17,11 +17,7 @@ const FIRST_STEP: usize = 1_048_576;
 
 /// Reads into a room from this place on, until the room is full, the file ends, or a read is interrupted. Returns how many places
 /// are filled, and whether the file ended; or why a read failed.
-fn fill<F: Read>(
-    file: &mut F,
-    room: &mut [u8],
-    from: usize,
-) -> Result<(usize, bool), ReadFailure>
+fn fill<F: Read>(file: &mut F, room: &mut [u8], from: usize) -> Result<(usize, bool), ReadFailure>
     requires { from ≤ length room.old }
     ensures within { IfOk result (λ r. (from ≤ r.0) × (r.0 ≤ length room.new)) }
     ensures bytes { IfOk result (λ r. (before : Option (List ℕ))

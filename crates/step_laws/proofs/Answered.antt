@@ -33,11 +33,11 @@ module _ {X : Type 0} where
   fills (Ok xs) before now told =
       ⊎_elim
       (λ (is : (eqb (length xs) (length before) ≡ true) × (length xs ≡ length before)).
-          let full : Told (Ok xs) done before now = subst (λ m. Told m done before now) (fits (length before) xs is.1) told in
-          (ap Ok (sym full.1), ap length full.1 ∙ is.1))
+      let full : Told (Ok xs) done before now = subst (λ m. Told m done before now) (fits (length before) xs is.1) told in
+      (ap Ok (sym full.1), ap length full.1 ∙ is.1))
       (λ (is : (eqb (length xs) (length before) ≡ false) × (length xs ≢ length before)).
-          let none : Told (Err (fault no.LengthMismatch)) done before now = subst (λ m. Told m done before now) (differs (length before) xs is.1) told in
-          absurd (numbered no.LengthMismatch (sym (ap (λ (s : CvlStatus). s.number) none.0))))
+      let none : Told (Err (fault no.LengthMismatch)) done before now = subst (λ m. Told m done before now) (differs (length before) xs is.1) told in
+      absurd (numbered no.LengthMismatch (sym (ap (λ (s : CvlStatus). s.number) none.0))))
       (eqb_tells (length xs) (length before))
   fills (Err f) before now told = absurd (numbered f.number (sym (ap (λ (s : CvlStatus). s.number) told.0)))
 

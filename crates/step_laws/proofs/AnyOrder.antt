@@ -38,7 +38,7 @@ module _ {S : Type 0} (does : S → S → Type 0) where
       ⊎_elim
       (λ (is : (eqb j k ≡ true) × (j ≡ k)). let more : 1 + count_by (λ i. i == k) order ≡ 0 = rw (counted j k order, is.0) at none in absurd (omega (arith, more)))
       (λ (is : (eqb j k ≡ false) × (j ≢ k)). let rest : 0 + count_by (λ i. i == k) order ≡ 0 = rw (counted j k order, is.0) at none in
-          never order (slice_set before j run.1) after k (omega (arith, rest)) run.4 ∙ set-other before j k run.1 is.1)
+      never order (slice_set before j run.1) after k (omega (arith, rest)) run.4 ∙ set-other before j k run.1 is.1)
       (eqb_tells j k)
 
   -- one that is named once leaves what it does
@@ -48,12 +48,12 @@ module _ {S : Type 0} (does : S → S → Type 0) where
   once (j ∷ order) before after k own here one run =
       ⊎_elim
       (λ (is : (eqb j k ≡ true) × (j ≡ k)). let more : 1 + count_by (λ i. i == k) order ≡ 1 = rw (counted j k order, is.0) at one in
-          let there : slice_get before k ≡ Some run.0 = subst (λ i. slice_get before i ≡ Some run.0) is.1 run.2 in
-          let same : run.0 ≡ own = same_Some run.0 own (sym there ∙ here) in
-          let now : slice_get (slice_set before j run.1) k ≡ Some run.1 = subst (λ i. slice_get (slice_set before j run.1) i ≡ Some run.1) is.1 (set-same before j run.0 run.1 run.2) in
-          (run.1, subst (λ x. does x run.1) same run.3, never order (slice_set before j run.1) after k (omega (arith, more)) run.4 ∙ now))
+      let there : slice_get before k ≡ Some run.0 = subst (λ i. slice_get before i ≡ Some run.0) is.1 run.2 in
+      let same : run.0 ≡ own = same_Some run.0 own (sym there ∙ here) in
+      let now : slice_get (slice_set before j run.1) k ≡ Some run.1 = subst (λ i. slice_get (slice_set before j run.1) i ≡ Some run.1) is.1 (set-same before j run.0 run.1 run.2) in
+      (run.1, subst (λ x. does x run.1) same run.3, never order (slice_set before j run.1) after k (omega (arith, more)) run.4 ∙ now))
       (λ (is : (eqb j k ≡ false) × (j ≢ k)). let rest : 0 + count_by (λ i. i == k) order ≡ 1 = rw (counted j k order, is.0) at one in
-          once order (slice_set before j run.1) after k own (set-other before j k run.1 is.1 ∙ here) (omega (arith, rest)) run.4)
+      once order (slice_set before j run.1) after k own (set-other before j k run.1 is.1 ∙ here) (omega (arith, rest)) run.4)
       (eqb_tells j k)
 
   as_long : (order : List ℕ) (before after : List S) → RunIn does order before after → length after ≡ length before

@@ -65,10 +65,10 @@ pub bool_sums : (op : ℕ) (o : BoolBinary) → bool_binary op ≡ Ok o → (sta
 bool_sums op o is start summed done_all =
     each-also (BoolReduces op) (BoolSums o)
     (λ own left does.
-        let known : Told (in_limit does.0.0 (Ok (fold_of (bool_join_of o) (bool_unit_of o) (flags_of does.0.0)))) done own.told left.told =
-            subst (λ r. Told (by_operator r (λ p. in_limit does.0.0 (Ok (fold_of (bool_join_of p) (bool_unit_of p) (flags_of does.0.0))))) done own.told left.told) is does.0.2 in
-        let sum : fold_of (bool_join_of o) (bool_unit_of o) (flags_of does.0.0) ≡ left.told = past_limit _ _ _ left.told (is_given _ own.told left.told known) in
-        (subst (λ xs. fold_of (bool_join_of o) (bool_unit_of o) xs ≡ left.told) does.0.1 sum, does.1)) start summed done_all
+    let known : Told (in_limit does.0.0 (Ok (fold_of (bool_join_of o) (bool_unit_of o) (flags_of does.0.0)))) done own.told left.told =
+    subst (λ r. Told (by_operator r (λ p. in_limit does.0.0 (Ok (fold_of (bool_join_of p) (bool_unit_of p) (flags_of does.0.0))))) done own.told left.told) is does.0.2 in
+    let sum : fold_of (bool_join_of o) (bool_unit_of o) (flags_of does.0.0) ≡ left.told = past_limit _ _ _ left.told (is_given _ own.told left.told known) in
+    (subst (λ xs. fold_of (bool_join_of o) (bool_unit_of o) xs ≡ left.told) does.0.1 sum, does.1)) start summed done_all
 
 -- a reduce of bytes is that of their flags, which are as many
 pub as_flags : (operator : Result BoolBinary Fault) (bytes : List ℕ) (xs : List Bool) → flags_of bytes ≡ xs

@@ -68,35 +68,35 @@ module _ {Operator Item : Type 0} {is_item : Item → Bool} (unit : Operator →
   scans (Ok o) start summed carried end items few rooms all told kept scanned =
       let reduced : AllZip (Sums o) start summed = all o refl in
       let sums : told_of summed ≡ map (λ p. fold_of (join o) (unit o) p.elements) start =
-          alike (Sums o) (λ p. fold_of (join o) (unit o) p.elements) (λ p. p.told) (λ own left does. sym does.0) start summed reduced in
+      alike (Sums o) (λ p. fold_of (join o) (unit o) p.elements) (λ p. p.told) (λ own left does. sym does.0) start summed reduced in
       let same : map (λ p. p.elements) summed ≡ map (λ p. p.elements) start =
-          alike (Sums o) (λ p. p.elements) (λ p. p.elements) (λ own left does. ap (λ (p : Part Item Item Item). p.elements) does.1) start summed reduced in
+      alike (Sums o) (λ p. p.elements) (λ p. p.elements) (λ own left does. ap (λ (p : Part Item Item Item). p.elements) does.1) start summed reduced in
       let still : map (λ p. p.elements) carried ≡ map (λ p. p.elements) summed =
-          alike CarriesAlone (λ p. p.elements) (λ p. p.elements) (λ own left does. ap (λ (p : Part Item Item Item). p.elements) does) summed carried kept in
+      alike CarriesAlone (λ p. p.elements) (λ p. p.elements) (λ own left does. ap (λ (p : Part Item Item Item). p.elements) does) summed carried kept in
       let given = fills _ (befores_of summed) (befores_of carried) told in
       let befores : scan_of (join o) (unit o) (told_of summed) ≡ befores_of carried =
-          past_limit _ _ (scan_of (join o) (unit o) (told_of summed)) (befores_of carried) given.0 in
+      past_limit _ _ (scan_of (join o) (unit o) (told_of summed)) (befores_of carried) given.0 in
       let at_first : All Fits start = fits start rooms (some-fewer (λ p. p.elements) most_places start few) in
       let then : All Fits summed = keeps (Sums o) Fits Fits (λ own left does fit. subst Fits (sym does.1) fit) start summed reduced at_first in
       let last : All Fits carried = keeps CarriesAlone Fits Fits (λ own left does fit. subst Fits (sym does) fit) summed carried kept then in
       let written : map (λ p. p.room) end ≡ map (λ p. scan_of (join o) p.before p.elements) carried =
-          alike_where (Scans (Ok o)) Fits (λ p. scan_of (join o) p.before p.elements) (λ p. p.room)
-          (λ own left does fit. is_done (scan_of (join o) own.before own.elements) own.room left.room does.0.0
-              (length-scan_of (join o) own.before own.elements ∙ sym fit.0)
-              (subst (λ m. RoomTold m does.0.0 own.room left.room) (within own.elements (Ok (scan_of (join o) own.before own.elements)) fit.1) does.0.1))
-          carried end scanned last in
+      alike_where (Scans (Ok o)) Fits (λ p. scan_of (join o) p.before p.elements) (λ p. p.room)
+      (λ own left does fit. is_done (scan_of (join o) own.before own.elements) own.room left.room does.0.0
+      (length-scan_of (join o) own.before own.elements ∙ sym fit.0)
+      (subst (λ m. RoomTold m does.0.0 own.room left.room) (within own.elements (Ok (scan_of (join o) own.before own.elements)) fit.1) does.0.1))
+      carried end scanned last in
       let folds : map (λ p. fold_of (join o) (unit o) p.elements) start ≡ map (fold_of (join o) (unit o)) (map (λ p. p.elements) start) =
-          sym (map-map (fold_of (join o) (unit o)) (λ (p : Part Item Item Item). p.elements) start) in
+      sym (map-map (fold_of (join o) (unit o)) (λ (p : Part Item Item Item). p.elements) start) in
       let started : befores_of carried ≡ scan_of (join o) (unit o) (map (fold_of (join o) (unit o)) (map (λ p. p.elements) start)) =
-          sym befores ∙ ap (scan_of (join o) (unit o)) (sums ∙ folds) in
+      sym befores ∙ ap (scan_of (join o) (unit o)) (sums ∙ folds) in
       let parts : List (List Item) = map (λ p. p.elements) start in
       let whole : room_of end ≡ scan_of (join o) (unit o) (elements_of start) =
-          ap joined (written ∙ after-each o carried
-              ∙ ap (λ bs. scans_after (join o) bs (map (λ p. p.elements) carried)) started
-              ∙ ap (scans_after (join o) (scan_of (join o) (unit o) (map (fold_of (join o) (unit o)) parts))) (still ∙ same))
-          ∙ sym (scan-parts (laws o) (unit o) parts (laws o).unit_is_item (all-parts (λ p. p.elements) (λ x. is_item x ≡ true) start items)) in
+      ap joined (written ∙ after-each o carried
+      ∙ ap (λ bs. scans_after (join o) bs (map (λ p. p.elements) carried)) started
+      ∙ ap (scans_after (join o) (scan_of (join o) (unit o) (map (fold_of (join o) (unit o)) parts))) (still ∙ same))
+      ∙ sym (scan-parts (laws o) (unit o) parts (laws o).unit_is_item (all-parts (λ p. p.elements) (λ x. is_item x ≡ true) start items)) in
       let long : length (scan_of (join o) (unit o) (elements_of start)) ≡ length (room_of start) =
-          length-scan_of (join o) (unit o) (elements_of start) ∙ sym (as-long (λ p. p.elements) (λ p. p.room) start rooms) in
+      length-scan_of (join o) (unit o) (elements_of start) ∙ sym (as-long (λ p. p.elements) (λ p. p.room) start rooms) in
       subst (λ m. RoomTold m done (room_of start) (room_of end)) (sym (within (elements_of start) (Ok (scan_of (join o) (unit o) (elements_of start))) few))
       (subst (λ xs. RoomTold (Ok (scan_of (join o) (unit o) (elements_of start))) done (room_of start) xs) (sym whole)
       (tells_done (scan_of (join o) (unit o) (elements_of start)) (room_of start) long))
@@ -108,11 +108,11 @@ module _ {Operator Item : Type 0} {is_item : Item → Bool} (unit : Operator →
   reduces (Err f) start summed out told items few all joins = absurd (none-some told (ap result_ok (is_given (Err f) out told joins)))
   reduces (Ok o) start summed out told items few all joins =
       let sums : told_of summed ≡ map (λ p. fold_of (join o) (unit o) p.elements) start =
-          alike (Sums o) (λ p. fold_of (join o) (unit o) p.elements) (λ p. p.told) (λ own left does. sym does.0) start summed (all o refl) in
+      alike (Sums o) (λ p. fold_of (join o) (unit o) p.elements) (λ p. p.told) (λ own left does. sym does.0) start summed (all o refl) in
       let given : fold_of (join o) (unit o) (told_of summed) ≡ told = past_limit _ _ _ told (is_given _ out told joins) in
       let parts : List (List Item) = map (λ p. p.elements) start in
       let folds = sums ∙ sym (map-map (fold_of (join o) (unit o)) (λ (p : Part Item Item Item). p.elements) start) in
       let whole : fold_of (join o) (unit o) (elements_of start) ≡ told =
-          fold-parts (laws o) (unit o) parts (laws o).unit_is_item (all-parts (λ p. p.elements) (λ x. is_item x ≡ true) start items)
-          ∙ ap (fold_of (join o) (unit o)) (sym folds) ∙ given in
+      fold-parts (laws o) (unit o) parts (laws o).unit_is_item (all-parts (λ p. p.elements) (λ x. is_item x ≡ true) start items)
+      ∙ ap (fold_of (join o) (unit o)) (sym folds) ∙ given in
       subst (λ m. Told m done out told) (sym (within (elements_of start) (Ok (fold_of (join o) (unit o) (elements_of start))) few)) (refl, sym whole)

@@ -201,7 +201,10 @@ const FAILING: &[(Failing, Row)] = &[
     (Flush, ("cvl late numbers", GIVEN, LATE, 1)),
     (Errors(7), ("cvl late numbers", GIVEN, "line 3:", 1)),
     (Errors(6), ("cvl nofile", "", "cannot", 3)),
-    (Errors(22), ("cvl --explain nofile", "", "cannot read nofile\n  n", 3)),
+    (
+        Errors(22),
+        ("cvl --explain nofile", "", "cannot read nofile\n  n", 3),
+    ),
     (Writes(0, 76), (SUMS, SUMMED, "", 0)),
     (Writes(1, 39), (SUMS, SUMMED, "", 0)),
     (Writes(28, 4), (SUMS, SUMMED, "", 0)),
