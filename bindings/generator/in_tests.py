@@ -20,7 +20,7 @@ WRITTEN = {
 SINGLE = {"int": "ONE_INT", "flag": "ONE_FLAG", "sum": "ONE_SUM", "size": "ONE_COUNT"}
 VALUES = {"init": "5", "stride": "3", "lowest": "0", "row_count": "matrix_rows()", "column_count": "n / matrix_rows()"}
 HELD = {"columns": "INDEX", "starts": "STARTS", "true_lengths": "TRUE_LENGTHS", "false_lengths": "FALSE_LENGTHS"}
-OF_KINDS = {"int": "9", "flag": "true", "sum": "5", "size": "2"}
+OF_KINDS = {"int": "9", "flag": "true", "sum": "9", "size": "2"}
 PLACES = ("FIRST", "SECOND", "THIRD", "FOURTH", "FIFTH")
 
 

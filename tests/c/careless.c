@@ -12,7 +12,7 @@
 #include <string.h>
 #include <sys/mman.h>
 
-enum { FEW = 6, LONGEST = 5000, SHORT_SLOT = 1 << 11, LONG_SLOT = 1 << 16, PAGE = 1 << 14, UNTOUCHED = 77 };
+enum { FEW = 6, LONGEST = 5000, SHORT_SLOT = 1 << 11, LONG_SLOT = 1 << 16, PAGE = 1 << 14, UNTOUCHED = 33 };
 
 static unsigned char arena[(MOST_ARRAYS + 1) * LONG_SLOT], before[sizeof arena], wanted[sizeof arena];
 static size_t slot;
