@@ -109,6 +109,7 @@ static void how_long_they_wait(void) {
     longest_wait = 0;
     check("a number is not set", cvl_set_threads(THREADS) == 0);
     for (int k = 0; k < ROUNDS && longest_wait <= 500; k++) check("a call gives another result", scans_by_threads());
+    BECOMES(longest_wait > 500);
     check("threads wait for half a second at most, or for more than one", longest_wait > 500 && longest_wait <= 1000);
     check("a number is not set", cvl_set_threads(1) == 0);
 }

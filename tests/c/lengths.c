@@ -95,8 +95,9 @@ static void leaves(const Row *row) {
     faults++;
     for (size_t j = 0; j < array_count(row); j++) {
         const unsigned char *at = memory[j], *end = at + bytes_of(row->arrays[j]);
-        while (is_room(row->arrays[j]) && at < end && *at == UNTOUCHED) at++;
-        if (is_room(row->arrays[j]) && at < end) fail(row, "another byte after a fault", *at, UNTOUCHED);
+        const int before = byte_before(row, row->arrays[j], false);
+        while (is_room(row->arrays[j]) && at < end && *at == before) at++;
+        if (is_room(row->arrays[j]) && at < end) fail(row, "another byte after a fault", *at, before);
     }
 }
 

@@ -92,7 +92,7 @@ enum { MOST_STEPS = 7 };
     X(add_ruz, LIST(READS, READS), a, MOST, rooms.out)                                                                         \
     X(add_suz, LIST(READS, READS, WRITES), a, rooms.out, MOST)                                                                 \
     X(ior_sub, LIST(READS, READS, READS, WRITES), truths, BOOL_ROOM, MOST)                                                     \
-    X(xor_sub, LIST(READS, READS, WRITES, READS, WRITES), (const bool *)any_bytes, BOOL_ROOM, MOST)                            \
+    X(xor_sub, LIST(READS, READS, READS, WRITES, WRITES), (const bool *)any_bytes, BOOL_ROOM, MOST)                            \
     X(tot_ruz, LIST(READS, READS), a, MOST, rooms.out)                                                                         \
     X(tot_suz, LIST(READS, READS, READS, WRITES), a, rooms.out, MOST)                                                          \
     X(cnt_lub, LIST(READS, READS), truths, MOST, rooms.out)                                                                    \
