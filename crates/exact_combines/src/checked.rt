@@ -10,7 +10,7 @@ ghost use Rattle.long_sums.specs.LongSums.{may_grow};
 
 use crate::exact::{seg_sums_over, sums_over};
 use cvl_base::{NoResources, Refused};
-use long_sums::{check_fitting, write_ints};
+use long_sums::{check_fitting, write_ints, write_sums};
 use scan_walks::know_numbers;
 use segdes::SegLengths;
 use std::alloc::Allocator;
@@ -21,7 +21,9 @@ pub(crate) fn widened<A: Allocator>(alloc: A, a: &[i32]) -> Result<Vec<i64, A>, 
     ensures growing { IfOk result (λ sums. AllPass may_grow sums.items) }
 {
     know_numbers(a);
-    Ok(a.iter().map(|x| i64::from(*x)).collect(alloc)?)
+    let mut sums = vec![in alloc; 0; a.len()]?;
+    write_sums(a, &mut sums);
+    Ok(sums)
 }
 
 /// Adds to each integer of the room those whose index names its place, without wrapping.
