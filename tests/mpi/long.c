@@ -137,17 +137,17 @@ static void try_too_long(void) {
 static bool of_third(uint64_t place) { return place % 3 == 0; }
 static uint64_t trues_before(uint64_t place) { return (place + 2) / 3; }
 
-static void fill(bool *a) {
+static void fill_flags(bool *a) {
     for (size_t k = 0; k < n; k++) a[k] = of_third(from + k);
 }
 
 static void try_scans(bool *a) {
     CvlRankSegments *const segments = segments_of();
     size_t wrong = 0;
-    fill(a);
+    fill_flags(a);
     check("a scan", is(cvl_xor_sub_mpi(ranks, a, a, n), CVL_DONE, -1));
     for (size_t k = 0; k < n; k++) wrong += a[k] != (trues_before(from + k) & 1);
-    fill(a);
+    fill_flags(a);
     check("a scan of segments", is(cvl_xor_seb_mpi(ranks, a, segments, a, n), CVL_DONE, -1));
     for (size_t k = 0; k < n; k++) {
         const uint64_t place = from + k, start = place < SEGMENT ? 0 : SEGMENT;
@@ -163,7 +163,7 @@ static void try_pack(bool *a) {
     size_t kept = 0, wrong = 0;
     uint64_t first = 0, total = 0;
     if (out == NULL) MPI_Abort(MPI_COMM_WORLD, 2);
-    fill(a);
+    fill_flags(a);
     check("a long pack", is(cvl_pck_lub_mpi(ranks, a, a, n, out, trues, &kept), CVL_DONE, -1) && kept == trues);
     for (size_t k = 0; k < trues; k++) wrong += !out[k];
     check("each place of a pack", wrong == 0);
