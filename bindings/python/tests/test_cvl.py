@@ -692,10 +692,10 @@ class Example:
         self.wanted = ast.literal_eval(last.want)
 
     def other_arguments(self, make):
-        """The arguments, with one after another that is an array in another form."""
+        """The arguments, with one after another that is an array in another form, if it has another there."""
         for name, given in self.arguments.items():
-            if isinstance(given, numpy.ndarray):
-                yield name, {**self.arguments, name: make(given)}
+            if isinstance(given, numpy.ndarray) and getattr(made := make(given), "dtype", None) != given.dtype:
+                yield name, {**self.arguments, name: made}
 
 
 class EachCall(Limited):
