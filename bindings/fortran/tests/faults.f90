@@ -175,7 +175,7 @@ contains
 
         write (version, "(i0, 2('.', i0))") CVL_VERSION_MAJOR, CVL_VERSION_MINOR, CVL_VERSION_PATCH
         call wanted("the module and the library have one version", version == cvl_version())
-        call wanted("the build begins with the version", index(cvl_build(), version // " ") == 1)
+        call wanted("the build begins with the version", index(cvl_build(), trim(version) // " ") == 1)
         call wanted("a fault has its name", cvl_fault_name(CVL_NO_RESOURCES) == "NoResources")
         call wanted("another number has none", cvl_fault_name(3) == "Unknown")
     end subroutine names
