@@ -32,11 +32,14 @@ static size_t last_before(size_t place, Holds index) {
     return place;
 }
 
-/* Indices: out of range, or, in the second way, one that stands there already; those of back permutes, first senders and products may repeat. */
+/* Whether two indices may be one: of a back permute, first senders, a combining permute and a product. */
+static bool may_repeat(const char *call) { return begins(call, "bck") || begins(call, "fst") || begins(call, "cm") || begins(call, "prd"); }
+
+/* Indices: out of range, or, in the second way, one that stands there already. */
 static CvlStatus spoil_index(const Row *row, const char *call, size_t array, int way) {
     int32_t *index = ints_at(array);
     const size_t last = last_before(n, row->arrays[array]), other = last_before(last, row->arrays[array]);
-    const bool repeats = way == 1 && !begins(call, "bck") && !begins(call, "fst") && !begins(call, "prd");
+    const bool repeats = way == 1 && !may_repeat(call);
     index[last] = repeats ? index[other] : way == 1 ? INT32_MAX : -1;
     return status_at(repeats ? CVL_INDEX_REPEATED : CVL_INDEX_OUT_OF_RANGE, last);
 }
