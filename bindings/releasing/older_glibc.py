@@ -17,8 +17,8 @@ OLDEST = "2.28"
 LIBC, THREADS = "libc.so.6", "libpthread.so.0"
 # a line of `readelf --dyn-syms`: size, type, name, and its version, which is the one for new programs behind two @
 LINE = re.compile(r"^ *\d+: [0-9a-f]+ +(\w+) (FUNC|IFUNC|OBJECT) +(?:GLOBAL|WEAK) +DEFAULT +(?!UND)\w+ (\w+)@(@?)GLIBC_([\d.]+)$", re.M)
-# what the program asks of the processor, of which glibc knows since 2.33
-PROCESSOR = pathlib.Path(__file__).with_name("processor.c")
+# what the program asks of the processor, of which glibc knows since 2.33, and what it runs before `main`, which glibc does since 2.34
+PROCESSOR, START = (pathlib.Path(__file__).with_name(name) for name in ("processor.c", "start.c"))
 
 Name = collections.namedtuple("Name", "name version kind size")
 
@@ -108,10 +108,8 @@ class OlderGlibc:
 
     def program(self, compiled, made):
         """Links a program that the kit compiled."""
-        processor = self.folder / "processor.o"
-        archive.run(*archive.compiling(), "-c", PROCESSOR, "-o", processor)
-        proved.link(compiled, made, self.toolchain, processor)
-        if int(re.search(r" \.init_array +\w+ +\w+ +\w+ +(\w+)", archive.run("readelf", "--sections", "--wide", made))[1], 16) > 8:
-            # glibc before 2.34 leaves these to the start of a program, which this one has from a newer glibc
-            proved.stop(f"{made} has code that runs before main, which an older glibc would not run")
+        own = [self.folder / source.with_suffix(".o").name for source in (PROCESSOR, START)]
+        for source, code in zip((PROCESSOR, START), own):
+            archive.run(*archive.compiling(), "-c", source, "-o", code)
+        proved.link(compiled, made, self.toolchain, *own)
         return made

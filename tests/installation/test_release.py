@@ -342,6 +342,15 @@ class Older(Tree):
         self.assertEqual(*[[word & bits for word, bits in zip(found, levels)] for found in told])
         self.assertEqual(told[1][1] & 0x982201, 0x982201, "x86-64-v2")
 
+    def test_what_the_program_runs_before_main(self):
+        self.write("runs.c", """#include <stdio.h>
+            static int begun;
+            static void begin(int count, char **words) { begun += count == 2 && words[1][0] == 'w'; }
+            __attribute__((section(".init_array"), used)) static void (*const first)(int, char **) = begin;
+            int main(int count, char **words) { return printf("%d %d %s", begun, count, words[1]) < 0; }""")
+        self.assertEqual(self.run_it("cc", "-Wall", "-Wextra", "-o", "runs", "runs.c", older_glibc.START).stderr, "")
+        self.assertEqual(self.run_it("./runs", "word").stdout, "1 2 word")
+
 
 class Crates(Tree):
     """The crates for Rust, unpacked side by side."""
