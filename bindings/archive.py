@@ -149,7 +149,7 @@ def over_ranks(folder, written, flags=()):
         made.unlink(missing_ok=True)
         run(*program("AR"), "rcsD", made, whole)
         hardened = ["-Wl,-z,relro", "-Wl,-z,now", "-Wl,-z,noexecstack", f"-Wl,-soname,{MPI_SONAME}"]
-        # it stands beside that of the calls, wherever both are
+        # it loads the library of the calls from its own folder
         beside = "-Wl,-rpath,$ORIGIN"
         run(*compiler, "-fno-lto", *words_of("LDFLAGS"), "-shared", *hardened, beside, "-o", folder / MPI_FULL, whole, folder / FULL)
     return made

@@ -17,7 +17,7 @@ Operation = namedtuple("Operation", "name sign word ints flags only says differs
 
 # A method.
 #
-#   beside  the arguments that stand beside the rows: rows, one number a row, or a number
+#   beside  the other operands: rows, one number a row, or a number
 #   fixed   the others, as a signature has them
 #   gives   the annotation of its result; "self" if it changes the numbers where they are
 #   call    the one call that it is, on "ints" or "flags"; else nothing, and `calls` names those of a body by hand

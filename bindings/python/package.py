@@ -32,7 +32,7 @@ NAME = "cvl"
 FLAGS = ["-std=c11", "-O2", "-fPIC", "-fvisibility=hidden", "-Wall", "-Wextra", "-Wshadow"]
 LINKED = ["-shared", "-pthread", "-Wl,--exclude-libs,ALL", "-Wl,-z,relro", "-Wl,-z,now", "-Wl,-s"]
 OLDEST_NUMPY = (1, 23)
-# the library that stands beside a module, which finds it there whatever else the loader is told
+# the library in the folder of a module, which loads it from there, whatever LD_LIBRARY_PATH says
 SONAME = "libcvl.so.1"
 BESIDE = ["-Wl,--disable-new-dtags", "-Wl,-rpath,$ORIGIN"]
 # what a module may need of the system, where the wheel is for all systems with the same or a newer glibc

@@ -10,7 +10,7 @@ typedef int Main(int count, char **words, char **environment);
 extern Initializer *__init_array_start[] __attribute__((visibility("hidden")));
 extern Initializer *__init_array_end[] __attribute__((visibility("hidden")));
 
-/* The start of glibc under the version that all have. From 2.34 on it, too, runs this in the place of its own. */
+/* The start of glibc under the version that all have. Since 2.34, too, it runs `begin` if it gets one, and not its own. */
 int start_of_glibc(Main *main, int count, char **words, Initializer *begin, void (*end)(void), void (*unload)(void), void *stack);
 __asm__(".symver start_of_glibc, __libc_start_main@GLIBC_2.2.5");
 

@@ -68,7 +68,7 @@ class Release:
 
 # The processors that this machine may have of those with a build of their own, by a word of /proc/cpuinfo.
 FEATURES = {"x86-64-v3": " avx2 "}
-# How the loader of glibc is told to look into no folder for other processors than the usual ones.
+# With this, the loader of glibc takes the library for all processors and not that for x86-64-v3.
 USUAL_ALONE = {"GLIBC_TUNABLES": "glibc.cpu.hwcaps=-AVX2_Usable,-AVX2"}
 
 

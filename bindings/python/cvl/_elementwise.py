@@ -104,7 +104,7 @@ def changed(rows: Any, other: Any, operation: Operation) -> Any:
     except Fault as fault:
         if fault.number != OVERLAP:
             raise _divisor_told(rows, fault, operation, y) from None
-        # a part of this memory stands beside it
+        # the other operand shares a part of this memory
         numpy.copyto(x, _called(operation, x, y))
     return rows
 
