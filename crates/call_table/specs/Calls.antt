@@ -58,10 +58,11 @@ permuted_by Default cut element = vector_of element ∷ Integers ∷ vector_of e
 abbrev chosen_by : Element → List Kind
 chosen_by element = Booleans ∷ vector_of element ∷ vector_of element ∷ []
 
--- those of an extract and of a replace: a vector, an index into it or into each segment, and maybe a value for it
+-- those of an extract: a vector, and an index into it or into each segment
 abbrev extracted_by : Cut → Element → List Kind
 extracted_by cut element = vector_of element ∷ each_of cut of.Integer ∷ cut_by cut
 
+-- those of a replace: those of an extract, with a value for each index
 abbrev replaced_by : Cut → Element → List Kind
 replaced_by cut element = vector_of element ∷ each_of cut of.Integer ∷ each_of cut element ∷ cut_by cut
 
@@ -76,6 +77,7 @@ pub record Row : Type 0 where
   pub operands : List Kind
   pub results : List Kind
 
+-- the row with this name, these arguments and these results
 abbrev row : List ℕ → List Kind → List Kind → Row
 row name operands results = record { name = name; operands = operands; results = results }
 

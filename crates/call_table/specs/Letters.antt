@@ -24,6 +24,7 @@ pub record OperatorLabel : Type 0 where
   pub letters : List ℕ
   pub number : ℕ
 
+-- the label with these letters and this number
 abbrev label : List ℕ → ℕ → OperatorLabel
 label letters number = record { letters = letters; number = number }
 

@@ -15,6 +15,8 @@ use Rattle.explained_values.specs.declared.index_words.Room.{Room}
 use Rattle.explained_values.specs.Arguments.{Spelled, spelled_at, element_name, elements_in, integer_at}
 use Rattle.explained_values.specs.Segments.{part_words, places_of, segment_at, segment_in, start_at}
 
+-- what an index points into: the argument at the first place, cut by the descriptor at the second; all of its elements, or only its true
+-- flags
 abbrev room : ℕ → ℕ → Bool → Room
 room vector descriptor true_ones = record { vector = vector; descriptor = descriptor; true_ones = true_ones }
 

@@ -32,6 +32,7 @@ module _ {A X : Type 0} where
   permuted_whole Select source index defaults arg = select_of source index (booleans_in (arg 2))
   permuted_whole Default source index defaults arg = default_of source index defaults
 
+  -- the same within segments; the descriptors are the last arguments
   abbrev permuted_by_segments : Form → List X → List ℤ → List X → ArgumentAt A → Result (List X) Fault
   permuted_by_segments Simple source index defaults arg = seg_simple_of source index (lengths_in (arg 2))
   permuted_by_segments Back source index defaults arg = seg_back_of source index (lengths_in (arg 2)) (lengths_in (arg 3))
