@@ -7,7 +7,7 @@ import reference
 
 HEAD = """# The calls
 
-Look up a call: what it takes and gives, its faults, and an example. The [cheat sheet](sheet.md) has all names, and the [glossary](glossary.md) those in numpy, Thrust, SQL and other libraries. C, Fortran, Python and Rust have [more functions](#functions-that-no-script-calls).
+Look up a call: what it takes and gives, its faults, and an example. The [cheat sheet](sheet.md) has all names, and the [glossary](glossary.md) those in numpy, Thrust, SQL and other libraries. C, C++, Fortran, Python and Rust have [more functions](#functions-that-no-script-calls).
 
 The comment after an `input` shows what it holds. In the pictures a box is an element and a frame a segment; arrows lead from an element to where it goes."""
 
@@ -24,7 +24,7 @@ OF_EQUAL_LENGTHS = {"Elementwise calls"}
 
 BESIDE = """## Functions that no script calls
 
-C, Fortran, Python and Rust have them, in C and Fortran with `cvl_` before the name: see `man 3 cvl`, `help(cvl)` and `cargo doc`. With `seg_` they work in each segment, or on nested texts."""
+C, C++, Fortran, Python and Rust have them, in C and Fortran with `cvl_` before the name: see `man 3 cvl`, `cvl.hpp`, `help(cvl)` and `cargo doc`. With `seg_` they work in each segment, or on nested texts."""
 
 
 def anchor(entry):

@@ -263,17 +263,41 @@ def _forms(function):
         yield "std::size_t" if function.told else "void", operands, f"{'return ' if function.told else ''}{_of_family(function, operands)};"
 
 
+def _has_operator(function):
+    """Whether a caller names the operator."""
+    return function.row.call is None and bool(function.family.operators)
+
+
+def _taken(function, operands):
+    """The parameters of a form."""
+    return [*(["Operator op"] if _has_operator(function) else []), *_parameters(operands)]
+
+
 def _both(function, given, operands, made):
     """A form without exceptions, and the one that throws."""
-    own = function.row.call is None and function.family.operators
-    parameters = [*(["Operator op"] if own else []), *_parameters(operands)]
-    words = ", ".join([*(["op"] if own else []), *map(name_of, operands), "status"])
+    parameters = _taken(function, operands)
+    words = ", ".join([*(["op"] if _has_operator(function) else []), *map(name_of, operands), "status"])
     mark = "[[nodiscard]] " if operands == function.operands and given != "void" else ""
     called = f"cvl::{function.name}({words})"
     checked = [f"{called};", "detail::check(status);"] if given == "void" else [f"return detail::checked({called}, status);"]
     head = f"{mark}inline {given} {function.name}"
     yield _block(f"{head}({', '.join(map(in_c.kept, [*parameters, 'Status &status']))}) noexcept", [made])
     yield _block(f"{head}({', '.join(parameters)})", ["Status status;", *checked])
+
+
+def _by_hand():
+    """The text in C++ of the function that is written by hand."""
+    return (PARTS / "nested.hpp.in").read_text().rstrip("\n")
+
+
+def declaration(function):
+    """The form that throws, with a new result if it has such a form."""
+    if function.is_by_hand:
+        *_, (given, parameters) = re.findall(rf"^\[\[nodiscard\]\] inline (.*) {function.name}\((.*)\) {{$", _by_hand(), re.M)
+    else:
+        given, operands, _ = next(_forms(function))
+        parameters = ", ".join(_taken(function, operands)).replace(in_c.KEPT, " ")
+    return f"{given} cvl::{function.name}({parameters})"
 
 
 def _in_cpp(text):
@@ -302,7 +326,7 @@ def calls():
         blocks.append(f"// -- {section} --")
         for function in group:
             if function.is_by_hand:
-                blocks.append((PARTS / "nested.hpp.in").read_text().rstrip("\n"))
+                blocks.append(_by_hand())
             else:
                 blocks.append(f"{_comment(function)}\n{_function(function)}")
     return "\n\n".join(blocks)

@@ -16,7 +16,7 @@ TOP = pathlib.Path(__file__).resolve().parent.parent.parent
 FAULTS = "crates/cvl_base/specs/Faults.antt"
 
 TITLE, INTRO = "Cheat sheet", "A name is an operator and three letters: `add_rez` adds up, as a reduce, in each segment, integers."
-OPERATORS = "Before each end stand its operators. Calls come in C, Fortran, Python and Rust too, but for `input`, `nested` and lengths."
+OPERATORS = "Before each end stand its operators. Calls come in C, C++, Fortran, Python and Rust too, but for `input`, `nested` and lengths."
 STOPS = "A script stops at its first fault, a call returns it, with the place from 0. Those from 100 on are of programs."
 
 

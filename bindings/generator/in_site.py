@@ -20,8 +20,8 @@ import table
 
 TOP = pathlib.Path(__file__).resolve().parent.parent.parent
 FOLDER = "calls"
-HIGHLIGHTED = {"Script": "none", "C": "c", "Python": "python", "Rust": "rust", "Fortran": "fortran"}
-CLASSES = {"Script": "script", "C": "c", "Python": "python", "Rust": "rust", "Fortran": "fortran"}
+HIGHLIGHTED = {"Script": "none", "C": "c", "C++": "cpp", "Python": "python", "Rust": "rust", "Fortran": "fortran"}
+CLASSES = {"Script": "script", "C": "c", "C++": "cpp", "Python": "python", "Rust": "rust", "Fortran": "fortran"}
 
 
 def _measured():
@@ -70,7 +70,7 @@ def _call(row):
     said = [row.sentences]
     if row.example:
         said += [f"`{in_c.example_text(row)}`"]
-    names = f"`cvl_{row.name}` in C and Fortran, `cvl.{row.name}` in Python, `cvl::{row.name}` in Rust" if row.call else f"`cvl_{row.name}`"
+    names = f"`cvl_{row.name}` in C and Fortran, `cvl::{row.name}` in C++ and Rust, `cvl.{row.name}` in Python" if row.call else f"`cvl_{row.name}`"
     body = "\n\n".join([_in_words(said[0]), *said[1:], names])
     return f"```{{call}} {row.name}\n{body}\n```"
 
@@ -112,7 +112,7 @@ def _faults(entry):
     found = [f"**Faults in a script:** {entry.faults}"] if entry.said else []
     row = entry.rows[0] if entry.rows else None
     if row:
-        found.append(f"**Faults in C, Python, Rust and Fortran:** {_in_words(rows.fault_text(row)) or 'those of [all calls](all-calls.md).'}")
+        found.append(f"**Faults in C, C++, Python, Rust and Fortran:** {_in_words(rows.fault_text(row)) or 'those of [all calls](all-calls.md).'}")
         found.append(f"**In place:** {rows.in_place_words(row.family) or 'no, 102 Overlap.'}")
     return found
 
@@ -270,7 +270,7 @@ def index_page():
         head[0], "Look up any call: how you write it in each language, what it takes and gives, its faults, an example, and its cost beside a loop. "
         "The [glossary](glossary.md) goes by the names of other libraries; the search finds each call by its name and by those.",
         "## Index", _index(scripts), "## Beside the calls of scripts",
-        "C, Fortran, Python and Rust have more functions:", _index(beside),
+        "C, C++, Fortran, Python and Rust have more functions:", _index(beside),
         "C has in addition [what all calls share](calls/all-calls.md), [threads](calls/threads.md) and [descriptors](calls/descriptors-in-c.md).",
         in_calls.READING.replace("`script.md`", "[Scripts](script.md)"),
         _toctree([*(f"{FOLDER}/{slug(title)}" for title, _, _ in (*scripts, *beside)), *shared]),

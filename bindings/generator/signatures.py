@@ -3,13 +3,14 @@
 import re
 
 import in_c
+import in_cpp
 import in_fortran
 import in_python
 import in_rust
 import packages
 import rows
 
-LANGUAGES = ("Script", "C", "Python", "Rust", "Fortran")
+LANGUAGES = ("Script", "C", "C++", "Python", "Rust", "Fortran")
 
 # what only compilers read
 MARKS = re.compile(r"CVL_CHECKED |CVL_RESTRICT | CVL_NONNULL\(\([^)]*\)\)")
@@ -29,6 +30,10 @@ def in_script(entry, name):
 
 def of_c(row):
     return re.sub(r"\s+", " ", MARKS.sub("", in_c.declaration(row)))
+
+
+def of_cpp(row):
+    return in_cpp.declaration(in_cpp.Function(row))
 
 
 def _function_of_python(row):
@@ -64,7 +69,7 @@ def of_fortran(row):
 
 def of_row(row):
     """The declarations of a function by its language."""
-    return {"C": of_c(row), "Python": of_python(row), "Rust": of_rust(row), "Fortran": of_fortran(row)}
+    return {"C": of_c(row), "C++": of_cpp(row), "Python": of_python(row), "Rust": of_rust(row), "Fortran": of_fortran(row)}
 
 
 def of_entry(entry):

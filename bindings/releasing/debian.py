@@ -49,7 +49,7 @@ PACKAGES = (
     ),
     Package(
         "cvl-doc", ("share/doc/cvl/*",), "", "doc", "proved vector calls for flat and nested data - documentation",
-        ("The tutorial, the reference and the examples of CVL's calls, from scripts and from C, Fortran, Python and Rust.",), "all",
+        ("The tutorial, the reference and the examples of CVL's calls, from scripts and from C, C++, Fortran, Python and Rust.",), "all",
     ),
 )  # fmt: skip
 

@@ -29,6 +29,7 @@ sys.path.insert(0, str(TOP / "docs/site"))
 import making
 
 import reference
+import signatures
 
 NARROW = 360
 
@@ -182,8 +183,14 @@ class Files(unittest.TestCase):
                 text, anchors = (SITE / f"calls/{entry.name}.html").read_text(), PAGES[f"calls/{entry.name}.html"].anchors
                 self.assertEqual([name for name in entry.calls if f"call-{name}" not in anchors], [], entry.name)
                 languages = re.findall(r'<div class="signature (\w+)">', text)
-                wanted = ["script"] * bool(entry.said) + ["c", "python", "rust", "fortran"] * bool(entry.rows)
+                wanted = ["script"] * bool(entry.said) + ["c", "cpp", "python", "rust", "fortran"] * bool(entry.rows)
                 self.assertEqual(set(wanted) - set(languages), set(), entry.name)
+
+    def test_what_a_page_declares_in_cpp_stands_in_the_header(self):
+        header = re.sub(r"\s+", " ", (TOP / "include/cvl.hpp").read_text())
+        declared = [signatures.of_cpp(row) for _, _, entries in [*reference.of_scripts(), *reference.beside()] for entry in entries for row in entry.rows]
+        self.assertGreater(len(declared), 100)
+        self.assertEqual([line for line in declared if f" {line.replace(' cvl::', ' ', 1)} {{" not in header], [])
 
     @unittest.skipIf("SITE" in os.environ, "a site that was made before")
     def test_the_same_pages_give_the_same_bytes(self):
