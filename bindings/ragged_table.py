@@ -160,7 +160,7 @@ METHODS = (
     ),
     row(
         "first_true", "seg_first_true flags", "a.argmax()", "The first place of each row that is not 0, or -1.",
-        "numpy's argmax gives 0 if there is none.", "(r == 1).first_true()", "[1, -1, 1]",
+        "argmax gives 0 if there is none.", "(r == 1).first_true()", "[1, -1, 1]",
     ),
     along(
         "cumsum", None, "a.cumsum()", "At each place the sum of the row up to it.", f"{WRAPS}.", "r.cumsum()",

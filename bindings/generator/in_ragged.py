@@ -218,7 +218,7 @@ def _in_numpy(text):
 
 def _of_methods(section):
     """A row for each method; those that change rows at indices share one, with the first one's arguments."""
-    yield from ["| Method | In numpy, for a row `a` | What it gives |", "|---|---|---|"]
+    yield from ["| Method | What it gives |", "|---|---|"]
     found = [row for row in (*table.METHODS, *table.WHOLE) if row.section == section]
     changing = [row for row in found if row.gives == "self"]
     for row in found:
@@ -226,12 +226,13 @@ def _of_methods(section):
         name = f"Ragged.{row.name}" if row.gives.startswith("static ") else row.name
         if row in changing[:1]:
             others = " ".join(f"`{other.name}`" for other in changing[1:])
-            yield f"| `{name}({takes})` {others} | {_in_numpy(row.numpy)} | {table.AT_ON_PAGE} |"
+            yield f"| `{name}({takes})` {others} | {table.AT_ON_PAGE} In numpy `{row.numpy}`. |"
         elif row not in changing:
             # the page says this once, above its table
             differs = "" if row.differs.startswith(table.NO_EMPTY) else row.differs
-            says = " ".join(filter(None, [row.says, differs])).replace("|", "\\|")
-            yield f"| `{name}({takes})` | {_in_numpy(row.numpy)} | {says} |"
+            elsewhere = f"In numpy `{row.numpy}`." if row.numpy and f".{row.name}" not in row.numpy else ""
+            says = " ".join(filter(None, [row.says, elsewhere, differs])).replace("|", "\\|")
+            yield f"| `{name}({takes})` | {says} |"
 
 
 def _of_operators():
