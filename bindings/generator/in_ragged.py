@@ -230,7 +230,7 @@ def _of_methods(section):
         elif row not in changing:
             # the page says this once, above its table
             differs = "" if row.differs.startswith(table.NO_EMPTY) else row.differs
-            elsewhere = f"In numpy `{row.numpy}`." if row.numpy and f".{row.name}" not in row.numpy else ""
+            elsewhere = f"In numpy `{row.numpy}`." if row.numpy and not re.search(rf"\.{row.name}\b", row.numpy) else ""
             says = " ".join(filter(None, [row.says, elsewhere, differs])).replace("|", "\\|")
             yield f"| `{name}({takes})` | {says} |"
 
