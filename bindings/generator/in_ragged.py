@@ -212,10 +212,6 @@ def _taken(part):
     return name.split(":")[0] + (f"={default}" if default else "")
 
 
-def _in_numpy(text):
-    return f"`{text}`" if text else ""
-
-
 def _of_methods(section):
     """A row for each method; those that change rows at indices share one, with the first one's arguments."""
     yield from ["| Method | What it gives |", "|---|---|"]
@@ -247,10 +243,10 @@ def _of_operators():
 
 
 def _of_flat():
-    yield from ["| Function | In numpy | What it gives | Calls |", "|---|---|---|---|"]
+    yield from ["| Function | What it gives | Calls |", "|---|---|---|"]
     for row in table.FLAT:
         takes, says = ", ".join(map(_taken, row.takes.split(", "))), " ".join(filter(None, [row.says, row.differs]))
-        yield f"| `cvl.{row.name}({takes})` | {_in_numpy(row.numpy)} | {says} | {_code(row.calls)} |"
+        yield f"| `cvl.{row.name}({takes})` | {says} | {_code(row.calls)} |"
 
 
 def page(text):
