@@ -5,9 +5,9 @@ from table import MOST_ELEMENTS, MOST_OF_TEXT, MOST_STACK
 
 # what is proved of the library from other languages, in the same words on all pages
 FROM_C = (
-    "The exported functions of the library are proved on the thread that calls: each gives the value or the first fault of its definition, and at a fault "
-    "leaves your arrays as they were. The C over them, which checks lengths and overlaps and runs long calls on threads, is tested; another tool proves "
-    "some of it. So a call on several threads is tested and not proved."
+    "The exported functions of the library are proved on the thread that calls: each gives the value or the first fault of its definition, and a fault "
+    "leaves your arrays as they were. The C over them, which checks arguments and shares long calls among threads, is tested, and in part proved by another tool. "
+    "So a call on several threads is tested and not proved."
 )
 
 ABOUT = (

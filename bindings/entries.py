@@ -25,6 +25,8 @@ def _each(operators, end, flags=()):
 
 JOINING, OF_FLAGS = ("add", "mul", "min", "max", "and", "ior", "xor"), ("and", "ior", "xor")
 
+AT_INDICES = "10 IndexOutOfRange at the index; 11 IndexRepeated at the later index"
+
 NO_INPUT = "14 NoSuchInput, without a place; else 13 TooLong, without a place, if the input has more than 4,194,304 tokens"
 
 # The letters of a name behind its operator, by where they stand.
@@ -40,35 +42,35 @@ LETTERS = (
 SECTIONS = (
     Section(
         "Elementwise calls",
-        "All arguments have equal lengths, and the result has an element for each of their places. What does not fit 32 bits wraps, without a fault.",
+        "All arguments have equal lengths, and so has the result. What does not fit 32 bits wraps, without a fault.",
         (
             Entry(
                 ("add_wuz", "sub_wuz", "mul_wuz", "min_wuz", "max_wuz", "and_wuz", "ior_wuz", "xor_wuz"),
                 "sum, difference, product, lesser, greater; and, or, exclusive or of bits",
-                "The wrapped sum, difference or product of each pair of elements; the lesser or the greater; their and, or or exclusive or, bit by bit.",
+                "The sum, difference, product, lesser or greater of each pair of elements; their and, or or exclusive or, bit by bit.",
                 costs=("add",),
             ),
             Entry(
                 ("div_wuz", "mod_wuz"), "quotient, remainder",
-                "The quotient truncated toward zero; the remainder, with the sign of the dividend. -2147483648 divided by -1 is -2147483648, with remainder 0.",
+                "The quotient truncated toward zero; the remainder, with the sign of the dividend. -2147483648 by -1 gives -2147483648, with remainder 0.",
                 costs=("divide",),
             ),
             Entry(
                 ("lsh_wuz", "rsh_wuz"), "shift left, shift right",
-                "The elements of a shifted by those of b: left, without the bits that no longer fit; right, keeping the sign, which is the floor of `a / 2^b`.",
+                "The elements of a shifted by those of b: left, without the bits that no longer fit; right, with the sign, to the floor of `a / 2^b`.",
                 costs=("shift left",),
             ),
             Entry(("not_wuz", "not_wub"), "the opposite", "All bits of each integer inverted; the opposite of each boolean.", costs=("not, on booleans",)),
-            Entry(("cpy_wuz", "cpy_wub"), "a copy", "A copy, which stays the same if the first name is bound again.", costs=("copy",)),
+            Entry(("cpy_wuz", "cpy_wub"), "a copy", "A copy.", costs=("copy",)),
             Entry(
                 ("grt_wuz", "les_wuz", "geq_wuz", "leq_wuz", "eql_wuz", "neq_wuz"), "comparisons: greater, less, at least, at most, equal, unequal",
-                "T if the element of a is greater than, less than, at least, at most, equal to or unequal to that of b, in the order of the names. Numbers are signed.",
+                "Whether the element of a is greater than, less than, at least, at most, equal or unequal to that of b, as signed numbers.",
                 costs=("greater",),
             ),
             Entry(
                 ("sel_wuz", "sel_wub"), "for each place, the element of one of two vectors, chosen by a flag",
                 "The element of a if the flag is T, and that of b if it is F.",
-                ("choice", "Each element leads to the place at which its flag chooses it"), ("select",),
+                ("choice", "The elements that flags choose"), ("select",),
             ),
             Entry(("and_wub", "ior_wub", "xor_wub"), "and, or, exclusive or of flags", "The and, or or exclusive or of each pair of booleans.", costs=("and, on booleans",)),
             Entry(("int_wub",), "0 and 1 of flags", "1 for T and 0 for F.", costs=("integers of booleans",)),
@@ -78,31 +80,30 @@ SECTIONS = (
     Section(
         "Scans and reduces",
         "An operator's identity changes nothing: 0 for `add`, `ior` and `xor`, 1 for `mul`, 2147483647 for `min`, -2147483648 for `max`, -1 for "
-        "`and`; of booleans T for `and`, and F for `ior` and `xor`. Scans are exclusive: a place has what the elements before it combine to, without its own.",
+        "`and`; of booleans T for `and`, and F for `ior` and `xor`. Scans are exclusive: they leave out a place's own element.",
         (
             Entry(
                 _each(JOINING, "su", OF_FLAGS), "exclusive scan", "At each place all elements before it, combined by the operator; at place 0 the identity.",
                 ("scan", "Each sum is the one before it, plus the element there"), ("add scan",),
-                shows="Each scan begins with its identity; the last element of `a` counts nowhere.",
             ),
             Entry(
-                _each(JOINING, "se", OF_FLAGS), "exclusive scan of each segment", "The scan of each segment; it starts from the identity in each.",
-                ("scan_segments", "Each sum is the one before it in its segment, plus the element there"), costs=("add scan, segments of 1,000",),
+                _each(JOINING, "se", OF_FLAGS), "exclusive scan of each segment", "The scan of each segment, which starts from the identity.",
+                ("scan_segments", "Sums that start anew in each segment"), costs=("add scan, segments of 1,000",),
             ),
             Entry(
                 _each(JOINING, "ru", OF_FLAGS), "reduce", "All elements, combined by the operator; the identity if there are none.", costs=("add reduce",),
             ),
             Entry(
                 _each(JOINING, "re", OF_FLAGS), "reduce of each segment", "The elements of each segment, combined; the identity for an empty segment.",
-                ("reduce_segments", "Each element leads to the sum of its segment"), ("add reduce, segments of 1,000",),
-                shows="The empty segment has the identities: 0, the greatest integer, F.",
+                ("reduce_segments", "Each element goes to the sum of its segment"), ("add reduce, segments of 1,000",),
+                shows="The empty segment has the identities.",
             ),
         ),
     ),
     Section(
         "Checked sums",
-        "Scans and reduces by addition that never wrap: a result outside -2147483648 to 2147483647 is a fault, and sums on the way may be any whole number. "
-        "They [cannot see](mistakes.md#a-checked-sum-of-what-has-wrapped) that an element wrapped when it was computed.",
+        "Sums that never wrap: a result outside 32 bits is a fault, and sums on the way may be any whole number. "
+        "They [cannot see](mistakes.md#a-checked-sum-of-what-has-wrapped) that an element wrapped before.",
         (
             Entry(
                 ("tot_suz",), "exclusive scan of sums that never wrap", "At each place the sum of all elements before it; 0 at place 0.",
@@ -110,9 +111,8 @@ SECTIONS = (
                 shows="The sum of all three would not fit, but no place has it.",
             ),
             Entry(
-                ("tot_sez",), "exclusive scan of each segment, of sums that never wrap", "The scan of each segment; it starts from 0 in each.",
+                ("tot_sez",), "exclusive scan of each segment, of sums that never wrap", "The scan of each segment, which starts from 0.",
                 costs=("checked add scan, segments of 1,000",),
-                shows="2147483647 + 1 would not fit, but no place has it.",
             ),
             Entry(
                 ("tot_ruz",), "sum that never wraps", "The sum of all elements; 0 if there are none. Only the whole sum has to fit.",
@@ -126,49 +126,47 @@ SECTIONS = (
     ),
     Section(
         "Permutes",
-        "In a simple, select or default permute, the index of a place says where its element goes: inside the result, and no two to one place. In a back permute "
-        "it says where the element comes from: inside the source, and it may repeat.\n\n"
-        "In a segmented call an index counts from the start of its own segment, and has to lie inside that segment of the result or source. An index that is "
-        "both outside and repeated is fault 10.",
+        "In a simple, select or default permute the index of an element says where it goes: inside the result, and no two to one place. In a back permute "
+        "it says where the element comes from, and may repeat. In a segmented call it counts from the start of its segment, and stays inside it.\n\n"
+        f"Faults, unless an entry has others: {AT_INDICES}. If an index is both, 10 counts.",
         (
             Entry(
                 ("smp_puz", "smp_pub"), "simple permute: each element goes to its index", "Element k of the source goes to place `index[k]` of the result.",
-                ("simple_permute", "Each element leads to the place that its index names"), ("simple permute, in order", "simple permute, at random"),
+                ("simple_permute", "Each element goes to its index"), ("simple permute, in order", "simple permute, at random"),
             ),
             Entry(
                 ("smp_pez", "smp_peb"), "simple permute of each segment", "The simple permute of each segment.",
-                ("simple_permute_segments", "Each element leads to the place of its segment that its index names"), ("simple permute, segments of 1,000",),
+                ("simple_permute_segments", "Each element goes to its index in its segment"), ("simple permute, segments of 1,000",),
             ),
             Entry(
                 ("bck_puz", "bck_pub"), "back permute: each place takes the element at its index",
                 "Place k of the result takes the element at place `index[k]` of the source.",
-                ("back_permute", "The element that an index names leads to the place of the index"), ("back permute, in order", "back permute, at random"),
+                ("back_permute", "Each place takes the element at its index"), ("back permute, in order", "back permute, at random"),
             ),
             Entry(
                 ("bck_pez", "bck_peb"), "back permute of each segment",
-                "The back permute of each segment of the source by the same segment of the index.",
-                ("back_permute_segments", "The element of a segment that an index names leads to the place of the index"), ("back permute, segments of 1,000",),
+                "The back permute of each segment of the source by the same one of the index.",
+                ("back_permute_segments", "Each place takes the element at its index in its segment"), ("back permute, segments of 1,000",),
             ),
             Entry(
                 ("sel_puz", "sel_pub"), "select permute: the elements whose flag is true go to their indices",
                 "The simple permute of the elements whose flag is T. Indices whose flag is F are ignored.",
-                ("select_permute", "Each element whose flag is true leads to the place that its index names"), ("select permute, at random",),
+                ("select_permute", "Elements whose flag is true go to their indices"), ("select permute, at random",),
             ),
             Entry(
                 ("sel_pez", "sel_peb"), "select permute of each segment",
-                "The select permute of each segment. Its result has as many elements as the segment has true flags.",
-                ("select_permute_segments", "Each element whose flag is true leads to the place of its segment that its index names"), ("select permute, segments of 1,000",),
+                "The select permute of each segment.",
+                ("select_permute_segments", "Elements whose flag is true go to their indices in their segments"), ("select permute, segments of 1,000",),
             ),
             Entry(
                 ("def_puz", "def_pub"), "default permute: a permute into a copy of defaults",
-                "A copy of the defaults, with element k of the source at place `index[k]`. The defaults may have any length.",
-                ("default_permute", "Each element leads to the place that its index names, and defaults to the other places"), ("default permute, at random",),
+                "A copy of the defaults, of any length, with element k of the source at place `index[k]`.",
+                ("default_permute", "Elements go to their indices, and defaults to the other places"), ("default permute, at random",),
             ),
             Entry(
                 ("def_pez", "def_peb"), "default permute of each segment",
                 "The default permute of each segment of the source into the same segment of the defaults.",
-                ("default_permute_segments", "Each element leads to the place of its segment that its index names, and defaults to the other places"), ("default permute, segments of 1,000",),
-                shows="The empty segment sends nothing, and its default 9 stays.",
+                ("default_permute_segments", "Elements go to their indices in their segments, and defaults to the other places"), ("default permute, segments of 1,000",),
             ),
         ),
     ),
@@ -177,13 +175,12 @@ SECTIONS = (
         (
             Entry(
                 ("input",), "the vector of an input",
-                "The vector of the input with this number, from 1. Only the first line that names an input reads its numbers, which all names share.",
+                "The vector of the input with this number, from 1.",
                 takes="number (integer)", gives="integers", faults=f"{NO_INPUT}; else 15 BadInput at the first token that is no integer.",
             ),
             Entry(
                 ("nested",), "the vector and the descriptor of a list of lists",
-                "The elements of all inner lists of the input with this number, from 1, and the lengths of the lists. What `write v d` prints after ` = ` is such "
-                "an input.",
+                "The elements of all lists of the input with this number, and the lengths of the lists. What `write v d` prints after ` = ` is such an input.",
                 takes="number (integer)", gives="integers, to the first name; their descriptor, to the second",
                 faults=f"{NO_INPUT} other than brackets, or more than 4,194,305 `[`; else 15 BadInput at the first token that cannot stand there, or at the "
                 "number of tokens if the input ends too early.",
@@ -205,11 +202,11 @@ SECTIONS = (
             Entry(
                 ("pck_lez", "pck_leb"), "pack of each segment", "The values of each segment whose flag is T, in their order.",
                 ("pack_segments", "The elements of each segment whose flag is true move up"), ("pack, segments of 1,000",),
-                shows="The pack is flat; `pck_fov` of the same flags cuts it into segments again.",
+                shows="`pck_fov` of the same flags cuts the pack into segments again.",
             ),
             Entry(
                 ("pck_fov",), "the descriptor of a pack of each segment",
-                "How many flags are true in each segment: it cuts a pack or a select permute by these flags.",
+                "The number of true flags of each segment, which cuts a pack or a select permute by these flags.",
             ),
         ),
     ),
@@ -219,13 +216,12 @@ SECTIONS = (
             Entry(("dis_vuz", "dis_vub"), "distribute: copies of one element", "Copies of the value.", costs=("distribute",)),
             Entry(
                 ("dis_vez", "dis_veb"), "copies of one element for each segment", "Copies of each value, one for each place of its segment.",
-                ("distribute_segments", "Each value leads to the places of its segment"), ("distribute, segments of 1,000",),
-                shows="8 belongs to the empty segment, and is copied nowhere.",
+                ("distribute_segments", "Each value goes to all places of its segment"), ("distribute, segments of 1,000",),
             ),
             Entry(("ind_luz",), "numbers with a stride", "Place k has `init + k*stride`, wrapped.", costs=("index",)),
             Entry(
                 ("ind_lez",), "numbers with a stride in each segment",
-                "The numbers from each init with its stride; k counts from the start of the segment.", costs=("index, segments of 1,000",),
+                "The same in each segment, from its init by its stride.", costs=("index, segments of 1,000",),
             ),
         ),
     ),
@@ -235,13 +231,13 @@ SECTIONS = (
             Entry(("ext_vuz", "ext_vub"), "one element", "The element of the vector at the index."),
             Entry(
                 ("ext_vez", "ext_veb"), "one element of each segment",
-                "The element of each segment at its index, which counts from the start of the segment. An index for an empty segment is always outside.",
+                "The element of each segment at its index, counted from its start. For an empty segment each index is outside.",
                 ("extract_segments", "The element that each segment's index names"),
             ),
             Entry(("rep_vuz", "rep_vub"), "one element replaced", "The vector with the value at the index."),
             Entry(
                 ("rep_vez", "rep_veb"), "one element of each segment replaced",
-                "The vector with each segment's value at its index, which counts from the start of the segment. An index for an empty segment is always outside.",
+                "The vector with each segment's value at its index, counted from its start. For an empty segment each index is outside.",
             ),
         ),
     ),
@@ -259,11 +255,11 @@ SECTIONS = (
 
 # What the functions do that no script calls, by their sections in `table.py`.
 BESIDE = {
-    "First senders": "For each place of a result the least place whose index names it, or -1; `select_` only of places whose flag is true.",
-    "Combining permutes": "Combine each element with the value at the place that its index names: sums by key, or the least of each; `counts` counts keys.",
+    "First senders": "For each place of a result the first element that is sent there, or -1; `select_` only of those whose flag is true.",
+    "Combining permutes": "Combine each element with the value at its index: sums by key, or the least of each; `counts` counts keys.",
     "Orders, ranks and sorts": "The places in ascending order of their keys, equal keys in their order; how many keys come before each; the keys.",
-    "Slices and merges": "Slices one behind another, by starts and lengths; segments behind segments; the next element of one vector or another, by a flag; the "
-    "place of the first true flag, or -1; sums in 64 bits.",
+    "Slices and merges": "Slices one behind another, by starts and lengths; segments behind segments; two vectors merged by flags; the first true flag, or -1; "
+    "sums in 64 bits.",
     "Transposes, and integers of a byte": "A matrix stored by rows, transposed; bytes as integers from 0 to 255, and back, or fault 18.",
     "Texts": "Integers read from a text, and vectors written as one.",
     "Scans in parts, by threads of the caller's": "A scan that goes on from a carry.",

@@ -69,6 +69,18 @@ UNARY = (
     ("logical_not", None, None, "not_wub", "Whether each is 0"),
 )
 
+# The operators on the page, with what those of a line have in common.
+ON_PAGE = (
+    ("add subtract multiply", "Sums, differences and products. Of booleans `+` is or, and `*` and."),
+    ("floor_divide remainder", f"Quotients rounded down, and remainders with the divisor's sign. {BY_ZERO}"),
+    ("left_shift right_shift", f"Shifted left, and right with the sign. {SHIFTS}"),
+    ("bitwise_and bitwise_or bitwise_xor invert", "And, or, exclusive or and not, bit by bit."),
+    ("equal not_equal less less_equal greater greater_equal", "Booleans."),
+    ("minimum maximum", "The lesser, and the greater."),
+    ("logical_and logical_or logical_xor logical_not", "Booleans; a number is true if it is not 0."),
+    ("negative positive absolute", "0 less each; a copy; without signs, but the least integer stays as it is."),
+)
+
 # Operators that no call has, and what to write.
 REFUSED = (
     ("/", "truediv", "fractions have no call; write r // s"),
@@ -105,6 +117,8 @@ def at(name, word, says):
     )  # fmt: skip
 
 
+AT_ON_PAGE = "Change r, and give it: each value is combined with the element at its index in the row. Several at one place all count."
+
 NO_EMPTY = "A row without elements is a ValueError, as in numpy"
 METHODS = (
     row(
@@ -117,19 +131,19 @@ METHODS = (
         "[3, 1, 20]",
     ),
     row(
-        "min", None, "a.min()", f"The least of each row. {NO_EMPTY}, unless initial is given.", "", "r.min(initial=99)",
+        "min", None, "a.min()", "The least of each row.", f"{NO_EMPTY}, unless initial is given.", "r.min(initial=99)",
         "[1, 99, 1]", fixed=("initial: Optional[int] = None",), calls="min_rez",
     ),
     row(
-        "max", None, "a.max()", f"The greatest of each row. {NO_EMPTY}, unless initial is given.", "", "r.max(initial=0)",
+        "max", None, "a.max()", "The greatest of each row.", f"{NO_EMPTY}, unless initial is given.", "r.max(initial=0)",
         "[3, 0, 5]", fixed=("initial: Optional[int] = None",), calls="max_rez",
     ),
     row(
-        "argmin", None, "a.argmin()", f"The first place of the least in each row. {NO_EMPTY}.", "",
+        "argmin", None, "a.argmin()", "The first place of the least in each row.", f"{NO_EMPTY}.",
         "r[r.lengths > 0].argmin()", "[1, 1]", calls="min_rez, dis_vez, eql_wuz, seg_first_true",
     ),
     row(
-        "argmax", None, "a.argmax()", f"The first place of the greatest in each row. {NO_EMPTY}.", "",
+        "argmax", None, "a.argmax()", "The first place of the greatest in each row.", f"{NO_EMPTY}.",
         "r[r.lengths > 0].argmax()", "[0, 2]", calls="max_rez, dis_vez, eql_wuz, seg_first_true",
     ),
     row(
@@ -146,7 +160,7 @@ METHODS = (
     ),
     row(
         "first_true", "seg_first_true flags", "a.argmax()", "The first place of each row that is not 0, or -1.",
-        "numpy's argmax gives 0 if there is none.", "(r == 1).first_true()", "[1, -1, 1]",
+        "argmax gives 0 if there is none.", "(r == 1).first_true()", "[1, -1, 1]",
     ),
     along(
         "cumsum", None, "a.cumsum()", "At each place the sum of the row up to it.", f"{WRAPS}.", "r.cumsum()",

@@ -1,4 +1,4 @@
-"""The names that calls have elsewhere: the tables of the glossary, and what each entry of the reference says of them."""
+"""The names that calls have elsewhere: the lists of the glossary, and what each entry of the reference says of them."""
 
 import functools
 import pathlib
@@ -43,7 +43,7 @@ def name_of(call):
 
 
 def _as_code(name):
-    return f"`{name}`".replace("|", "\\|")
+    return f"`{name}`"
 
 
 def _answer(names):
@@ -57,22 +57,22 @@ def _answer(names):
     return shown + (f"; {names.note}" if names.note else "")
 
 
-def _table(library, found):
+def _list(library, found):
     source, rows = found
     is_plain = library == next(iter(foreign.LIBRARIES))
-    lines = [f"| {', '.join(words(names) if is_plain else map(_as_code, words(names)))} | {_answer(names)} |" for names in rows]
+    lines = [f"- {', '.join(words(names) if is_plain else map(_as_code, words(names)))}: {_answer(names)}" for names in rows]
     intro = [f"{source[0].upper()}{source[1:]}.\n"] if source else []
-    return "\n".join([f"## {library}\n", *intro, "| There | Here |", "|---|---|", *lines])
+    return "\n".join([f"## {library}\n", *intro, *lines])
 
 
-def tables():
-    return "\n\n".join(_table(library, found) for library, found in foreign.LIBRARIES.items())
+def lists():
+    return "\n\n".join(_list(library, found) for library, found in foreign.LIBRARIES.items())
 
 
 def glossary():
-    """The glossary, with its tables of names."""
+    """The glossary, with its lists of names."""
     before, begin, rest = (TOP / GLOSSARY).read_text().partition(BEGIN)
-    return f"{before}{begin}\n{tables()}\n\n{END}{rest.partition(END)[2]}"
+    return f"{before}{begin}\n{lists()}\n\n{END}{rest.partition(END)[2]}"
 
 
 # ---- the entries ----

@@ -7,20 +7,23 @@ import reference
 
 HEAD = """# The calls
 
-Look up a call: what it takes and gives, its faults, and an example. The [cheat sheet](sheet.md) has all names, and the [glossary](glossary.md) those in numpy, Thrust, SQL and other libraries. C, C++, Fortran, Python and Rust have [more functions](#functions-that-no-script-calls).
+Look up a call: what it takes and gives, its faults, and an example. The [cheat sheet](sheet.md) has all names, and the [glossary](glossary.md) those of other libraries. Programs have [more functions](#functions-that-no-script-calls).
 
-The comment after an `input` shows what it holds. In the pictures a box is an element and a frame a segment; arrows lead from an element to where it goes."""
+The comment after an `input` shows what it holds. In the pictures a box is an element, and a frame a segment."""
 
 READING = """## Reading an entry
 
 - A name is an operator and [three letters](sheet.md#names): `bck_puz` is a back permute (`p`) of a flat vector (`u`) of integers (`z`).
-- `Takes` has the arguments in their order. *Integers* and *booleans* are vectors, an *integer* and a *boolean* single values; *elements* are integers or booleans, by the last letter of the name.
-- A descriptor is the lengths of the segments of a vector; its *total* is their sum. A segmented call does in each segment what the flat call does on a whole vector, and its results lie one after another.
-- If lengths that must match differ, the call stops with fault 7 LengthMismatch, without a place, before any fault under `Faults`. No such line means no further faults. `script.md` has those of any line, which come first.
-- Places count from 0, in the whole vector. A fault of an element is reported at the least place that has one."""
+- `Takes` has the arguments in order. *Integers* and *booleans* are vectors, an *integer* and a *boolean* single values; *elements* are integers or booleans, by the name's last letter.
+- A descriptor is the lengths of the segments of a vector; its *total* is their sum. A segmented call does in each segment what the flat call does on a whole vector.
+- If `Equal lengths` differ, the call stops with fault 7 LengthMismatch, without a place. Then come those under `Faults`, of the entry or its section; there are no others. [Faults of any line](script.md#when-a-script-stops) come first.
+- Places count from 0, in the whole vector. Of several bad elements the first is reported."""
 
 # sections that say which lengths are equal, so that no entry does
 OF_EQUAL_LENGTHS = {"Elementwise calls"}
+
+# the faults that a section says for those of its entries that have no others
+OF_FAULTS = {"Permutes": f"{entries.AT_INDICES}."}
 
 BESIDE = """## Functions that no script calls
 
@@ -42,11 +45,11 @@ def index(found, leads_to):
 
 
 def said(entry):
-    """What an entry takes and gives, which lengths must agree if its section does not say so, and its other faults."""
+    """What an entry takes and gives, and which lengths must agree and its other faults, if its section does not say so."""
     lines = [f"Takes: {entry.takes}. Gives: {entry.gives}."]
     lines += [f"Equal lengths: {entry.agree}."] if entry.agree and entry.section not in OF_EQUAL_LENGTHS else []
     others = re.sub(r"^7 LengthMismatch(?:\.|; )", "", entry.faults)
-    lines += [f"Faults: {others}"] if others not in ("", "none.") else []
+    lines += [f"Faults: {others}"] if others not in ("", "none.", OF_FAULTS.get(entry.section)) else []
     return "\n".join(f"- {line}" for line in lines)
 
 
@@ -74,15 +77,8 @@ def _leads_to(entry):
     return f"#{anchor(entry)}"
 
 
-def _elsewhere(entry, found):
-    """The sections without that of an entry, whose other calls stand beside it."""
-    return [section for section in found if section[0] != entry.section]
-
-
-def _entry(entry, found):
-    others = also(entry, _elsewhere(entry, found), _leads_to)
-    lines = "\n".join([said(entry), *([f"- See also: {others}."] if others else [])])
-    return "\n\n".join([f"### {entry.heading}", entry.said.said, lines, example(entry), *picture(entry)])
+def _entry(entry):
+    return "\n\n".join([f"### {entry.heading}", entry.said.said, said(entry), example(entry), *picture(entry)])
 
 
 def _beside():
@@ -94,6 +90,6 @@ def _beside():
 def page():
     """`docs/user/calls.md`."""
     found = reference.of_scripts()
-    sections = ["\n\n".join([f"## {title}", *([intro] if intro else []), *(_entry(entry, found) for entry in section)]) for title, intro, section in found]
+    sections = ["\n\n".join([f"## {title}", *([intro] if intro else []), *map(_entry, section)]) for title, intro, section in found]
     parts = [HEAD, "## Index", index(found, _leads_to), READING, *sections, BESIDE, _beside()]
     return "\n\n".join(parts) + "\n"

@@ -213,35 +213,40 @@ def _taken(part):
 
 
 def _of_methods(section):
-    yield from ["| Method | In numpy, for a row `a` | What it gives | Calls |", "|---|---|---|---|"]
-    for row in (*table.METHODS, *table.WHOLE):
-        if row.section == section:
-            takes = ", ".join([*row.beside, *map(_taken, row.fixed)])
-            name = f"Ragged.{row.name}" if row.gives.startswith("static ") else row.name
-            says = " ".join(filter(None, [row.says, row.differs])).replace("|", "\\|")
-            yield f"| `{name}({takes})` | {_code(row.numpy)} | {says} | {_code(row.calls)} |"
-
-
-# the calls of the operators that are more than one
-BY_HAND = {"floor_divide": "div_wuz, mod_wuz", "remainder": "mod_wuz"}
+    """A row for each method; those that change rows at indices share one, with the first one's arguments."""
+    yield from ["| Method | What it gives |", "|---|---|"]
+    found = [row for row in (*table.METHODS, *table.WHOLE) if row.section == section]
+    changing = [row for row in found if row.gives == "self"]
+    for row in found:
+        takes = ", ".join([*row.beside, *map(_taken, row.fixed)])
+        name = f"Ragged.{row.name}" if row.gives.startswith("static ") else row.name
+        if row in changing[:1]:
+            others = " ".join(f"`{other.name}`" for other in changing[1:])
+            yield f"| `{name}({takes})` {others} | {table.AT_ON_PAGE} In numpy `{row.numpy}`. |"
+        elif row not in changing:
+            # the page says this once, above its table
+            differs = "" if row.differs.startswith(table.NO_EMPTY) else row.differs
+            elsewhere = f"In numpy `{row.numpy}`." if row.numpy and not re.search(rf"\.{row.name}\b", row.numpy) else ""
+            says = " ".join(filter(None, [row.says, elsewhere, differs])).replace("|", "\\|")
+            yield f"| `{name}({takes})` | {says} |"
 
 
 def _of_operators():
-    yield from ["| Sign | In numpy | What it gives | Calls |", "|---|---|---|---|"]
-    for row in table.OPERATIONS:
-        sign = f"`{row.sign}`".replace("|", "\\|") if row.sign else ""
-        calls = BY_HAND.get(row.name) or ", ".join(filter(None, (row.ints, row.flags)))
-        says = f"{row.says}. {row.differs}".strip()
-        yield f"| {sign} | `numpy.{row.name}` | {says} | {_code(calls)} |"
-    for name, sign, _, calls, says in table.UNARY:
-        yield f"| {f'`{sign}`' if sign else ''} | `numpy.{name}` | {says}. | {_code(calls)} |"
+    """A row for each line of operators, which have each one once."""
+    signs = {row.name: row.sign for row in table.OPERATIONS} | {row[0]: row[1] for row in table.UNARY}
+    if sorted(name for names, _ in table.ON_PAGE for name in names.split()) != sorted(signs):
+        raise ValueError("bindings/ragged_table.py: ON_PAGE has other operators than OPERATIONS and UNARY")
+    yield from ["| Signs | In numpy | What they give |", "|---|---|---|"]
+    for names, says in table.ON_PAGE:
+        shown = " ".join(f"`{signs[name]}`".replace("|", "\\|") for name in names.split() if signs[name])
+        yield f"| {shown} | {' '.join(f'`{name}`' for name in names.split())} | {says} |"
 
 
 def _of_flat():
-    yield from ["| Function | In numpy | What it gives | Calls |", "|---|---|---|---|"]
+    yield from ["| Function | What it gives | Calls |", "|---|---|---|"]
     for row in table.FLAT:
         takes, says = ", ".join(map(_taken, row.takes.split(", "))), " ".join(filter(None, [row.says, row.differs]))
-        yield f"| `cvl.{row.name}({takes})` | {_code(row.numpy)} | {says} | {_code(row.calls)} |"
+        yield f"| `cvl.{row.name}({takes})` | {says} | {_code(row.calls)} |"
 
 
 def page(text):

@@ -2,6 +2,7 @@
 agree, the faults, and the example, which is a case of the tests."""
 
 import functools
+import itertools
 import pathlib
 import re
 
@@ -27,7 +28,6 @@ IN_SCRIPTS = {
     table.OVERFLOW_AT_0: "18 Overflow at 0",
     table.OVERFLOW_AT_SEGMENT: "18 Overflow at the first segment whose sum does not fit",
 }  # fmt: skip
-AT_INDICES = "10 IndexOutOfRange at the index; 11 IndexRepeated at the later index"
 
 
 class Entry:
@@ -89,7 +89,12 @@ class Entry:
 
     @property
     def takes(self):
-        return self.said.takes or ", ".join(map(self._taken, self.rows[0].takes))
+        """Its arguments in order; those of one kind that follow one another share its name."""
+        if self.said.takes:
+            return self.said.takes
+        taken = (self._taken(operand).removesuffix(")").split(" (", 1) for operand in self.rows[0].takes)
+        alike = ((kind, [name for name, _ in group]) for kind, group in itertools.groupby(taken, lambda pair: pair[1]))
+        return ", ".join(f"{', '.join(names)} ({kind})" for kind, names in alike)
 
     @property
     def gives(self):
@@ -155,7 +160,7 @@ class Entry:
         for row in self.rows[:1]:
             for fault in row.faults:
                 if fault in IN_SCRIPTS:
-                    found.append(AT_INDICES if IN_SCRIPTS[fault] == "at" else IN_SCRIPTS[fault])
+                    found.append(entries.AT_INDICES if IN_SCRIPTS[fault] == "at" else IN_SCRIPTS[fault])
                 elif fault.numbers not in ((7,), (13,)):
                     found.append(fault.said)
         return f"{'; '.join(found)}." if found else "none."
