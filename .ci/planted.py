@@ -11,6 +11,7 @@ EDITS = {
     "examples.check_runs": [("README.md", "\n    y = [5 0 18]", "\n    y = [5 0 19]")],
     "examples.check_code": [("docs/dev/embedding.md", "pub fn sums<", "pub fn totals<")],
     "examples.check_tasks": [("docs/user/tasks.md", "### Transpose", "### Turn a matrix")],
+    "examples.check_scripts": [("docs/user/tasks.md", "Script: [tutorial](tutorial.md#5-a-histogram)", "Script: [tutorial](tutorial.md#where-to-go-from-here)")],
     "examples.check_blocks": [("docs/dev/embedding.md", "`crates/embedding/src/memory.rt`", "In memory:")],
     "examples.check_embedding": [("docs/dev/embedding.md", "sums: Ok([4, 2, 8", "sums: Ok([4, 2, 9")],
     "examples.check_inputs": [("crates/script_cases/data/tutorial.cases", "\n10 20 30 40\n== script", "\n10 20 30\n== script")],
