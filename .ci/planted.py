@@ -45,7 +45,7 @@ EDITS = {
     "source.check_definitions": [("crates/operators/specs/Integers.antt", "-- the sum, wrapped\n", "")],
     "source.check_define": [("docs/dev/definitions.md", "docs/dev/define IsSimplePermute", "docs/dev/define IsNoPermute")],
     "source.check_drawing": [("docs/dev/architecture.md", "\ncrew  ", "\nteam  ")],
-    "source.check_bases": [("docs/dev/architecture.md", "| `crew` |", "| `team` |")],
+    "source.check_heads": [("crates/crew/src/lib.rt", "//! A crew: several workers", "// A crew: several workers")],
     "source.check_programs": [(".ci/pages/paths.py", '"""The paths', '#!/usr/bin/env python3\n"""The paths')],
     "source.check_columns": [("crates/sharing/src/lib.rt", "", "//" + " long" * 26 + "\n")],
     "promises.check_contracts": [(PROVED, "`run`, `stop_line`", "`run`, `no_such_function`")],
