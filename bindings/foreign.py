@@ -16,7 +16,7 @@ RUNNING, BY_KEY, RUNS, UNIQUE = "Keep a running total", "Sum by key", "Find runs
 FILTER, ORDER, TOP, JOIN = "Filter", "Sort, or find an order", "Find the k greatest", "Join two tables"
 EACH_ROW, SPLIT, SCATTER = "Add up each row", "Split, and merge again", "Scatter, and see wrong indices"
 SPARSE, COUNT, EARLIER = "Multiply a sparse matrix", "Count by key", "Find the nearest earlier true"
-RANKS = "from 0, equal keys in their order"
+RANKS, SEGMENTS = "from 0, equal keys in their order", "once each k is a segment"
 
 # Each library: what it is called, where its names come from, and the names. Words of the field are nobody's.
 LIBRARIES = {
@@ -59,7 +59,7 @@ LIBRARIES = {
             Names("logical_and  logical_or  logical_xor", "and_wub | ior_wub"),
             Names("astype(int32)", "int_wub"),
             Names("astype(bool)", "boo_wuz"),
-            Names("cumsum  add.accumulate", "add_suz add_wuz", RUNNING, "`cumsum` adds up in 64 bits"),
+            Names("cumsum  add.accumulate", "add_suz add_wuz", RUNNING, "they add up in 64 bits"),
             Names("maximum.accumulate", "max_suz max_wuz"),
             Names("sum", "add_ruz", note="it adds up in 64 bits: `tot_ruz`, `cvl_exact_sum`"),
             Names("prod", "mul_ruz"),
@@ -69,7 +69,7 @@ LIBRARIES = {
             Names("all", "and_rub"),
             Names("add.reduceat", "add_rez", EACH_ROW, "of empty rows it gives an element"),
             Names("put  d[i] = s", "smp_puz | def_puz", SCATTER, "the last of equal indices stays, and -1 is the last place"),
-            Names("add.at  bincount(keys, weights)", "combine_permute_int", BY_KEY),
+            Names("add.at  bincount(keys, weights)", "combine_permute_int", BY_KEY, "`bincount` adds weights up in `float64`"),
             Names("take  s[i]", "bck_puz", note="-1 is the last element"),
             Names("d[i[f]] = s[f]", "sel_puz"),
             Names("compress  extract  s[f]", "pck_luz", FILTER),
@@ -93,7 +93,7 @@ LIBRARIES = {
             Names("diff", "sub_wuz", RUNS),
             Names("transpose  a.T", "transpose_int", "Transpose"),
             Names("flip  roll", "ind_luz bck_puz"),
-            Names("argmax(flags)", "first_true"),
+            Names("argmax(flags)", "first_true", note="-1 if none is true, in numpy 0"),
             Names("loadtxt", "input | read_ints"),
             Names("savetxt", "write_ints"),
             Names("a @ x", "sparse_product", SPARSE, "of `scipy.sparse`"),
@@ -101,13 +101,13 @@ LIBRARIES = {
         ),
     ),
     "pandas": (
-        "from memory",
+        "1.5, by running it",
         (
             Names("cumsum", "add_suz add_wuz", RUNNING),
             Names("groupby(k).sum()", "combine_permute_int", BY_KEY),
-            Names("groupby(k).cumsum()", "add_sez"),
+            Names("groupby(k).cumsum()", "add_sez add_wuz", note=SEGMENTS),
             Names("value_counts", "counts", COUNT),
-            Names("drop_duplicates", "sort neq_wuz pck_luz", UNIQUE),
+            Names("drop_duplicates", "sort neq_wuz pck_luz", UNIQUE, "it keeps the order"),
             Names("merge  map", "bck_puz", JOIN),
             Names("sort_values", "sort | order", ORDER),
             Names("rank", "rank", note=RANKS),
@@ -115,7 +115,7 @@ LIBRARIES = {
             Names("query  loc[f]", "pck_luz", FILTER),
             Names("ffill", "sel_wuz max_suz bck_puz", EARLIER),
             Names("explode", "nested"),
-            Names("transform", "add_rez dis_vez"),
+            Names("groupby(k).transform", "add_rez dis_vez", note=SEGMENTS),
             Names("shift", "ind_luz bck_puz"),
         ),
     ),
@@ -130,7 +130,7 @@ LIBRARIES = {
             Names("inclusive_scan  partial_sum", "add_suz add_wuz", RUNNING),
             Names("exclusive_scan_by_key", "add_sez"),
             Names("reduce  accumulate", "add_ruz"),
-            Names("min_element", "min_ruz"),
+            Names("min_element", "min_ruz", note="it leads to the element"),
             Names("any_of", "ior_rub"),
             Names("all_of", "and_rub"),
             Names("reduce_by_key", "add_rez", EACH_ROW, "it has no empty segments"),
@@ -154,7 +154,7 @@ LIBRARIES = {
         ),
     ),
     "SQL": (
-        "from memory",
+        "SQLite 3.40, by running it; `UNNEST` from memory",
         (
             Names("WHERE", "pck_luz", FILTER),
             Names("GROUP BY", "combine_permute_int", BY_KEY),
@@ -163,9 +163,9 @@ LIBRARIES = {
             Names("LIMIT", "order", TOP),
             Names("DISTINCT", "sort neq_wuz pck_luz", UNIQUE),
             Names("JOIN", "bck_puz", JOIN),
-            Names("SUM(x) OVER (ORDER BY k)", "add_suz add_wuz", RUNNING, "once the rows are in order"),
-            Names("SUM(x) OVER (PARTITION BY k)", "add_rez dis_vez", note="once each k is a segment"),
-            Names("RANK()", "rank", note=RANKS),
+            Names("SUM(x) OVER (ORDER BY k)", "add_suz add_wuz", RUNNING, "once the rows are in order; equal k have one sum there"),
+            Names("SUM(x) OVER (PARTITION BY k)", "add_rez dis_vez", note=SEGMENTS),
+            Names("ROW_NUMBER()  RANK()", "rank", note=RANKS),
             Names("LAG", "ind_luz bck_puz"),
             Names("CASE WHEN", "sel_wuz"),
             Names("UNNEST", "nested"),

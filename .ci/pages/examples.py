@@ -2,6 +2,7 @@
 
 import re
 
+from pages.paths import anchors_of
 from pages.texts import CASES, TOP, blocks_of, held, indented_behind, lines_of, text_of
 
 # pages whose examples are the cases of a file
@@ -12,10 +13,7 @@ TASKS, TASKS_IN_C, FINDER = "docs/user/tasks.md", "examples/c/tasks.c", "docs/us
 
 PAGES_WITH_RUNS = ("README.md", "docs/user/README.md", "docs/user/examples.md")
 
-PAGES_WITH_CODE = (
-    "README.md", "docs/dev/embedding.md", "docs/dev/look-back.md", "docs/user/cpp.md", "docs/user/parallel.md", "docs/user/programs.md", "docs/user/python.md",
-    "docs/user/segments.md",
-)  # fmt: skip
+PAGES_WITH_CODE = ("README.md", "docs/dev/embedding.md", *(f"docs/user/{name}.md" for name in ("cpp", "parallel", "programs", "python", "segments")))
 
 EMBEDDING = "crates/embedding"
 
@@ -146,6 +144,33 @@ def check_tasks():
         for name in re.findall(r"`(?:cvl_)?(\w+)`", calls):
             if name not in sections.get(title, ""):
                 yield f"{FINDER} names {name} for the task {title}, and {TASKS} does not"
+
+
+def scripts_of(path):
+    """The headings of a page, as a link names them, below which a script is run: a case of the page's file, or a run of the program."""
+    name, found, above = path.removeprefix("docs/user/").removesuffix(".md"), set(), {}
+    cases = cases_of(f"{CASES}/{PAGES_OF_CASES[name]}.cases") if name in PAGES_OF_CASES else []
+    for line in lines_of(path):
+        mark, _, heading = line.partition(" ")
+        run = re.fullmatch(r" {4}cvl (.*)", line) if path in PAGES_WITH_RUNS else None
+        if mark in ("##", "###"):
+            above = {**(above if mark == "###" else {}), mark: line}
+        if mark == "###" and f"== case {heading}" in cases or run and text_of_run(run[1].split()):
+            found |= anchors_of(above.values())
+    return found
+
+
+def check_scripts():
+    """Each task has a script of its own, or leads behind `Script:` to scripts; and each of these is run."""
+    own = {line.removeprefix("== case ### ") for line in examples_of(lines_of(TASKS))}
+    for section in text_of(TASKS).split("\n### ")[1:]:
+        title = section.partition("\n")[0]
+        links = [link for line in re.findall(r"Script[^:\n]*: (.*)", section) for link in re.findall(r"\]\(([\w-]+\.md)(#[\w-]+)\)", line)]
+        if title not in own and not links:
+            yield f"{TASKS} has no script for the task {title}"
+        for page, heading in links:
+            if heading not in scripts_of(f"docs/user/{page}"):
+                yield f"{TASKS} leads for the task {title} to {page}{heading}, below which no script is run"
 
 
 def check_blocks():

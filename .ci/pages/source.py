@@ -1,5 +1,6 @@
 """Pages against the source of the crates: definitions, and which crate stands on which; and how long lines are."""
 
+import itertools
 import os
 import re
 import subprocess
@@ -27,10 +28,6 @@ MOST_COLUMNS = {"specs/**/*.antt": 140, "proofs/**/*.antt": 200, "src/**/*.rt": 
 def cells_of(line):
     """The cells of a line of a table; none where the line is no line of a table."""
     return [cell.strip() for cell in line.strip().strip("|").split(" | ")] if line.startswith("| ") else []
-
-
-def names_in(cell):
-    return re.findall(r"`([^`\s]+)`", cell)
 
 
 def check_definitions():
@@ -81,44 +78,27 @@ def drawn_in(page):
 
 
 def check_drawing():
-    """The crates of the page's first table are drawn; none of these rests on those of its second."""
-    page = text_of(ARCHITECTURE)
-    groups, drawn, below = crates_of(text_of(LIST)), drawn_in(page), set()
+    """The page draws each crate of the list above those that it uses, in the list's groups, but none of the laws and the tests."""
+    listed, page = text_of(LIST).partition("\n# Laws")[0], text_of(ARCHITECTURE)
+    groups, drawn, below = crates_of(listed), drawn_in(page), set()
     needs = {crate: named for group in groups for crate, named in group.items()}
     for line in (line for group in drawn for line in group):
         for crate in line:
             for missing in sorted(needs.get(crate, set()) & set(needs) - below):
                 yield f"{ARCHITECTURE} does not draw {crate} above {missing}, which it uses"
         below |= set(line)
-    for crate in sorted(below ^ rows_of_crates(page)[0]):
-        yield f"{ARCHITECTURE} has {crate} only in its drawing, or only in the table below it"
-    for have, want in zip(drawn, groups):
+    for have, want in itertools.zip_longest(drawn, groups, fillvalue=[]):
         crates = {crate for line in have for crate in line}
         if crates != set(want):
             yield f"{ARCHITECTURE} draws the group {' '.join(sorted(crates))}, and {LIST} has {' '.join(sorted(want))}"
             break
 
 
-def rows_of_crates(page):
-    """The crates of each of the page's tables of crates."""
-    tables, inside = [], False
-    for line in page.splitlines():
-        cells = cells_of(line)
-        if cells and cells[0] == "Crate":
-            tables.append(set())
-            inside = True
-        elif inside and cells:
-            tables[-1] |= set(names_in(cells[0]))
-        inside = inside and line.startswith("|")
-    return tables
-
-
-def check_bases():
-    """Each crate has a row in one of the tables, and each row a crate."""
-    told = set().union(*rows_of_crates(text_of(ARCHITECTURE)))
-    listed = {crate for group in crates_of(text_of(LIST)) for crate in group}
-    for crate in sorted(told ^ listed):
-        yield f"{ARCHITECTURE} and {LIST}: only one of them has {crate}"
+def check_heads():
+    """The head of each crate says what the crate does."""
+    for crate, said in specs.does().items():
+        if not said:
+            yield f"{specs.head_of(crate).relative_to(TOP)} does not say what the crate does"
 
 
 def check_programs():

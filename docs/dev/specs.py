@@ -140,10 +140,16 @@ def _shown(entry):
     return [*([said] if entry.said else []), _code(entry.lines)]
 
 
+def head_of(crate):
+    """The file whose head says what a crate does."""
+    library = CRATES / crate / "src/lib.rt"
+    return library if library.is_file() else library.with_name("main.rt")
+
+
 def does():
-    """What each crate does, as the table of docs/dev/architecture.md says, without its links."""
-    rows = re.findall(r"^\| `(\w+)` \| (.*) \|$", (TOP / "docs/dev/architecture.md").read_text(), re.M)
-    return {crate: re.sub(r"\[([^]]*)\]\([^)]*\)", r"\1", said) for crate, said in rows}
+    """What each crate does: the first sentence of its head, or nothing."""
+    heads = {crate: _comment(head_of(crate).read_text().splitlines(), "//!")[0] for crate in crates()}
+    return {crate: re.split(r"(?<=\.) +(?=[A-Z`[])", head)[0] for crate, head in heads.items()}
 
 
 def pages():
