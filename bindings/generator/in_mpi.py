@@ -5,6 +5,7 @@ import re
 
 import in_c
 import in_rows
+import in_tests
 import rows
 from in_c import indented, kept, parameters, wrapped
 
@@ -186,57 +187,21 @@ def calls_file():
 
 # ---- the rows of the differential test ----
 
-KINDS = {
-    "ints": "INTS", "flags": "FLAGS", "bytes": "BYTES", "text": "TEXT", "int": "INTS", "flag": "FLAGS", "size": "SIZES", "sum": "SUMS", "sums": "SUMS",
-}
+
+def rank_row(row):
+    """The function over ranks beside the row of tests/c/call_rows.h: whether the result may be spread otherwise than what is read, and its arguments."""
+    def given(argument):
+        held = argument.operand is not None and argument.operand.role == "lengths" and is_held(row)
+        return f"segments[{row.operands.index(argument.operand)}]" if held else in_tests.argument(row, argument)
+
+    spread = int(row.call is None and row.family.over_ranks.spread)
+    return f"OVER({row.name}, {spread}, ({', '.join(['ranks', *map(given, arguments(row))])}))"
 
 
-def tried_argument(row, argument, over):
-    """What a function is given of the test's slots."""
-    if argument.operand is None:
-        return "op"
-    k = row.operands.index(argument.operand)
-    operand = argument.operand
-    if argument.size is not None:
-        return f"s[{k}].number"
-    if operand.role == "lengths":
-        return f"s[{k}].segments" if over and is_held(row) else f"(CvlLengths){{s[{k}].at, s[{k}].number}}"
-    if operand.role in ("value", "place", "count"):
-        return f"({argument.type.strip()})s[{k}].value"
-    return f"s[{k}].at"
-
-
-def tried_functions(row):
-    plain = ", ".join(tried_argument(row, argument, False) for argument in row.arguments)
-    over = ", ".join(tried_argument(row, argument, True) for argument in arguments(row))
-    unused = "" if row.family.operators and not row.call else "(void)op; "
-    return (
-        f"static CvlStatus plain_{row.name}(uint32_t op, const Slot *s) {{ {unused}return cvl_{row.name}({plain}); }}\n"
-        f"static CvlStatus over_{row.name}(CvlRanks *ranks, uint32_t op, const Slot *s) {{ {unused}return cvl_{row.name}_mpi(ranks, {over}); }}"
-    )
-
-
-def tried_operand(row, operand):
-    extent = {None: "ONE", "offsets": "OFFSETS"}.get(operand.extent, (operand.extent or "").upper())
-    if row.call is None and row.family.over_ranks.spread and operand.role == "room":
-        extent = "SPREAD"
-    kind = "INTS" if operand.role == "lengths" else KINDS[operand.kind]
-    role = "OVER_ROOM" if operand.over else {"room": "ROOM_OF", "count": "COUNT_OF"}.get(operand.role, operand.role.upper())
-    return f"{{\"{operand.name}\", {role}, {kind}, {extent}}}"
-
-
-def tried_row(row):
-    numbers = [o.number for o in in_rows.table.OPERATORS if o.name in row.family.operators]
-    operators = in_rows.bits_of(numbers) if row.call is None else "0"
-    operands = ", ".join(tried_operand(row, operand) for operand in row.operands)
-    return f"    {{\"{row.name}\", plain_{row.name}, over_{row.name}, {operators}, {len(row.operands)}, {{{operands}}}}},"
-
-
-def tried_rows():
-    """`tests/mpi/tried_rows.h`."""
-    said = in_c.comment("The families and the calls over ranks, each beside the plain one.", rows.NOTE)
-    found = [*families(), *calls()]
-    return "\n".join([said, *map(tried_functions, found), "", "static const Tried tried[] = {", *map(tried_row, found), "};", ""])
+def rank_rows():
+    """`tests/mpi/rank_rows.h`."""
+    head = in_c.comment("rank_rows.h: a row for each family and each call over ranks. tests/mpi/differential.c reads it.", rows.NOTE)
+    return "\n".join([head, *map(rank_row, [*families(), *calls()]), ""])
 
 
 # ---- Python and Fortran ----

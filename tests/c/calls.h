@@ -1,150 +1,154 @@
 /*
- * Each function of cvl.h and cvl_parallel.h as a row of a table, for tests that call them all: its name, its arrays, and the call.
+ * calls.h: each function of cvl.h and cvl_parallel.h as a row, for the tests of the calls of one thread, in parts and over ranks: its plain
+ * reading, which is in reading.h, its operands in the words of bindings/table.py, and the call with the arguments of a test.
  */
 #ifndef CALLS_H
 #define CALLS_H
 
 #include "cvl_parallel.h"
-#include "rows.h"
+#include "operand_words.h"
 
 #include <stdlib.h>
 #include <string.h>
 
-/* The most arrays of a call. */
-enum { MOST_ARRAYS = 8 };
+enum { MOST_OPERANDS = 8 };
 
-/* How many elements, segments and true flags a call has, and how long its texts and the rooms for them are. */
-static size_t n, segments, trues, text_length, text_room;
+typedef struct Operand {
+    Role role;
+    Kind kind;
+    Extent extent;
+    Use use;
+    bool is_over; /* whether what is written is joined with what stands there */
+} Operand;
 
-/* How many words the marks of so many places take. */
-static size_t words_of(size_t places) { return (places + 31) / 32; }
+/* The arguments of a call: for each operand where it is and how many elements it has, or its number. */
+typedef struct Given {
+    uint32_t op;
+    void *at[MOST_OPERANDS];
+    size_t len[MOST_OPERANDS];
+    int64_t number[MOST_OPERANDS];
+} Given;
 
-static CvlLengths lengths_at(const void *lengths) {
-    const CvlLengths found = {(const int32_t *)lengths, segments};
-    return found;
-}
+/* The columns of a row: which inputs may be the room, counted from the first operand on, and whether no two of them may be it at once; a bit for
+ * each number from that of one operator to that of another one; the operand that may be too long; and whether it is a call of the table. */
+enum { NONE = 0, FIRST = 1, SECOND = 2, THIRD = 4, FOURTH = 8, FIFTH = 16, ONE_ALONE = 1 << 8 };
+#define OPERATORS(from, to) (((uint32_t)2 << (to)) - ((uint32_t)1 << (from)))
+#define LIMIT_OF(operand) operand
+enum { NO_OPERATORS = 0, NO_LIMIT = -1, FAMILY = false, CALL = true };
 
-/* How many rows a matrix of all elements has. */
-static size_t matrix_rows(void) { return n > 0 && n % 500 == 0 ? 500 : n > 0 && n % 2 == 0 ? 2 : 1; }
-
-/* Three parts of the thread that calls, where a build for tests cuts so few elements. */
-static CvlPool pool;
-
-/*
- * What an array of a call holds. An index names places of the whole vector, or of the element's own segment; one of trues names a place
- * for each true flag, and is -1 where the flag is false. What is of segments has an element for each of them, and starts are places from which
- * on so many elements as the segment has are there. What is of true or false flags has an element for each of these, and lengths of them are
- * how many a segment has; a room for both has an element for each of two vectors.
- */
-typedef enum Holds {
-    NO_MORE,
-    INTS, FLAGS, INDEX, INDEX_IN_SEGMENTS, INDEX_OF_TRUES, INDEX_OF_TRUES_IN_SEGMENTS, SEGMENT_INTS, SEGMENT_FLAGS, SEGMENT_PLACES, STARTS,
-    TRUE_INTS, FALSE_INTS, TRUE_FLAGS, FALSE_FLAGS, BYTES,
-    LENGTHS, TRUE_LENGTHS, FALSE_LENGTHS, OFFSETS, DESCRIPTOR, TRUE_DESCRIPTOR, FALSE_DESCRIPTOR, TEXT, NESTED_TEXT,
-    /* what is written */
-    ROOM_FOR_INTS, ROOM_FOR_FLAGS, ROOM_FOR_BOTH_INTS, ROOM_FOR_BOTH_FLAGS, ROOM_FOR_TRUE_INTS, ROOM_FOR_TRUE_FLAGS, ROOM_FOR_SEGMENT_INTS, ROOM_FOR_SEGMENT_FLAGS,
-    ROOM_FOR_SUMS, ROOM_FOR_SEGMENT_SUMS, ROOM_FOR_BYTES,
-    ROOM_FOR_OFFSETS, ROOM_FOR_MARKS, ROOM_FOR_TRUE_MARKS, ROOM_FOR_TEXT, ONE_INT, ONE_FLAG, ONE_SUM, ONE_COUNT, NEW_DESCRIPTOR
-} Holds;
-
-/* A function: its name, what each of its arrays holds, which inputs may be the room, and the call with these arrays. */
+/* A function, as call_rows.h says. */
 typedef struct Row {
     const char *name;
-    Holds arrays[MOST_ARRAYS + 1];
+    Model model;
+    Operand operands[MOST_OPERANDS + 1];
     unsigned in_place;
-    CvlStatus (*call)(void **p);
+    uint32_t operators;
+    int limited;
+    bool is_call;
+    CvlStatus (*call)(const Given *g);
 } Row;
 
-/* The functions that no row is written for. */
-#define OTHERS(X)                                                                                                              \
-    X(cvl_segments_free, LIST(NEW_DESCRIPTOR), NONE, (p[0]))                                                                   \
-    X(cvl_segments_new, LIST(LENGTHS, NEW_DESCRIPTOR), NONE, (lengths_at(p[0]), p[1]))                                         \
-    X(cvl_segments_total, LIST(DESCRIPTOR, ONE_COUNT), NONE, (p[0], p[1]))                                                     \
-    X(cvl_segments_from_offsets, LIST(OFFSETS, ROOM_FOR_SEGMENT_INTS, NEW_DESCRIPTOR), NONE, (p[0], segments + 1, p[1], segments, p[2])) \
-    X(cvl_segments_offsets, LIST(DESCRIPTOR, ROOM_FOR_OFFSETS), NONE, (p[0], p[1], segments + 1))                              \
-    X(cvl_segments_numbers, LIST(DESCRIPTOR, ROOM_FOR_INTS), NONE, (p[0], p[1], n))
+/* The pool of the functions in parts. */
+static CvlPool pool;
 
-#define ROW(name, arrays, in_place, arguments) static CvlStatus call_##name(void **p) { return name arguments; }
+static inline CvlLengths lengths_at(const Given *g, size_t k) { return (CvlLengths){(const int32_t *)g->at[k], g->len[k]}; }
+
+/* The functions of descriptors that no row is written for. */
+#define DESCRIPTOR {ROLE_LENGTHS, KIND_SEGMENTS, EXTENT_TOTAL, USE_ELEMENTS, 0}
+#define NEW_DESCRIPTOR {ROLE_ROOM, KIND_SEGMENTS, EXTENT_NONE, USE_ELEMENTS, 0}
+#define OTHER_ARRAY(role, extent, use) {ROLE_##role, KIND_INTS, EXTENT_##extent, USE_##use, 0}
+#define OTHERS(X) \
+    X(cvl_segments_free, OF_NO_ELEMENTS, LIST(NEW_DESCRIPTOR), NONE, NO_OPERATORS, NO_LIMIT, FAMILY, (g->at[0])) \
+    X(cvl_segments_new, OF_NO_ELEMENTS, LIST(OTHER_ARRAY(LENGTHS, TOTAL, ELEMENTS), NEW_DESCRIPTOR), NONE, NO_OPERATORS, NO_LIMIT, FAMILY, \
+      (lengths_at(g, 0), g->at[1])) \
+    X(cvl_segments_total, MAKE_DESCRIPTOR, LIST(DESCRIPTOR, {ROLE_TOLD, KIND_SIZES, EXTENT_NONE, USE_ELEMENTS, 0}), NONE, NO_OPERATORS, NO_LIMIT, FAMILY, \
+      (g->at[0], g->at[1])) \
+    X(cvl_segments_from_offsets, FROM_OFFSETS, \
+      LIST(OTHER_ARRAY(READS, OFFSETS, OFFSETS), OTHER_ARRAY(ROOM, SEGMENTS, LENGTHS), NEW_DESCRIPTOR), NONE, NO_OPERATORS, NO_LIMIT, FAMILY, \
+      (g->at[0], g->len[0], g->at[1], g->len[1], g->at[2])) \
+    X(cvl_segments_offsets, TELL_OFFSETS, LIST(DESCRIPTOR, OTHER_ARRAY(ROOM, OFFSETS, ELEMENTS)), NONE, NO_OPERATORS, NO_LIMIT, FAMILY, \
+      (g->at[0], g->at[1], g->len[1])) \
+    X(cvl_segments_numbers, TELL_NUMBERS, LIST(DESCRIPTOR, OTHER_ARRAY(ROOM, TOTAL, ELEMENTS)), NONE, NO_OPERATORS, NO_LIMIT, FAMILY, \
+      (g->at[0], g->at[1], g->len[1]))
+
+/* Several things in one argument of a row. */
+#define LIST(...) {__VA_ARGS__}
+
+#define ROW(name, model, operands, in_place, operators, limited, is_call, arguments) \
+    static CvlStatus call_##name(const Given *g) { return name arguments; }
 OTHERS(ROW)
-#include "careless_rows.h"
+#include "call_rows.h"
 #undef ROW
-
-#define ROW(name, arrays, in_place, arguments) {#name, arrays, in_place, call_##name},
+#define ROW(name, model, operands, in_place, operators, limited, is_call, arguments) \
+    {#name, model, operands, in_place, operators, limited, is_call, call_##name},
 static const Row rows[] = {
     OTHERS(ROW)
-#include "careless_rows.h"
+#include "call_rows.h"
 };
 #undef ROW
 
 enum { ROWS = sizeof rows / sizeof *rows };
 
-typedef struct Array {
-    size_t size, count;
-} Array;
+static inline bool takes_operator(const Row *row, uint32_t op) { return op < 32 && (row->operators >> op & 1) != 0; }
+static inline bool in_parts(const Row *row) { return strcmp(row->name + strlen(row->name) - 3, "_on") == 0; }
 
-/* The size of an element of an array, and how many it has. */
-static Array array_of(Holds holds) {
-    const size_t of_int = sizeof(int32_t);
-    switch (holds) {
-    case INTS: case INDEX: case INDEX_IN_SEGMENTS: case INDEX_OF_TRUES: case INDEX_OF_TRUES_IN_SEGMENTS: case ROOM_FOR_INTS:
-        return (Array){of_int, n};
-    case FLAGS: case ROOM_FOR_FLAGS: case BYTES: case ROOM_FOR_BYTES: return (Array){1, n};
-    case ROOM_FOR_BOTH_INTS: return (Array){of_int, 2 * n};
-    case ROOM_FOR_BOTH_FLAGS: return (Array){1, 2 * n};
-    case LENGTHS: case TRUE_LENGTHS: case FALSE_LENGTHS: case SEGMENT_INTS: case SEGMENT_PLACES: case STARTS: case ROOM_FOR_SEGMENT_INTS: return (Array){of_int, segments};
-    case SEGMENT_FLAGS: case ROOM_FOR_SEGMENT_FLAGS: return (Array){1, segments};
-    case OFFSETS: case ROOM_FOR_OFFSETS: return (Array){of_int, segments + 1};
-    case TRUE_INTS: case ROOM_FOR_TRUE_INTS: return (Array){of_int, trues};
-    case TRUE_FLAGS: case ROOM_FOR_TRUE_FLAGS: return (Array){1, trues};
-    case FALSE_INTS: return (Array){of_int, n - trues};
-    case FALSE_FLAGS: return (Array){1, n - trues};
-    case ROOM_FOR_MARKS: return (Array){sizeof(uint32_t), words_of(n)};
-    case ROOM_FOR_TRUE_MARKS: return (Array){sizeof(uint32_t), words_of(trues)};
-    case TEXT: case NESTED_TEXT: return (Array){1, text_length};
-    case ROOM_FOR_TEXT: return (Array){1, text_room};
-    case ONE_INT: return (Array){of_int, 1};
-    case ONE_FLAG: return (Array){1, 1};
-    case ROOM_FOR_SUMS: return (Array){sizeof(int64_t), n};
-    case ROOM_FOR_SEGMENT_SUMS: return (Array){sizeof(int64_t), segments};
-    case ONE_SUM: return (Array){sizeof(int64_t), 1};
-    case ONE_COUNT: return (Array){sizeof(size_t), 1};
-    case DESCRIPTOR: case TRUE_DESCRIPTOR: case FALSE_DESCRIPTOR: case NEW_DESCRIPTOR: return (Array){sizeof(CvlSegments), 1};
-    case NO_MORE: break;
+static inline Role role_of(const Row *row, size_t k) { return row->operands[k].role; }
+static inline Kind kind_of(const Row *row, size_t k) { return row->operands[k].kind; }
+static inline Extent extent_of(const Row *row, size_t k) { return row->operands[k].extent; }
+static inline Use use_of(const Row *row, size_t k) { return row->operands[k].use; }
+static inline bool is_room(const Row *row, size_t k) { return role_of(row, k) == ROLE_ROOM; }
+static inline bool is_written(const Row *row, size_t k) { return is_room(row, k) || role_of(row, k) == ROLE_SINGLE || role_of(row, k) == ROLE_TOLD; }
+static inline bool is_array(const Row *row, size_t k) { return role_of(row, k) == ROLE_READS || role_of(row, k) == ROLE_LENGTHS || is_room(row, k); }
+static inline bool is_in_memory(const Row *row, size_t k) { return is_array(row, k) || is_written(row, k); }
+
+static inline size_t count_of(const Row *row) {
+    size_t count = 0;
+    while (role_of(row, count) != ROLE_NONE) count++;
+    return count;
+}
+
+/* The first operand of a role, of a role and a kind, or of a use; or how many operands there are. */
+static inline size_t operand(const Row *row, Role role) {
+    size_t k = 0;
+    while (k < count_of(row) && role_of(row, k) != role) k++;
+    return k;
+}
+
+static inline size_t operand_of(const Row *row, Role role, Kind kind) {
+    size_t k = 0;
+    while (k < count_of(row) && (role_of(row, k) != role || kind_of(row, k) != kind)) k++;
+    return k;
+}
+
+static inline size_t operand_for(const Row *row, Use use) {
+    size_t k = 0;
+    while (k < count_of(row) && use_of(row, k) != use) k++;
+    return k;
+}
+
+static inline bool has(const Row *row, Role role, Kind kind) { return operand_of(row, role, kind) < count_of(row); }
+static inline bool uses(const Row *row, Use use) { return operand_for(row, use) < count_of(row); }
+
+/* Whether a call works on segments: their lengths or offsets are operands. */
+static inline bool is_cut_up(const Row *row) { return operand(row, ROLE_LENGTHS) < count_of(row) || uses(row, USE_OFFSETS); }
+
+/* The bytes of an element. */
+static inline size_t size_of(Kind kind) {
+    switch (kind) {
+    case KIND_FLAGS: case KIND_BYTES: case KIND_TEXT: return 1;
+    case KIND_INTS: case KIND_MARKS: return sizeof(int32_t);
+    case KIND_SUMS: return sizeof(int64_t);
+    case KIND_SIZES: return sizeof(size_t);
+    case KIND_SEGMENTS: return sizeof(CvlSegments);
     }
     abort();
 }
 
-static size_t bytes_of(Holds holds) { return array_of(holds).size * array_of(holds).count; }
-
-static size_t array_count(const Row *row) {
-    size_t count = 0;
-    while (row->arrays[count] != NO_MORE) count++;
-    return count;
+/* The first operator of the row from a number on, and round again; 0 where it takes none. */
+static inline uint32_t operator_from(const Row *row, uint32_t from) {
+    if (row->operators == 0) return 0;
+    while (!takes_operator(row, from)) from = (from + 1) % 32;
+    return from;
 }
-
-static inline bool is_room(Holds holds) { return holds >= ROOM_FOR_INTS; }
-static inline bool is_index(Holds holds) { return holds >= INDEX && holds <= INDEX_OF_TRUES_IN_SEGMENTS; }
-static inline bool is_flags(Holds holds) { return holds == FLAGS || holds == SEGMENT_FLAGS || holds == TRUE_FLAGS || holds == FALSE_FLAGS; }
-static inline bool is_descriptor(Holds holds) { return holds >= DESCRIPTOR && holds <= FALSE_DESCRIPTOR; }
-static inline bool is_read_text(Holds holds) { return holds == TEXT || holds == NESTED_TEXT; }
-static inline bool is_text(Holds holds) { return is_read_text(holds) || holds == ROOM_FOR_TEXT; }
-
-/* The place of the first array of a call that holds this, or that passes a test; or else the number of its arrays. */
-static inline size_t first_with(const Row *row, Holds holds) {
-    size_t j = 0;
-    while (row->arrays[j] != NO_MORE && row->arrays[j] != holds) j++;
-    return j;
-}
-
-static inline size_t first_that(const Row *row, bool (*is)(Holds holds)) {
-    size_t j = 0;
-    while (row->arrays[j] != NO_MORE && !is(row->arrays[j])) j++;
-    return j;
-}
-
-static inline bool has(const Row *row, Holds holds) { return row->arrays[first_with(row, holds)] != NO_MORE; }
-static inline bool has_some(const Row *row, bool (*is)(Holds holds)) { return row->arrays[first_that(row, is)] != NO_MORE; }
-
-static bool in_parts(const Row *row) { return strcmp(row->name + strlen(row->name) - 3, "_on") == 0; }
 
 #endif

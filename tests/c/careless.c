@@ -5,49 +5,29 @@
  * `tests/c/run careless` builds and runs it under sanitizers and without. The functions are those of calls.h.
  */
 #define _DEFAULT_SOURCE
-#include "calls.h"
+#include "arguments.h"
 
-#include <stdio.h>
-#include <stdlib.h>
-#include <string.h>
 #include <sys/mman.h>
 
-enum { FEW = 6, LONGEST = 5000, SHORT_SLOT = 1 << 11, LONG_SLOT = 1 << 16, PAGE = 1 << 14, UNTOUCHED = 33 };
+enum { FEW = 6, LONGEST = 5000, SEGMENTS = 3, SHORT_SLOT = 1 << 11, LONG_SLOT = 1 << 16, PAGE = 1 << 14 };
 
-static unsigned char arena[(MOST_ARRAYS + 1) * LONG_SLOT], before[sizeof arena], wanted[sizeof arena];
+static unsigned char arena[(MOST_OPERANDS + 1) * LONG_SLOT], before[sizeof arena], wanted[sizeof arena];
 static size_t slot;
 static uint32_t state = 1;
-static long failed, calls;
+static long wrong, calls;
 
 static uint32_t next_random(void) { return (state = state * 1664525u + 1013904223u) >> 8; }
 
-static void fail(const Row *row, const char *test, const char *why, CvlStatus status) {
-    if (failed++ < 40) {
+static void report(const Row *row, const char *test, const char *why, CvlStatus status) {
+    if (wrong++ < 40) {
         printf("%s, %s, %zu elements: %s (status %u at %lld)\n", row->name, test, n, why, (unsigned)status.number, (long long)status.place);
     }
 }
 
-static bool flag_at(size_t k) { return k % 3 != 1; }
-
-static int32_t length_at(size_t s) { return (int32_t)(s + 1 == segments ? n - n / 3 * (segments - 1) : n / 3); }
-
-/* Where the segment of place k starts and ends. */
-static void segment_of(size_t k, size_t *start, size_t *end) {
-    size_t s = n / 3 == 0 || k / (n / 3) + 1 > segments ? segments - 1 : k / (n / 3);
-    *start = s * (n / 3);
-    *end = *start + (size_t)length_at(s);
-}
-
-static size_t trues_from(size_t start, size_t end) {
-    size_t count = 0;
-    for (size_t k = start; k < end; k++) count += flag_at(k);
-    return count;
-}
-
-/* Small integers, which are divisors and places of shifts, or any, each as likely to be an odd one. */
-static int32_t int_at(size_t k, bool any) {
+/* Any integer, as likely to be an odd one. */
+static int32_t any_int(void) {
     static const int32_t odd[] = {0, -1, 1, 31, 32, INT32_MAX, INT32_MIN, 2};
-    return !any ? (int32_t)(k % 7 + 1) : next_random() % 4 == 0 ? odd[next_random() % 8] : (int32_t)next_random();
+    return next_random() % 4 == 0 ? odd[next_random() % 8] : (int32_t)next_random();
 }
 
 /* A byte for a boolean: 0, 1 or any. */
@@ -56,97 +36,46 @@ static unsigned char any_byte(void) {
     return (unsigned char)(random % 2 == 0 ? random >> 1 & 1 : random >> 8);
 }
 
-static int32_t index_at(Holds holds, size_t k) {
-    size_t start, end;
-    segment_of(k, &start, &end);
-    switch (holds) {
-    case INDEX: return (int32_t)(n - 1 - k);
-    case INDEX_IN_SEGMENTS: return (int32_t)(end - 1 - k);
-    case INDEX_OF_TRUES: return flag_at(k) ? (int32_t)trues_from(0, k) : -1;
-    default: return flag_at(k) ? (int32_t)trues_from(start, k) : -1;
-    }
-}
+static bool is_read(const Row *row, size_t k, Kind kind) { return role_of(row, k) == ROLE_READS && kind_of(row, k) == kind; }
 
-/* How many elements the flags of a segment keep, or leave. */
-static int32_t flags_length_at(size_t s, bool are_true) {
-    const size_t start = s * (n / 3), trues = trues_from(start, start + (size_t)length_at(s));
-    return are_true ? (int32_t)trues : length_at(s) - (int32_t)trues;
-}
-
-/* A descriptor of the segments of a call, of all elements or of those that flags keep or leave. */
-static CvlSegments described(Holds holds) {
-    static int32_t lengths[3][3];
-    const CvlSegments descriptor = {lengths[holds - DESCRIPTOR], segments, true};
-    for (size_t s = 0; s < segments; s++) {
-        lengths[holds - DESCRIPTOR][s] = holds == DESCRIPTOR ? length_at(s) : flags_length_at(s, holds == TRUE_DESCRIPTOR);
-    }
-    return descriptor;
-}
-
-/* Fills an input of a call that has no fault, or of one with any integers and flags; a room is as if nobody had written it. */
-static void fill(Holds holds, unsigned char *at, bool any) {
-    const Array array = array_of(holds);
+/* Fills an operand of a call that has no fault, or of one with any integers and flags; a room is as if nobody had written it. */
+static void fill_any(const Row *row, size_t k, unsigned char *at, bool any) {
     int32_t *ints = (int32_t *)(void *)at;
-    if (is_room(holds)) {
-        memset(at, holds == NEW_DESCRIPTOR ? 0 : UNTOUCHED, array.size * array.count);
-        return;
-    }
-    if (is_descriptor(holds)) {
-        /* field by field over zeros, since the bytes between the fields are compared too */
-        CvlSegments *descriptor = (CvlSegments *)(void *)at;
-        const CvlSegments made = described(holds);
-        memset(at, 0, sizeof made);
-        descriptor->lengths = made.lengths;
-        descriptor->segments = made.segments;
-        descriptor->some = made.some;
-        return;
-    }
-    for (size_t k = 0; k < array.count; k++) {
-        switch (holds) {
-        case INTS: case SEGMENT_INTS: case TRUE_INTS: case FALSE_INTS: ints[k] = int_at(k, any); break;
-        case TRUE_FLAGS: case FALSE_FLAGS: at[k] = any ? any_byte() : k % 2; break;
-        case FLAGS: case SEGMENT_FLAGS: at[k] = any ? any_byte() : flag_at(k); break;
-        case LENGTHS: ints[k] = length_at(k); break;
-        case TRUE_LENGTHS: case FALSE_LENGTHS: ints[k] = flags_length_at(k, holds == TRUE_LENGTHS); break;
-        case BYTES: at[k] = (unsigned char)next_random(); break;
-        case OFFSETS: ints[k] = k == 0 ? 0 : ints[k - 1] + length_at(k - 1); break;
-        case SEGMENT_PLACES: ints[k] = 0; break;
-        case STARTS: ints[k] = (int32_t)n - length_at(k); break;
-        case TEXT: at[k] = (unsigned char)"3 1 4 1"[k]; break;
-        case NESTED_TEXT: at[k] = (unsigned char)"[[3 1]]"[k]; break;
-        default: ints[k] = index_at(holds, k);
-        }
+    fill(row, k, at, is_written(row, k));
+    for (size_t place = 0; any && place < elements_of(row, k); place++) {
+        if (is_read(row, k, KIND_INTS) && use_of(row, k) == USE_ELEMENTS) ints[place] = any_int();
+        if (is_read(row, k, KIND_FLAGS)) at[place] = any_byte();
     }
 }
 
-/* Puts each array of the call into a slot of its own, and fills it. */
+/* Puts each operand of the call into a slot of its own, and fills it. */
 static void apart(const Row *row, unsigned char **at, bool any) {
-    memset(arena, UNTOUCHED, (MOST_ARRAYS + 1) * slot);
-    for (size_t k = 0; k < array_count(row); k++) {
+    memset(arena, UNTOUCHED, (MOST_OPERANDS + 1) * slot);
+    measure_segments(row);
+    for (size_t k = 0; k < count_of(row); k++) {
         at[k] = arena + k * slot + slot / 2;
-        fill(row->arrays[k], at[k], any);
+        if (is_in_memory(row, k)) fill_any(row, k, at[k], any);
     }
 }
 
 static CvlStatus call_at(const Row *row, unsigned char *const *at) {
-    void *p[MOST_ARRAYS];
-    for (size_t k = 0; k < array_count(row); k++) p[k] = at[k];
+    const Given g = given_at(row, at);
     calls++;
-    const CvlStatus status = row->call(p);
-    if (has(row, NEW_DESCRIPTOR) && status.number == CVL_DONE) cvl_segments_free(p[first_with(row, NEW_DESCRIPTOR)]);
+    const CvlStatus status = row->call(&g);
+    if (has(row, ROLE_ROOM, KIND_SEGMENTS) && status.number == CVL_DONE) cvl_segments_free(g.at[operand_of(row, ROLE_ROOM, KIND_SEGMENTS)]);
     return status;
 }
 
-static void remember(unsigned char *as) { memcpy(as, arena, (MOST_ARRAYS + 1) * slot); }
+static void remember(unsigned char *as) { memcpy(as, arena, (MOST_OPERANDS + 1) * slot); }
 
-static bool is_as(const unsigned char *as) { return memcmp(arena, as, (MOST_ARRAYS + 1) * slot) == 0; }
+static bool is_as(const unsigned char *as) { return memcmp(arena, as, (MOST_OPERANDS + 1) * slot) == 0; }
 
 static void set_size(size_t elements) {
     n = elements;
-    segments = elements == 0 ? 0 : 3;
-    trues = trues_from(0, n);
-    text_length = elements == 0 ? 0 : 7;
+    segments = elements == 0 ? 0 : SEGMENTS;
+    trues = trues_in(0, n);
     text_room = elements == 0 ? 0 : 512;
+    for (size_t s = 0; s < segments; s++) lengths[s] = (int32_t)(s + 1 == segments ? n - n / SEGMENTS * (segments - 1) : n / SEGMENTS);
 }
 
 /* ---- two arrays that overlap, or that stand beside each other */
@@ -154,34 +83,34 @@ static void set_size(size_t elements) {
 static long down(long x, long to) { return x - (x % to + to) % to; }
 
 static bool may_be_in_place(const Row *row, size_t input, size_t room) {
-    return is_room(row->arrays[room]) && (row->in_place >> input & 1) != 0;
+    return is_room(row, room) && (row->in_place >> input & 1) != 0;
 }
 
 /* The call with array j moved to `by` bytes after array i: it is refused with nothing written where they overlap, unless it is in
  * place, and else it answers as where they are apart. */
 static void move_and_call(const Row *row, size_t i, size_t j, long by, const char *test) {
-    unsigned char *at[MOST_ARRAYS];
-    const long i_bytes = (long)bytes_of(row->arrays[i]), j_bytes = (long)bytes_of(row->arrays[j]);
+    unsigned char *at[MOST_OPERANDS];
+    const long i_bytes = (long)bytes_of(row, i), j_bytes = (long)bytes_of(row, j);
     const bool overlap = by < i_bytes && -by < j_bytes, in_place = by == 0 && may_be_in_place(row, i, j);
     apart(row, at, false);
     const CvlStatus plain = call_at(row, at);
-    if (plain.number != CVL_DONE) fail(row, "apart", "it is not done", plain);
+    if (plain.number != CVL_DONE) report(row, "apart", "it is not done", plain);
     apart(row, at, false);
     at[j] = at[i] + by;
-    if (!in_place) fill(row->arrays[j], at[j], false);
+    if (!in_place) fill_any(row, j, at[j], false);
     remember(before);
     const CvlStatus status = call_at(row, at);
     if (overlap && !in_place) {
-        if (status.number != CVL_OVERLAP || status.place != -1) fail(row, test, "the overlap is not told", status);
-        if (!is_as(before)) fail(row, test, "something was written", status);
+        if (status.number != CVL_OVERLAP || status.place != -1) report(row, test, "the overlap is not told", status);
+        if (!is_as(before)) report(row, test, "something was written", status);
     } else if (status.number != plain.number) {
-        fail(row, test, "another status than apart", status);
+        report(row, test, "another status than apart", status);
     }
 }
 
 static void overlap_two(const Row *row, size_t i, size_t j) {
-    const long i_size = (long)array_of(row->arrays[i]).size, j_size = (long)array_of(row->arrays[j]).size;
-    const long i_bytes = (long)bytes_of(row->arrays[i]), j_bytes = (long)bytes_of(row->arrays[j]);
+    const long i_size = (long)size_of(kind_of(row, i)), j_size = (long)size_of(kind_of(row, j));
+    const long i_bytes = (long)bytes_of(row, i), j_bytes = (long)bytes_of(row, j);
     move_and_call(row, i, j, 0, "the same start");
     move_and_call(row, i, j, j_size, "one element later");
     move_and_call(row, i, j, -j_size, "one element earlier");
@@ -191,29 +120,37 @@ static void overlap_two(const Row *row, size_t i, size_t j) {
     move_and_call(row, i, j, -j_bytes, "right before");
 }
 
-static void overlaps(const Row *row) {
+static void overlap_each(const Row *row) {
     slot = SHORT_SLOT;
     set_size(FEW);
-    for (size_t j = 0; j < array_count(row); j++) {
+    for (size_t j = 0; j < count_of(row); j++) {
         for (size_t i = 0; i < j; i++) {
-            if (is_room(row->arrays[i]) || is_room(row->arrays[j])) overlap_two(row, i, j);
+            if (!is_in_memory(row, i) || !is_in_memory(row, j)) continue;
+            if (is_written(row, i) || is_written(row, j)) overlap_two(row, i, j);
         }
     }
 }
 
+/* Whether two operands that are read hold the same. */
+static bool are_alike(const Row *row, size_t i, size_t j) {
+    const bool are_read = is_array(row, i) && is_array(row, j) && !is_written(row, i) && !is_written(row, j);
+    return are_read && kind_of(row, i) == kind_of(row, j) && use_of(row, i) == use_of(row, j) && role_of(row, i) == role_of(row, j) &&
+        elements_of(row, i) == elements_of(row, j);
+}
+
 /* Inputs may overlap: two that hold the same are one. */
 static void shared_inputs(const Row *row) {
-    unsigned char *at[MOST_ARRAYS];
+    unsigned char *at[MOST_OPERANDS];
     slot = SHORT_SLOT;
     set_size(FEW);
-    for (size_t j = 0; j < array_count(row); j++) {
+    for (size_t j = 0; j < count_of(row); j++) {
         for (size_t i = 0; i < j; i++) {
-            if (row->arrays[i] != row->arrays[j] || is_room(row->arrays[i])) continue;
+            if (!are_alike(row, i, j)) continue;
             apart(row, at, false);
-            memset(at[j], UNTOUCHED, bytes_of(row->arrays[j]));
+            memset(at[j], UNTOUCHED, bytes_of(row, j));
             at[j] = at[i];
             const CvlStatus status = call_at(row, at);
-            if (status.number != CVL_DONE) fail(row, "two inputs that are one", "it is not done", status);
+            if (status.number != CVL_DONE) report(row, "two inputs that are one", "it is not done", status);
         }
     }
 }
@@ -222,8 +159,8 @@ static void shared_inputs(const Row *row) {
 
 /* The call with these of its inputs, by a bit each, in the place of its room, and the same call apart. */
 static void compare_in_place(const Row *row, unsigned inputs, bool any) {
-    unsigned char *at[MOST_ARRAYS];
-    const size_t room = array_count(row) - 1, bytes = bytes_of(row->arrays[room]);
+    unsigned char *at[MOST_OPERANDS];
+    const size_t room = operand(row, ROLE_ROOM), bytes = bytes_of(row, room);
     size_t first = 0;
     while ((inputs >> first & 1) == 0) first++;
     apart(row, at, any);
@@ -233,41 +170,42 @@ static void compare_in_place(const Row *row, unsigned inputs, bool any) {
     remember(before);
     const CvlStatus apart_status = call_at(row, at);
     remember(wanted);
-    memcpy(arena, before, (MOST_ARRAYS + 1) * slot);
+    memcpy(arena, before, (MOST_OPERANDS + 1) * slot);
     memcpy(at[room], at[first], bytes);
     if (apart_status.number != CVL_DONE) memcpy(wanted + (at[room] - arena), at[room], bytes);
     for (size_t k = 0; k < room; k++) {
         if (inputs >> k & 1) at[k] = at[room];
     }
     const CvlStatus status = call_at(row, at);
-    if (status.number != apart_status.number || status.place != apart_status.place) fail(row, "in place", "another status than apart", status);
-    if (!is_as(wanted)) fail(row, "in place", "another result than apart", status);
+    if (status.number != apart_status.number || status.place != apart_status.place) report(row, "in place", "another status than apart", status);
+    if (!is_as(wanted)) report(row, "in place", "another result than apart", status);
 }
 
 /* The call with several inputs in the place of its room, of which only one may be it, is refused with nothing written. */
 static void refuse_in_place(const Row *row, unsigned inputs) {
-    unsigned char *at[MOST_ARRAYS];
-    const size_t room = array_count(row) - 1;
-    if (bytes_of(row->arrays[room]) == 0) return;
+    unsigned char *at[MOST_OPERANDS];
+    const size_t room = operand(row, ROLE_ROOM);
+    if (bytes_of(row, room) == 0) return;
     apart(row, at, true);
     for (size_t k = 0; k < room; k++) {
         if (inputs >> k & 1) at[k] = at[room];
     }
     remember(before);
     const CvlStatus status = call_at(row, at);
-    if (status.number != CVL_OVERLAP || status.place != -1) fail(row, "several inputs in place", "the overlap is not told", status);
-    if (!is_as(before)) fail(row, "several inputs in place", "something was written", status);
+    if (status.number != CVL_OVERLAP || status.place != -1) report(row, "several inputs in place", "the overlap is not told", status);
+    if (!is_as(before)) report(row, "several inputs in place", "something was written", status);
 }
 
 static void in_place(const Row *row) {
     static const size_t sizes[] = {0, 1, 2, 3, 4, 5, 7, 8, 9, 15, 16, 17, 31, 33, 63, 64, 65, 100, 1000, 4096, 4097, LONGEST};
+    const size_t room = operand(row, ROLE_ROOM);
     slot = LONG_SLOT;
-    for (size_t s = 0; s < sizeof sizes / sizeof *sizes; s++) {
+    for (size_t s = 0; s < sizeof sizes / sizeof *sizes && row->in_place != NONE; s++) {
         set_size(sizes[s]);
-        for (unsigned inputs = 1; inputs < 1u << (array_count(row) - 1); inputs++) {
+        for (unsigned inputs = 1; inputs < 1u << room; inputs++) {
             const bool several = (inputs & (inputs - 1)) != 0, one_alone = (row->in_place & ONE_ALONE) != 0;
             bool may = true;
-            for (size_t k = 0; k < array_count(row) - 1; k++) may = may && ((inputs >> k & 1) == 0 || may_be_in_place(row, k, array_count(row) - 1));
+            for (size_t k = 0; k < room; k++) may = may && ((inputs >> k & 1) == 0 || may_be_in_place(row, k, room));
             if (may && several && one_alone) refuse_in_place(row, inputs);
             for (int round = 0; may && !(several && one_alone) && round < 4; round++) compare_in_place(row, inputs, round > 0);
         }
@@ -290,12 +228,12 @@ static unsigned char odd_byte(int way, unsigned char byte, size_t k) {
 
 /* The call on booleans of these bytes tells and writes what it does on 1 for each byte that isn't 0. */
 static void compare_bytes(const Row *row, int way, unsigned char byte) {
-    static unsigned char odd[MOST_ARRAYS][LONG_SLOT];
-    unsigned char *at[MOST_ARRAYS];
+    static unsigned char odd[MOST_OPERANDS][LONG_SLOT];
+    unsigned char *at[MOST_OPERANDS];
     apart(row, at, false);
-    for (size_t j = 0; j < array_count(row); j++) {
-        if (!is_flags(row->arrays[j])) continue;
-        for (size_t k = 0; k < bytes_of(row->arrays[j]); k++) {
+    for (size_t j = 0; j < count_of(row); j++) {
+        if (!is_read(row, j, KIND_FLAGS)) continue;
+        for (size_t k = 0; k < bytes_of(row, j); k++) {
             odd[j][k] = odd_byte(way, byte, k);
             at[j][k] = odd[j][k] != 0;
         }
@@ -303,19 +241,19 @@ static void compare_bytes(const Row *row, int way, unsigned char byte) {
     const CvlStatus plain = call_at(row, at);
     remember(wanted);
     apart(row, at, false);
-    for (size_t j = 0; j < array_count(row); j++) {
-        if (!is_flags(row->arrays[j])) continue;
-        memcpy(at[j], odd[j], bytes_of(row->arrays[j]));
-        memcpy(wanted + (at[j] - arena), odd[j], bytes_of(row->arrays[j]));
+    for (size_t j = 0; j < count_of(row); j++) {
+        if (!is_read(row, j, KIND_FLAGS)) continue;
+        memcpy(at[j], odd[j], bytes_of(row, j));
+        memcpy(wanted + (at[j] - arena), odd[j], bytes_of(row, j));
     }
     const CvlStatus status = call_at(row, at);
-    if (status.number != plain.number || status.place != plain.place) fail(row, "bytes", "another status than on 0 and 1", status);
-    if (!is_as(wanted)) fail(row, "bytes", "another result than on 0 and 1", status);
+    if (status.number != plain.number || status.place != plain.place) report(row, "bytes", "another status than on 0 and 1", status);
+    if (!is_as(wanted)) report(row, "bytes", "another result than on 0 and 1", status);
 }
 
 static void odd_booleans(const Row *row) {
     static const size_t sizes[] = {1, 3, FEW, 17, 100};
-    if (!has_some(row, is_flags)) return;
+    if (!has(row, ROLE_READS, KIND_FLAGS)) return;
     slot = SHORT_SLOT;
     for (size_t s = 0; s < sizeof sizes / sizeof *sizes; s++) {
         set_size(sizes[s]);
@@ -329,8 +267,8 @@ static void odd_booleans(const Row *row) {
 
 /* Each array without elements may be null, and all at once; and it overlaps nothing, wherever it is. */
 static void nulls(const Row *row) {
-    unsigned char *at[MOST_ARRAYS], *empty_at[MOST_ARRAYS];
-    const size_t all = array_count(row), over_the_last = all + 1;
+    unsigned char *at[MOST_OPERANDS], *empty_at[MOST_OPERANDS];
+    const size_t all = count_of(row), over_the_last = all + 1;
     slot = SHORT_SLOT;
     set_size(0);
     apart(row, at, false);
@@ -339,21 +277,21 @@ static void nulls(const Row *row) {
     for (size_t which = 0; which <= over_the_last; which++) {
         apart(row, at, false);
         for (size_t k = 0; k < all; k++) {
-            const bool moves = bytes_of(row->arrays[k]) == 0 && (which == k || which >= all);
+            const bool moves = bytes_of(row, k) == 0 && (which == k || which >= all);
             empty_at[k] = !moves ? at[k] : which == over_the_last ? at[all - 1] : NULL;
         }
         const CvlStatus status = call_at(row, empty_at);
-        if (status.number != plain.number || status.place != plain.place) fail(row, "no elements", "another status", status);
-        if (!is_as(wanted)) fail(row, "no elements", "another result", status);
+        if (status.number != plain.number || status.place != plain.place) report(row, "no elements", "another status", status);
+        if (!is_as(wanted)) report(row, "no elements", "another result", status);
     }
 }
 
 /* ---- pages that must not be touched */
 
-static unsigned char *pages[MOST_ARRAYS];
+static unsigned char *pages[MOST_OPERANDS];
 
 static void map_pages(void) {
-    for (size_t k = 0; k < MOST_ARRAYS; k++) {
+    for (size_t k = 0; k < MOST_OPERANDS; k++) {
         pages[k] = mmap(NULL, 3 * PAGE, PROT_NONE, MAP_PRIVATE | MAP_ANONYMOUS, -1, 0);
         if (pages[k] == MAP_FAILED || mprotect(pages[k] + PAGE, PAGE, PROT_READ | PROT_WRITE) != 0) abort();
     }
@@ -361,17 +299,17 @@ static void map_pages(void) {
 
 /* The call where each array ends or begins at such a page, and the same call elsewhere. */
 static void guard(const Row *row, bool at_end) {
-    unsigned char *at[MOST_ARRAYS], *guarded[MOST_ARRAYS];
+    unsigned char *at[MOST_OPERANDS], *guarded[MOST_OPERANDS];
     apart(row, at, false);
-    for (size_t k = 0; k < array_count(row); k++) {
-        const size_t bytes = bytes_of(row->arrays[k]);
+    for (size_t k = 0; k < count_of(row); k++) {
+        const size_t bytes = bytes_of(row, k);
         guarded[k] = pages[k] + PAGE + (at_end ? PAGE - bytes : 0);
         memcpy(guarded[k], at[k], bytes);
     }
     const CvlStatus plain = call_at(row, at), status = call_at(row, guarded);
-    if (status.number != plain.number || status.place != plain.place) fail(row, "guarded", "another status", status);
-    for (size_t k = 0; k < array_count(row); k++) {
-        if (memcmp(guarded[k], at[k], bytes_of(row->arrays[k])) != 0) fail(row, "guarded", "another result", status);
+    if (status.number != plain.number || status.place != plain.place) report(row, "guarded", "another status", status);
+    for (size_t k = 0; k < count_of(row); k++) {
+        if (memcmp(guarded[k], at[k], bytes_of(row, k)) != 0) report(row, "guarded", "another result", status);
     }
 }
 
@@ -391,26 +329,27 @@ static void guards(const Row *row) {
 static void descriptors(void) {
     static const int32_t lengths[] = {2, 0, 3}, below[] = {2, -1};
     const CvlLengths of_three = {lengths, 3}, of_below = {below, 2};
-    const Row row = {"a descriptor", {NO_MORE}, NONE, NULL};
+    const Row row = {.name = "a descriptor"};
     CvlSegments made = CVL_NO_SEGMENTS;
     size_t total = 0;
-    if (cvl_segments_total(&made, &total).number != CVL_NO_DESCRIPTOR) fail(&row, "before it is made", "there is one", cvl_segments_free(&made));
-    if (cvl_segments_new(of_three, &made).number != CVL_DONE) fail(&row, "made", "it is not done", cvl_segments_free(&made));
-    if (cvl_segments_total(&made, &total).number != CVL_DONE || total != 5) fail(&row, "made", "another total", cvl_segments_free(&made));
-    if (cvl_segments_new(of_below, &made).number != CVL_NEGATIVE_LENGTH) fail(&row, "not made", "no fault", cvl_segments_free(&made));
-    if (cvl_segments_total(&made, &total).number != CVL_NO_DESCRIPTOR) fail(&row, "not made", "there is one", cvl_segments_free(&made));
-    if (cvl_segments_new(of_three, &made).number != CVL_DONE) fail(&row, "made again", "it is not done", cvl_segments_free(&made));
-    if (cvl_segments_free(&made).number != CVL_DONE) fail(&row, "let go", "it is not done", cvl_segments_free(&made));
-    if (cvl_segments_free(&made).number != CVL_DONE) fail(&row, "let go twice", "it is not done", cvl_segments_free(&made));
-    if (cvl_segments_total(&made, &total).number != CVL_NO_DESCRIPTOR) fail(&row, "let go", "there is one", cvl_segments_free(&made));
+    if (cvl_segments_total(&made, &total).number != CVL_NO_DESCRIPTOR) report(&row, "before it is made", "there is one", cvl_segments_free(&made));
+    if (cvl_segments_new(of_three, &made).number != CVL_DONE) report(&row, "made", "it is not done", cvl_segments_free(&made));
+    if (cvl_segments_total(&made, &total).number != CVL_DONE || total != 5) report(&row, "made", "another total", cvl_segments_free(&made));
+    if (cvl_segments_new(of_below, &made).number != CVL_NEGATIVE_LENGTH) report(&row, "not made", "no fault", cvl_segments_free(&made));
+    if (cvl_segments_total(&made, &total).number != CVL_NO_DESCRIPTOR) report(&row, "not made", "there is one", cvl_segments_free(&made));
+    if (cvl_segments_new(of_three, &made).number != CVL_DONE) report(&row, "made again", "it is not done", cvl_segments_free(&made));
+    if (cvl_segments_free(&made).number != CVL_DONE) report(&row, "let go", "it is not done", cvl_segments_free(&made));
+    if (cvl_segments_free(&made).number != CVL_DONE) report(&row, "let go twice", "it is not done", cvl_segments_free(&made));
+    if (cvl_segments_total(&made, &total).number != CVL_NO_DESCRIPTOR) report(&row, "let go", "there is one", cvl_segments_free(&made));
 }
 
 int main(void) {
     setvbuf(stdout, NULL, _IONBF, 0);
     map_pages();
+    make_memory(0, SEGMENTS);
     pool = cvl_pool_alone(3);
     for (size_t k = 0; k < ROWS; k++) {
-        overlaps(&rows[k]);
+        overlap_each(&rows[k]);
         shared_inputs(&rows[k]);
         in_place(&rows[k]);
         odd_booleans(&rows[k]);
@@ -418,6 +357,6 @@ int main(void) {
         guards(&rows[k]);
     }
     descriptors();
-    printf("%d functions, %ld calls, %ld not as promised\n", (int)ROWS, calls, failed);
-    return failed == 0 ? EXIT_SUCCESS : EXIT_FAILURE;
+    printf("%d functions, %ld calls, %ld not as promised\n", (int)ROWS, calls, wrong);
+    return wrong == 0 ? EXIT_SUCCESS : EXIT_FAILURE;
 }

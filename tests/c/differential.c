@@ -15,7 +15,7 @@
 #include <sys/mman.h>
 #include <unistd.h>
 
-enum { SECONDS = 60, SLOT = 1 << 11, MEMORY = (MOST_OPERANDS + 1) * SLOT, THREADS = 3, MOST_SHARED = 1 << 17 };
+enum { SECONDS = 60, MOST_PLACES = 256, SLOT = 1 << 11, MEMORY = (MOST_OPERANDS + 1) * SLOT, THREADS = 3, MOST_SHARED = 1 << 17 };
 
 /* As many bytes as the longest vector of exact sums has, and some more, which nobody may touch. */
 static const size_t far_bytes = ((size_t)CVL_MOST_ELEMENTS + 1) * 8 + (1 << 14);
@@ -23,8 +23,7 @@ static const size_t far_bytes = ((size_t)CVL_MOST_ELEMENTS + 1) * 8 + (1 << 14);
 static unsigned char memory[MEMORY], wanted[MEMORY], before[MEMORY];
 static unsigned char *far_memory[MOST_OPERANDS];
 static CvlThreads *threads;
-static CvlPool pool;
-static long calls, refused, faults, failed;
+static long tried, calls, refused, faults, failed;
 
 /* ---- memory that is refused ---- */
 
@@ -126,57 +125,54 @@ static void run_apart(void *state, CvlPart part, void *work, size_t parts) {
 
 /* ---- the rows ---- */
 
-static CvlLengths lengths_of(const Given *g, size_t k) {
-    CvlLengths lengths;
-    lengths.lengths = (const int32_t *)g->at[k];
-    lengths.segments = g->len[k];
-    return lengths;
+/* Functions of descriptors, on lengths in the place of one. */
+static CvlStatus tell_offsets(const Given *g) {
+    const CvlSegments segments = {(const int32_t *)g->at[0], g->len[0], true};
+    return cvl_segments_offsets(&segments, g->at[1], g->len[1]);
 }
 
-/* The functions that no row is written for, on lengths in the place of a descriptor. */
-static CvlStatus cvl_segments_offsets_of(CvlLengths lengths, int32_t *out, size_t out_len) {
-    const CvlSegments segments = {lengths.lengths, lengths.segments, true};
-    return cvl_segments_offsets(&segments, out, out_len);
-}
-
-static CvlStatus cvl_segments_numbers_of(CvlLengths lengths, int32_t *out, size_t out_len) {
-    const CvlSegments segments = {lengths.lengths, lengths.segments, true};
-    return cvl_segments_numbers(&segments, out, out_len);
+static CvlStatus tell_numbers(const Given *g) {
+    const CvlSegments segments = {(const int32_t *)g->at[0], g->len[0], true};
+    return cvl_segments_numbers(&segments, g->at[1], g->len[1]);
 }
 
 /* A descriptor is there where the call is done, and else none, but that an overlap leaves the one before: or it answers no status. */
-static CvlStatus cvl_segments_of_offsets(const int32_t *offsets, size_t offsets_len, int32_t *out, size_t out_len) {
-    CvlSegments segments = {offsets, offsets_len, true};
-    const CvlStatus status = cvl_segments_from_offsets(offsets, offsets_len, out, out_len, &segments);
-    const bool is_made = segments.some && segments.lengths == out && segments.segments == out_len;
-    const bool is_before = segments.some && segments.lengths == offsets && segments.segments == offsets_len;
+static CvlStatus from_offsets(const Given *g) {
+    CvlSegments segments = {(const int32_t *)g->at[0], g->len[0], true};
+    const CvlStatus status = cvl_segments_from_offsets(g->at[0], g->len[0], g->at[1], g->len[1], &segments);
+    const bool is_made = segments.some && segments.lengths == g->at[1] && segments.segments == g->len[1];
+    const bool is_before = segments.some && segments.lengths == g->at[0] && segments.segments == g->len[0];
     const bool right = status.number == CVL_DONE ? is_made : status.number == CVL_OVERLAP ? is_before : !segments.some;
     return right ? status : status_of(UINT32_MAX, -1);
 }
 
-#define OTHERS(X)                                                                                                              \
-    X(cvl_segments_offsets_of, TELL_OFFSETS, LIST({CUTS, INT, OF_TOTAL}, {WRITES, INT, OF_OFFSETS}), NONE, NO_OPERATORS, NO_LIMIT, FAMILY, \
-      (lengths_of(g, 0), (int32_t *)g->at[1], g->len[1]))                                                                      \
-    X(cvl_segments_numbers_of, TELL_NUMBERS, LIST({CUTS, INT, OF_TOTAL}, {WRITES, INT, OF_TOTAL}), NONE, NO_OPERATORS, NO_LIMIT, FAMILY, \
-      (lengths_of(g, 0), (int32_t *)g->at[1], g->len[1]))                                                                      \
-    X(cvl_segments_of_offsets, FROM_OFFSETS, LIST({READS, INT, OF_OFFSETS}, {WRITES, INT, OF_SEGMENTS}), NONE, NO_OPERATORS, NO_LIMIT, FAMILY, \
-      ((const int32_t *)g->at[0], g->len[0], (int32_t *)g->at[1], g->len[1]))
-
-#define ROW(name, model, operands, in_place, operators, limited, is_call, arguments)                                         \
-    static CvlStatus call_##name(const Given *g) { return name arguments; }
-OTHERS(ROW)
-#include "reading_rows.h"
-#undef ROW
-#define ROW(name, model, operands, in_place, operators, limited, is_call, arguments)                                         \
-    {#name, model, operands, in_place, operators, limited, is_call, call_##name},
-static const Row rows[] = {
-    OTHERS(ROW)
-#include "reading_rows.h"
+#define OF_LENGTHS NONE, NO_OPERATORS, NO_LIMIT, FAMILY
+static const Row of_lengths[] = {
+    {"cvl_segments_offsets", TELL_OFFSETS, {OTHER_ARRAY(LENGTHS, TOTAL, ELEMENTS), OTHER_ARRAY(ROOM, OFFSETS, ELEMENTS)}, OF_LENGTHS, tell_offsets},
+    {"cvl_segments_numbers", TELL_NUMBERS, {OTHER_ARRAY(LENGTHS, TOTAL, ELEMENTS), OTHER_ARRAY(ROOM, TOTAL, ELEMENTS)}, OF_LENGTHS, tell_numbers},
+    {"cvl_segments_from_offsets", FROM_OFFSETS, {OTHER_ARRAY(READS, OFFSETS, OFFSETS), OTHER_ARRAY(ROOM, SEGMENTS, LENGTHS)}, OF_LENGTHS, from_offsets},
 };
-#undef ROW
-enum { ROWS = sizeof rows / sizeof *rows };
+enum { OTHER_ROWS = sizeof of_lengths / sizeof *of_lengths, ALL_ROWS = OTHER_ROWS + ROWS };
 
-static bool in_parts(const Row *row) { return strcmp(row->name + strlen(row->name) - 3, "_on") == 0; }
+/* Each row but those of descriptors. */
+static const Row *row_at(size_t k) {
+    const Row *row = k < OTHER_ROWS ? &of_lengths[k] : &rows[k - OTHER_ROWS];
+    size_t j = 0;
+    while (j < count_of(row) && kind_of(row, j) != KIND_SEGMENTS) j++;
+    return j < count_of(row) ? NULL : row;
+}
+
+/* The status of a call on the memory at hand; `wanted` is then the memory that it leaves. */
+static CvlStatus expect(const Row *row, const Given *g) {
+    memcpy(wanted, memory, MEMORY);
+    for (size_t k = 0; k < count_of(row); k++) {
+        const uintptr_t at = (uintptr_t)g->at[k] - (uintptr_t)memory;
+        written_at[k] = is_written(row, k) && at < MEMORY ? wanted + at : NULL;
+    }
+    const CvlStatus status = reading(row, g);
+    if (!is_left(status)) memcpy(wanted, memory, MEMORY);
+    return status;
+}
 
 /* ---- arguments at random ---- */
 
@@ -226,7 +222,7 @@ static void fill_index(int32_t *index, size_t count, size_t places, bool once) {
 
 static bool has_negative(const Given *g, const Row *row) {
     for (size_t k = 0; k < count_of(row); k++) {
-        for (size_t s = 0; role_of(row, k) == CUTS && s < g->len[k]; s++) {
+        for (size_t s = 0; role_of(row, k) == ROLE_LENGTHS && s < g->len[k]; s++) {
             const int32_t length = ((const int32_t *)g->at[k])[s];
             if (length < 0 || length > MOST_PLACES / 4) return true;
         }
@@ -236,8 +232,7 @@ static bool has_negative(const Given *g, const Row *row) {
 
 /* The indices of a permute, or of elements in segments, without a fault; then sometimes with one. */
 static void fill_indices(const Row *row, Given *g, size_t n, size_t m) {
-    const bool back = row->model == BACK_PERMUTE || row->model == SEG_BACK_PERMUTE;
-    const bool selects = row->model == SELECT_PERMUTE || row->model == SEG_SELECT_PERMUTE || row->model == SELECT_PERMUTE_RANGE;
+    const bool back = row->model == BACK_PERMUTE || row->model == SEG_BACK_PERMUTE, selects = uses(row, USE_MASK);
     const bool others = row->model == DEFAULT_PERMUTE || row->model == SEG_DEFAULT_PERMUTE;
     const bool single = row->model == SEG_EXTRACT || row->model == SEG_REPLACE;
     int32_t *index = (int32_t *)g->at[1], some[MOST_PLACES];
@@ -277,11 +272,11 @@ static void fill_row_offsets(int32_t *offsets, size_t count, size_t entries) {
 /* The indices of first senders or combining permutes, most times each a place of its segment of the result; those whose flag is false are no
  * places. */
 static void fill_senders(const Row *row, Given *g) {
-    const bool selects = kind_of(row, 1) == FLAG;
-    const size_t out = operand(row, WRITES), from_place = combines(row->model) ? 1 : 0, many = g->len[from_place];
+    const bool selects = uses(row, USE_MASK);
+    const size_t out = operand(row, ROLE_ROOM), from_place = operand_for(row, USE_INDEX), many = g->len[from_place];
     int32_t *index = (int32_t *)g->at[from_place];
     if (has_negative(g, row)) return;
-    const Cuts from = cuts_of(row, g, 0, many), to = cuts_of(row, g, 1, g->len[out] + (extent_of(row, out) == OF_RANGE ? below(9) : 0));
+    const Cuts from = cuts_of(row, g, 0, many), to = cuts_of(row, g, 1, g->len[out] + (extent_of(row, out) == EXTENT_RANGE ? below(9) : 0));
     for (size_t s = 0; s < from.count && s < to.count; s++) {
         const size_t length = to.start[s + 1] - to.start[s];
         for (size_t k = from.start[s]; k < from.start[s + 1] && k < many; k++) {
@@ -291,6 +286,13 @@ static void fill_senders(const Row *row, Given *g) {
     for (size_t bad = many > 0 && chance(3) ? 1 + below(3) : 0; bad > 0; bad--) {
         index[below(many)] = chance(2) ? -1 - (int32_t)below(2) : chance(2) ? INT32_MAX : (int32_t)g->len[out];
     }
+}
+
+/* The indices of a call: of senders first, or with what they join; or of a permute or of elements, into as many places as there are others. */
+static void fill_places(const Row *row, Given *g, size_t n, size_t m) {
+    const bool of_others = uses(row, USE_LOWEST) || extent_of(row, operand_for(row, USE_INDEX)) == EXTENT_SEGMENTS;
+    if (operand_for(row, USE_INDEX) == 0 || combines(row)) fill_senders(row, g);
+    else fill_indices(row, g, n, of_others ? n : m);
 }
 
 /* Starts from which on each segment lies in the source; then sometimes others. */
@@ -405,31 +407,31 @@ static void fill(const Row *row, Given *g, size_t k, size_t n, size_t m) {
     unsigned char *bytes = (unsigned char *)g->at[k];
     const bool small = chance(2), plain = chance(2);
     /* a combining permute of booleans is cut only if those in the room are 0 and 1 */
-    const bool joins = (row->model == COMBINE_PERMUTE || row->model == COMBINE_PERMUTE_RANGE) && role_of(row, k) == WRITES && kind_of(row, k) == FLAG;
+    const bool joins = (row->model == COMBINE_PERMUTE || row->model == COMBINE_PERMUTE_RANGE) && role_of(row, k) == ROLE_ROOM && kind_of(row, k) == KIND_FLAGS;
     for (size_t j = 0; j < g->len[k] && joins && plain; j++) bytes[j] = (unsigned char)below(2);
-    if (role_of(row, k) == WRITES && kind_of(row, k) == SUM && adds_up(row->model)) fill_sums(bytes, g->len[k], small);
-    if (role_of(row, k) == CUTS) fill_lengths(ints, g->len[k], extent_of(row, k) == OF_N || extent_of(row, k) == OF_TOTAL ? n : m);
-    if (role_of(row, k) != READS) return;
-    for (size_t j = 0; j < g->len[k] && kind_of(row, k) == INT; j++) ints[j] = small ? (int32_t)below(19) - 9 : any_int();
-    for (size_t j = 0; j < g->len[k] && kind_of(row, k) == FLAG; j++) bytes[j] = chance(2) ? 0 : plain || chance(2) ? 1 : (unsigned char)below(256);
-    for (size_t j = 0; j < g->len[k] && kind_of(row, k) == SMALL; j++) bytes[j] = (unsigned char)below(256);
+    if (role_of(row, k) == ROLE_ROOM && kind_of(row, k) == KIND_SUMS && adds_up(row)) fill_sums(bytes, g->len[k], small);
+    if (role_of(row, k) == ROLE_LENGTHS) fill_lengths(ints, g->len[k], extent_of(row, k) == EXTENT_N || extent_of(row, k) == EXTENT_TOTAL ? n : m);
+    if (role_of(row, k) != ROLE_READS) return;
+    for (size_t j = 0; j < g->len[k] && kind_of(row, k) == KIND_INTS; j++) ints[j] = small ? (int32_t)below(19) - 9 : any_int();
+    for (size_t j = 0; j < g->len[k] && kind_of(row, k) == KIND_FLAGS; j++) bytes[j] = chance(2) ? 0 : plain || chance(2) ? 1 : (unsigned char)below(256);
+    for (size_t j = 0; j < g->len[k] && kind_of(row, k) == KIND_BYTES; j++) bytes[j] = (unsigned char)below(256);
     for (size_t j = 0; j < g->len[k] && row->model == BYTES_FROM_INTS; j++) ints[j] = (int32_t)below(256);
     for (size_t bad = row->model == BYTES_FROM_INTS && chance(3) ? 1 + below(3) : 0; bad > 0 && g->len[k] > 0; bad--) ints[below(g->len[k])] = any_int();
-    if (kind_of(row, k) == BYTE) fill_text(row, (char *)g->at[k], g->len[k]);
+    if (kind_of(row, k) == KIND_TEXT) fill_text(row, (char *)g->at[k], g->len[k]);
     if (row->model == FROM_OFFSETS) fill_offsets(ints, g->len[k]);
-    if (extent_of(row, k) == OF_OFFSETS && is_by_offsets(row)) fill_row_offsets(ints, g->len[k], n);
-    if (row->model == BINARY && k == 1 && kind_of(row, k) == INT && fault_of(g->op) != CVL_DONE) fill_seconds(fault_of(g->op), ints, g->len[k]);
+    if (extent_of(row, k) == EXTENT_OFFSETS && is_by_offsets(row)) fill_row_offsets(ints, g->len[k], n);
+    if (row->model == BINARY && k == 1 && kind_of(row, k) == KIND_INTS && fault_of(g->op) != CVL_DONE) fill_seconds(fault_of(g->op), ints, g->len[k]);
 }
 
 /* How many elements an array of an extent has. */
 static size_t long_as(Extent extent, size_t n, size_t m, size_t segments, int64_t count, size_t room) {
     switch (extent) {
-    case OF_N: case OF_TOTAL: return n;
-    case OF_M: return m;
-    case OF_BOTH: return n + m;
-    case OF_SEGMENTS: return segments;
-    case OF_OFFSETS: return segments + 1;
-    case OF_COPIES: return count < 0 || count > MOST_PLACES ? 0 : (size_t)count;
+    case EXTENT_N: case EXTENT_TOTAL: return n;
+    case EXTENT_M: return m;
+    case EXTENT_BOTH: return n + m;
+    case EXTENT_SEGMENTS: return segments;
+    case EXTENT_OFFSETS: return segments + 1;
+    case EXTENT_COUNT: return count < 0 || count > MOST_PLACES ? 0 : (size_t)count;
     default: return room;
     }
 }
@@ -439,16 +441,16 @@ static void fill_numbers(const Row *row, Given *g, size_t n) {
     for (size_t k = 0; k < count_of(row); k++) {
         const Role role = role_of(row, k);
         const Kind kind = kind_of(row, k);
-        if (role == VALUE) g->number[k] = kind == FLAG ? (int64_t)below(2) : kind == SUM ? any_int() * (chance(3) ? (int64_t)5 : 1) : kind == SIZE ? (int64_t)below(n + 2) : any_int();
-        if (role == VALUE && kind == SIZE && chance(20)) g->number[k] = chance(2) ? INT64_MAX : CVL_MOST_ELEMENTS + (int64_t)below(2);
-        if (role == PLACE) g->number[k] = chance(4) ? (chance(2) ? (int64_t)n : far[below(7)]) : (int64_t)below(n);
-        if (role == COPIES) g->number[k] = chance(6) ? far[below(7)] : (int64_t)n;
+        if (role == ROLE_VALUE) g->number[k] = kind == KIND_FLAGS ? (int64_t)below(2) : kind == KIND_SUMS ? any_int() * (chance(3) ? (int64_t)5 : 1) : kind == KIND_SIZES ? (int64_t)below(n + 2) : any_int();
+        if (role == ROLE_VALUE && kind == KIND_SIZES && chance(20)) g->number[k] = chance(2) ? INT64_MAX : CVL_MOST_ELEMENTS + (int64_t)below(2);
+        if (role == ROLE_PLACE) g->number[k] = chance(4) ? (chance(2) ? (int64_t)n : far[below(7)]) : (int64_t)below(n);
+        if (role == ROLE_COUNT) g->number[k] = chance(6) ? far[below(7)] : (int64_t)n;
     }
 }
 
 /* A room on an input, from the first to the last element, or somewhere over it. */
 static void move_rooms(const Row *row, Given *g) {
-    const size_t room = operand(row, WRITES), count = count_of(row);
+    const size_t room = operand(row, ROLE_ROOM), count = count_of(row);
     if (row->in_place != NONE && chance(3)) {
         bool is_first = true;
         for (size_t k = 0; k < count; k++) {
@@ -465,46 +467,37 @@ static void move_rooms(const Row *row, Given *g) {
     }
 }
 
-/* The first operator of the row from a number on, and round again; 0 where it takes none. */
-static uint32_t operator_for(const Row *row, uint32_t from) {
-    if (row->operators == 0) return 0;
-    while (!takes(row, from)) from = (from + 1) % 32;
-    return from;
-}
-
 static void make(const Row *row, Given *g) {
-    const bool few_places = (combines(row->model) || row->model == COUNTS) && chance(2);
+    const bool few_places = (combines(row) || row->model == COUNTS) && chance(2);
     const size_t n = few_places || chance(9) ? below(MOST_PLACES / 4) : below(14);
     const size_t m = few_places ? 1 + below(n / 8) : chance(3) ? below(14) : n + below(5);
-    const size_t segments = chance(9) ? 0 : 1 + below(chance(4) ? 40 : 5), count = count_of(row), marks = operand_of(row, WRITES, WORD);
+    const size_t segments = chance(9) ? 0 : 1 + below(chance(4) ? 40 : 5), count = count_of(row), marks = operand_of(row, ROLE_ROOM, KIND_MARKS);
     memset(g, 0, sizeof *g);
     fill_bytes();
-    g->op = chance(30) && !row->is_call ? (uint32_t)below(24) : operator_for(row, (uint32_t)below(32));
+    g->op = chance(30) && !row->is_call ? (uint32_t)below(24) : operator_from(row, (uint32_t)below(32));
     fill_numbers(row, g, n);
-    const int64_t times = operand(row, COPIES) < count ? g->number[operand(row, COPIES)] : 0;
+    const int64_t times = operand(row, ROLE_COUNT) < count ? g->number[operand(row, ROLE_COUNT)] : 0;
     for (size_t k = 0; k < count; k++) {
-        const bool text = kind_of(row, k) == BYTE;
+        const bool text = kind_of(row, k) == KIND_TEXT;
         const size_t room = chance(3) ? below(n + 2) : text ? 40 + 14 * n : n + below(3);
-        g->len[k] = role_of(row, k) == CUTS ? segments : text && role_of(row, k) == READS ? below(160) : long_as(extent_of(row, k), n, m, segments, times, room);
+        g->len[k] = role_of(row, k) == ROLE_LENGTHS ? segments : text && role_of(row, k) == ROLE_READS ? below(160) : long_as(extent_of(row, k), n, m, segments, times, room);
         g->at[k] = memory + k * SLOT + SLOT / 4 + 8 * below(16);
         if (!row->is_call && is_array(row, k) && chance(25)) g->len[k] += below(2) == 0 && g->len[k] > 0 ? (size_t)-1 : 1;
     }
     if (marks < count) g->len[marks] = (g->len[marks - 1] + 31) / 32 + (chance(20) ? 1 : 0);
     for (size_t k = 0; k < count; k++) fill(row, g, k, n, m);
     for (size_t k = 0; k < count; k++) {
-        const size_t by = row->model == MERGE_BY_FLAGS || row->model == SEG_MERGE_BY_FLAGS ? 0 : 2;
-        if (role_of(row, k) == CUTS || (extent_of(row, k) != OF_TRUES && extent_of(row, k) != OF_FALSES)) continue;
+        const size_t by = operand_for(row, USE_MASK);
+        if (role_of(row, k) == ROLE_LENGTHS || (extent_of(row, k) != EXTENT_TRUES && extent_of(row, k) != EXTENT_FALSES)) continue;
         const size_t of_trues = trues_of(row, g, by, 0, g->len[by]);
-        g->len[k] = (extent_of(row, k) == OF_TRUES ? of_trues : g->len[by] - of_trues) + (chance(12) ? 1 : 0);
+        g->len[k] = (extent_of(row, k) == EXTENT_TRUES ? of_trues : g->len[by] - of_trues) + (chance(12) ? 1 : 0);
     }
-    if (row->model >= PERMUTE && row->model <= SEG_BACK_PERMUTE) fill_indices(row, g, n, m);
-    if (row->model == SEG_EXTRACT || row->model == SEG_REPLACE || row->model == PERMUTE_RANGE || row->model == SELECT_PERMUTE_RANGE) fill_indices(row, g, n, n);
-    if (row->model >= FIRST_SENDERS && row->model <= COMBINE_EXACT_SUMS_RANGE) fill_senders(row, g);
-    if (row->model == GATHER_SEGMENTS) fill_starts(row, g);
-    if (row->model == SEG_MERGE_BY_FLAGS) fill_sides(row, g);
+    if (uses(row, USE_INDEX)) fill_places(row, g, n, m);
+    if (uses(row, USE_STARTS)) fill_starts(row, g);
+    if (uses(row, USE_TRUE_LENGTHS)) fill_sides(row, g);
     if (row->model == TRANSPOSE) fill_matrix(g);
     if (row->model == TRANSPOSE_RANGE) fill_turned(g);
-    if (row->model >= SPARSE_PRODUCT && row->model <= CHECKED_SPARSE_PRODUCT_BY_OFFSETS) fill_columns(g);
+    if (uses(row, USE_COLUMNS)) fill_columns(g);
     move_rooms(row, g);
     for (size_t k = 0; k < count; k++) {
         if (is_array(row, k) && g->len[k] == 0 && chance(3)) g->at[k] = NULL;
@@ -598,7 +591,7 @@ static void try_one(const Row *row) {
     make(row, &g);
     choose_pool();
     memcpy(before, memory, MEMORY);
-    const CvlStatus expected = reading(row, &g), status = call(row, &g, -1);
+    const CvlStatus expected = expect(row, &g), status = call(row, &g, -1);
     faults += expected.number != CVL_DONE;
     if (!is_as(status, expected)) fail(row, "at random", status, expected);
     refuse_each(row, &g, expected);
@@ -610,7 +603,7 @@ static void try_one(const Row *row) {
 
 static void is_too_long(const Row *row, const Given *g, const char *what) {
     memcpy(before, memory, MEMORY);
-    const CvlStatus expected = reading(row, g), status = call(row, g, -1);
+    const CvlStatus expected = expect(row, g), status = call(row, g, -1);
     if (!is_as(status, expected) || expected.number != CVL_TOO_LONG) fail(row, what, status, expected);
     if (requests > 0) fail(row, "memory for what is too long", status, expected);
 }
@@ -620,37 +613,37 @@ static void make_without_fault(const Row *row, Given *g) {
     do {
         make(row, g);
         memcpy(before, memory, MEMORY);
-        expected = reading(row, g);
+        expected = expect(row, g);
     } while (expected.number != CVL_DONE && expected.number < CVL_DIVIDE_BY_ZERO);
 }
 
 static void too_long(const Row *row) {
     Given g;
-    const size_t count = count_of(row), lengths = operand(row, CUTS);
+    const size_t count = count_of(row), lengths = operand(row, ROLE_LENGTHS);
     choose_pool();
     if (row->limited >= 0) {
         do make_without_fault(row, &g);
-        while (reading(row, &g).number != CVL_DONE);
+        while (expect(row, &g).number != CVL_DONE);
         for (size_t k = 0; k < count; k++) {
-            if (!is_array(row, k) || role_of(row, k) == CUTS || extent_of(row, k) != extent_of(row, (size_t)row->limited)) continue;
+            if (!is_counted(row, k) || extent_of(row, k) != extent_of(row, (size_t)row->limited)) continue;
             g.at[k] = far_memory[k], g.len[k] = most_of(row) + 1;
         }
         is_too_long(row, &g, "too long");
     }
     if (lengths < count) {
         do make_without_fault(row, &g);
-        while (reading(row, &g).number != CVL_DONE);
+        while (expect(row, &g).number != CVL_DONE);
         for (size_t k = 0; k < count; k++) {
-            if (extent_of(row, k) == OF_SEGMENTS && role_of(row, k) == READS) g.at[k] = far_memory[k], g.len[k] = most_of(row) + 1;
+            if (extent_of(row, k) == EXTENT_SEGMENTS && role_of(row, k) == ROLE_READS) g.at[k] = far_memory[k], g.len[k] = most_of(row) + 1;
         }
         g.at[lengths] = far_memory[lengths], g.len[lengths] = most_of(row) + 1;
-        if (role_of(row, count - 1) == WRITES && extent_of(row, count - 1) == OF_SEGMENTS) g.at[count - 1] = far_memory[count - 1], g.len[count - 1] = most_of(row) + 1;
+        if (role_of(row, count - 1) == ROLE_ROOM && extent_of(row, count - 1) == EXTENT_SEGMENTS) g.at[count - 1] = far_memory[count - 1], g.len[count - 1] = most_of(row) + 1;
         is_too_long(row, &g, "too many lengths");
     }
     if ((row->in_place & FIRST) != 0 && (row->in_place & ONE_ALONE) == 0 && lengths == count) {
         make_without_fault(row, &g);
         for (size_t k = 0; k < count; k++) g.at[k] = far_memory[0], g.len[k] = SIZE_MAX;
-        g.op = operator_for(row, 0);
+        g.op = operator_from(row, 0);
         is_too_long(row, &g, "as long as can be");
     }
 }
@@ -659,23 +652,23 @@ int main(int words, char **word) {
     const long cases = words > 1 ? atol(word[1]) : 150;
     const char *part_of_name = words > 2 ? word[2] : "";
     alarm((unsigned)(SECONDS + 2 * cases));
-    memory_at = memory, written_at = wanted, memory_size = MEMORY;
     setvbuf(stdout, NULL, _IONBF, 0);
     for (size_t k = 0; k < MOST_OPERANDS; k++) {
         far_memory[k] = (unsigned char *)mmap(NULL, far_bytes, PROT_NONE, MAP_PRIVATE | MAP_ANONYMOUS | MAP_NORESERVE, -1, 0);
         if (far_memory[k] == MAP_FAILED) abort();
     }
     if (cvl_threads_start(THREADS, &threads) != 0) abort();
-    for (size_t k = 0; k < 2 * ROWS; k++) {
-        const Row *row = &rows[k % ROWS];
-        const bool by_threads = k >= ROWS;
-        if (strstr(row->name, part_of_name) == NULL || (by_threads && in_parts(row))) continue;
+    for (size_t k = 0; k < 2 * ALL_ROWS; k++) {
+        const Row *row = row_at(k % ALL_ROWS);
+        const bool by_threads = k >= ALL_ROWS;
+        if (row == NULL || strstr(row->name, part_of_name) == NULL || (by_threads && in_parts(row))) continue;
+        tried += !by_threads;
         if (cvl_set_threads(by_threads ? THREADS : 1) != 0) abort();
         for (long c = 0; c < (by_threads ? cases / 3 : cases); c++) try_one(row);
         for (int c = 0; c < 4; c++) too_long(row);
     }
     cvl_threads_stop(threads);
-    printf("%d functions, %ld calls, %ld of them with memory refused, %ld arguments with a fault, %ld not as the reading\n", (int)ROWS, calls, refused,
+    printf("%ld functions, %ld calls, %ld of them with memory refused, %ld arguments with a fault, %ld not as the reading\n", tried, calls, refused,
            faults, failed);
     return failed == 0 ? EXIT_SUCCESS : EXIT_FAILURE;
 }

@@ -1,153 +1,135 @@
 /*
  * Calls each function of cvl.h on vectors of 4,194,304, 4,194,305, 8,388,613 and 67,108,864 elements, by one thread and by four, without a fault
- * and with one in the last places, and holds what it answers and writes against plain loops. Nested texts that are read end at 4,194,304 elements,
+ * and with one in the last places, and holds what it answers and writes against the plain reading. Nested texts that are read end at 4,194,304 elements,
  * and more are told. Then some calls on 2,147,483,647 booleans, the most of a vector, and on one more, of which nothing may be read; faults in
  * the last places of as many integers, zeros that the system has at hand, of which a page alone is written; and a text of as many words, and of
  * one more, whose bytes are one piece of memory, mapped again and again. It takes up to 6 GB of memory. It prints what differs, and its status
- * is then 1. `tests/c/run lengths` builds and runs it; the functions are those of calls.h, and the loops those of plain.h. One length may be
- * named alone, with which four threads read the texts.
+ * is then 1. `tests/c/run lengths` builds and runs it; the functions are those of calls.h. One length may be named alone, with which four threads
+ * read the texts.
  */
 #define _GNU_SOURCE
 #include "far.h"
-#include "plain.h"
+#include "arguments.h"
 
-enum { THREADS = 4, SEGMENT = 400, LEAST_LAST = 8, WAYS = 4 };
-
-static CvlStatus status_at(uint32_t number, size_t place) {
-    CvlStatus status;
-    status.number = number;
-    status.place = place == SIZE_MAX ? -1 : (int64_t)place;
-    return status;
-}
+enum { THREADS = 4, SEGMENT = 400, MOST_OF_SHORT = 200, LEAST_LAST = 8, WAYS = 4 };
 
 /* ---- faults in the last places */
 
-static int32_t *ints_at(size_t array) { return (int32_t *)(void *)memory[array]; }
+static int32_t *ints_at(size_t operand) { return (int32_t *)(void *)memory[operand]; }
 
 /* The last place before another one that takes part in a permute: each, or one whose flag is true. */
-static size_t last_before(size_t place, Holds index) {
-    const bool by_flags = index == INDEX_OF_TRUES || index == INDEX_OF_TRUES_IN_SEGMENTS;
+static size_t last_before(const Row *row, size_t place) {
     do place--;
-    while (by_flags && !flag_at(place));
+    while (uses(row, USE_MASK) && !flag_at(place));
     return place;
 }
 
 /* Whether two indices may be one: of a back permute, first senders, a combining permute and a product. */
-static bool may_repeat(const char *call) { return begins(call, "bck") || begins(call, "fst") || begins(call, "cm") || begins(call, "prd"); }
-
-/* Indices: out of range, or, in the second way, one that stands there already. */
-static CvlStatus spoil_index(const Row *row, const char *call, size_t array, int way) {
-    int32_t *index = ints_at(array);
-    const size_t last = last_before(n, row->arrays[array]), other = last_before(last, row->arrays[array]);
-    const bool repeats = way == 1 && !may_repeat(call);
-    index[last] = repeats ? index[other] : way == 1 ? INT32_MAX : -1;
-    return status_at(repeats ? CVL_INDEX_REPEATED : CVL_INDEX_OUT_OF_RANGE, last);
+static bool may_repeat(const Row *row) {
+    const bool sends_back = row->model == BACK_PERMUTE || row->model == SEG_BACK_PERMUTE;
+    return sends_back || operand_for(row, USE_INDEX) == 0 || combines(row) || is_product(row);
 }
 
-/* Sums that no longer fit: of a scan at its last place, of a reduce at the last segment, or at 0. */
-static CvlStatus spoil_sum(const char *call) {
-    int32_t *a = ints_at(0);
-    a[n - 3] = 1, a[n - 2] = INT32_MAX;
-    return status_at(CVL_OVERFLOW, call[4] == 's' ? n - 1 : by_segments(call) ? segments - 1 : 0);
+/* Indices: out of range, or, in the second way, one that stands there already. */
+static bool spoil_index(const Row *row, size_t k, int way) {
+    int32_t *index = ints_at(k);
+    const size_t last = last_before(row, n), other = last_before(row, last);
+    index[last] = way == 1 && !may_repeat(row) ? index[other] : way == 1 ? INT32_MAX : -1;
+    return true;
 }
 
 /* A length below 0, or lengths that add up to one more. */
-static CvlStatus spoil_lengths(size_t array, int way) {
-    int32_t *last = ints_at(array) + segments - 1;
+static bool spoil_lengths(size_t k, int way) {
+    int32_t *last = ints_at(k) + segments - 1;
     *last = way == 2 ? -1 : *last + 1;
-    return way == 2 ? status_at(CVL_NEGATIVE_LENGTH, segments - 1) : status_at(n + 1 > CVL_MOST_ELEMENTS ? CVL_TOO_LONG : CVL_LENGTH_MISMATCH, SIZE_MAX);
+    return true;
 }
 
-/* Spoils what a call is given, in the last places, and answers what it has to tell; a call that has no fault in this way tells none. */
-static CvlStatus spoil(const Row *row, const char *call, int way) {
-    const size_t index = first_that(row, is_index), all = array_count(row);
-    size_t cuts = all; /* the last lengths */
-    while (cuts > 0 && row->arrays[cuts - 1] != LENGTHS) cuts--;
-    if (way > 1) return cuts == 0 || (way == 3 && begins(call, "mke")) ? status_at(CVL_DONE, SIZE_MAX) : spoil_lengths(cuts - 1, way);
-    if (index < all && strstr(row->name, "_range") == NULL) return spoil_index(row, call, index, way);
-    if (way == 1 || strstr(row->name, "_after") != NULL || strstr(row->name, "exact") != NULL) return status_at(CVL_DONE, SIZE_MAX);
-    if (begins(call, "tot")) return spoil_sum(call);
-    if (has(row, SEGMENT_PLACES)) {
-        ints_at(first_with(row, SEGMENT_PLACES))[segments - 1] = lengths[segments - 1];
-        return status_at(CVL_INDEX_OUT_OF_RANGE, segments - 1);
+/* The fault of an operator, where it has one. */
+static uint32_t fault_of(uint32_t op) {
+    size_t k = 0;
+    while (k < ALL_OPERATORS && operators[k].number != op) k++;
+    return k < ALL_OPERATORS ? operators[k].fault : (uint32_t)CVL_DONE;
+}
+
+/* Sums that no longer fit: of a scan at its last place, of a reduce at the last segment, or at 0. */
+static bool spoil_sum(void) {
+    int32_t *a = ints_at(0);
+    a[n - 3] = 1, a[n - 2] = INT32_MAX;
+    return true;
+}
+
+/* Spoils what a call is given, in the last places, and answers whether it has a fault in this way. */
+static bool spoil(const Row *row, int way) {
+    const size_t index = operand_for(row, is_product(row) ? USE_COLUMNS : USE_INDEX);
+    size_t cuts = count_of(row); /* the last lengths of all elements */
+    while (cuts > 0 && (role_of(row, cuts - 1) != ROLE_LENGTHS || lengths_for(use_of(row, cuts - 1)) != lengths)) cuts--;
+    if (way > 1) return cuts > 0 && !(way == 3 && row->model == MAKE_DESCRIPTOR) && spoil_lengths(cuts - 1, way);
+    if (is_filled(row) && way == 0) return ints_at(index)[segments - 1] = lengths[segments - 1], true;
+    if (index < count_of(row) && !is_filled(row) && !uses(row, USE_LOWEST)) return spoil_index(row, index, way);
+    if (way == 1) return false;
+    switch (row->model) {
+    case CHECKED_SCAN: case SEG_CHECKED_SCAN: case CHECKED_REDUCE: case SEG_CHECKED_REDUCE: return spoil_sum();
+    case BINARY: break;
+    default: return false;
     }
-    if (begins(call, "div") || begins(call, "mod")) {
-        ints_at(1)[n - 1] = 0;
-        return status_at(CVL_DIVIDE_BY_ZERO, n - 1);
-    }
-    if (begins(call, "lsh") || begins(call, "rsh")) {
-        ints_at(1)[n - 1] = 32;
-        return status_at(CVL_SHIFT_OUT_OF_RANGE, n - 1);
-    }
-    return status_at(CVL_DONE, SIZE_MAX);
+    const uint32_t fault = fault_of(operator_of(row));
+    if (fault != CVL_DONE) ints_at(1)[n - 1] = fault == CVL_DIVIDE_BY_ZERO ? 0 : 32;
+    return fault != CVL_DONE;
 }
 
 /* ---- each call */
 
 static long calls, faults;
 
-static bool tells(const Row *row, CvlStatus status, CvlStatus right) {
-    calls++;
-    if (status.number != right.number) fail(row, "another status", status.number, right.number);
-    else if (status.place != right.place) fail(row, "another place", status.place, right.place);
-    return status.number == right.number && status.place == right.place;
-}
-
-/* The rooms of a call with a fault are as they were. */
-static void leaves(const Row *row) {
-    faults++;
-    for (size_t j = 0; j < array_count(row); j++) {
-        const unsigned char *at = memory[j], *end = at + bytes_of(row->arrays[j]);
-        const int before = byte_before(row, row->arrays[j], false);
-        while (is_room(row->arrays[j]) && at < end && *at == before) at++;
-        if (is_room(row->arrays[j]) && at < end) fail(row, "another byte after a fault", *at, before);
-    }
-}
-
-static void with_faults(const Row *row, const char *call) {
-    void *p[MOST_ARRAYS];
-    for (int way = 0; way < WAYS; way++) {
-        put_all(row, false, p);
-        const CvlStatus right = spoil(row, call, way);
-        for (size_t threads = 1; right.number != CVL_DONE && threads <= THREADS; threads += THREADS - 1) {
-            if (cvl_set_threads(threads) != 0) abort();
-            if (tells(row, row->call(p), right)) leaves(row);
-        }
-    }
-}
-
-static void without_fault(const Row *row, const char *call) {
-    const CvlStatus right = has(row, NESTED_TEXT) && n > CVL_MOST_OF_TEXT ? status_at(CVL_TOO_LONG, SIZE_MAX) : status_at(CVL_DONE, SIZE_MAX);
-    void *p[MOST_ARRAYS];
+/* Makes a call by one thread and by four. */
+static void make_calls(const Row *row, const Given *g, CvlStatus expected) {
     for (size_t threads = 1; threads <= THREADS; threads += THREADS - 1) {
         if (cvl_set_threads(threads) != 0) abort();
-        put_all(row, false, p);
-        if (!tells(row, row->call(p), right)) continue;
-        if (right.number == CVL_DONE) compare(row, call);
-        else leaves(row);
+        fill_rooms(row, memory, false);
+        is_as_expected(row, row->call(g), expected);
+        calls++;
+        faults += expected.number != CVL_DONE;
     }
+}
+
+static void with_faults(const Row *row) {
+    for (int way = 0; way < WAYS; way++) {
+        const Given g = filled(row, MOST_OF_SHORT, false);
+        if (!spoil(row, way)) continue;
+        const CvlStatus expected = expect(row, &g, false);
+        if (expected.number == CVL_DONE) fail(row, "no fault in way", way, way);
+        make_calls(row, &g, expected);
+    }
+}
+
+static void without_fault(const Row *row) {
+    const Given g = filled(row, MOST_OF_SHORT, false);
+    const uint32_t right_number = row->model == SEG_READ && n > CVL_MOST_OF_TEXT ? CVL_TOO_LONG : CVL_DONE;
+    const CvlStatus expected = expect(row, &g, false);
+    if (expected.number != right_number) fail(row, "another reading", expected.number, right_number);
+    make_calls(row, &g, expected);
 }
 
 /* A call of the table, or a function that no call has; others are these again. */
 static bool is_call(const Row *row) {
     static const char *const own[] = {"_after", "_range", "exact_sum", "read_ints", "write_"};
     for (size_t k = 0; k < sizeof own / sizeof *own; k++) {
-        if (strstr(row->name, own[k]) != NULL && !in_parts(row)) return !begins(row->name, "cvl_segments_");
+        if (strstr(row->name, own[k]) != NULL && !in_parts(row)) return !has(row, ROLE_LENGTHS, KIND_SEGMENTS);
     }
-    return strlen(row->name) == 11 && row->name[7] == '_';
+    return row->is_call && !in_parts(row) && !has(row, ROLE_LENGTHS, KIND_SEGMENTS);
 }
+
+static bool has_text(const Row *row) { return has(row, ROLE_READS, KIND_TEXT) || has(row, ROLE_ROOM, KIND_TEXT); }
 
 static void each_call(size_t elements) {
     n = elements, segments = elements / SEGMENT;
-    while ((segments - 1) % 5 == 0 || (segments - 1) * 37 % 200 < LEAST_LAST) segments++;
+    while ((segments - 1) % 5 == 0 || (segments - 1) * 37 % MOST_OF_SHORT < LEAST_LAST) segments++;
     trues = trues_in(0, n), text_room = 3 * n;
     for (size_t k = 0; k < ROWS; k++) {
-        char call[8];
         if (!is_call(&rows[k])) continue;
-        name_call(&rows[k], call);
-        hold_all(&rows[k], call);
-        without_fault(&rows[k], call);
-        if (!has_some(&rows[k], is_text)) with_faults(&rows[k], call);
+        without_fault(&rows[k]);
+        if (!has_text(&rows[k])) with_faults(&rows[k]);
     }
     printf("%zu elements: %ld calls, %ld of them with a fault\n", n, calls, faults);
 }
@@ -278,7 +260,7 @@ int main(int words, char **word) {
     const size_t named = words > 1 ? (size_t)atol(word[1]) : 0, longest_one = named > 0 && named < CVL_MOST_ELEMENTS ? named : all[3];
     pool = cvl_pool_alone(1);
     setvbuf(stdout, NULL, _IONBF, 0);
-    make_arrays(longest_one, longest_one / SEGMENT + 10);
+    make_memory(longest_one, longest_one / SEGMENT + 10);
     for (size_t k = 0; k < sizeof all / sizeof *all && named == 0; k++) each_call(all[k]);
     if (named > 0 && named < CVL_MOST_ELEMENTS) each_call(named), most_words(THREADS);
     else most_of_all(), last_places(), most_words(1);

@@ -7,7 +7,6 @@
  */
 #define _DEFAULT_SOURCE
 #include "cvl_parallel.h"
-#include "rows.h"
 
 #include <pthread.h>
 #include <signal.h>
@@ -83,6 +82,9 @@ static const CvlLengths cut = {lengths, SEGMENTS}, ones_of_segments = {ones, SEG
 typedef enum Step { NO_MORE, READS, WRITES } Step;
 
 enum { MOST_STEPS = 7 };
+
+/* Several steps in one argument of a row. */
+#define LIST(...) {__VA_ARGS__}
 
 /* A call of each kind, with its steps. */
 #define KINDS(X)                                                                                                               \

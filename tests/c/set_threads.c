@@ -15,7 +15,7 @@ enum { LEAST = 1, LEAST_READ = 1, LEAST_WRITTEN = 1 };
 #endif
 enum { LONG = 2 * LEAST + 600, THREADS = 4, ROUNDS = 60 };
 
-#include "calls.h"
+#include "arguments.h"
 #include "held.h"
 
 /* The linker puts this in place of calloc (--wrap), by which the library asks for the memory of threads. */
@@ -53,36 +53,36 @@ static void refused(void) {
 
 /* ---- the variable, in children that nobody has asked before ---- */
 
-static void put(const char *text) {
+static void put_variable(const char *text) {
     if (text == NULL) unsetenv("CVL_NUM_THREADS");
     else setenv("CVL_NUM_THREADS", text, 1);
 }
 
 /* The number by a word; and then by others, which nobody reads. */
 static int number_by(const char *text) {
-    put(text);
+    put_variable(text);
     const size_t count = cvl_threads();
-    put("7");
+    put_variable("7");
     const bool stays = cvl_threads() == count && (count == 1 ? scans() : scans_by_threads()) && cvl_threads() == count;
     return stays ? (int)count : 100;
 }
 
 /* The same where a call asks first. */
 static int number_by_call(const char *text) {
-    put(text);
+    put_variable(text);
     const bool right = scans();
-    put("7");
+    put_variable("7");
     return right ? (int)cvl_threads() : 100;
 }
 
 static int set_before(const char *text) {
-    put(text);
+    put_variable(text);
     return cvl_set_threads(2) == 0 && cvl_threads() == 2 && scans_by_threads() ? 2 : 100;
 }
 
 /* A call by threads that can't all be started has those that can. */
 static int none_starts(const char *text) {
-    put(text);
+    put_variable(text);
     starts_left = 1;
     const bool refused = cvl_set_threads(5) == EAGAIN;
     starts_left = 1;
@@ -92,7 +92,7 @@ static int none_starts(const char *text) {
 
 /* A call without memory for its threads runs alone, and leaves them to the next one. */
 static int without_memory(const char *text) {
-    put(text);
+    put_variable(text);
     refuses_memory = true;
     const bool alone = scans() && takes == 0 && asks == 1;
     refuses_memory = false;
@@ -103,7 +103,7 @@ static int without_memory(const char *text) {
 static int asked_meanwhile(const char *text) {
     pthread_t setter;
     bool set = false;
-    put(text);
+    put_variable(text);
     begin_set(&setter, &set);
     const int count = (int)cvl_threads();
     const bool right = scans() && takes == 0 && are_set == 0;
@@ -157,45 +157,16 @@ static int takes_of(const char *name) {
     return is_cut(name);
 }
 
-static void fill(const Row *row, void **p) {
-    static _Alignas(16) unsigned char memory[MOST_ARRAYS][1024];
-    static int32_t lengths[3] = {2, 2, 2};
-    static CvlSegments descriptor;
-    static int32_t none[3];
-    static CvlSegments of_none;
-    descriptor.lengths = lengths, descriptor.segments = 3, descriptor.some = true;
-    of_none = descriptor, of_none.lengths = none;
-    n = 6, segments = 3, trues = 6, text_length = 7, text_room = 200;
-    for (size_t k = 0; k < array_count(row); k++) {
-        int32_t *ints = (int32_t *)(void *)memory[k];
-        const Holds holds = row->arrays[k];
-        p[k] = memory[k];
-        if (bytes_of(holds) > sizeof memory[k]) abort();
-        memset(memory[k], 0, sizeof memory[k]);
-        for (int32_t place = 0; place < 6; place++) {
-            if (holds == INTS || holds == SEGMENT_INTS || holds == STARTS) ints[place] = 1;
-            if (holds == INDEX || holds == INDEX_OF_TRUES) ints[place] = place;
-            if (holds == INDEX_IN_SEGMENTS || holds == INDEX_OF_TRUES_IN_SEGMENTS) ints[place] = place % 2;
-            if (holds == OFFSETS && place <= 3) ints[place] = 2 * place;
-        }
-        if (is_flags(holds)) memset(memory[k], 1, 6);
-        if (holds == LENGTHS || holds == TRUE_LENGTHS) p[k] = lengths;
-        if (holds == DESCRIPTOR || holds == TRUE_DESCRIPTOR) p[k] = &descriptor;
-        if (holds == FALSE_DESCRIPTOR) p[k] = &of_none;
-        if (holds == TEXT) memcpy(memory[k], "3 1 4 1", 7);
-        if (holds == NESTED_TEXT) memcpy(memory[k], "[[3 1]]", 7);
-    }
-}
-
 /* Each function of the headers on a few elements, where a build for tests shares them. */
 static void each_function(void) {
+    n = 6, segments = 3, trues = trues_in(0, n), text_room = 200;
+    make_memory(text_room, segments);
     pool = cvl_pool_alone(3);
     check("threads can't be started", cvl_set_threads(3) == 0);
     for (size_t k = 0; k < ROWS; k++) {
-        void *p[MOST_ARRAYS];
-        fill(&rows[k], p);
+        const Given g = filled(&rows[k], 2, false);
         const long before = takes, asked = asks;
-        const bool done = rows[k].call(p).number == CVL_DONE;
+        const bool done = rows[k].call(&g).number == CVL_DONE;
         const int more = in_parts(&rows[k]) ? 0 : takes_of(rows[k].name);
         if (!done || takes != before + more || asks != asked + more) {
             printf("%s: ", rows[k].name);

@@ -2,10 +2,10 @@
  * How much stack a call takes: each function of cvl.h and cvl_parallel.h runs on a thread whose stack was painted before, alone
  * and with three threads of the library, whose stacks are painted too; on booleans of any bytes, and with memory refused. It
  * prints the most bytes that were painted over, and each function that takes more than cvl.h says, and its status is then 1. The
- * functions are those of calls.h, on the vectors of plain.h. `tests/c/run stack` builds and runs it.
+ * functions are those of calls.h, on the vectors of arguments.h. `tests/c/run stack` builds and runs it.
  */
 #define _DEFAULT_SOURCE
-#include "plain.h"
+#include "arguments.h"
 
 #include <pthread.h>
 #include <stdatomic.h>
@@ -84,13 +84,13 @@ static Most alone, together, beside;
 
 typedef struct Call {
     const Row *row;
-    void *p[MOST_ARRAYS];
+    Given g;
     CvlStatus status;
 } Call;
 
 static void *make(void *call) {
     Call *const c = (Call *)call;
-    c->status = c->row->call(c->p);
+    c->status = c->row->call(&c->g);
     return NULL;
 }
 
@@ -99,49 +99,47 @@ static void note(Most *most, const Row *row, size_t bytes) {
     if (bytes > most->bytes) most->bytes = bytes, most->name = row->name;
 }
 
-/* Makes the call on a painted stack, where true flags are 1, or any byte but 0. */
-static void measure(const Row *row, const char *name, bool odd, bool refused, size_t threads) {
-    Call call;
+/* Makes the call on a painted stack. */
+static void measure(Call *call, bool odd, bool refused, size_t threads) {
+    const Row *row = call->row;
     pthread_t thread;
-    call.row = row;
-    put_all(row, odd, call.p);
+    fill_rooms(row, memory, odd);
+    const CvlStatus expected = expect(row, &call->g, odd);
     refusing = refused;
-    if (start_on(&stacks[0], &thread, PTHREAD_CREATE_JOINABLE, make, &call) != 0 || pthread_join(thread, NULL) != 0) abort();
+    if (start_on(&stacks[0], &thread, PTHREAD_CREATE_JOINABLE, make, call) != 0 || pthread_join(thread, NULL) != 0) abort();
     refusing = false;
-    if (call.status.number == CVL_DONE) compare(row, name);
-    else if (!refused) fail(row, "another status", call.status.number, CVL_DONE);
+    if (!refused || call->status.number == CVL_DONE) is_as_expected(row, call->status, expected);
     note(threads == 1 ? &alone : &together, row, painted_over(&stacks[0]));
     for (size_t k = 1; k < stack_count && threads > 1; k++) note(&beside, row, painted_over(&stacks[k]));
 }
 
-static void measure_all(size_t threads) {
+/* Each call, where true flags are 1, or any byte but 0. */
+static void measure_all(size_t of_short, size_t threads) {
     for (size_t k = 0; k < ROWS; k++) {
-        char call[8];
-        name_call(&rows[k], call);
-        hold_all(&rows[k], call);
-        for (int odd = 0; odd < (has_some(&rows[k], is_flags) ? 2 : 1); odd++) {
-            measure(&rows[k], call, odd, false, threads);
-            measure(&rows[k], call, odd, true, threads);
+        for (int odd = 0; odd < (has(&rows[k], ROLE_READS, KIND_FLAGS) ? 2 : 1); odd++) {
+            Call call = {&rows[k], filled(&rows[k], of_short, odd), {CVL_DONE, -1}};
+            measure(&call, odd, false, threads);
+            measure(&call, odd, true, threads);
         }
     }
 }
 
 /* Vectors of so many elements in so many segments, of which all but one are short, by one thread and by four. */
 static void of_length(size_t elements, size_t in_segments, size_t of_short, CvlThreads *threads) {
-    n = elements, segments = in_segments, most_of_short = of_short, trues = trues_in(0, n);
+    n = elements, segments = in_segments, trues = trues_in(0, n);
     text_room = 3 * (n + segments);
     if (cvl_set_threads(1) != 0) abort();
     pool = cvl_pool_alone(THREADS);
-    measure_all(1);
+    measure_all(of_short, 1);
     if (cvl_set_threads(THREADS) != 0) abort();
     pool = cvl_pool_posix(threads);
-    measure_all(THREADS);
+    measure_all(of_short, THREADS);
 }
 
 int main(void) {
     CvlThreads *threads;
     alarm(SECONDS);
-    make_arrays(10000, 500);
+    make_memory(10000, 500);
     if (cvl_threads_start(THREADS, &threads) != 0) abort();
     of_length(3000, 10, 200, threads);
     of_length(10000, 100, 200, threads);

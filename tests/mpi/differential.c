@@ -13,43 +13,42 @@
 #include <stdlib.h>
 #include <string.h>
 
+#include "calls.h"
 #include "cvl_mpi.h"
 #include "random.h"
 #include "refused.h"
 
-enum { MOST_RANKS = 16, MOST_OPERANDS = 7, MOST_PRINTED = 60 };
+enum { MOST_RANKS = 16, MOST_PRINTED = 60 };
 
 /* One case in so many has long vectors. */
 #ifndef LONG_ONES
 #define LONG_ONES 100
 #endif
 
-typedef enum Role { READS, LENGTHS, VALUE, PLACE, COUNT_OF, ROOM_OF, OVER_ROOM, SINGLE, TOLD } Role; /* OVER_ROOM: what stands there is joined */
-typedef enum Kind { INTS, FLAGS, BYTES, TEXT, SIZES, SUMS } Kind;
-typedef enum Extent { ONE, N, M, BOTH, SEGMENTS, TOTAL, COUNT, TRUES, FALSES, ROOM, SPREAD, OFFSETS, EXTENTS } Extent; /* SPREAD: as N, cut otherwise */
-
-typedef struct Slot {
-    void *at;
-    size_t number;
-    int64_t value;
-    CvlRankSegments *segments;
-} Slot;
-
-typedef struct TriedOperand {
+/* A call over ranks, beside that of a row; and whether its room may be cut otherwise than what is read. */
+typedef struct Over {
     const char *name;
-    int role, kind, extent;
-} TriedOperand;
+    bool spreads;
+    CvlStatus (*call)(CvlRanks *ranks, const Given *g, CvlRankSegments *const *segments);
+} Over;
 
-typedef struct Tried {
-    const char *name;
-    CvlStatus (*plain)(uint32_t op, const Slot *s);
-    CvlStatus (*over)(CvlRanks *ranks, uint32_t op, const Slot *s);
-    uint32_t operators;
-    int operands;
-    TriedOperand operand[MOST_OPERANDS];
-} Tried;
+#define OVER(name, spreads, arguments) \
+    static CvlStatus over_##name(CvlRanks *ranks, const Given *g, CvlRankSegments *const *segments) { return (void)segments, cvl_##name##_mpi arguments; }
+#include "rank_rows.h"
+#undef OVER
+#define OVER(name, spreads, arguments) {"cvl_" #name, spreads, over_##name},
+static const Over overs[] = {
+#include "rank_rows.h"
+};
+#undef OVER
 
-#include "tried_rows.h"
+enum { OVERS = sizeof overs / sizeof *overs };
+
+static const Row *row_of(const Over *over) {
+    size_t k = 0;
+    while (k < ROWS && strcmp(rows[k].name, over->name) != 0) k++;
+    return k < ROWS ? &rows[k] : NULL;
+}
 
 /* ---- numbers at random, the same on each rank ---- */
 
@@ -73,38 +72,33 @@ typedef struct Pieces {
     int goes_on;
 } Pieces;
 
+/* How long arrays are goes by their extents; a room that may be cut otherwise than what is read has one of its own. */
+enum { SPREAD = 30, EXTENTS };
+
 typedef struct Case {
-    const Tried *tried;
-    uint32_t op;
+    const Row *row;
+    const Over *over;
     int ranks;
     Style style;
     size_t counts[EXTENTS], cut[EXTENTS][MOST_RANKS + 1];
-    Slot whole[MOST_OPERANDS];
+    Given whole;
     void *before[MOST_OPERANDS];              /* what stands in a room that is joined */
     Pieces pieces[MOST_OPERANDS][MOST_RANKS]; /* of lengths, for each rank */
     int shorter, shorter_rank;                /* an operand whose last element is left out, or -1, and the rank that has it */
     int64_t negative;                         /* the segment of which a piece is below 0, or -1 */
 } Case;
 
-static size_t size_of(int kind) { return kind == INTS ? sizeof(int32_t) : kind == SIZES ? sizeof(size_t) : kind == SUMS ? sizeof(int64_t) : 1; }
-static int is_room(int role) { return role == ROOM_OF || role == OVER_ROOM; }
-static int is_array(int role) { return role == READS || is_room(role); }
+static int reads(const Row *row, size_t k) { return role_of(row, k) == ROLE_READS; }
+static int is_over(const Row *row, size_t k) { return row->operands[k].is_over; }
+static int is_cut_by(const Row *row, size_t k) { return role_of(row, k) == ROLE_LENGTHS && row->model != MAKE_DESCRIPTOR; }
+static size_t extent_in(const Case *c, size_t k) { return c->over->spreads && is_room(c->row, k) ? SPREAD : extent_of(c->row, k); }
 
-static int operand_named(const Tried *t, const char *name) {
-    for (int k = 0; k < t->operands; k++) {
-        if (strcmp(t->operand[k].name, name) == 0) return k;
-    }
-    return -1;
+/* The first lengths that add up to an extent, or how many operands there are. */
+static size_t lengths_for(const Row *row, Extent extent) {
+    size_t k = 0;
+    while (k < count_of(row) && (role_of(row, k) != ROLE_LENGTHS || extent_of(row, k) != extent)) k++;
+    return k;
 }
-
-static int lengths_of(const Tried *t, int extent) {
-    for (int k = 0; k < t->operands; k++) {
-        if (t->operand[k].role == LENGTHS && t->operand[k].extent == extent) return k;
-    }
-    return -1;
-}
-
-static int is_descriptor_call(const Tried *t) { return strcmp(t->name, "make_descriptor") == 0 || strcmp(t->name, "mke_fov") == 0; }
 
 static void cut_anywhere(Case *c, int extent) {
     size_t *cut = c->cut[extent];
@@ -126,10 +120,10 @@ static size_t trues_of(const uint8_t *flags, size_t from, size_t to) {
     return count;
 }
 
-static void make_lengths(Case *c, int k, size_t segments) {
+static void make_lengths(Case *c, size_t k, size_t segments) {
     int32_t *lengths = malloc((segments + 1) * sizeof *lengths);
     size_t total = 0;
-    const int style = (int)below(3), other = k != lengths_of(c->tried, N);
+    const int style = (int)below(3), other = k != lengths_for(c->row, EXTENT_N);
     /* segments of a long vector are many, or so few that they cross blocks and windows */
     const size_t each = c->style == SHORT || segments > 1000 ? 0 : (c->style == BLOCKS ? 20000 : 300000) / (segments + 1);
     for (size_t s = 0; s < segments; s++) {
@@ -138,8 +132,8 @@ static void make_lengths(Case *c, int k, size_t segments) {
         if (other && one_in(2)) lengths[s] += (int32_t)below(4);
         total += (size_t)lengths[s];
     }
-    c->whole[k].at = lengths, c->whole[k].number = segments;
-    c->counts[c->tried->operand[k].extent] = total;
+    c->whole.at[k] = lengths, c->whole.len[k] = segments;
+    c->counts[extent_in(c, k)] = total;
 }
 
 static void add_piece(Pieces *p, int32_t length, int goes_on) {
@@ -151,9 +145,9 @@ static void add_piece(Pieces *p, int32_t length, int goes_on) {
 }
 
 /* Each rank takes what is left of the segment that is open, and segments that start in its range; empty ones at a cut at random. */
-static void make_pieces(Case *c, int k) {
-    const int32_t *lengths = c->whole[k].at;
-    const size_t *cut = c->cut[c->tried->operand[k].extent], segments = c->whole[k].number;
+static void make_pieces(Case *c, size_t k) {
+    const int32_t *lengths = c->whole.at[k];
+    const size_t *cut = c->cut[extent_in(c, k)], segments = c->whole.len[k];
     size_t next = 0;
     int32_t left = 0;
     for (int r = 0; r < c->ranks; r++) {
@@ -176,9 +170,9 @@ static void make_pieces(Case *c, int k) {
 }
 
 /* Segments start in the ranks of their first pieces. */
-static void cut_segments(Case *c, int k) {
-    c->cut[SEGMENTS][0] = 0;
-    for (int r = 0; r < c->ranks; r++) c->cut[SEGMENTS][r + 1] = c->cut[SEGMENTS][r] + c->pieces[k][r].starts;
+static void cut_segments(Case *c, size_t k) {
+    c->cut[EXTENT_SEGMENTS][0] = 0;
+    for (int r = 0; r < c->ranks; r++) c->cut[EXTENT_SEGMENTS][r + 1] = c->cut[EXTENT_SEGMENTS][r] + c->pieces[k][r].starts;
 }
 
 /* ---- indices ---- */
@@ -219,31 +213,33 @@ static void only_true(int32_t *index, const uint8_t *flags, size_t from, size_t 
     free(own);
 }
 
-static void fill_index(Case *c, int k) {
-    const Tried *t = c->tried;
-    const int extent = t->operand[k].extent, own = extent == SEGMENTS ? lengths_of(t, N) : lengths_of(t, extent);
-    const int f = operand_named(t, "flags"), combines = strstr(t->name, "combine") != NULL || strstr(t->name, "counts") != NULL;
-    const int senders = combines || strstr(t->name, "senders") != NULL, back = strstr(t->name, "back") != NULL || strncmp(t->name, "bck", 3) == 0;
-    const int select = f >= 0 && !senders, defaults = operand_named(t, "defaults") >= 0;
-    const int other = back ? lengths_of(t, N) : defaults || senders ? lengths_of(t, M) : own;
-    int32_t *index = c->whole[k].at;
-    const uint8_t *flags = f >= 0 ? c->whole[f].at : NULL;
-    const int once = !senders && !back && extent != SEGMENTS;
+static void fill_index(Case *c, size_t k) {
+    const Row *row = c->row;
+    const Extent extent = extent_of(row, k);
+    const size_t own = lengths_for(row, extent == EXTENT_SEGMENTS ? EXTENT_N : extent);
+    const size_t mask = operand_for(row, USE_MASK), all = count_of(row), room = operand(row, ROLE_ROOM);
+    const int senders = operand_for(row, USE_INDEX) == 0 || is_over(row, room), columns = use_of(row, k) == USE_COLUMNS;
+    const int back = row->model == BACK_PERMUTE || row->model == SEG_BACK_PERMUTE, select = mask < all && !senders;
+    const int defaults = row->model == DEFAULT_PERMUTE || row->model == SEG_DEFAULT_PERMUTE;
+    const size_t other = back ? lengths_for(row, EXTENT_N) : defaults || senders ? lengths_for(row, EXTENT_M) : own;
+    int32_t *index = c->whole.at[k];
+    const uint8_t *flags = mask < all ? c->whole.at[mask] : NULL;
+    const int once = !senders && !back && extent != EXTENT_SEGMENTS;
     size_t at = 0;
-    if (own < 0) {
-        const size_t places = strcmp(t->operand[k].name, "columns") == 0 || defaults || senders ? c->counts[M] : c->counts[N];
-        if (select) only_true(index, flags, 0, c->whole[k].number, once);
-        else make_indices(index, c->whole[k].number, places, once && strcmp(t->operand[k].name, "columns") != 0);
-        plant_faults(index, c->whole[k].number, select ? c->counts[TRUES] : places);
+    if (own == all) {
+        const size_t places = columns || defaults || senders ? c->counts[EXTENT_M] : c->counts[EXTENT_N];
+        if (select) only_true(index, flags, 0, c->whole.len[k], once);
+        else make_indices(index, c->whole.len[k], places, once && !columns);
+        plant_faults(index, c->whole.len[k], select ? c->counts[EXTENT_TRUES] : places);
         return;
     }
-    if (strcmp(t->operand[k].name, "columns") == 0) {
-        make_indices(index, c->whole[k].number, c->counts[M], 0);
-        plant_faults(index, c->whole[k].number, c->counts[M]);
+    if (columns) {
+        make_indices(index, c->whole.len[k], c->counts[EXTENT_M], 0);
+        plant_faults(index, c->whole.len[k], c->counts[EXTENT_M]);
         return;
     }
-    for (size_t s = 0; s < c->whole[own].number; s++) {
-        const size_t count = extent == SEGMENTS ? 1 : (size_t)((int32_t *)c->whole[own].at)[s], places = (size_t)((int32_t *)c->whole[other].at)[s];
+    for (size_t s = 0; s < c->whole.len[own]; s++) {
+        const size_t count = extent == EXTENT_SEGMENTS ? 1 : (size_t)((int32_t *)c->whole.at[own])[s], places = (size_t)((int32_t *)c->whole.at[other])[s];
         if (select) only_true(index, flags, at, at + count, once);
         else make_indices(index + at, count, places, once);
         if (one_in(6)) plant_faults(index + at, count, select ? trues_of(flags, at, at + count) : places);
@@ -253,68 +249,69 @@ static void fill_index(Case *c, int k) {
 
 /* The lengths of the two sides of a merge by segments: as many as its flags, or now and then one more in a segment and one less in another. */
 static void count_sides(Case *c) {
-    const Tried *t = c->tried;
-    const int own = lengths_of(t, N), f = operand_named(t, "flags"), sides[] = {lengths_of(t, TRUES), lengths_of(t, FALSES)};
-    for (int side = 0; side < 2 && own >= 0; side++) {
-        const int k = sides[side];
-        if (k < 0) continue;
-        int32_t *lengths = c->whole[k].at;
+    const Row *row = c->row;
+    const size_t own = lengths_for(row, EXTENT_N), mask = operand_for(row, USE_MASK);
+    const size_t sides[] = {lengths_for(row, EXTENT_TRUES), lengths_for(row, EXTENT_FALSES)};
+    for (int side = 0; side < 2 && own < count_of(row); side++) {
+        const size_t k = sides[side];
+        if (k == count_of(row)) continue;
+        int32_t *lengths = c->whole.at[k];
         size_t at = 0;
-        for (size_t s = 0; s < c->whole[own].number; s++) {
-            const size_t to = at + (size_t)((int32_t *)c->whole[own].at)[s], trues = trues_of(c->whole[f].at, at, to);
+        for (size_t s = 0; s < c->whole.len[own]; s++) {
+            const size_t to = at + (size_t)((int32_t *)c->whole.at[own])[s], trues = trues_of(c->whole.at[mask], at, to);
             lengths[s] = (int32_t)(side == 0 ? trues : to - at - trues);
             at = to;
         }
-        const size_t more = below(c->whole[k].number), less = below(c->whole[k].number);
-        if (one_in(5) && c->whole[k].number > 0 && lengths[less] > 0) lengths[less]--, lengths[more]++;
+        const size_t more = below(c->whole.len[k]), less = below(c->whole.len[k]);
+        if (one_in(5) && c->whole.len[k] > 0 && lengths[less] > 0) lengths[less]--, lengths[more]++;
         for (int r = 0; r < c->ranks; r++) free(c->pieces[k][r].lengths);
         make_pieces(c, k);
     }
 }
 
 /* Where slices begin: each within the source, or now and then not, or where it ends. */
-static void fill_starts(Case *c, int k) {
-    const int32_t *lengths = c->whole[lengths_of(c->tried, TOTAL)].at;
-    const int64_t source = (int64_t)c->counts[N];
-    int32_t *starts = c->whole[k].at;
-    for (size_t s = 0; s < c->whole[k].number; s++) {
+static void fill_starts(Case *c, size_t k) {
+    const int32_t *lengths = c->whole.at[lengths_for(c->row, EXTENT_TOTAL)];
+    const int64_t source = (int64_t)c->counts[EXTENT_N];
+    int32_t *starts = c->whole.at[k];
+    for (size_t s = 0; s < c->whole.len[k]; s++) {
         const int64_t last = source - lengths[s];
-        starts[s] = last < 0 ? (int32_t)below(c->counts[N] + 1) : (int32_t)below((size_t)last + 1);
+        starts[s] = last < 0 ? (int32_t)below(c->counts[EXTENT_N] + 1) : (int32_t)below((size_t)last + 1);
         if (one_in(30)) starts[s] = one_in(2) ? -1 - (int32_t)below(2) : (int32_t)(last + 1);
     }
 }
 
 /* ---- the arrays of the whole ---- */
 
-static void fill(Case *c, int k) {
-    const TriedOperand *o = &c->tried->operand[k];
-    const int style = (int)below(c->style == SHORT ? 3 : 4), unclean = one_in(4), narrows = strcmp(c->tried->name, "bytes_from_ints") == 0;
-    for (size_t j = 0; j < c->whole[k].number; j++) {
-        if (o->kind == INTS) ((int32_t *)c->whole[k].at)[j] = narrows && !one_in(9) ? (int32_t)below(256) : number(style);
-        else if (o->kind == SUMS) ((int64_t *)c->whole[k].at)[j] = below(200) == 0 ? INT64_MAX : number(style) * (style == 2 ? INT64_C(1) << 31 : 1);
-        else if (o->kind == BYTES) ((uint8_t *)c->whole[k].at)[j] = (uint8_t)below(256);
-        else ((uint8_t *)c->whole[k].at)[j] = (uint8_t)(one_in(2) ? 0 : unclean ? 1 + below(255) : 1);
+static void fill(Case *c, size_t k) {
+    const Kind kind = kind_of(c->row, k);
+    const int style = (int)below(c->style == SHORT ? 3 : 4), unclean = one_in(4), narrows = c->row->model == BYTES_FROM_INTS;
+    for (size_t j = 0; j < c->whole.len[k]; j++) {
+        if (kind == KIND_INTS) ((int32_t *)c->whole.at[k])[j] = narrows && !one_in(9) ? (int32_t)below(256) : number(style);
+        else if (kind == KIND_SUMS) ((int64_t *)c->whole.at[k])[j] = below(200) == 0 ? INT64_MAX : number(style) * (style == 2 ? INT64_C(1) << 31 : 1);
+        else if (kind == KIND_BYTES) ((uint8_t *)c->whole.at[k])[j] = (uint8_t)below(256);
+        else ((uint8_t *)c->whole.at[k])[j] = (uint8_t)(one_in(2) ? 0 : unclean ? 1 + below(255) : 1);
     }
 }
 
-static void make_offsets(Case *c, int k) {
-    int32_t *offsets = malloc((c->counts[SEGMENTS] + 1) * sizeof *offsets);
+static void make_offsets(Case *c, size_t k) {
+    int32_t *offsets = malloc((c->counts[EXTENT_SEGMENTS] + 1) * sizeof *offsets);
     offsets[0] = 0;
-    for (size_t r = 0; r < c->counts[SEGMENTS]; r++) offsets[r + 1] = offsets[r] + (int32_t)below(4);
-    c->counts[N] = (size_t)offsets[c->counts[SEGMENTS]];
-    c->whole[k].at = offsets, c->whole[k].number = c->counts[SEGMENTS] + 1;
-    cut_anywhere(c, SEGMENTS);
-    for (int r = 0; r <= c->ranks; r++) c->cut[N][r] = (size_t)offsets[c->cut[SEGMENTS][r]];
+    for (size_t r = 0; r < c->counts[EXTENT_SEGMENTS]; r++) offsets[r + 1] = offsets[r] + (int32_t)below(4);
+    c->counts[EXTENT_N] = (size_t)offsets[c->counts[EXTENT_SEGMENTS]];
+    c->whole.at[k] = offsets, c->whole.len[k] = c->counts[EXTENT_SEGMENTS] + 1;
+    cut_anywhere(c, EXTENT_SEGMENTS);
+    for (int r = 0; r <= c->ranks; r++) c->cut[EXTENT_N][r] = (size_t)offsets[c->cut[EXTENT_SEGMENTS][r]];
 }
 
 /* The rows and columns of a matrix, which now and then are none of it. */
 static void make_matrix(Case *c) {
-    const int rows = operand_named(c->tried, "rows"), columns = operand_named(c->tried, "columns");
+    const size_t many = operand_for(c->row, USE_ROW_COUNT), columns = operand_for(c->row, USE_COLUMN_COUNT);
     const size_t most = c->style == SHORT ? 8 : c->style == BLOCKS ? 200 : 600;
-    if (rows < 0 || c->tried->operand[rows].role != VALUE) return;
-    c->whole[rows].value = (int64_t)below(most), c->whole[columns].value = (int64_t)below(most);
-    c->counts[N] = (size_t)(c->whole[rows].value * c->whole[columns].value);
-    if (one_in(8)) c->whole[rows].value++;
+    if (many == count_of(c->row)) return;
+    c->whole.number[many] = (int64_t)below(most), c->whole.number[columns] = (int64_t)below(most);
+    c->counts[EXTENT_N] = (size_t)(c->whole.number[many] * c->whole.number[columns]);
+    if (one_in(8)) c->whole.number[many]++;
 }
 
 /* How many elements a vector has: also of a long case some vectors have a few. */
@@ -324,80 +321,91 @@ static size_t length_of(Style style, size_t few) {
 }
 
 static void make_counts(Case *c) {
-    const Tried *t = c->tried;
+    const Row *row = c->row;
     const size_t most = one_in(6) ? 40 : 9;
     for (int e = 0; e < EXTENTS; e++) c->counts[e] = length_of(c->style, most);
-    if (one_in(3)) c->counts[M] += c->counts[N];
-    for (int k = 0; k < t->operands; k++) {
-        if (t->operand[k].role == LENGTHS) make_lengths(c, k, c->counts[SEGMENTS]);
+    if (one_in(3)) c->counts[EXTENT_M] += c->counts[EXTENT_N];
+    for (size_t k = 0; k < count_of(row); k++) {
+        if (role_of(row, k) == ROLE_LENGTHS) make_lengths(c, k, c->counts[EXTENT_SEGMENTS]);
     }
-    if (operand_named(t, "starts") >= 0) c->counts[N] += 10;
+    if (uses(row, USE_STARTS)) c->counts[EXTENT_N] += 10;
     make_matrix(c);
-    c->counts[SPREAD] = c->counts[N], c->counts[BOTH] = c->counts[N] + c->counts[M];
+    c->counts[SPREAD] = c->counts[EXTENT_N], c->counts[EXTENT_BOTH] = c->counts[EXTENT_N] + c->counts[EXTENT_M];
     for (int e = 1; e < EXTENTS; e++) cut_anywhere(c, e);
-    for (int k = 0; k < t->operands; k++) {
-        if (t->operand[k].extent == OFFSETS) make_offsets(c, k);
-        if (t->operand[k].role == LENGTHS && !is_descriptor_call(t)) make_pieces(c, k), cut_segments(c, k);
+    for (size_t k = 0; k < count_of(row); k++) {
+        if (extent_in(c, k) == EXTENT_OFFSETS) make_offsets(c, k);
+        if (is_cut_by(row, k)) make_pieces(c, k), cut_segments(c, k);
     }
 }
 
 /* How many elements the ranks keep before each of them, where flags say. */
 static void cut_trues(Case *c) {
-    const int f = operand_named(c->tried, "flags");
-    if (f < 0) return;
-    c->counts[TRUES] = c->counts[ROOM] = trues_of(c->whole[f].at, 0, c->whole[f].number);
-    c->counts[FALSES] = c->whole[f].number - c->counts[TRUES];
-    cut_anywhere(c, TRUES), cut_anywhere(c, FALSES);
+    const size_t f = operand_for(c->row, USE_MASK);
+    if (f == count_of(c->row)) return;
+    c->counts[EXTENT_TRUES] = c->counts[EXTENT_ROOM] = trues_of(c->whole.at[f], 0, c->whole.len[f]);
+    c->counts[EXTENT_FALSES] = c->whole.len[f] - c->counts[EXTENT_TRUES];
+    cut_anywhere(c, EXTENT_TRUES), cut_anywhere(c, EXTENT_FALSES);
     count_sides(c);
-    for (int r = 0; r <= c->ranks; r++) c->cut[ROOM][r] = trues_of(c->whole[f].at, 0, c->cut[N][r]);
+    for (int r = 0; r <= c->ranks; r++) c->cut[EXTENT_ROOM][r] = trues_of(c->whole.at[f], 0, c->cut[EXTENT_N][r]);
+}
+
+static void make_number(Case *c, size_t k) {
+    const Role role = role_of(c->row, k);
+    const Kind kind = kind_of(c->row, k);
+    if (role == ROLE_PLACE) c->whole.number[k] = (int64_t)below(c->counts[EXTENT_N] + 1) - one_in(9);
+    if (role == ROLE_VALUE && kind != KIND_SIZES) c->whole.number[k] = kind == KIND_INTS ? number(0) : one_in(2);
+    if (role == ROLE_COUNT) c->whole.number[k] = (int64_t)c->counts[EXTENT_COUNT];
+}
+
+/* An array that is read, or a room that is joined, with what stands in it before. */
+static void make_array(Case *c, size_t k) {
+    const size_t count = c->counts[extent_in(c, k)], size = size_of(kind_of(c->row, k));
+    c->whole.len[k] = count;
+    c->whole.at[k] = malloc((count + 1) * size);
+    fill(c, k);
+    if (use_of(c->row, k) == USE_MASK) cut_trues(c);
+    if (!is_over(c->row, k)) return;
+    c->before[k] = malloc((count + 1) * size);
+    memcpy(c->before[k], c->whole.at[k], count * size);
 }
 
 static void make_arrays(Case *c) {
-    const Tried *t = c->tried;
-    for (int k = 0; k < t->operands; k++) {
-        const TriedOperand *o = &t->operand[k];
-        if ((o->role == VALUE && o->kind != SIZES) || o->role == PLACE) c->whole[k].value = o->role == PLACE ? (int64_t)below(c->counts[N] + 1) - one_in(9) : o->kind == INTS ? number(0) : one_in(2);
-        if (o->role == COUNT_OF) c->whole[k].value = (int64_t)c->counts[COUNT];
-        if ((o->role != READS && o->role != OVER_ROOM) || o->extent == OFFSETS) continue;
-        c->whole[k].number = c->counts[o->extent];
-        c->whole[k].at = malloc((c->whole[k].number + 1) * size_of(o->kind));
-        fill(c, k);
-        if (strcmp(o->name, "flags") == 0) cut_trues(c);
-        if (o->role != OVER_ROOM) continue;
-        c->before[k] = malloc((c->whole[k].number + 1) * size_of(o->kind));
-        memcpy(c->before[k], c->whole[k].at, c->whole[k].number * size_of(o->kind));
+    const Row *row = c->row;
+    for (size_t k = 0; k < count_of(row); k++) {
+        make_number(c, k);
+        if ((reads(row, k) || is_over(row, k)) && extent_of(row, k) != EXTENT_OFFSETS) make_array(c, k);
     }
-    for (int k = 0; k < t->operands; k++) {
-        if (strcmp(t->operand[k].name, "starts") == 0) fill_starts(c, k);
-        if (t->operand[k].role == READS && (strcmp(t->operand[k].name, "index") == 0 || strcmp(t->operand[k].name, "columns") == 0)) fill_index(c, k);
+    for (size_t k = 0; k < count_of(row); k++) {
+        if (use_of(row, k) == USE_STARTS) fill_starts(c, k);
+        if (reads(row, k) && (use_of(row, k) == USE_INDEX || use_of(row, k) == USE_COLUMNS)) fill_index(c, k);
     }
-    for (int k = 0; k < t->operands; k++) {
-        if (t->operand[k].role == ROOM_OF) c->whole[k].number = c->counts[t->operand[k].extent];
-        if (t->operand[k].role == SINGLE || t->operand[k].role == TOLD) c->whole[k].number = 1;
-        if (c->whole[k].at != NULL || c->whole[k].number == 0) continue;
-        c->whole[k].at = malloc((c->whole[k].number + 1) * size_of(t->operand[k].kind));
-        memset(c->whole[k].at, 0x5a, c->whole[k].number * size_of(t->operand[k].kind));
+    for (size_t k = 0; k < count_of(row); k++) {
+        if (is_room(row, k) && !is_over(row, k)) c->whole.len[k] = c->counts[extent_in(c, k)];
+        if (is_written(row, k) && !is_room(row, k)) c->whole.len[k] = 1;
+        if (c->whole.at[k] != NULL || c->whole.len[k] == 0) continue;
+        c->whole.at[k] = malloc((c->whole.len[k] + 1) * size_of(kind_of(row, k)));
+        memset(c->whole.at[k], 0x5a, c->whole.len[k] * size_of(kind_of(row, k)));
     }
 }
 
 /* Leaves out the last element of an operand now and then, in the rank that has it; or says an operator of another family. */
 static void spoil(Case *c) {
-    const Tried *t = c->tried;
+    const Row *row = c->row;
     c->shorter = -1;
-    if (t->operators && one_in(12)) c->op = (uint32_t)below(40);
+    if (row->operators != 0 && !row->is_call && one_in(12)) c->whole.op = (uint32_t)below(40);
     if (!one_in(6)) return;
-    const int k = (int)below((size_t)t->operands), extent = t->operand[k].extent;
-    const int is_family = t->operators != 0 || strchr(t->name, '_') == NULL || strlen(t->name) != 7;
-    if (!is_array(t->operand[k].role) || extent == OFFSETS || c->whole[k].number == 0 || (!is_family && extent != ROOM)) return;
+    const size_t k = below(count_of(row)), extent = extent_in(c, k);
+    const int is_counted = (reads(row, k) || is_room(row, k)) && extent != EXTENT_OFFSETS && (!row->is_call || extent == EXTENT_ROOM);
+    if (!is_counted || c->whole.len[k] == 0) return;
     for (int r = 0; r < c->ranks; r++) {
         if (c->cut[extent][r] < c->cut[extent][r + 1]) c->shorter_rank = r;
     }
-    c->shorter = k;
-    c->whole[k].number--;
+    c->shorter = (int)k;
+    c->whole.len[k]--;
 }
 
 /* Makes a piece of a segment less than 0 now and then. */
-static void spoil_lengths(Case *c, int k) {
+static void spoil_lengths(Case *c, size_t k) {
     const int rank = (int)below((size_t)c->ranks);
     Pieces *p = &c->pieces[k][rank];
     if (c->negative >= 0 || p->count == 0 || !one_in(10)) return;
@@ -406,29 +414,29 @@ static void spoil_lengths(Case *c, int k) {
     for (int r = 0; r < rank; r++) first += c->pieces[k][r].starts;
     c->negative = (int64_t)(first + at) - (p->goes_on != 0);
     p->lengths[at] = -1 - (int32_t)below(3);
-    ((int32_t *)c->whole[k].at)[c->negative] = -1;
+    ((int32_t *)c->whole.at[k])[c->negative] = -1;
 }
 
-static Case make_case(const Tried *t, int ranks) {
+static Case make_case(const Over *over, int ranks) {
+    const Row *row = row_of(over);
     Case c;
     memset(&c, 0, sizeof c);
-    c.tried = t, c.ranks = ranks, c.negative = -1;
+    c.row = row, c.over = over, c.ranks = ranks, c.negative = -1;
     c.style = !one_in(LONG_ONES) ? SHORT : one_in(4) ? WINDOWS : BLOCKS;
     make_counts(&c);
     make_arrays(&c);
-    do c.op = (uint32_t)below(32);
-    while (t->operators != 0 && !(t->operators >> c.op & 1));
+    c.whole.op = operator_from(row, (uint32_t)below(32));
     spoil(&c);
-    for (int k = 0; k < t->operands; k++) {
-        if (t->operand[k].role == LENGTHS && !is_descriptor_call(t)) spoil_lengths(&c, k);
-        if (t->operand[k].role == LENGTHS && is_descriptor_call(t) && c.whole[k].number > 0 && one_in(3)) ((int32_t *)c.whole[k].at)[below(c.whole[k].number)] = -1;
+    for (size_t k = 0; k < count_of(row); k++) {
+        if (is_cut_by(row, k)) spoil_lengths(&c, k);
+        if (row->model == MAKE_DESCRIPTOR && k == 0 && c.whole.len[k] > 0 && one_in(3)) ((int32_t *)c.whole.at[k])[below(c.whole.len[k])] = -1;
     }
     return c;
 }
 
 static void free_case(Case *c) {
-    for (int k = 0; k < c->tried->operands; k++) {
-        free(c->whole[k].at), free(c->before[k]);
+    for (size_t k = 0; k < count_of(c->row); k++) {
+        free(c->whole.at[k]), free(c->before[k]);
         for (int r = 0; r < c->ranks; r++) free(c->pieces[k][r].lengths);
     }
 }
@@ -436,48 +444,45 @@ static void free_case(Case *c) {
 /* ---- a rank's part ---- */
 
 typedef struct Own {
-    Slot slots[MOST_OPERANDS];
+    Given g;
+    CvlRankSegments *segments[MOST_OPERANDS];
     size_t from[MOST_OPERANDS]; /* where each array begins in the whole */
 } Own;
 
-static void take_array(const Case *c, int k, int rank, Own *own) {
-    const TriedOperand *o = &c->tried->operand[k];
-    const int extent = o->extent == OFFSETS ? SEGMENTS : o->role == LENGTHS ? SEGMENTS : o->extent;
-    const size_t from = c->cut[extent][rank], n = c->cut[extent][rank + 1] - from + (o->extent == OFFSETS), size = size_of(o->kind);
-    Slot *s = &own->slots[k];
-    own->from[k] = from, s->number = n;
+static void take_array(const Case *c, size_t k, int rank, Own *own) {
+    const int by_offsets = extent_of(c->row, k) == EXTENT_OFFSETS, by_segments = by_offsets || role_of(c->row, k) == ROLE_LENGTHS;
+    const size_t extent = by_segments ? EXTENT_SEGMENTS : extent_in(c, k), size = size_of(kind_of(c->row, k));
+    const size_t from = c->cut[extent][rank], n = c->cut[extent][rank + 1] - from + (size_t)by_offsets;
+    own->from[k] = from, own->g.len[k] = n;
     /* an array of no elements may be null */
-    if (n == 0 && (rank + k) % 2 == 0) return;
-    s->at = malloc((n + 1) * size);
-    const char *whole = o->role == OVER_ROOM ? c->before[k] : c->whole[k].at;
-    if (o->role == ROOM_OF) memset(s->at, 0x5a, (n + 1) * size);
-    else if (n > 0) memcpy(s->at, whole + from * size, n * size);
-    if (o->extent == OFFSETS) {
-        for (size_t r = n; r-- > 0;) ((int32_t *)s->at)[r] -= ((int32_t *)s->at)[0];
-    }
-    if (c->shorter == k && c->shorter_rank == rank) s->number--;
+    if (n == 0 && ((size_t)rank + k) % 2 == 0) return;
+    own->g.at[k] = malloc((n + 1) * size);
+    int32_t *offsets = own->g.at[k];
+    const char *whole = is_over(c->row, k) ? c->before[k] : c->whole.at[k];
+    if (is_room(c->row, k) && !is_over(c->row, k)) memset(own->g.at[k], 0x5a, (n + 1) * size);
+    else if (n > 0) memcpy(own->g.at[k], whole + from * size, n * size);
+    for (size_t r = by_offsets ? n : 0; r-- > 0;) offsets[r] -= offsets[0];
+    if (c->shorter == (int)k && c->shorter_rank == rank) own->g.len[k]--;
 }
 
 static Own take(const Case *c, int rank) {
+    const Row *row = c->row;
     Own own;
     memset(&own, 0, sizeof own);
-    for (int k = 0; k < c->tried->operands; k++) {
-        const TriedOperand *o = &c->tried->operand[k];
-        own.slots[k].value = c->whole[k].value;
-        if (o->role == COUNT_OF) own.slots[k].value = (int64_t)(c->cut[COUNT][rank + 1] - c->cut[COUNT][rank]);
-        if (is_array(o->role) || (o->role == LENGTHS && is_descriptor_call(c->tried))) take_array(c, k, rank, &own);
-        if (o->role == SINGLE || o->role == TOLD) {
-            own.slots[k].at = malloc(8);
-            memset(own.slots[k].at, 0x5a, 8);
-        }
+    own.g.op = c->whole.op;
+    for (size_t k = 0; k < count_of(row); k++) {
+        const int is_counted = role_of(row, k) == ROLE_COUNT;
+        own.g.number[k] = is_counted ? (int64_t)(c->cut[EXTENT_COUNT][rank + 1] - c->cut[EXTENT_COUNT][rank]) : c->whole.number[k];
+        if (is_array(row, k) && !is_cut_by(row, k)) take_array(c, k, rank, &own);
+        if (is_written(row, k) && !is_room(row, k)) own.g.at[k] = memset(malloc(8), 0x5a, 8);
     }
     return own;
 }
 
 static void free_own(Own *own) {
-    for (int k = 0; k < MOST_OPERANDS; k++) {
-        free(own->slots[k].at);
-        cvl_rank_segments_free(own->slots[k].segments);
+    for (size_t k = 0; k < MOST_OPERANDS; k++) {
+        free(own->g.at[k]);
+        cvl_rank_segments_free(own->segments[k]);
     }
 }
 
@@ -485,41 +490,34 @@ static void free_own(Own *own) {
 
 static int my_rank;
 
-static int is_as_before(const Case *c, const Own *own, int k) {
-    const TriedOperand *o = &c->tried->operand[k];
-    const uint8_t *bytes = own->slots[k].at;
-    const size_t count = is_room(o->role) ? own->slots[k].number * size_of(o->kind) : size_of(o->kind);
-    if (o->role == OVER_ROOM) return count == 0 || memcmp(bytes, (const char *)c->before[k] + own->from[k] * size_of(o->kind), count) == 0;
+static int is_as_before(const Case *c, const Own *own, size_t k) {
+    const uint8_t *bytes = own->g.at[k];
+    const size_t size = size_of(kind_of(c->row, k)), count = is_room(c->row, k) ? own->g.len[k] * size : size;
+    if (is_over(c->row, k)) return count == 0 || memcmp(bytes, (const char *)c->before[k] + own->from[k] * size, count) == 0;
     for (size_t j = 0; j < count; j++) {
         if (bytes[j] != 0x5a) return 0;
     }
     return 1;
 }
 
-static int is_written(const Case *c, int k) {
-    const int role = c->tried->operand[k].role;
-    return is_room(role) || role == SINGLE || role == TOLD;
-}
-
 /* Whether a rank's room is its part of the whole's, and a count that of the whole, or how many elements the rank keeps. */
-static int is_cut_of(const Case *c, const Own *own, int k, int rank) {
-    const TriedOperand *o = &c->tried->operand[k];
-    const size_t size = size_of(o->kind);
-    if (o->role == TOLD && operand_named(c->tried, "flags") >= 0) {
+static int is_cut_of(const Case *c, const Own *own, size_t k, int rank) {
+    const size_t size = size_of(kind_of(c->row, k));
+    if (role_of(c->row, k) == ROLE_TOLD && uses(c->row, USE_MASK)) {
         size_t sentinel;
         memset(&sentinel, 0x5a, sizeof sentinel);
-        if (*(size_t *)c->whole[k].at == sentinel) return is_as_before(c, own, k);
-        return *(size_t *)own->slots[k].at == c->cut[ROOM][rank + 1] - c->cut[ROOM][rank];
+        if (*(size_t *)c->whole.at[k] == sentinel) return is_as_before(c, own, k);
+        return *(size_t *)own->g.at[k] == c->cut[EXTENT_ROOM][rank + 1] - c->cut[EXTENT_ROOM][rank];
     }
-    if (!is_room(o->role)) return memcmp(own->slots[k].at, c->whole[k].at, size) == 0;
-    return own->slots[k].number == 0 || memcmp(own->slots[k].at, (const char *)c->whole[k].at + own->from[k] * size, own->slots[k].number * size) == 0;
+    if (!is_room(c->row, k)) return memcmp(own->g.at[k], c->whole.at[k], size) == 0;
+    return own->g.len[k] == 0 || memcmp(own->g.at[k], (const char *)c->whole.at[k] + own->from[k] * size, own->g.len[k] * size) == 0;
 }
 
 static int is_right(const Case *c, const Own *own, CvlStatus expected, CvlStatus status, int rank) {
     if (status.number != expected.number || status.place != expected.place) return 0;
-    for (int k = 0; k < c->tried->operands; k++) {
-        const int room_at_fault = expected.number != CVL_DONE && is_room(c->tried->operand[k].role);
-        if (!is_written(c, k)) continue;
+    for (size_t k = 0; k < count_of(c->row); k++) {
+        const int room_at_fault = expected.number != CVL_DONE && is_room(c->row, k);
+        if (!is_written(c->row, k)) continue;
         if (room_at_fault ? !is_as_before(c, own, k) : !is_cut_of(c, own, k, rank)) return 0;
     }
     return 1;
@@ -529,14 +527,20 @@ static int is_right(const Case *c, const Own *own, CvlStatus expected, CvlStatus
 
 static long cases, long_cases, done, at_fault, refusals, by_number[128];
 
+/* The first elements of an operand. */
+static void print_elements(const Row *row, size_t k, const void *at, size_t count) {
+    for (size_t j = 0; at != NULL && j < count && j < MOST_PRINTED; j++) {
+        fprintf(stderr, " %d", kind_of(row, k) == KIND_INTS ? ((const int32_t *)at)[j] : ((const uint8_t *)at)[j]);
+    }
+}
+
 static void print_case(const Case *c) {
-    for (int k = 0; k < c->tried->operands; k++) {
-        const TriedOperand *o = &c->tried->operand[k];
-        fprintf(stderr, "  %s (%zu):", o->name, c->whole[k].number);
-        for (size_t j = 0; j < c->whole[k].number && j < MOST_PRINTED; j++) fprintf(stderr, " %d", o->kind == INTS ? ((int32_t *)c->whole[k].at)[j] : ((uint8_t *)c->whole[k].at)[j]);
-        fprintf(stderr, " value %lld; cut", (long long)c->whole[k].value);
-        for (int r = 0; r <= c->ranks; r++) fprintf(stderr, " %zu", c->cut[o->extent][r]);
-        for (int r = 0; r < c->ranks && o->role == LENGTHS; r++) {
+    for (size_t k = 0; k < count_of(c->row); k++) {
+        fprintf(stderr, "  operand %zu (%zu):", k, c->whole.len[k]);
+        print_elements(c->row, k, c->whole.at[k], c->whole.len[k]);
+        fprintf(stderr, " number %lld; cut", (long long)c->whole.number[k]);
+        for (int r = 0; r <= c->ranks; r++) fprintf(stderr, " %zu", c->cut[extent_in(c, k)][r]);
+        for (int r = 0; r < c->ranks && role_of(c->row, k) == ROLE_LENGTHS; r++) {
             fprintf(stderr, " |%s", c->pieces[k][r].goes_on ? " .." : "");
             for (size_t p = 0; p < c->pieces[k][r].count && p < MOST_PRINTED; p++) fprintf(stderr, " %d", c->pieces[k][r].lengths[p]);
         }
@@ -545,15 +549,13 @@ static void print_case(const Case *c) {
 }
 
 static void fail(const Case *c, const Own *own, CvlStatus expected, CvlStatus status, uint64_t seed) {
-    fprintf(stderr, "rank %d of %d: %s with operator %u answers %u at %lld, not %u at %lld (seed %llu), or has another room:\n", my_rank, c->ranks, c->tried->name, c->op,
-        status.number, (long long)status.place, expected.number, (long long)expected.place, (unsigned long long)seed);
+    fprintf(stderr, "rank %d of %d: %s with operator %u answers %u at %lld, not %u at %lld (seed %llu), or has another room:\n", my_rank, c->ranks, c->row->name,
+        c->whole.op, status.number, (long long)status.place, expected.number, (long long)expected.place, (unsigned long long)seed);
     print_case(c);
-    for (int k = 0; k < c->tried->operands; k++) {
-        if (!is_written(c, k)) continue;
-        fprintf(stderr, "  own %s:", c->tried->operand[k].name);
-        for (size_t j = 0; own->slots[k].at != NULL && (j < own->slots[k].number || j < 1) && j < MOST_PRINTED; j++) {
-            fprintf(stderr, " %d", c->tried->operand[k].kind == INTS ? ((int32_t *)own->slots[k].at)[j] : ((uint8_t *)own->slots[k].at)[j]);
-        }
+    for (size_t k = 0; k < count_of(c->row); k++) {
+        if (!is_written(c->row, k)) continue;
+        fprintf(stderr, "  own operand %zu:", k);
+        print_elements(c->row, k, own->g.at[k], is_room(c->row, k) ? own->g.len[k] : 1);
         fprintf(stderr, "\n");
     }
     fflush(stderr);
@@ -572,9 +574,9 @@ static CvlStatus make_descriptor(CvlRanks *ranks, const Pieces *p, CvlRankSegmen
 
 /* Makes the descriptors of a rank's pieces; whether all are made. */
 static int make_descriptors(CvlRanks *ranks, const Case *c, int rank, Own *own, CvlStatus *status) {
-    for (int k = 0; k < c->tried->operands; k++) {
-        if (c->tried->operand[k].role != LENGTHS || is_descriptor_call(c->tried)) continue;
-        *status = make_descriptor(ranks, &c->pieces[k][rank], &own->slots[k].segments);
+    for (size_t k = 0; k < count_of(c->row); k++) {
+        if (!is_cut_by(c->row, k)) continue;
+        *status = make_descriptor(ranks, &c->pieces[k][rank], &own->segments[k]);
         if (status->number != CVL_DONE) return 0;
     }
     return 1;
@@ -583,9 +585,9 @@ static int make_descriptors(CvlRanks *ranks, const Case *c, int rank, Own *own, 
 /* Makes the call, which gives back what it takes of memory. */
 static CvlStatus make_call(CvlRanks *ranks, const Case *c, const Own *own) {
     const long before = blocks;
-    const CvlStatus status = c->tried->over(ranks, c->op, own->slots);
+    const CvlStatus status = c->over->call(ranks, &own->g, own->segments);
     if (blocks != before) {
-        fprintf(stderr, "rank %d of %d: %s with operator %u keeps %ld blocks of memory\n", my_rank, c->ranks, c->tried->name, c->op, blocks - before);
+        fprintf(stderr, "rank %d of %d: %s with operator %u keeps %ld blocks of memory\n", my_rank, c->ranks, c->row->name, c->whole.op, blocks - before);
         MPI_Abort(MPI_COMM_WORLD, 1);
     }
     return status;
@@ -606,18 +608,18 @@ static void refuse_all(CvlRanks *ranks, const Case *c, CvlStatus expected, int r
         const CvlStatus none = {CVL_NO_RESOURCES, -1};
         const int same = status.number == expected.number && expected.number != CVL_DONE;
         if (any_hit && !same && status.number != CVL_NO_RESOURCES) fail(c, &own, none, status, seed);
-        for (int j = 0; j < c->tried->operands && any_hit; j++) {
-            if (is_room(c->tried->operand[j].role) && !is_as_before(c, &own, j)) fail(c, &own, none, status, seed);
+        for (size_t j = 0; j < count_of(c->row) && any_hit; j++) {
+            if (is_room(c->row, j) && !is_as_before(c, &own, j)) fail(c, &own, none, status, seed);
         }
         refusals += any_hit, more = any_hit;
         free_own(&own);
     }
 }
 
-static void try_one(CvlRanks *ranks, const Tried *t, int rank, int size, uint64_t seed) {
+static void try_one(CvlRanks *ranks, const Over *over, int rank, int size, uint64_t seed) {
     state = seed;
-    Case c = make_case(t, size);
-    const CvlStatus expected = t->plain(c.op, c.whole);
+    Case c = make_case(over, size);
+    const CvlStatus expected = c.row->call(&c.whole);
     Own own = take(&c, rank);
     CvlStatus status;
     cases++, long_cases += c.style != SHORT;
@@ -650,16 +652,15 @@ int main(int words, char **word) {
     const double seconds = words > 1 ? atof(word[1]) : 1, from = MPI_Wtime();
     uint64_t seed = words > 2 ? strtoull(word[2], NULL, 10) : 1;
     const char *only = words > 3 ? word[3] : NULL;
-    const size_t count = sizeof tried / sizeof *tried;
     while (more) {
-        for (size_t k = 0; k < count; k++) {
-            if (only == NULL || strcmp(only, tried[k].name) == 0) try_one(ranks, &tried[k], my_rank, size, seed++);
+        for (size_t k = 0; k < OVERS; k++) {
+            if (only == NULL || strcmp(only, overs[k].name) == 0) try_one(ranks, &overs[k], my_rank, size, seed++);
         }
         more = MPI_Wtime() - from < seconds;
         MPI_Bcast(&more, 1, MPI_INT, 0, MPI_COMM_WORLD);
     }
     if (my_rank == 0) {
-        printf("%d ranks: %ld cases of %zu calls, %ld of them long, %ld done, %ld at fault, %ld refusals;", size, cases, count, long_cases, done,
+        printf("%d ranks: %ld cases of %zu calls, %ld of them long, %ld done, %ld at fault, %ld refusals;", size, cases, (size_t)OVERS, long_cases, done,
             at_fault, refusals);
         for (int k = 1; k < 128; k++) {
             if (by_number[k]) printf(" %d: %ld", k, by_number[k]);
