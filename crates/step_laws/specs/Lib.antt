@@ -1,4 +1,7 @@
+pub mod CheckedSteps
 pub mod CountSteps
 pub mod FlatSteps
+pub mod Looks
 pub mod Parts
+pub mod PlaceSteps
 pub mod Steps
