@@ -36,6 +36,14 @@ CVL_HIDDEN bool cvl_may_grow(CvlCall *c);
 /* Combines elements with a room of this rank, of sums of 64 bits or of what the family's has; or counts the indices. */
 CVL_HIDDEN CvlStatus cvl_combine_plainly(const CvlCall *c, CvlSlot a, CvlSlot index, void *room, size_t room_len, bool is_of_sums);
 
+/* ---- indices that go on from one place to the next: in_runs.c ---- */
+
+/* Finds how many runs the places of the rank have. The ranks agree whether runs pay for all of them, whose indices are all right. */
+CVL_HIDDEN bool cvl_are_in_runs(CvlCall *c, bool right, const int32_t *places, size_t n, size_t *runs);
+
+/* Writes the elements of the source at these places into the room. */
+CVL_HIDDEN void cvl_back_in_runs(CvlCall *c, const int32_t *places, size_t n, size_t runs);
+
 /* ---- which ranks ask which for what: routes.c ---- */
 
 /* The first index that is no place of so many, or -1. */
