@@ -117,7 +117,7 @@ static CvlStatus name_senders(CvlCall *c, Sending *s) {
 }
 
 CvlStatus cvl_combine_plainly(const CvlCall *c, CvlSlot a, CvlSlot index, void *room, size_t room_len, bool is_of_sums) {
-    if (are_places_enough(c)) return cvl_counts(index.at, index.number, room, room_len);
+    if (!cvl_has(c, CVL_AS_A)) return cvl_counts(index.at, index.number, room, room_len);
     if (is_of_sums) return cvl_combine_exact_sums(a.at, a.number, index.at, index.number, room, room_len);
     if (cvl_adds_up(c)) return cvl_combine_checked_int(a.at, a.number, index.at, index.number, room, room_len);
     if (cvl_has_bools(c)) return cvl_combine_permute_bool(c->op, a.at, a.number, index.at, index.number, room, room_len);
