@@ -91,6 +91,9 @@ SENT_ELEMENTS = OverRanks("permute", "elements go to the ranks of their places",
 SENT_ANYWHERE = SENT_ELEMENTS._replace(spread=True)
 SENT_SENDERS = OverRanks("permute", "senders go to the ranks of the places that they name", named=True)
 JOINED_ELEMENTS = OverRanks("combine", "elements go to the ranks of their places, and are joined there in their order", named=True)
+FEW_OR_JOINED = OverRanks(
+    "combine_whole", "of few places each rank has all, and they are joined in the ranks that have them; else elements go to the ranks of their places", named=True,
+)
 COUNTED_THERE = OverRanks("combine", "places go to the ranks that have them, and are counted there", named=True)
 SPREAD_SIDES = OverRanks("merge", "when_true and when_false may be spread otherwise than the flags")
 ASKED_COLUMNS = OverRanks("product", "each rank asks once for each element of x that its columns name; a row may cross ranks")
@@ -132,7 +135,7 @@ CUTS = {
     "ranges": Cut("the result is cut; each part reads all indices", SENT_ELEMENTS, "ranges", any_bytes=True),
     "senders": Cut("the result is cut; each part reads all indices", SENT_SENDERS, "senders"),
     "combine": Cut(
-        "cut at places, and each part joins in a room of its own; with many places the room is cut, and each part reads all indices", JOINED_ELEMENTS,
+        "cut at places, and each part joins in a room of its own; with many places the room is cut, and each part reads all indices", FEW_OR_JOINED,
         "combine",
     ),
     "turns": Cut(
@@ -806,7 +809,7 @@ FAMILIES = (
         "counts", "combining permutes", (indices(), room("ints", "m")),
         "For each place of the result how many indices name it. The result may have any number of places.",
         faults=(LONG_ROOM, BAD_NAMED), cut=("combine", "n"),
-        over_ranks=OverRanks("counts", "few places are counted by each rank, and the counts added; else places go to the ranks that have them", named=True),
+        over_ranks=FEW_OR_JOINED._replace(said="of few places each rank counts all, and the counts are added; else places go to the ranks that have them"),
         example={"index": "2 0 2 3", "out": "1 0 2 1"},
     ),
     *twins(

@@ -7,10 +7,15 @@
 #include <errno.h>
 #include <pthread.h>
 #include <signal.h>
+#include <stdatomic.h>
 #include <time.h>
+#include <unistd.h>
 
 /* How many seconds a thread waits for parts before it ends. */
 enum { PATIENCE = 1 };
+
+/* How often a thread looks before it sleeps: some 20 microseconds, less than it takes to wake it. */
+enum { LOOKS = 500 };
 
 struct CvlThreads {
     size_t most;      /* how many there may be, with the one that calls */
@@ -22,8 +27,11 @@ struct CvlThreads {
     size_t living; /* how many there are, without the one that calls; the others have ended, or were never started */
     CvlPart part;
     void *work;
-    size_t parts, taken, done; /* how many parts there are, were taken, and are done */
+    size_t parts, taken; /* how many parts there are, and were taken */
     bool stopping;
+    size_t looks; /* how often a thread looks before it sleeps: not at all if the threads share processors */
+    _Atomic size_t left; /* how many parts are not done; looked at without the lock */
+    _Atomic size_t turns; /* changes if there is something to do; looked at without the lock */
 };
 
 void cvl_run_alone(void *state, CvlPart part, void *work, size_t parts) {
@@ -36,6 +44,30 @@ CvlPool cvl_pool_alone(size_t parts) {
     return pool;
 }
 
+/* Tells the processor that a thread waits in a loop, so that others get what it shares with them. */
+static void pause_briefly(void) {
+#if defined(__x86_64__) || defined(__i386__)
+    __builtin_ia32_pause();
+#elif defined(__aarch64__)
+    __asm__ volatile("yield");
+#endif
+}
+
+static bool has_begun(CvlThreads *t, size_t turn) { return atomic_load_explicit(&t->turns, memory_order_relaxed) != turn; }
+
+static bool has_ended(CvlThreads *t, size_t turn) {
+    (void)turn;
+    return atomic_load_explicit(&t->left, memory_order_relaxed) == 0;
+}
+
+/* Looks for some time before the thread sleeps. The lock is held before and after, and not meanwhile. */
+static void look_for(CvlThreads *t, bool (*found)(CvlThreads *, size_t), size_t turn) {
+    if (t->looks == 0) return;
+    pthread_mutex_unlock(&t->lock);
+    for (size_t k = 0; k < t->looks && !found(t, turn); k++) pause_briefly();
+    pthread_mutex_lock(&t->lock);
+}
+
 /* Takes parts until none is left. The lock is held, but not while a part runs. */
 static void take_parts(CvlThreads *t) {
     while (t->taken < t->parts) {
@@ -45,13 +77,16 @@ static void take_parts(CvlThreads *t) {
         pthread_mutex_unlock(&t->lock);
         part(work, k);
         pthread_mutex_lock(&t->lock);
-        if (++t->done == t->parts) pthread_cond_signal(&t->ended);
+        if (--t->left == 0) pthread_cond_signal(&t->ended);
     }
 }
 
-/* Waits for parts, and answers whether that was in vain. */
+/* Waits for parts, and answers whether that was in vain. First it stays awake, since steps and calls often follow one another. */
 static bool waits_in_vain(CvlThreads *t) {
+    const size_t turn = t->turns;
     struct timespec until;
+    look_for(t, has_begun, turn);
+    if (t->turns != turn) return 0;
     clock_gettime(CLOCK_MONOTONIC, &until);
     until.tv_sec += PATIENCE;
     return pthread_cond_timedwait(&t->begun, &t->lock, &until) != 0;
@@ -121,12 +156,14 @@ void cvl_run_posix(void *state, CvlPart part, void *work, size_t parts) {
     }
     pthread_setcancelstate(PTHREAD_CANCEL_DISABLE, &cancels);
     pthread_mutex_lock(&t->lock);
-    t->part = part, t->work = work, t->parts = parts, t->taken = 0, t->done = 0;
+    t->part = part, t->work = work, t->parts = parts, t->taken = 0, t->left = parts;
+    t->turns++;
     start_missing(t, parts);
     pthread_cond_broadcast(&t->begun);
     take_parts(t);
-    while (t->done < t->parts) pthread_cond_wait(&t->ended, &t->lock);
-    t->parts = 0, t->taken = 0, t->done = 0;
+    if (t->left > 0) look_for(t, has_ended, 0);
+    while (t->left > 0) pthread_cond_wait(&t->ended, &t->lock);
+    t->parts = 0, t->taken = 0;
     pthread_mutex_unlock(&t->lock);
     pthread_mutex_unlock(&t->calls);
     pthread_setcancelstate(cancels, &cancels);
@@ -142,6 +179,7 @@ static void end_all(CvlThreads *t) {
     pthread_mutex_lock(&t->calls);
     pthread_mutex_lock(&t->lock);
     t->stopping = 1;
+    t->turns++;
     pthread_cond_broadcast(&t->begun);
     pthread_mutex_unlock(&t->lock);
     for (size_t k = 0; k < t->living; k++) pthread_join(t->threads[k], NULL);
@@ -172,6 +210,9 @@ CvlThreads *cvl_threads_made(size_t threads) {
     if (t == NULL) return NULL;
     t->most = threads;
     t->process = cvl_process();
+    t->looks = threads <= (size_t)sysconf(_SC_NPROCESSORS_ONLN) ? LOOKS : 0;
+    atomic_init(&t->left, 0);
+    atomic_init(&t->turns, 0);
     pthread_mutex_init(&t->calls, NULL);
     pthread_mutex_init(&t->lock, NULL);
     pthread_cond_init(&t->ended, NULL);

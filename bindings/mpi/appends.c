@@ -47,12 +47,18 @@ static bool find_places(CvlCall *c, Side *side, bool is_second) {
 
 /* ---- runs ---- */
 
+static CvlPieces pieces_of(const Side *side) {
+    const CvlPieces pieces = {side->held->pieces, side->held->lengths, (const uint64_t *)side->starts};
+    return pieces;
+}
+
 /* Sends each rank the number of runs that it gets, and takes memory for them. */
 static void count_runs(CvlCall *c, Side *side) {
     CvlRanks *const ranks = c->ranks;
+    const CvlPieces pieces = pieces_of(side);
     CvlRun run = {0};
     memset(ranks->sends, 0, (size_t)ranks->size * sizeof *ranks->sends);
-    for (; cvl_next_run(ranks, side->held, (const uint64_t *)side->starts, &run); side->runs++) ranks->sends[run.owner]++;
+    for (; cvl_next_run(ranks, &pieces, &run); side->runs++) ranks->sends[run.owner]++;
     side->got_runs = cvl_exchange_counts(c);
     if (c->status.number == CVL_DONE) side->from = cvl_take(c, side->runs, 2 * sizeof *side->from);
     if (c->status.number == CVL_DONE) side->got_from = cvl_take(c, side->got_runs, 2 * sizeof *side->got_from);
@@ -62,8 +68,9 @@ static void count_runs(CvlCall *c, Side *side) {
 /* Sends the runs, which stand in the order of the ranks; then ranks->sends and its like are the elements of each. */
 static void send_runs(CvlCall *c, Side *side) {
     CvlRanks *const ranks = c->ranks;
+    const CvlPieces pieces = pieces_of(side);
     CvlRun run = {0};
-    for (size_t k = 0; cvl_next_run(ranks, side->held, (const uint64_t *)side->starts, &run); k++) {
+    for (size_t k = 0; cvl_next_run(ranks, &pieces, &run); k++) {
         side->from[k] = (int32_t)(run.place - ranks->offsets[run.owner]), side->counts[k] = (int32_t)run.count;
     }
     cvl_send(ranks, side->from, side->got_from, sizeof *side->from);

@@ -18,7 +18,7 @@ typedef struct Sending {
     CvlBins bins;
 } Sending;
 
-static bool has(const CvlCall *c, CvlAs as) {
+bool cvl_has(const CvlCall *c, CvlAs as) {
     for (size_t k = 0; k < c->family->row.operands; k++) {
         if (c->family->row.operand[k].as == as) return 1;
     }
@@ -26,28 +26,28 @@ static bool has(const CvlCall *c, CvlAs as) {
 }
 
 /* Whether all indices go somewhere, so that the result has as many places; or only those whose flags are true. */
-static bool is_simple(const CvlCall *c) { return has(c, CVL_AS_A) && !has(c, CVL_AS_B) && !has(c, CVL_AS_FLAGS) && !c->combines; }
-static bool is_select(const CvlCall *c) { return has(c, CVL_AS_A) && has(c, CVL_AS_FLAGS); }
+static bool is_simple(const CvlCall *c) { return cvl_has(c, CVL_AS_A) && !cvl_has(c, CVL_AS_B) && !cvl_has(c, CVL_AS_FLAGS) && !c->combines; }
+static bool is_select(const CvlCall *c) { return cvl_has(c, CVL_AS_A) && cvl_has(c, CVL_AS_FLAGS); }
 
 /* The elements that go somewhere, and those that stand where none goes. */
 static const void *source_of(const CvlCall *c) { return c->in[c->replaces ? CVL_AS_B : CVL_AS_A].at; }
 static const void *defaults_of(const CvlCall *c) {
     if (c->replaces) return c->in[CVL_AS_A].at;
-    return has(c, CVL_AS_B) ? c->in[CVL_AS_B].at : c->in[CVL_AS_OUT].at;
+    return cvl_has(c, CVL_AS_B) ? c->in[CVL_AS_B].at : c->in[CVL_AS_OUT].at;
 }
 
-static size_t element_size(const CvlCall *c) { return has(c, CVL_AS_A) && cvl_has_bools(c) ? sizeof(bool) : sizeof(int32_t); }
+static size_t element_size(const CvlCall *c) { return cvl_has(c, CVL_AS_A) && cvl_has_bools(c) ? sizeof(bool) : sizeof(int32_t); }
 
 /* Whether only places are sent, to be counted. */
-static bool are_places_enough(const CvlCall *c) { return c->combines && !has(c, CVL_AS_A); }
+static bool are_places_enough(const CvlCall *c) { return c->combines && !cvl_has(c, CVL_AS_A); }
 
 /* Whether an index may be named twice. */
-static bool may_repeat(const CvlCall *c) { return c->combines || !has(c, CVL_AS_A); }
+static bool may_repeat(const CvlCall *c) { return c->combines || !cvl_has(c, CVL_AS_A); }
 
 /* Finds the place of each index, and counts what each bin and each rank gets. */
 static void find_places(CvlCall *c, Sending *s) {
     const int32_t *index = c->in[CVL_AS_INDEX].at;
-    const bool *flags = has(c, CVL_AS_FLAGS) ? c->in[CVL_AS_FLAGS].at : NULL;
+    const bool *flags = cvl_has(c, CVL_AS_FLAGS) ? c->in[CVL_AS_FLAGS].at : NULL;
     size_t k = 0;
     memset(c->ranks->sends, 0, (size_t)c->ranks->size * sizeof *c->ranks->sends);
     if (c->status.number != CVL_DONE) return;
@@ -74,7 +74,7 @@ static void fill(CvlCall *c, Sending *s, bool in_order) {
     const size_t n = c->in[CVL_AS_INDEX].number;
     const int32_t *const ints = source_of(c);
     const bool *const bools = source_of(c);
-    const bool is_bool = element_size(c) == sizeof(bool), senders = !has(c, CVL_AS_A);
+    const bool is_bool = element_size(c) == sizeof(bool), senders = !cvl_has(c, CVL_AS_A);
     size_t at = 0, until = n > 0 ? cvl_indices_of(&s->targets, 0) : 0, p = 0;
     int64_t first = s->targets.first_place;
     for (size_t k = 0; k < n; k++) {
@@ -96,7 +96,7 @@ static void fill(CvlCall *c, Sending *s, bool in_order) {
 static CvlStatus place_received(CvlCall *c, Sending *s) {
     const CvlSlot out = c->in[CVL_AS_OUT];
     const void *const before = defaults_of(c);
-    const bool all = !has(c, CVL_AS_B) && s->received == out.number;
+    const bool all = !cvl_has(c, CVL_AS_B) && s->received == out.number;
     if (cvl_has_bools(c) && all) return cvl_permute_bool(s->got, s->received, s->got_places, s->received, c->aside, out.number);
     if (cvl_has_bools(c)) {
         return cvl_default_permute_bool(s->got, s->received, s->got_places, s->received, before, out.number, c->aside, out.number);
@@ -116,25 +116,25 @@ static CvlStatus name_senders(CvlCall *c, Sending *s) {
     return status;
 }
 
-/* Elements are added to the room without wrapping: to sums of 64 bits, or to integers that have to fit 32 bits at the end. */
-static bool adds_up(const CvlCall *c) { return (c->family->row.is & CVL_ADDS) != 0; }
-static bool has_sums(const CvlCall *c) { return adds_up(c) && cvl_room_size(c) == sizeof(int64_t); }
+CvlStatus cvl_combine_plainly(const CvlCall *c, CvlSlot a, CvlSlot index, void *room, size_t room_len, bool is_of_sums) {
+    if (!cvl_has(c, CVL_AS_A)) return cvl_counts(index.at, index.number, room, room_len);
+    if (is_of_sums) return cvl_combine_exact_sums(a.at, a.number, index.at, index.number, room, room_len);
+    if (cvl_adds_up(c)) return cvl_combine_checked_int(a.at, a.number, index.at, index.number, room, room_len);
+    if (cvl_has_bools(c)) return cvl_combine_permute_bool(c->op, a.at, a.number, index.at, index.number, room, room_len);
+    return cvl_combine_permute_int(c->op, a.at, a.number, index.at, index.number, room, room_len);
+}
 
 /* Joins what the rank gets with what stands in its room, or counts it. */
 static CvlStatus combine_received(CvlCall *c, Sending *s) {
-    const CvlSlot out = c->in[CVL_AS_OUT];
-    if (are_places_enough(c)) return cvl_counts(s->got_places, s->received, c->aside, out.number);
-    if (out.number > 0) memcpy(c->aside, out.at, out.number * cvl_room_size(c));
-    if (has_sums(c)) return cvl_combine_exact_sums(s->got, s->received, s->got_places, s->received, c->aside, out.number);
-    if (adds_up(c)) return cvl_combine_checked_int(s->got, s->received, s->got_places, s->received, c->aside, out.number);
+    const CvlSlot out = c->in[CVL_AS_OUT], got = {s->got, s->received}, places = {s->got_places, s->received};
+    if (!are_places_enough(c) && out.number > 0) memcpy(c->aside, out.at, out.number * cvl_room_size(c));
     if (cvl_has_bools(c)) cvl_make_flags(c->aside, out.number);
-    if (cvl_has_bools(c)) return cvl_combine_permute_bool(c->op, s->got, s->received, s->got_places, s->received, c->aside, out.number);
-    return cvl_combine_permute_int(c->op, s->got, s->received, s->got_places, s->received, c->aside, out.number);
+    return cvl_combine_plainly(c, got, places, c->aside, out.number, cvl_has_sums(c));
 }
 
 static CvlStatus write_received(CvlCall *c, Sending *s) {
     if (c->combines) return combine_received(c, s);
-    return has(c, CVL_AS_A) ? place_received(c, s) : name_senders(c, s);
+    return cvl_has(c, CVL_AS_A) ? place_received(c, s) : name_senders(c, s);
 }
 
 /* ---- the first fault ---- */
@@ -219,11 +219,11 @@ static CvlStatus send_and_write(CvlCall *c, Sending *s, bool in_order) {
 
 static bool is_of_index(CvlStatus status) { return status.number == CVL_INDEX_OUT_OF_RANGE || status.number == CVL_INDEX_REPEATED; }
 
-/* Whether the sums that stand in the rooms of all ranks may grow: none is sent to them. */
-static bool may_grow(CvlCall *c) {
+/* None is sent to them. */
+bool cvl_may_grow(CvlCall *c) {
     const CvlSlot out = c->in[CVL_AS_OUT];
     const int32_t none = 0;
-    if (!has_sums(c)) return 1;
+    if (!cvl_has_sums(c)) return 1;
     c->status = cvl_combine_exact_sums(&none, 0, &none, 0, (int64_t *)out.at, out.number);
     return cvl_agree(c, out.number);
 }
@@ -234,7 +234,7 @@ static bool may_grow(CvlCall *c) {
  */
 static void exchange(CvlCall *c, Sending *s) {
     const size_t n = c->in[CVL_AS_INDEX].number, at_fault = c->combines ? c->in[CVL_AS_OUT].number : n;
-    if (!may_grow(c)) return;
+    if (!cvl_may_grow(c)) return;
     cvl_offsets(c->ranks, c->in[CVL_AS_OUT].number);
     cvl_take_bins(c, &s->bins);
     find_places(c, s);

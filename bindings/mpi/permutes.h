@@ -21,6 +21,29 @@ CVL_HIDDEN bool cvl_find_targets(CvlCall *c, CvlTargets *targets, uint64_t place
 /* Where the segment of the other descriptor with each piece's number starts in the whole, and how many places it has. All ranks agree. */
 CVL_HIDDEN void cvl_fetch_segments(CvlCall *c, CvlTargets *targets);
 
+/* ---- what is combined: permutes.c ---- */
+
+/* Whether a family has an operand that is this to it. */
+CVL_HIDDEN bool cvl_has(const CvlCall *c, CvlAs as);
+
+/* Whether elements are added to the room without wrapping: to sums of 64 bits, or to integers that have to fit 32 bits at the end. */
+static inline bool cvl_adds_up(const CvlCall *c) { return (c->family->row.is & CVL_ADDS) != 0; }
+static inline bool cvl_has_sums(const CvlCall *c) { return cvl_adds_up(c) && cvl_room_size(c) == sizeof(int64_t); }
+
+/* Whether the sums that stand in the rooms of all ranks may grow. All ranks agree. */
+CVL_HIDDEN bool cvl_may_grow(CvlCall *c);
+
+/* Combines elements with a room of this rank, of sums of 64 bits or of what the family's has; or counts the indices. */
+CVL_HIDDEN CvlStatus cvl_combine_plainly(const CvlCall *c, CvlSlot a, CvlSlot index, void *room, size_t room_len, bool is_of_sums);
+
+/* ---- indices that go on from one place to the next: in_runs.c ---- */
+
+/* Finds how many runs the places of the rank have. The ranks agree whether runs pay for all of them, whose indices are all right. */
+CVL_HIDDEN bool cvl_are_in_runs(CvlCall *c, bool right, const int32_t *places, size_t n, size_t *runs);
+
+/* Writes the elements of the source at these places into the room. */
+CVL_HIDDEN void cvl_back_in_runs(CvlCall *c, const int32_t *places, size_t n, size_t runs);
+
 /* ---- which ranks ask which for what: routes.c ---- */
 
 /* The first index that is no place of so many, or -1. */

@@ -224,7 +224,7 @@ CVL_HIDDEN CvlStatus cvl_seg_numbers_over_ranks(CvlCall *c);
 CVL_HIDDEN CvlStatus cvl_seg_replace_over_ranks(CvlCall *c);
 CVL_HIDDEN CvlStatus cvl_permute_over_ranks(CvlCall *c);
 CVL_HIDDEN CvlStatus cvl_combine_over_ranks(CvlCall *c);
-CVL_HIDDEN CvlStatus cvl_counts_over_ranks(CvlCall *c);
+CVL_HIDDEN CvlStatus cvl_combine_whole_over_ranks(CvlCall *c);
 CVL_HIDDEN CvlStatus cvl_back_over_ranks(CvlCall *c);
 CVL_HIDDEN CvlStatus cvl_seg_extract_over_ranks(CvlCall *c);
 CVL_HIDDEN CvlStatus cvl_sort_over_ranks(CvlCall *c);

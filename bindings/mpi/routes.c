@@ -209,7 +209,11 @@ CvlStatus cvl_back_over_ranks(CvlCall *c) {
     cvl_take_targets(c, &targets);
     if (cvl_agree(c, index.number) && cvl_find_targets(c, &targets, total, 0)) {
         const int64_t bad = places == NULL ? cvl_first_outside(index.at, index.number, total) : find_places(index.at, &targets, places);
-        if (cvl_make_route(c, &route, places == NULL ? index.at : places, index.number, source.number, bad)) {
+        const int32_t *const all = places == NULL ? index.at : places;
+        size_t runs;
+        if (cvl_are_in_runs(c, bad < 0, all, index.number, &runs)) {
+            cvl_back_in_runs(c, all, index.number, runs);
+        } else if (cvl_make_route(c, &route, all, index.number, source.number, bad)) {
             cvl_say(c, cvl_fetch(&route, source.at, size));
             cvl_write_once(&route, cvl_room(c), size);
         }

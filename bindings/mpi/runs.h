@@ -4,6 +4,13 @@
 
 #include "ranks.h"
 
+/* Pieces that stand one behind another in this rank, of a vector that others have: how many elements each has, and where it begins there. */
+typedef struct CvlPieces {
+    size_t count;
+    const int32_t *lengths;
+    const uint64_t *places;
+} CvlPieces;
+
 typedef struct CvlRun {
     size_t piece, left; /* the piece that it is of, and how many elements of it come behind */
     uint64_t place;     /* in the whole, of which ranks->offsets says where each rank's part begins */
@@ -11,12 +18,12 @@ typedef struct CvlRun {
     size_t count;
 } CvlRun;
 
-/* The next run of pieces that begin at these places; answers whether there is one. */
-static inline bool cvl_next_run(const CvlRanks *ranks, const CvlRankSegments *held, const uint64_t *places, CvlRun *run) {
+/* The next run of these pieces; answers whether there is one. */
+static inline bool cvl_next_run(const CvlRanks *ranks, const CvlPieces *pieces, CvlRun *run) {
     run->place += run->count;
     while (run->left == 0) {
-        if (run->piece == held->pieces) return 0;
-        run->place = places[run->piece], run->left = (size_t)held->lengths[run->piece++];
+        if (run->piece == pieces->count) return 0;
+        run->place = pieces->places[run->piece], run->left = (size_t)pieces->lengths[run->piece++];
     }
     run->owner = cvl_owner(ranks, run->place);
     const uint64_t there = ranks->offsets[run->owner + 1] - run->place;
@@ -24,5 +31,8 @@ static inline bool cvl_next_run(const CvlRanks *ranks, const CvlRankSegments *he
     run->left -= run->count;
     return 1;
 }
+
+/* Writes pieces of the source into the room; ranks->offsets say where each rank's part of the source begins. All ranks agree on a fault. */
+CVL_HIDDEN void cvl_fetch_pieces(CvlCall *c, const CvlPieces *pieces);
 
 #endif

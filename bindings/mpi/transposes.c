@@ -16,42 +16,104 @@ static void rows_here(const Matrix *m, uint64_t column, uint64_t *first, uint64_
     *last = m->to <= column ? 0 : (m->to - column + m->columns - 1) / m->columns;
 }
 
-/* ---- what is sent: by columns, the rank of each element's place in the result ---- */
+/* ---- what is sent: by columns, the rank of each element's place in the result. ranks->offsets are the result's. ---- */
 
-static void put(void *to, size_t k, const void *from, uint64_t place, size_t size) {
+static void count_sent(CvlRanks *ranks, const Matrix *m) {
+    int owner = 0;
+    memset(ranks->sends, 0, (size_t)ranks->size * sizeof *ranks->sends);
+    for (uint64_t column = 0; column < m->columns && m->from < m->to; column++) {
+        uint64_t row, last;
+        rows_here(m, column, &row, &last);
+        while (row < last) {
+            const uint64_t place = column * m->rows + row, end = ranks->offsets[owner + 1];
+            const uint64_t count = place >= end ? 0 : last - row < end - place ? last - row : end - place;
+            ranks->sends[owner] += (int)count, row += count;
+            if (row < last) owner++;
+        }
+    }
+}
+
+/* Some neighbouring columns: the rows that each has here, and where its elements go. A cache line of a row has one of each. */
+enum { NEIGHBOURS = 16 };
+typedef struct Columns {
+    uint64_t first[NEIGHBOURS], last[NEIGHBOURS], to[NEIGHBOURS];
+    uint64_t least, most; /* all of them have the rows from the one up to the other, if there are any */
+} Columns;
+
+static void put(void *to, uint64_t k, const void *from, uint64_t place, size_t size) {
     if (size == sizeof(bool)) ((bool *)to)[k] = ((const bool *)from)[place];
     else ((int32_t *)to)[k] = ((const int32_t *)from)[place];
 }
 
-/* Puts the elements into the order of the result, and counts what each rank gets. ranks->offsets are the result's. */
-static void fill(CvlRanks *ranks, const Matrix *m, const void *source, void *sent, size_t size) {
-    size_t k = 0;
-    int owner = 0;
-    memset(ranks->sends, 0, (size_t)ranks->size * sizeof *ranks->sends);
-    for (uint64_t column = 0; column < m->columns && m->from < m->to; column++) {
-        uint64_t first, last;
-        rows_here(m, column, &first, &last);
-        for (uint64_t row = first; row < last; row++) {
-            while (column * m->rows + row >= ranks->offsets[owner + 1]) owner++;
-            ranks->sends[owner]++;
-            put(sent, k++, source, row * m->columns + column - m->from, size);
-        }
+/* Finds the rows of so many columns from one on, of which the first goes to a place; answers the place behind them. */
+static uint64_t find_rows(const Matrix *m, uint64_t column, uint64_t columns, uint64_t to, Columns *found) {
+    found->least = 0, found->most = UINT64_MAX;
+    for (uint64_t k = 0; k < columns; k++) {
+        rows_here(m, column + k, &found->first[k], &found->last[k]);
+        found->to[k] = to, to += found->last[k] - found->first[k];
+        if (found->first[k] > found->least) found->least = found->first[k];
+        if (found->last[k] < found->most) found->most = found->last[k];
+    }
+    return to;
+}
+
+static void put_rows(const Matrix *m, uint64_t column, uint64_t from, uint64_t to, uint64_t at, const void *source, void *sent, size_t size) {
+    for (uint64_t row = from; row < to; row++) put(sent, at++, source, row * m->columns + column - m->from, size);
+}
+
+/* Puts the elements of neighbouring columns into the order of the result: row by row where all have one, so that each line is read once. */
+static void put_columns(const Matrix *m, uint64_t column, uint64_t columns, const Columns *c, const void *source, void *sent, size_t size) {
+    for (uint64_t row = c->least; row < c->most; row++) {
+        const uint64_t place = row * m->columns + column - m->from;
+        for (uint64_t k = 0; k < columns; k++) put(sent, c->to[k] + row - c->first[k], source, place + k, size);
+    }
+    for (uint64_t k = 0; k < columns; k++) {
+        const uint64_t first = c->first[k], last = c->last[k], split = c->least < last ? c->least : last, next = split > c->most ? split : c->most;
+        put_rows(m, column + k, first, split, c->to[k], source, sent, size);
+        put_rows(m, column + k, next, last, c->to[k] + next - first, source, sent, size);
+    }
+}
+
+static void fill(const Matrix *m, const void *source, void *sent, size_t size) {
+    uint64_t to = 0;
+    for (uint64_t column = 0; column < m->columns && m->from < m->to; column += NEIGHBOURS) {
+        const uint64_t columns = m->columns - column < NEIGHBOURS ? m->columns - column : NEIGHBOURS;
+        Columns found;
+        to = find_rows(m, column, columns, to, &found);
+        put_columns(m, column, columns, &found, source, sent, size);
     }
 }
 
 /* ---- what is received: by places of the result, the rank of each element's place in the source. ranks->offsets are the source's. ---- */
 
-static uint64_t place_in_source(const Matrix *m, uint64_t place) { return place % m->rows * m->columns + place / m->rows; }
+/* From a place of the result on, the elements of one column that come from one rank. */
+typedef struct Run {
+    int owner;
+    uint64_t count;
+} Run;
+
+static Run run_at(const CvlRanks *ranks, const Matrix *m, uint64_t place) {
+    const uint64_t column = place / m->rows, row = place % m->rows, left = m->rows - row < m->to - place ? m->rows - row : m->to - place;
+    const int owner = cvl_owner(ranks, row * m->columns + column);
+    const uint64_t rows = (ranks->offsets[owner + 1] - column + m->columns - 1) / m->columns - row;
+    const Run run = {owner, rows < left ? rows : left};
+    return run;
+}
 
 static void count_received(CvlRanks *ranks, const Matrix *m) {
     memset(ranks->receives, 0, (size_t)ranks->size * sizeof *ranks->receives);
-    for (uint64_t place = m->from; place < m->to; place++) ranks->receives[cvl_owner(ranks, place_in_source(m, place))]++;
+    for (uint64_t place = m->from; place < m->to;) {
+        const Run run = run_at(ranks, m, place);
+        ranks->receives[run.owner] += (int)run.count, place += run.count;
+    }
 }
 
-static void write(CvlRanks *ranks, const Matrix *m, const void *got, void *out, size_t size) {
-    for (uint64_t place = m->from; place < m->to; place++) {
-        const int owner = cvl_owner(ranks, place_in_source(m, place));
-        put(out, (size_t)(place - m->from), got, (uint64_t)ranks->receive_from[owner]++, size);
+static void write(CvlRanks *ranks, const Matrix *m, const char *got, char *out, size_t size) {
+    for (uint64_t place = m->from; place < m->to;) {
+        const Run run = run_at(ranks, m, place);
+        const size_t from = (size_t)ranks->receive_from[run.owner], bytes = (size_t)run.count * size;
+        memcpy(out + (size_t)(place - m->from) * size, got + from * size, bytes);
+        ranks->receive_from[run.owner] += (int)run.count, place += run.count;
     }
 }
 
@@ -76,7 +138,8 @@ static void move(CvlCall *c, Matrix *m, void *sent, void *got, size_t size) {
     cvl_offsets(ranks, out.number);
     const uint64_t out_from = ranks->offsets[ranks->rank], out_to = ranks->offsets[ranks->rank + 1];
     m->from = from, m->to = to;
-    fill(ranks, m, source.at, sent, size);
+    count_sent(ranks, m);
+    fill(m, source.at, sent, size);
     cvl_offsets(ranks, source.number);
     m->from = out_from, m->to = out_to;
     count_received(ranks, m);
