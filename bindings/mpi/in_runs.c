@@ -2,8 +2,13 @@
 #include "permutes.h"
 #include "runs.h"
 
-/* So many elements a run has at least, on average, if runs pay; and so many indices are looked at before another look whether they may. */
-enum { CVL_LEAST_RUN = 16, CVL_LOOKED_AT = 4096 };
+/* How many elements a run has at least, on average, if runs pay. A build for tests has another number. */
+#ifndef CVL_LEAST_RUN
+#define CVL_LEAST_RUN 16
+#endif
+
+/* So many indices are looked at before another look whether runs may pay. */
+enum { CVL_LOOKED_AT = 4096 };
 
 /* How many of the indices do not go on from the one before them. */
 static size_t count_starts(const int32_t *index, size_t n) {

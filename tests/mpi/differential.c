@@ -177,6 +177,15 @@ static void cut_segments(Case *c, size_t k) {
 
 /* ---- indices ---- */
 
+/* Indices at random, or now and then such that most go on from the one before them. */
+static void make_any_indices(int32_t *index, size_t count, size_t places) {
+    const int runs = one_in(3);
+    for (size_t k = 0; k < count; k++) {
+        const int goes_on = runs && k > 0 && !one_in(5) && (size_t)index[k - 1] + 1 < places;
+        index[k] = goes_on ? index[k - 1] + 1 : (int32_t)below(places);
+    }
+}
+
 /* Indices of one segment: into so many places, each once if there may be no two. */
 static void make_indices(int32_t *index, size_t count, size_t places, int once) {
     if (once && count <= places) {
@@ -188,7 +197,7 @@ static void make_indices(int32_t *index, size_t count, size_t places, int once) 
         }
         free(all);
     } else {
-        for (size_t k = 0; k < count; k++) index[k] = (int32_t)below(places);
+        make_any_indices(index, count, places);
     }
 }
 
