@@ -65,7 +65,8 @@ def programs(subject, heads):
             to_one += columns["4 threads"] > columns["1 thread"]
             to_others += columns["4 threads"] > min(times.values())
             lines.append([f"`{name}`{rest and ','}{rest}", digits(columns["1 thread"]), digits(columns["4 threads"]), "; ".join(others)])
-    lose = f"slower than one in {to_one} of these {len(lines)}, and slower than the best of the last column in {to_others}"
+    than_one = f"in {to_one} of these {len(lines)}" if to_one else "in none of these"
+    lose = f"slower than one thread {than_one}, and slower than the best of the last column in {to_others} of {len(lines)}"
     return f"{table(heads, lines)}\nFour threads are {lose}.\n"
 
 
