@@ -120,11 +120,11 @@ CUTS = {
         "cut at places; each part goes on from the reduces before it", OverRanks("scan", "each rank goes on from the reduces before it"), "steps",
     ),
     "checked_reduce": Cut(
-        "cut at places; the parts' exact sums are added", OverRanks("checked_reduce", "the ranks' exact sums are added"), "checked_reduce",
+        "cut at places; the parts' exact sums are added", OverRanks("checked_reduce", "the ranks' exact sums are added"), "steps",
     ),
     "checked_scan": Cut(
         "cut at places; each part goes on from the exact sums before it",
-        OverRanks("checked_scan", "each rank goes on from the exact sums before it"), "checked_scan",
+        OverRanks("checked_scan", "each rank goes on from the exact sums before it"), "steps",
     ),
     "count": Cut("cut at places; the parts' counts are added", OverRanks("count", "the ranks' counts are added", named=True), "steps"),
     "pack": Cut("cut at places; each part's elements go behind those of the parts before", KEPT_ELEMENTS, "pack"),
@@ -338,6 +338,11 @@ def flags(name, extent="n"):
 def copied(name, extent="n"):
     """Flags that are copied where a byte is neither 0 nor 1."""
     return Operand(name, "reads", "flags", extent, True)
+
+
+def sums(name, extent="n"):
+    """Sums of 64 bits."""
+    return Operand(name, "reads", "sums", extent, False)
 
 
 def numbers(name, extent="n"):
@@ -1749,9 +1754,23 @@ def step(kind, calls=None, operator=None, **operands):
     return Step(kind, calls, operator, operands)
 
 
+# The families that are made once between two steps, of what all parts told; no program calls them.
+BETWEEN = (
+    family(
+        "carries", "between steps", (sums("sums"), room("sums")), "For each part the sum in 64 bits of those before it.", limit=None, faults=(),
+        over_ranks=NO_PARTS,
+    ),
+    family(
+        "carried_total", "between steps", (sums("sums"), single("int")), "What the sums of the parts add up to, if it fits 32 bits.", limit=None,
+        faults=(OVERFLOW_AT_0,), over_ranks=NO_PARTS,
+    ),
+)
+
+
 def steps_of(cut, kind):
     """The steps of a way in parts, on elements of a kind, "int" or "bool"; nothing if the way has none yet."""
     nothing, one, place = ("NOTHING", "NONE"), ("ONE", "NONE"), ("AT_PLACE", "NONE")
+    each_total, all_totals, all_carries, carry = ("TOTALS", "PART"), ("TOTALS", "NONE"), ("CARRIES", "NONE"), ("CARRIES", "LONG")
     each_sum, all_sums, all_before = ("SUMS", "PART"), ("SUMS", "NONE"), ("BEFORE", "NONE")
     before = ("BEFORE", {"int": "INT", "bool": "FLAG"}[kind])
     return {
@@ -1763,4 +1782,9 @@ def steps_of(cut, kind):
             step("fills", f"{kind}_scan_after", before=before),
         ),
         "count": (step("tells", "count", out=each_sum), step("joins", "int_reduce", "ADD", a=all_sums)),
+        "checked_reduce": (step("tells", "exact_sum", out=each_total), step("joins", "carried_total", sums=all_totals)),
+        "checked_scan": (
+            step("tells", "exact_sum", out=each_total), step("joins", "carries", sums=all_totals, out=all_carries),
+            step("looks", "checked_scan_after", before=carry, out=nothing), step("fills", "int_scan_after", "ADD", before=carry),
+        ),
     }.get(cut, ())

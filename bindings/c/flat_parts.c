@@ -1,38 +1,5 @@
-/* Calls in parts on whole vectors whose parts are joined here: checked sums, packs and merges. */
+/* Calls in parts on whole vectors whose parts are joined here: packs and merges. */
 #include "parts.h"
-
-/* ---- sums that never wrap: all parts are checked by their exact sums, and then the scan that wraps is the same ---- */
-
-static CvlStatus scan_part(CvlWork *w, size_t k) { return cvl_scan_range(w, w->before[k], w->from[k], w->from[k + 1]); }
-
-static CvlStatus total_part(CvlWork *w, size_t k) {
-    const size_t from = w->from[k];
-    return cvl_proved_exact_sum(CVL_INTS(w, CVL_AS_A, from), w->from[k + 1] - from, &w->totals[k]);
-}
-
-bool cvl_checked_reduce_in_parts(const CvlPool *pool, CvlWork *w) {
-    int64_t sum = 0;
-    if (!cvl_step(pool, w, CVL_READS, total_part)) return 0;
-    for (size_t k = 0; k < w->parts; k++) sum += w->totals[k];
-    if (!cvl_fits(sum)) return 0;
-    *CVL_INT_ROOM(w, 0) = (int32_t)sum;
-    w->told = cvl_done();
-    return 1;
-}
-
-static CvlStatus checked_look(CvlWork *w, size_t k) {
-    const size_t from = w->from[k];
-    return cvl_looked(cvl_proved_checked_scan_after(w->reached[k], CVL_INTS(w, CVL_AS_A, from), w->from[k + 1] - from, NULL, 0));
-}
-
-bool cvl_checked_scan_in_parts(const CvlPool *pool, CvlWork *w) {
-    w->op = CVL_ADD, w->told = cvl_done();
-    if (!cvl_step(pool, w, CVL_READS, total_part)) return 0;
-    for (size_t k = 0; k + 1 < w->parts; k++) w->reached[k + 1] = w->reached[k] + w->totals[k];
-    if (!cvl_step(pool, w, CVL_READS, checked_look)) return 0;
-    for (size_t k = 0; k < w->parts; k++) w->before[k].number = cvl_fits(w->reached[k]) ? (int32_t)w->reached[k] : 0;
-    return cvl_step(pool, w, CVL_WRITES, scan_part);
-}
 
 /* ---- packs and merges: the parts' counts say where each part's elements go ---- */
 

@@ -15,10 +15,11 @@ typedef union CvlItem {
     bool flag;
 } CvlItem;
 
-/* What a step tells of each part, or what stands before each one: integers, or booleans. */
+/* What a step tells of each part, or what stands before each one: integers, booleans, or sums that never wrap. */
 typedef struct CvlRecord {
     int32_t ints[CVL_MOST_PARTS];
     bool flags[CVL_MOST_PARTS];
+    int64_t longs[CVL_MOST_PARTS];
 } CvlRecord;
 
 typedef CvlStatus (*CvlStepPart)(CvlWork *work, size_t part);
@@ -34,9 +35,7 @@ struct CvlWork {
     CvlItem sums[CVL_MOST_PARTS];     /* what each part, or its last, cut segment, joins to */
     CvlItem heads[CVL_MOST_PARTS];    /* what those elements of each part join to that belong to a segment of an earlier part */
     CvlItem before[CVL_MOST_PARTS];   /* the carry into each part */
-    int64_t totals[CVL_MOST_PARTS];   /* the same as sums that never wrap */
-    int64_t head_totals[CVL_MOST_PARTS];
-    int64_t reached[CVL_MOST_PARTS];
+    int64_t head_totals[CVL_MOST_PARTS]; /* the same as sums that never wrap */
     size_t counts[CVL_MOST_PARTS]; /* how many elements each part gives */
     CvlRecord of_parts;            /* what a step tells of each part */
     CvlRecord before_parts;        /* and what stands before each one */
@@ -175,8 +174,6 @@ CVL_HIDDEN CvlPiece cvl_piece(const CvlWork *w, size_t k);
 /*@ requires w->parts <= CVL_MOST_PARTS;
     assigns *w, rooms, made; */
 CVL_HIDDEN bool cvl_steps_in_parts(const CvlPool *pool, CvlWork *w);
-CVL_HIDDEN bool cvl_checked_reduce_in_parts(const CvlPool *pool, CvlWork *w);
-CVL_HIDDEN bool cvl_checked_scan_in_parts(const CvlPool *pool, CvlWork *w);
 CVL_HIDDEN bool cvl_pack_in_parts(const CvlPool *pool, CvlWork *w);
 CVL_HIDDEN bool cvl_lengths_in_parts(const CvlPool *pool, CvlWork *w);
 /*@ assigns *w, rooms, kept, made;

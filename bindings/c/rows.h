@@ -19,7 +19,8 @@ typedef enum CvlAs {
     CVL_AS_LENGTHS, CVL_AS_OTHER_LENGTHS, CVL_AS_THIRD_LENGTHS, CVL_AS_OFFSETS, /* lengths that the call is cut by, others, and offsets of rows */
     CVL_AS_VALUE, CVL_AS_STRIDE, CVL_AS_PLACE, CVL_AS_COUNT, CVL_AS_LOWEST, CVL_AS_ROWS, CVL_AS_COLUMNS, /* numbers */
     CVL_AS_OUT, CVL_AS_MARKS, CVL_AS_TOLD, CVL_AS_OTHER_OUT, CVL_AS_OTHER_TOLD, /* what is written */
-    CVL_AS_SUMS, CVL_AS_BEFORE,                  /* the records of a call in parts: a number for each part */
+    CVL_AS_SUMS, CVL_AS_BEFORE,                  /* the records of a call in parts: a number for each part, */
+    CVL_AS_TOTALS, CVL_AS_CARRIES,               /* of 32 bits or of 64 */
     CVL_AS_ONE, CVL_AS_AT_PLACE, CVL_AS_NOTHING, /* the number 1, the element of the room at the place, and no array */
     CVL_ROLES
 } CvlAs;
@@ -38,7 +39,7 @@ typedef enum CvlRelation {
  */
 typedef enum CvlBy {
     CVL_BY_NONE, CVL_BY_FROM, CVL_BY_FIRST, CVL_BY_START, CVL_BY_OTHER, CVL_BY_THIRD,
-    CVL_BY_PART, CVL_BY_INT, CVL_BY_FLAG
+    CVL_BY_PART, CVL_BY_INT, CVL_BY_FLAG, CVL_BY_LONG
 } CvlBy;
 
 /* How a call uses an operand. */

@@ -115,14 +115,14 @@ bool cvl_seg_count_in_parts(const CvlPool *pool, CvlWork *w) {
 static CvlStatus total_part(CvlWork *w, size_t k) {
     const CvlPiece p = cvl_piece(w, k);
     const size_t from = p.starts ? p.tail : p.from;
-    return cvl_proved_exact_sum(CVL_INTS(w, CVL_AS_A, from), p.to - from, &w->totals[k]);
+    return cvl_proved_exact_sum(CVL_INTS(w, CVL_AS_A, from), p.to - from, &w->of_parts.longs[k]);
 }
 
 static CvlStatus checked_look(CvlWork *w, size_t k) {
     const CvlPiece p = cvl_piece(w, k);
     const int32_t *a = w->in[CVL_AS_A].at, *lengths = w->lengths + p.first;
     return cvl_first_of(
-        cvl_looked(cvl_proved_checked_scan_after(w->reached[k], a + p.from, p.head - p.from, NULL, 0)),
+        cvl_looked(cvl_proved_checked_scan_after(w->before_parts.longs[k], a + p.from, p.head - p.from, NULL, 0)),
         cvl_looked(cvl_proved_seg_checked_scan(a + p.head, p.tail - p.head, lengths, p.count, NULL, 0)),
         cvl_looked(cvl_proved_checked_scan(a + p.tail, p.to - p.tail, NULL, 0)));
 }
@@ -130,7 +130,7 @@ static CvlStatus checked_look(CvlWork *w, size_t k) {
 bool cvl_seg_checked_scan_in_parts(const CvlPool *pool, CvlWork *w) {
     w->op = CVL_ADD;
     if (!cvl_step(pool, w, CVL_READS, total_part)) return 0;
-    for (size_t k = 0; k + 1 < w->parts; k++) w->reached[k + 1] = w->totals[k] + (cvl_piece(w, k).starts ? 0 : w->reached[k]);
+    for (size_t k = 0; k + 1 < w->parts; k++) w->before_parts.longs[k + 1] = w->of_parts.longs[k] + (cvl_piece(w, k).starts ? 0 : w->before_parts.longs[k]);
     return cvl_step(pool, w, CVL_READS, checked_look) && cvl_seg_scan_in_parts(pool, w);
 }
 
@@ -140,7 +140,7 @@ static CvlStatus checked_sums_look(CvlWork *w, size_t k) {
     const int32_t *a = w->in[CVL_AS_A].at, *lengths = w->lengths + p.first;
     return cvl_first_of(
         cvl_proved_exact_sum(a + p.from, p.head - p.from, &w->head_totals[k]),
-        cvl_proved_exact_sum(a + p.tail, p.to - p.tail, &w->totals[k]),
+        cvl_proved_exact_sum(a + p.tail, p.to - p.tail, &w->of_parts.longs[k]),
         cvl_looked(cvl_proved_seg_checked_reduce(a + p.head, p.tail - p.head, lengths, p.count, NULL, 0)));
 }
 
@@ -152,7 +152,7 @@ bool cvl_seg_checked_reduce_in_parts(const CvlPool *pool, CvlWork *w) {
         const CvlPiece p = cvl_piece(w, k);
         if (p.head > p.from) so_far += w->head_totals[k];
         if (p.head > p.from && w->start[k] <= p.to && !cvl_fits(so_far)) return 0;
-        if (p.cut) so_far = w->totals[k];
+        if (p.cut) so_far = w->of_parts.longs[k];
     }
     return cvl_seg_reduce_in_parts(pool, w);
 }

@@ -37,16 +37,23 @@ const size_t *cvl_boundaries(const CvlWork *w, CvlBy by) {
     ensures \result == begins(w, by, k); */
 static size_t begin_of(const CvlWork *w, CvlBy by, size_t k) { return by == CVL_BY_PART ? k : cvl_boundaries(w, by)[k]; }
 
-/* The number that stands before a part, in a record of integers or of booleans. */
+/* The number that stands before a part, in a record of integers, of booleans or of sums that never wrap. */
+/*@ logic integer before_part{L}(CvlWork *w, integer by, integer k) =
+      by == CVL_BY_FLAG ? (size_t)w->before_parts.flags[k] :
+      by == CVL_BY_LONG ? (size_t)w->before_parts.longs[k] : (size_t)w->before_parts.ints[k]; */
 /*@ requires \valid_read(w) && k < CVL_MOST_PARTS;
     assigns \nothing;
-    ensures \result == (by == CVL_BY_FLAG ? (size_t)w->before_parts.flags[k] : (size_t)w->before_parts.ints[k]); */
+    ensures \result == before_part(w, by, k); */
 static size_t number_before(const CvlWork *w, CvlBy by, size_t k) {
-    return by == CVL_BY_FLAG ? (size_t)w->before_parts.flags[k] : (size_t)w->before_parts.ints[k];
+    switch (by) {
+    case CVL_BY_FLAG: return (size_t)w->before_parts.flags[k];
+    case CVL_BY_LONG: return (size_t)w->before_parts.longs[k];
+    default: return (size_t)w->before_parts.ints[k];
+    }
 }
 
 /* What a part has of an operand. */
-/*@ predicate is_before(integer by) = by == CVL_BY_INT || by == CVL_BY_FLAG; */
+/*@ predicate is_before(integer by) = by == CVL_BY_INT || by == CVL_BY_FLAG || by == CVL_BY_LONG; */
 /*@ requires \valid_read(w) && \valid_read(o) && o->as < CVL_ROLES && k < CVL_MOST_PARTS;
     requires !is_before(o->by) ==> begins(w, o->by, k) <= begins(w, o->by, k + 1) <= CVL_MOST_ELEMENTS;
     requires w->from[k] <= w->from[k + 1] <= CVL_MOST_ELEMENTS;
@@ -57,12 +64,11 @@ static size_t number_before(const CvlWork *w, CvlBy by, size_t k) {
       \result.at == (char *)w->in[o->as].at + begins(w, o->by, k) * o->size;
     ensures o->by != CVL_BY_NONE && !is_before(o->by) && o->size == 0 && o->as == CVL_AS_COUNT ==>
       \result.number == w->from[k + 1] - w->from[k];
-    ensures o->by == CVL_BY_INT ==> \result.number == (size_t)w->before_parts.ints[k];
-    ensures o->by == CVL_BY_FLAG ==> \result.number == (size_t)w->before_parts.flags[k]; */
+    ensures is_before(o->by) ==> \result.number == before_part(w, o->by, k); */
 static CvlSlot slot_of_part(const CvlWork *w, const CvlOperand *o, size_t k) {
     CvlSlot slot = w->in[o->as];
     if (o->by == CVL_BY_NONE) return slot;
-    if (o->by == CVL_BY_INT || o->by == CVL_BY_FLAG) {
+    if (o->by == CVL_BY_INT || o->by == CVL_BY_FLAG || o->by == CVL_BY_LONG) {
         slot.number = number_before(w, o->by, k);
         return slot;
     }
@@ -97,9 +103,11 @@ static CvlStatus step_part(CvlWork *w, size_t k) {
     ensures w->parts == \old(w->parts); */
 static void hold_records(CvlWork *w) {
     const CvlSlot out = w->in[CVL_AS_OUT], nothing = {NULL, 0}, one = {NULL, 1};
+    const CvlSlot totals = {w->of_parts.longs, w->parts}, carries = {w->before_parts.longs, w->parts};
     CvlSlot sums = {w->of_parts.ints, w->parts}, before = {w->before_parts.ints, w->parts};
     if (cvl_of_bools(w)) sums.at = w->of_parts.flags, before.at = w->before_parts.flags;
-    w->in[CVL_AS_SUMS] = sums, w->in[CVL_AS_BEFORE] = before, w->in[CVL_AS_ONE] = one, w->in[CVL_AS_NOTHING] = nothing;
+    w->in[CVL_AS_SUMS] = sums, w->in[CVL_AS_BEFORE] = before, w->in[CVL_AS_TOTALS] = totals, w->in[CVL_AS_CARRIES] = carries;
+    w->in[CVL_AS_ONE] = one, w->in[CVL_AS_NOTHING] = nothing;
     if (!(w->row->is & CVL_AT_PLACE)) return;
     w->in[CVL_AS_AT_PLACE].at = (const char *)out.at + w->in[CVL_AS_PLACE].number * cvl_size(w);
     w->in[CVL_AS_AT_PLACE].number = 1;

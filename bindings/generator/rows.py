@@ -146,6 +146,7 @@ def in_place_words(family):
 
 
 FAMILIES = {family.name: Row(family) for family in table.FAMILIES}
+BETWEEN = {family.name: Row(family) for family in table.BETWEEN}
 CALLS = [Row(FAMILIES[call.family].family, call) for call in table.CALLS]
 
 
@@ -185,7 +186,7 @@ def call_differences(calls):
             yield f"{name} has the operator {row.operator}, which is none of {row.family.name}"
 
 
-READ_AS = {"ints": ("&[i32]",), "flags": ("&[u8]", "&[bool]"), "bytes": ("&[u8]",), "text": ("&[u8]",)}
+READ_AS = {"ints": ("&[i32]",), "flags": ("&[u8]", "&[bool]"), "bytes": ("&[u8]",), "text": ("&[u8]",), "sums": ("&[i64]",)}
 WRITTEN_AS = {
     "ints": ("&mut [i32]",), "flags": ("&mut [u8]", "&mut [bool]"), "bytes": ("&mut [u8]",), "text": ("&mut [u8]",), "marks": ("&mut [u32]",),
     "sums": ("&mut [i64]",),
@@ -230,7 +231,7 @@ def _export_differences(name, wanted, family, found):
 def export_differences(exports):
     """In what the rows differ from the exports."""
     named = {"are_flags", "make_flags", *table.STEPS}
-    for row in FAMILIES.values():
+    for row in [*FAMILIES.values(), *BETWEEN.values()]:
         family = row.family
         named.add(family.exported)
         yield from _export_differences(family.exported, [(o.name, _types(o)) for o in family.operands], family, exports.get(family.exported, []))

@@ -18,7 +18,7 @@ use Rattle.c_calls.specs.Told.{RoomTold, Told, done}
 use Rattle.c_calls.specs.declared.status.CvlStatus.{CvlStatus}
 
 -- the number of a fault is not 0
-numbered : (n : FaultNo) → number_of n ≡ 0 → ⊥
+pub numbered : (n : FaultNo) → number_of n ≡ 0 → ⊥
 numbered no.BadLine is = omega (arith, is)
 numbered n is = omega (arith, is)
 

@@ -1,6 +1,10 @@
 pub mod AnyOrder
 pub mod Answered
+pub mod Carried
+pub mod CheckedScans
 pub mod Counted
+pub mod Fitting
 pub mod Operators
 pub mod Parted
 pub mod Scanned
+pub mod Valued

@@ -37,6 +37,14 @@ each-also R Q step [] (y ∷ ys) zipped = absurd zipped
 each-also R Q step (x ∷ xs) [] zipped = absurd zipped
 each-also R Q step (x ∷ xs) (y ∷ ys) zipped = (step x y zipped.0, each-also R Q step xs ys zipped.1)
 
+-- also if it follows under a condition that holds of all
+pub each-where : {A B : Type 0} (R Q : A → B → Type 0) (P : A → Type 0) → ((x : A) (y : B) → R x y → P x → Q x y) → (xs : List A) (ys : List B) → AllZip R xs ys → All P xs
+    → AllZip Q xs ys
+each-where R Q P step [] [] zipped holds = tt
+each-where R Q P step [] (y ∷ ys) zipped holds = absurd zipped
+each-where R Q P step (x ∷ xs) [] zipped holds = absurd zipped
+each-where R Q P step (x ∷ xs) (y ∷ ys) zipped holds = (step x y zipped.0 (All-head P x xs holds), each-where R Q P step xs ys zipped.1 (All-tail P x xs holds))
+
 module _ {A X : Type 0} (f : A → List X) where
   -- the lists of the parts are no longer than the whole, and have its elements
   pub some-fewer : (most : ℕ) (xs : List A) → length (joined (map f xs)) ≤ most → All (λ x. length (f x) ≤ most) xs

@@ -1,4 +1,6 @@
+pub mod CheckedSteps
 pub mod CountSteps
 pub mod FlatSteps
+pub mod Looks
 pub mod Parts
 pub mod Steps

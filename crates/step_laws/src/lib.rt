@@ -3,5 +3,6 @@
 //! then the room and what is told are the call's. A step is what its export is proved to do.
 #![tactic(auto)]
 
+pub mod checked_sums;
 pub mod counts;
 pub mod scans;

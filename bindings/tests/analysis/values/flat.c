@@ -73,7 +73,7 @@ void reduces(void) {
     each_length(scan_in_place, 7, 3);
     each_pattern(scan_bools, 8, 4);
     each_length(checked_reduce, 4, 2);
-    each_length(checked_scan, 7, 4);
+    each_length(checked_scan, 8, 4);
 }
 
 void packs(void) {
