@@ -6,5 +6,6 @@ pub mod Counted
 pub mod Fitting
 pub mod Operators
 pub mod Parted
+pub mod PlaceByPlace
 pub mod Scanned
 pub mod Valued

@@ -3,4 +3,5 @@ pub mod CountSteps
 pub mod FlatSteps
 pub mod Looks
 pub mod Parts
+pub mod PlaceSteps
 pub mod Steps

@@ -5,4 +5,5 @@
 
 pub mod checked_sums;
 pub mod counts;
+pub mod places;
 pub mod scans;
