@@ -1,5 +1,5 @@
 -- Checked scans by steps, where 64 bits hold the sum of as many integers as a vector has.
-use Rattle.std.proofs.Common.{◌≡◌, ◌+ℤ◌, ◌≤◌, ◌^◌, ◌∙◌, ℕ, ℤ, pos, FitsSigned, List, [], length, map, Ok, refl, sym, ap, arith, All, subst, get_or}
+use Rattle.std.proofs.Common.{◌≡◌, ◌+ℤ◌, ◌≤◌, ◌^◌, ◌∙◌, ◌∷◌, ℕ, ℤ, pos, FitsSigned, List, [], length, map, Ok, refl, sym, ap, arith, All, subst, get_or}
 use mathlib.Core.List.{map-map}
 use Rattle.std.proofs.lemmas.Option.{same_Some}
 use Rattle.std.specs.Int.{w64}

@@ -8,7 +8,7 @@ use Rattle.cvl_base.specs.Faults.{fault_at}
 use Rattle.cvl_base.specs.Folds.{scan_of}
 use Rattle.cvl_base.specs.Integers.{sum_of, wrap}
 use Rattle.cvl_base.specs.Limits.{most_places}
-use Rattle.operators.proofs.FoldLaws.{length-scan_of, scan_of-cons}
+use Rattle.operators.proofs.FoldLaws.{scan_of-cons}
 use Rattle.scan_walks.proofs.Fitted.{none_overflows, overflows}
 use Rattle.scan_walks.specs.Fronts.{fitting_front}
 use Rattle.part_calls.specs.Limits.{few_enough}

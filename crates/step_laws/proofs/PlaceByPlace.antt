@@ -1,5 +1,5 @@
 -- Calls by steps whose result has at each place what is made of the operands there.
-use Rattle.std.proofs.Common.{◌≡◌, ◌≢◌, ◌+◌, ◌++◌, ◌≤◌, ◌∙◌, ◌⊎◌, ℕ, List, [], ◌∷◌, length, map, inl, inr, Option, Some, None, Result, Ok, Err, refl, sym, ap, subst, All, ⊎_elim}
+use Rattle.std.proofs.Common.{◌≡◌, ◌≢◌, ◌+◌, ◌++◌, ◌≤◌, ◌∙◌, ◌⊎◌, ℕ, suc, List, [], ◌∷◌, length, map, inl, inr, Option, Some, None, Result, Ok, Err, refl, sym, ap, subst, All, ⊎_elim}
 use mathlib.Core.List.{map-map}
 use Rattle.std.proofs.lemmas.List.{length-map, map-append}
 use Rattle.std.proofs.lemmas.Option.{same_Some}
@@ -38,7 +38,7 @@ module _ {X Y : Type 0} (number : FaultNo) (value : X → Option Y) where
   as-many place (x ∷ xs) ys is =
       let first = from_value (ok_or (value x) (fault_at number place)) (λ y. values_from number (place + 1) (map value xs) >>= λ zs. Ok (y ∷ zs)) ys is in
       let rest = from_value (values_from number (place + 1) (map value xs)) (λ zs. Ok (first.0 ∷ zs)) ys first.2 in
-      sym (ap length (same_Some (first.0 ∷ rest.0) ys (ap result_ok rest.2))) ∙ ap (λ n. 1 + n) (as-many (place + 1) xs rest.0 rest.1)
+      sym (ap length (same_Some (first.0 ∷ rest.0) ys (ap result_ok rest.2))) ∙ ap suc (as-many (place + 1) xs rest.0 rest.1)
 
   -- each has a value, or the fault has the number
   abbrev Answers : Result (List Y) Fault → Type 0

@@ -1,7 +1,7 @@
 -- The steps of calls in parts whose result has at each place what is made of the operands there. An element is what the operands have at
 -- one place: a number, a pair, or more.
 -- Source: CVL's elementwise calls; the parts are this library's.
-use Rattle.std.specs.Prelude.{◌≡◌, List, map, Option, Ok}
+use Rattle.std.specs.Prelude.{◌≡◌, map, Option, Ok}
 use Rattle.cvl_base.specs.declared.fault.FaultNo.{FaultNo}
 use Rattle.cvl_base.specs.Elementwise.{values_from}
 use Rattle.step_laws.specs.Looks.{Passes}

@@ -1,5 +1,4 @@
-use Rattle.std.proofs.Common.{◌≡◌, ◌∙◌, ◌∷◌, [], length, length-set, map-id, slice_set, get_or, refl, sym, ap, subst, Ok, pos}
-use Rattle.cvl_base.specs.Extracts.{replace_of}
+use Rattle.std.proofs.Common.{◌≡◌, ◌∙◌, ◌∷◌, [], length, length-set, map-id, slice_set, get_or, refl, sym, ap, subst, Ok}
 use Rattle.call_laws.proofs.ElementPlaces.{replace-inside}
 use Rattle.c_calls.specs.Told.{RoomTold, done}
 use Rattle.step_laws.specs.Parts.{elements_of, room_of}
