@@ -96,6 +96,8 @@ static void hold(const Row *row, size_t j) {
     }
     /* the values of a matrix, so that no row adds up to too much */
     for (size_t k = 0; j == 2 && k < count && strstr(row->name, "sparse_product") != NULL; k++) held[j][k] %= 2;
+    /* sorted keys, of which some have more than one place */
+    for (size_t k = 0; holds == INTS && k < count && strstr(row->name, "run_") != NULL; k++) held[j][k] = (int32_t)(k / 3 + k / 7);
     /* the first true flag is far behind */
     for (size_t k = 0; k < count && k < n / 2 && begins(row->name, "cvl_first_true"); k++) held[j][k] = 0;
     if (is_index(holds)) {
@@ -347,6 +349,28 @@ static size_t order(const char *call) {
     return n;
 }
 
+static bool begins_run(size_t start, size_t k) { return k == start || held[0][k] != held[0][k - 1]; }
+
+/* The runs of all groups: where each begins, or how many places it has. */
+static size_t tell_runs(const char *call) {
+    size_t runs = 0;
+    for (size_t g = 0; g < groups(by_segments(call)); g++) {
+        for (size_t k = from(by_segments(call), g); k < to(by_segments(call), g); k++) {
+            if (begins_run(from(by_segments(call), g), k)) wanted[runs++] = begins(call, "rst") ? (int32_t)k : 0;
+            if (begins(call, "rln")) wanted[runs - 1]++;
+        }
+    }
+    return runs;
+}
+
+static size_t count_runs(const char *call) {
+    for (size_t g = 0; g < groups(by_segments(call)); g++) {
+        wanted[g] = 0;
+        for (size_t k = from(by_segments(call), g); k < to(by_segments(call), g); k++) wanted[g] += begins_run(from(by_segments(call), g), k);
+    }
+    return groups(by_segments(call));
+}
+
 static size_t gather_slices(const char *call) {
     size_t made = 0;
     (void)call;
@@ -426,6 +450,7 @@ static const struct Reading {
     {"ind", "l", number}, {"fst", "l", send_first}, {"fsr", "l", send_first_flagged}, {"cmb", "l", combine},
     {"cmc", "l", combine}, {"cmx", "l", combine},
     {"nmd", "l", count_named}, {"ord", "l", order}, {"rnk", "l", order}, {"srt", "l", order}, {"gth", "l", gather_slices}, {"app", "l", append},
+    {"rln", "l", tell_runs}, {"rst", "l", tell_runs}, {"rct", "l", count_runs},
     {"mrg", "l", merge}, {"trn", "l", transpose}, {"ftr", "l", find_true}, {"mke", "f", total}, {"off", "f", tell_offsets},
     {"len", "f", tell_lengths}, {"num", "f", tell_numbers}, {"prd", "r", multiply}, {"", "w", place_by_place}, {"", "s", scan},
     {"", "r", reduce},
@@ -455,6 +480,8 @@ static const char *const calls_of_exports[][2] = {
     {"combine_permute_bool", "cmb_lub"}, {"counts", "nmd_luz"}, {"combine_permute_int_range", "cmb_luz"}, {"combine_permute_bool_range", "cmb_lub"},
     {"combine_checked_int", "cmc_luz"}, {"combine_exact_sums", "cmx_luz"}, {"combine_exact_sums_range", "cmx_luz"},
     {"counts_range", "nmd_luz"}, {"order", "ord_luz"}, {"rank", "rnk_luz"}, {"sort", "srt_luz"},
+    {"run_lengths_int", "rln_luz"}, {"run_lengths_bool", "rln_lub"}, {"run_starts_int", "rst_luz"}, {"run_starts_bool", "rst_lub"},
+    {"run_counts_int", "rct_luz"}, {"run_counts_bool", "rct_lub"},
     {"gather_segments_int", "gth_lez"}, {"gather_segments_bool", "gth_leb"}, {"append_segments_int", "app_lez"}, {"append_segments_bool", "app_leb"},
     {"merge_by_flags_int", "mrg_luz"}, {"merge_by_flags_bool", "mrg_lub"}, {"first_true", "ftr_luz"}, {"exact_sums", "tot_ruz"},
     {"transpose_int", "trn_luz"}, {"transpose_bool", "trn_lub"}, {"transpose_int_range", "trn_luz"}, {"transpose_bool_range", "trn_lub"}, {"ints_from_bytes", "cpy_wuz"}, {"bytes_from_ints", "cpy_wuz"},

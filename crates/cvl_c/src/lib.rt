@@ -23,6 +23,7 @@ mod packs;
 mod parts;
 mod place_by_place;
 mod products;
+mod runs;
 mod scans;
 mod seg_scans;
 mod segment_permutes;
