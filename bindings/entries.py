@@ -258,6 +258,8 @@ BESIDE = {
     "First senders": "For each place of a result the first element that is sent there, or -1; `select_` only of those whose flag is true.",
     "Combining permutes": "Combine each element with the value at its index: sums by key, or the least of each; `counts` counts keys.",
     "Orders, ranks and sorts": "The places in ascending order of their keys, equal keys in their order; how many keys come before each; the keys.",
+    "Runs of equal neighbours": "How long each run of equal neighbours is, or where it begins: unique keys, counts and sums by key of sorted keys; "
+    "`seg_run_counts_` has how many runs each segment has.",
     "Slices and merges": "Slices one behind another, by starts and lengths; segments behind segments; two vectors merged by flags; the first true flag, or -1; "
     "sums in 64 bits.",
     "Transposes, and integers of a byte": "A matrix stored by rows, transposed; bytes as integers from 0 to 255, and back, or fault 18.",

@@ -99,6 +99,7 @@ SPREAD_SIDES = OverRanks("merge", "when_true and when_false may be spread otherw
 ASKED_COLUMNS = OverRanks("product", "each rank asks once for each element of x that its columns name; a row may cross ranks")
 KEPT_ELEMENTS = OverRanks("pack", "what a rank keeps stays with it, and *count is how many they are on this rank")
 NO_TEXTS = OverRanks(None, "bindings/mpi/cvl_mpi.h.in has functions of its own for texts")
+RUNS_CROSS = OverRanks(None, "a run may go on over any number of ranks, and none of them could tell its length alone")
 NO_PARTS = OverRanks(None, "a part of a call: a rank makes it alone")
 
 # How the calls of a family are cut.
@@ -281,6 +282,12 @@ OF_FAMILIES = {
         "the keys before a call, and on the result of a sort. A sort may be in place.",
         "An order and a rank take up to 16 bytes a key while they run, a sort up to 4 (by segments, for the keys of the longest one), and all up to 8192 bytes "
         "more for each thread, else 100 NoResources.",
+    ),
+    "runs of equal neighbours": (
+        "No script calls these. A run is as long as its neighbours are equal, so that in sorted keys each key has one run. Unique keys are a back permute of the "
+        "keys by the starts of their runs, and the lengths of the runs count each key. Reduce by key is a reduce of segments by these lengths.",
+        "With lengths, a run ends where its segment does, and cvl_seg_run_counts_int says how many runs each segment has. These calls ask for no memory, and run on "
+        "the calling thread.",
     ),
     "slices and merges": (
         "No script calls these. They ask for memory only for booleans that are neither 0 nor 1, and on several threads for a copy of the buffer. A search for "
@@ -906,6 +913,51 @@ FAMILIES = (
         in_place=(("keys",),), faults=(TOO_LONG, SUM_OF_N), asks=True, cut=("segments", "n"),
         over_ranks=OverRanks("sort", "keys of segments that cross ranks go to the ranks of the sorted segments"), shape="keys and out have n elements.",
         example={"keys": "3 1 9 2 7", "lengths": "2 0 3", "out": "1 3 2 7 9"},
+    ),
+    # ---- runs of equal neighbours ----
+    *twins(
+        ("run_lengths_int", "run_lengths_bool"), "runs of equal neighbours", lambda kind: (any_items(kind, "a"), room("ints", "room"), told()),
+        "The length of each run of equal neighbours, in order, and how many they are.",
+        faults=(TOO_LONG, NO_ROOM), over_ranks=RUNS_CROSS, shape="a has n elements.", told=PACKED,
+        example=lambda kind: {
+            "ints": {"a": "3 3 5 5 5 2", "out": "2 3 1", "count": "3"}, "flags": {"a": "true true false true", "out": "2 1 1", "count": "3"},
+        }[kind],
+    ),
+    *twins(
+        ("run_starts_int", "run_starts_bool"), "runs of equal neighbours", lambda kind: (any_items(kind, "a"), room("ints", "room"), told()),
+        "The place where each run of equal neighbours begins, in order, and how many they are.",
+        faults=(TOO_LONG, NO_ROOM), over_ranks=RUNS_CROSS, shape="a has n elements.", told=PACKED,
+        example=lambda kind: {
+            "ints": {"a": "3 3 5 5 5 2", "out": "0 2 5", "count": "3"}, "flags": {"a": "true true false true", "out": "0 2 3", "count": "3"},
+        }[kind],
+    ),
+    *twins(
+        ("seg_run_lengths_int", "seg_run_lengths_bool"), "runs of equal neighbours", lambda kind: (any_items(kind, "a"), lengths(), room("ints", "room"), told()),
+        "The length of each run of equal neighbours of each segment, in order, one segment after another, and how many they are.",
+        limit=None, faults=(SUM_OR_NO_ROOM,), over_ranks=RUNS_CROSS, shape="a has n elements.", told=PACKED,
+        example=lambda kind: {
+            "ints": {"a": "3 3 3 5 5", "lengths": "2 0 3", "out": "2 1 2", "count": "3"},
+            "flags": {"a": "true true true", "lengths": "1 2", "out": "1 2", "count": "2"},
+        }[kind],
+    ),
+    *twins(
+        ("seg_run_starts_int", "seg_run_starts_bool"), "runs of equal neighbours", lambda kind: (any_items(kind, "a"), lengths(), room("ints", "room"), told()),
+        "The place where each run of equal neighbours of each segment begins, in order, one segment after another, and how many they are. Places count from the "
+        "start of a.",
+        limit=None, faults=(SUM_OR_NO_ROOM,), over_ranks=RUNS_CROSS, shape="a has n elements.", told=PACKED,
+        example=lambda kind: {
+            "ints": {"a": "3 3 3 5 5", "lengths": "2 0 3", "out": "0 2 3", "count": "3"},
+            "flags": {"a": "true true true", "lengths": "1 2", "out": "0 1", "count": "2"},
+        }[kind],
+    ),
+    *twins(
+        ("seg_run_counts_int", "seg_run_counts_bool"), "runs of equal neighbours",
+        lambda kind: (any_items(kind, "a"), lengths(), room("ints", "segments", use="lengths")),
+        "The number of runs of equal neighbours of each segment: the lengths of the segments of what the other calls give.",
+        limit=None, faults=(SUM_OF_N,), over_ranks=RUNS_CROSS, shape="a has n elements, out one for each segment.",
+        example=lambda kind: {
+            "ints": {"a": "3 3 3 5 5", "lengths": "2 0 3", "out": "1 0 2"}, "flags": {"a": "true true true", "lengths": "1 2", "out": "1 1"},
+        }[kind],
     ),
     # ---- slices and merges ----
     *twins(

@@ -838,6 +838,24 @@ CVL_CHECKED CvlStatus cvl_segments_rank(const int32_t *keys, size_t keys_len, co
 CVL_CHECKED CvlStatus cvl_segments_sort(const int32_t *keys, size_t keys_len, const CvlSegments *segments, int32_t *out,
     size_t out_len);
 
+CVL_CHECKED CvlStatus cvl_segments_run_lengths_int(const int32_t *a, size_t a_len, const CvlSegments *segments, int32_t *out,
+    size_t out_len, size_t *count);
+
+CVL_CHECKED CvlStatus cvl_segments_run_lengths_bool(const bool *a, size_t a_len, const CvlSegments *segments, int32_t *out,
+    size_t out_len, size_t *count);
+
+CVL_CHECKED CvlStatus cvl_segments_run_starts_int(const int32_t *a, size_t a_len, const CvlSegments *segments, int32_t *out,
+    size_t out_len, size_t *count);
+
+CVL_CHECKED CvlStatus cvl_segments_run_starts_bool(const bool *a, size_t a_len, const CvlSegments *segments, int32_t *out,
+    size_t out_len, size_t *count);
+
+CVL_CHECKED CvlStatus cvl_segments_run_counts_int(const int32_t *a, size_t a_len, const CvlSegments *segments, int32_t *out,
+    size_t out_len);
+
+CVL_CHECKED CvlStatus cvl_segments_run_counts_bool(const bool *a, size_t a_len, const CvlSegments *segments, int32_t *out,
+    size_t out_len);
+
 CVL_CHECKED CvlStatus cvl_segments_merge_by_flags_int(const bool *flags, size_t flags_len, const int32_t *when_true,
     size_t when_true_len, const int32_t *when_false, size_t when_false_len, const CvlSegments *segments,
     const CvlSegments *true_segments, const CvlSegments *false_segments, int32_t *out, size_t out_len);
@@ -1225,6 +1243,54 @@ CVL_CHECKED CvlStatus cvl_seg_rank(const int32_t *keys, size_t keys_len, CvlLeng
 
 /* The keys of each segment in ascending order. */
 CVL_CHECKED CvlStatus cvl_seg_sort(const int32_t *keys, size_t keys_len, CvlLengths lengths, int32_t *out, size_t out_len);
+
+/* ---- runs of equal neighbours: families ---- */
+
+/*
+ * No script calls these. A run is as long as its neighbours are equal, so that in sorted keys each key has one run. Unique keys
+ * are a back permute of the keys by the starts of their runs, and the lengths of the runs count each key. Reduce by key is a
+ * reduce of segments by these lengths.
+ *
+ * With lengths, a run ends where its segment does, and cvl_seg_run_counts_int says how many runs each segment has. These calls
+ * ask for no memory, and run on the calling thread.
+ */
+
+/*
+ * The length of each run of equal neighbours, in order, and how many they are. out needs room for so many; n is always enough.
+ * *count is how many they are, also if out is too short.
+ */
+CVL_CHECKED CvlStatus cvl_run_lengths_int(const int32_t *a, size_t a_len, int32_t *out, size_t out_len, size_t *count);
+CVL_CHECKED CvlStatus cvl_run_lengths_bool(const bool *a, size_t a_len, int32_t *out, size_t out_len, size_t *count);
+
+/*
+ * The place where each run of equal neighbours begins, in order, and how many they are. out needs room for so many; n is always
+ * enough. *count is how many they are, also if out is too short.
+ */
+CVL_CHECKED CvlStatus cvl_run_starts_int(const int32_t *a, size_t a_len, int32_t *out, size_t out_len, size_t *count);
+CVL_CHECKED CvlStatus cvl_run_starts_bool(const bool *a, size_t a_len, int32_t *out, size_t out_len, size_t *count);
+
+/*
+ * The length of each run of equal neighbours of each segment, in order, one segment after another, and how many they are. out
+ * needs room for so many; n is always enough. *count is how many they are, also if out is too short.
+ */
+CVL_CHECKED CvlStatus cvl_seg_run_lengths_int(const int32_t *a, size_t a_len, CvlLengths lengths, int32_t *out, size_t out_len,
+    size_t *count);
+CVL_CHECKED CvlStatus cvl_seg_run_lengths_bool(const bool *a, size_t a_len, CvlLengths lengths, int32_t *out, size_t out_len,
+    size_t *count);
+
+/*
+ * The place where each run of equal neighbours of each segment begins, in order, one segment after another, and how many they
+ * are. Places count from the start of a. out needs room for so many; n is always enough. *count is how many they are, also if
+ * out is too short.
+ */
+CVL_CHECKED CvlStatus cvl_seg_run_starts_int(const int32_t *a, size_t a_len, CvlLengths lengths, int32_t *out, size_t out_len,
+    size_t *count);
+CVL_CHECKED CvlStatus cvl_seg_run_starts_bool(const bool *a, size_t a_len, CvlLengths lengths, int32_t *out, size_t out_len,
+    size_t *count);
+
+/* The number of runs of equal neighbours of each segment: the lengths of the segments of what the other calls give. */
+CVL_CHECKED CvlStatus cvl_seg_run_counts_int(const int32_t *a, size_t a_len, CvlLengths lengths, int32_t *out, size_t out_len);
+CVL_CHECKED CvlStatus cvl_seg_run_counts_bool(const bool *a, size_t a_len, CvlLengths lengths, int32_t *out, size_t out_len);
 
 /* ---- slices and merges: families ---- */
 

@@ -2170,6 +2170,148 @@ inline std::vector<std::int32_t> seg_sort(const char *call, Ints keys, const Seg
     return out;
 }
 
+inline std::size_t run_lengths_int(const char *call, Ints a, IntRoom out, Status &status) noexcept {
+    if (!status.ok()) return 0;
+    std::size_t count = not_told;
+    const CvlStatus found = run(cvl_run_lengths_int, a.data(), a.size(), out.data(), out.size(), &count);
+    if (found.number != CVL_DONE) tell(status, found, call, {{"a", Extent::n, a, about(CVL_TOO_LONG)},
+        {"out", Extent::room, out}}, count);
+    return found.number == CVL_DONE ? count : 0;
+}
+inline std::vector<std::int32_t> run_lengths_int(const char *call, Ints a, Status &status) noexcept {
+    return counted<std::vector<std::int32_t>>(call, status,
+        [&](const char *said, IntRoom out, Status &told) { return detail::run_lengths_int(said, a, out, told); });
+}
+
+inline std::size_t run_lengths_bool(const char *call, Bools a, IntRoom out, Status &status) noexcept {
+    if (!status.ok()) return 0;
+    std::size_t count = not_told;
+    const CvlStatus found = run(cvl_run_lengths_bool, a.data(), a.size(), out.data(), out.size(), &count);
+    if (found.number != CVL_DONE) tell(status, found, call, {{"a", Extent::n, a, about(CVL_TOO_LONG)},
+        {"out", Extent::room, out}}, count);
+    return found.number == CVL_DONE ? count : 0;
+}
+inline std::vector<std::int32_t> run_lengths_bool(const char *call, Bools a, Status &status) noexcept {
+    return counted<std::vector<std::int32_t>>(call, status,
+        [&](const char *said, IntRoom out, Status &told) { return detail::run_lengths_bool(said, a, out, told); });
+}
+
+inline std::size_t run_starts_int(const char *call, Ints a, IntRoom out, Status &status) noexcept {
+    if (!status.ok()) return 0;
+    std::size_t count = not_told;
+    const CvlStatus found = run(cvl_run_starts_int, a.data(), a.size(), out.data(), out.size(), &count);
+    if (found.number != CVL_DONE) tell(status, found, call, {{"a", Extent::n, a, about(CVL_TOO_LONG)},
+        {"out", Extent::room, out}}, count);
+    return found.number == CVL_DONE ? count : 0;
+}
+inline std::vector<std::int32_t> run_starts_int(const char *call, Ints a, Status &status) noexcept {
+    return counted<std::vector<std::int32_t>>(call, status,
+        [&](const char *said, IntRoom out, Status &told) { return detail::run_starts_int(said, a, out, told); });
+}
+
+inline std::size_t run_starts_bool(const char *call, Bools a, IntRoom out, Status &status) noexcept {
+    if (!status.ok()) return 0;
+    std::size_t count = not_told;
+    const CvlStatus found = run(cvl_run_starts_bool, a.data(), a.size(), out.data(), out.size(), &count);
+    if (found.number != CVL_DONE) tell(status, found, call, {{"a", Extent::n, a, about(CVL_TOO_LONG)},
+        {"out", Extent::room, out}}, count);
+    return found.number == CVL_DONE ? count : 0;
+}
+inline std::vector<std::int32_t> run_starts_bool(const char *call, Bools a, Status &status) noexcept {
+    return counted<std::vector<std::int32_t>>(call, status,
+        [&](const char *said, IntRoom out, Status &told) { return detail::run_starts_bool(said, a, out, told); });
+}
+
+inline std::size_t seg_run_lengths_int(const char *call, Ints a, const Segments &segments, IntRoom out, Status &status)
+    noexcept {
+    if (!status.ok()) return 0;
+    std::size_t count = not_told;
+    const CvlStatus found = run(cvl_seg_run_lengths_int, a.data(), a.size(), given(segments), out.data(), out.size(), &count);
+    if (found.number != CVL_DONE) tell(status, found, call, {{"a", Extent::n, a}, {"segments", Extent::n, segments},
+        {"out", Extent::room, out}}, count);
+    return found.number == CVL_DONE ? count : 0;
+}
+inline std::vector<std::int32_t> seg_run_lengths_int(const char *call, Ints a, const Segments &segments, Status &status)
+    noexcept {
+    return counted<std::vector<std::int32_t>>(call, status,
+        [&](const char *said, IntRoom out, Status &told) { return detail::seg_run_lengths_int(said, a, segments, out, told); });
+}
+
+inline std::size_t seg_run_lengths_bool(const char *call, Bools a, const Segments &segments, IntRoom out, Status &status)
+    noexcept {
+    if (!status.ok()) return 0;
+    std::size_t count = not_told;
+    const CvlStatus found = run(cvl_seg_run_lengths_bool, a.data(), a.size(), given(segments), out.data(), out.size(), &count);
+    if (found.number != CVL_DONE) tell(status, found, call, {{"a", Extent::n, a}, {"segments", Extent::n, segments},
+        {"out", Extent::room, out}}, count);
+    return found.number == CVL_DONE ? count : 0;
+}
+inline std::vector<std::int32_t> seg_run_lengths_bool(const char *call, Bools a, const Segments &segments, Status &status)
+    noexcept {
+    return counted<std::vector<std::int32_t>>(call, status,
+        [&](const char *said, IntRoom out, Status &told) { return detail::seg_run_lengths_bool(said, a, segments, out, told); });
+}
+
+inline std::size_t seg_run_starts_int(const char *call, Ints a, const Segments &segments, IntRoom out, Status &status)
+    noexcept {
+    if (!status.ok()) return 0;
+    std::size_t count = not_told;
+    const CvlStatus found = run(cvl_seg_run_starts_int, a.data(), a.size(), given(segments), out.data(), out.size(), &count);
+    if (found.number != CVL_DONE) tell(status, found, call, {{"a", Extent::n, a}, {"segments", Extent::n, segments},
+        {"out", Extent::room, out}}, count);
+    return found.number == CVL_DONE ? count : 0;
+}
+inline std::vector<std::int32_t> seg_run_starts_int(const char *call, Ints a, const Segments &segments, Status &status)
+    noexcept {
+    return counted<std::vector<std::int32_t>>(call, status,
+        [&](const char *said, IntRoom out, Status &told) { return detail::seg_run_starts_int(said, a, segments, out, told); });
+}
+
+inline std::size_t seg_run_starts_bool(const char *call, Bools a, const Segments &segments, IntRoom out, Status &status)
+    noexcept {
+    if (!status.ok()) return 0;
+    std::size_t count = not_told;
+    const CvlStatus found = run(cvl_seg_run_starts_bool, a.data(), a.size(), given(segments), out.data(), out.size(), &count);
+    if (found.number != CVL_DONE) tell(status, found, call, {{"a", Extent::n, a}, {"segments", Extent::n, segments},
+        {"out", Extent::room, out}}, count);
+    return found.number == CVL_DONE ? count : 0;
+}
+inline std::vector<std::int32_t> seg_run_starts_bool(const char *call, Bools a, const Segments &segments, Status &status)
+    noexcept {
+    return counted<std::vector<std::int32_t>>(call, status,
+        [&](const char *said, IntRoom out, Status &told) { return detail::seg_run_starts_bool(said, a, segments, out, told); });
+}
+
+inline void seg_run_counts_int(const char *call, Ints a, const Segments &segments, IntRoom out, Status &status) noexcept {
+    if (!status.ok()) return;
+    const CvlStatus found = run(cvl_seg_run_counts_int, a.data(), a.size(), given(segments), out.data(), out.size());
+    if (found.number != CVL_DONE) tell(status, found, call, {{"a", Extent::n, a}, {"segments", Extent::n, segments},
+        {"out", Extent::segments, out}});
+}
+inline std::vector<std::int32_t> seg_run_counts_int(const char *call, Ints a, const Segments &segments, Status &status)
+    noexcept {
+    std::vector<std::int32_t> out;
+    const bool fits = fit(out, size_if(a.size() == segments.total(), segments.size()), call, status);
+    if (fits) detail::seg_run_counts_int(call, a, segments, out, status);
+    if (!status.ok()) out = std::vector<std::int32_t>();
+    return out;
+}
+
+inline void seg_run_counts_bool(const char *call, Bools a, const Segments &segments, IntRoom out, Status &status) noexcept {
+    if (!status.ok()) return;
+    const CvlStatus found = run(cvl_seg_run_counts_bool, a.data(), a.size(), given(segments), out.data(), out.size());
+    if (found.number != CVL_DONE) tell(status, found, call, {{"a", Extent::n, a}, {"segments", Extent::n, segments},
+        {"out", Extent::segments, out}});
+}
+inline std::vector<std::int32_t> seg_run_counts_bool(const char *call, Bools a, const Segments &segments, Status &status)
+    noexcept {
+    std::vector<std::int32_t> out;
+    const bool fits = fit(out, size_if(a.size() == segments.total(), segments.size()), call, status);
+    if (fits) detail::seg_run_counts_bool(call, a, segments, out, status);
+    if (!status.ok()) out = std::vector<std::int32_t>();
+    return out;
+}
+
 inline void gather_segments_int(const char *call, Ints source, Ints starts, const Segments &segments, IntRoom out,
     Status &status) noexcept {
     if (!status.ok()) return;
@@ -4732,6 +4874,161 @@ inline void seg_sort(Ints keys, const Segments &segments, IntRoom out) {
     Status status;
     cvl::seg_sort(keys, segments, out, status);
     detail::check(status);
+}
+
+// -- runs of equal neighbours --
+
+/// The length of each run of equal neighbours, in order, and how many they are. a has n elements.
+[[nodiscard]] inline std::vector<std::int32_t> run_lengths_int(Ints a, Status &status) noexcept {
+    return detail::run_lengths_int("run_lengths_int", a, status);
+}
+[[nodiscard]] inline std::vector<std::int32_t> run_lengths_int(Ints a) {
+    Status status;
+    return detail::checked(cvl::run_lengths_int(a, status), status);
+}
+inline std::size_t run_lengths_int(Ints a, IntRoom out, Status &status) noexcept {
+    return detail::run_lengths_int("run_lengths_int", a, out, status);
+}
+inline std::size_t run_lengths_int(Ints a, IntRoom out) {
+    Status status;
+    return detail::checked(cvl::run_lengths_int(a, out, status), status);
+}
+
+/// The length of each run of equal neighbours, in order, and how many they are. a has n elements.
+[[nodiscard]] inline std::vector<std::int32_t> run_lengths_bool(Bools a, Status &status) noexcept {
+    return detail::run_lengths_bool("run_lengths_bool", a, status);
+}
+[[nodiscard]] inline std::vector<std::int32_t> run_lengths_bool(Bools a) {
+    Status status;
+    return detail::checked(cvl::run_lengths_bool(a, status), status);
+}
+inline std::size_t run_lengths_bool(Bools a, IntRoom out, Status &status) noexcept {
+    return detail::run_lengths_bool("run_lengths_bool", a, out, status);
+}
+inline std::size_t run_lengths_bool(Bools a, IntRoom out) {
+    Status status;
+    return detail::checked(cvl::run_lengths_bool(a, out, status), status);
+}
+
+/// The place where each run of equal neighbours begins, in order, and how many they are. a has n elements.
+[[nodiscard]] inline std::vector<std::int32_t> run_starts_int(Ints a, Status &status) noexcept {
+    return detail::run_starts_int("run_starts_int", a, status);
+}
+[[nodiscard]] inline std::vector<std::int32_t> run_starts_int(Ints a) {
+    Status status;
+    return detail::checked(cvl::run_starts_int(a, status), status);
+}
+inline std::size_t run_starts_int(Ints a, IntRoom out, Status &status) noexcept {
+    return detail::run_starts_int("run_starts_int", a, out, status);
+}
+inline std::size_t run_starts_int(Ints a, IntRoom out) {
+    Status status;
+    return detail::checked(cvl::run_starts_int(a, out, status), status);
+}
+
+/// The place where each run of equal neighbours begins, in order, and how many they are. a has n elements.
+[[nodiscard]] inline std::vector<std::int32_t> run_starts_bool(Bools a, Status &status) noexcept {
+    return detail::run_starts_bool("run_starts_bool", a, status);
+}
+[[nodiscard]] inline std::vector<std::int32_t> run_starts_bool(Bools a) {
+    Status status;
+    return detail::checked(cvl::run_starts_bool(a, status), status);
+}
+inline std::size_t run_starts_bool(Bools a, IntRoom out, Status &status) noexcept {
+    return detail::run_starts_bool("run_starts_bool", a, out, status);
+}
+inline std::size_t run_starts_bool(Bools a, IntRoom out) {
+    Status status;
+    return detail::checked(cvl::run_starts_bool(a, out, status), status);
+}
+
+/// The length of each run of equal neighbours of each segment, in order, one segment after another, and how many they are. a
+/// has n elements.
+[[nodiscard]] inline std::vector<std::int32_t> seg_run_lengths_int(Ints a, const Segments &segments, Status &status) noexcept {
+    return detail::seg_run_lengths_int("seg_run_lengths_int", a, segments, status);
+}
+[[nodiscard]] inline std::vector<std::int32_t> seg_run_lengths_int(Ints a, const Segments &segments) {
+    Status status;
+    return detail::checked(cvl::seg_run_lengths_int(a, segments, status), status);
+}
+inline std::size_t seg_run_lengths_int(Ints a, const Segments &segments, IntRoom out, Status &status) noexcept {
+    return detail::seg_run_lengths_int("seg_run_lengths_int", a, segments, out, status);
+}
+inline std::size_t seg_run_lengths_int(Ints a, const Segments &segments, IntRoom out) {
+    Status status;
+    return detail::checked(cvl::seg_run_lengths_int(a, segments, out, status), status);
+}
+
+/// The length of each run of equal neighbours of each segment, in order, one segment after another, and how many they are. a
+/// has n elements.
+[[nodiscard]] inline std::vector<std::int32_t> seg_run_lengths_bool(Bools a, const Segments &segments, Status &status)
+    noexcept {
+    return detail::seg_run_lengths_bool("seg_run_lengths_bool", a, segments, status);
+}
+[[nodiscard]] inline std::vector<std::int32_t> seg_run_lengths_bool(Bools a, const Segments &segments) {
+    Status status;
+    return detail::checked(cvl::seg_run_lengths_bool(a, segments, status), status);
+}
+inline std::size_t seg_run_lengths_bool(Bools a, const Segments &segments, IntRoom out, Status &status) noexcept {
+    return detail::seg_run_lengths_bool("seg_run_lengths_bool", a, segments, out, status);
+}
+inline std::size_t seg_run_lengths_bool(Bools a, const Segments &segments, IntRoom out) {
+    Status status;
+    return detail::checked(cvl::seg_run_lengths_bool(a, segments, out, status), status);
+}
+
+/// The place where each run of equal neighbours of each segment begins, in order, one segment after another, and how many they
+/// are. Places count from the start of a. a has n elements.
+[[nodiscard]] inline std::vector<std::int32_t> seg_run_starts_int(Ints a, const Segments &segments, Status &status) noexcept {
+    return detail::seg_run_starts_int("seg_run_starts_int", a, segments, status);
+}
+[[nodiscard]] inline std::vector<std::int32_t> seg_run_starts_int(Ints a, const Segments &segments) {
+    Status status;
+    return detail::checked(cvl::seg_run_starts_int(a, segments, status), status);
+}
+inline std::size_t seg_run_starts_int(Ints a, const Segments &segments, IntRoom out, Status &status) noexcept {
+    return detail::seg_run_starts_int("seg_run_starts_int", a, segments, out, status);
+}
+inline std::size_t seg_run_starts_int(Ints a, const Segments &segments, IntRoom out) {
+    Status status;
+    return detail::checked(cvl::seg_run_starts_int(a, segments, out, status), status);
+}
+
+/// The place where each run of equal neighbours of each segment begins, in order, one segment after another, and how many they
+/// are. Places count from the start of a. a has n elements.
+[[nodiscard]] inline std::vector<std::int32_t> seg_run_starts_bool(Bools a, const Segments &segments, Status &status) noexcept {
+    return detail::seg_run_starts_bool("seg_run_starts_bool", a, segments, status);
+}
+[[nodiscard]] inline std::vector<std::int32_t> seg_run_starts_bool(Bools a, const Segments &segments) {
+    Status status;
+    return detail::checked(cvl::seg_run_starts_bool(a, segments, status), status);
+}
+inline std::size_t seg_run_starts_bool(Bools a, const Segments &segments, IntRoom out, Status &status) noexcept {
+    return detail::seg_run_starts_bool("seg_run_starts_bool", a, segments, out, status);
+}
+inline std::size_t seg_run_starts_bool(Bools a, const Segments &segments, IntRoom out) {
+    Status status;
+    return detail::checked(cvl::seg_run_starts_bool(a, segments, out, status), status);
+}
+
+/// The number of runs of equal neighbours of each segment: the lengths of the segments of what the other calls give. a has n
+/// elements, out one for each segment.
+[[nodiscard]] inline Segments seg_run_counts_int(Ints a, const Segments &segments, Status &status) noexcept {
+    return Segments(detail::seg_run_counts_int("seg_run_counts_int", a, segments, status), status);
+}
+[[nodiscard]] inline Segments seg_run_counts_int(Ints a, const Segments &segments) {
+    Status status;
+    return detail::checked(cvl::seg_run_counts_int(a, segments, status), status);
+}
+
+/// The number of runs of equal neighbours of each segment: the lengths of the segments of what the other calls give. a has n
+/// elements, out one for each segment.
+[[nodiscard]] inline Segments seg_run_counts_bool(Bools a, const Segments &segments, Status &status) noexcept {
+    return Segments(detail::seg_run_counts_bool("seg_run_counts_bool", a, segments, status), status);
+}
+[[nodiscard]] inline Segments seg_run_counts_bool(Bools a, const Segments &segments) {
+    Status status;
+    return detail::checked(cvl::seg_run_counts_bool(a, segments, status), status);
 }
 
 // -- slices and merges --

@@ -42,9 +42,11 @@ class Direct(packages.Call):
             return "WRITTEN"
         if self.over:
             return f"OVER_{self.result.kind.upper()}"
-        if self.operands[-1].kind == "text":
+        if self.result.kind == "text":
+            return "TEXT"
+        if self.counts and not any(operand.use == "mask" for operand in self.operands):
             return "READ_NESTED" if len(self.told) > 1 else "READ"
-        return "TEXT" if self.result.kind == "text" else None
+        return None
 
 
 CALLS = packages.CALLS

@@ -188,7 +188,8 @@ class Family:
     @property
     def words(self):
         """What is so of the family."""
-        by_elements = self.room is not None and self.room.extent in ("trues", "room") and not self.reads_text
+        measured = self.room is not None and (self.room.kind == "text" or any(o.use == "mask" for o in self.operands))
+        by_elements = measured and self.room.extent in ("trues", "room") and not self.reads_text
         said = {
             "ASKED": self.is_asked, "LATE": self.is_late, "READS_TEXT": self.reads_text,
             "COUNTED": any(o.role == "count" for o in self.operands), "BY_TRUES": by_elements and self.room.kind != "text",

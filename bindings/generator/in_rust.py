@@ -37,6 +37,8 @@ def _enough(function):
     first, result = function.row.takes[0], function.result
     if function.counts and any(operand.kind == "text" for operand in function.row.takes):
         return "most_words(text)"
+    if function.counts and not any(operand.use == "mask" for operand in function.row.takes):
+        return f"{first.name}.len()"
     if result is None or result.kind != "text":
         return None
     of_lists = "".join(f" + 3 * {packages.name_of(cut)}.len()" for cut in function.cuts)

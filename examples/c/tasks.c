@@ -65,12 +65,11 @@ static void find_the_greatest(void) {
 }
 
 static void remove_duplicates(void) {
-    int32_t sorted[5], unique[5];
-    bool first[5] = {true};
+    int32_t sorted[5], first[5], unique[5];
     size_t many;
     must(cvl_sort(v, 5, sorted, 5));
-    must(cvl_neq_wuz(sorted + 1, sorted, first + 1, 4)); /* first[0] is true */
-    must(cvl_pck_luz(sorted, first, 5, unique, 5, &many));
+    must(cvl_run_starts_int(sorted, 5, first, 5, &many));
+    must(cvl_bck_puz(sorted, 5, first, unique, many));
     print("unique", unique, many);
 }
 
@@ -92,14 +91,12 @@ static void filter(void) {
 
 static void find_runs(void) {
     const int32_t r[] = {4, 4, 9, 9, 9};
-    int32_t begins[6], lengths[5];
-    bool starts[5] = {true};
+    int32_t begins[5], lengths[5], each[5];
     size_t many;
-    must(cvl_neq_wuz(r + 1, r, starts + 1, 4)); /* starts[0] is true */
-    must(cvl_pck_luz(places, starts, 5, begins, 5, &many));
-    begins[many] = 5;
-    must(cvl_sub_wuz(begins + 1, begins, lengths, many));
-    print("lengths", lengths, many);
+    must(cvl_run_starts_int(r, 5, begins, 5, &many));
+    must(cvl_run_lengths_int(r, 5, lengths, 5, &many));
+    must(cvl_bck_puz(r, 5, begins, each, many));
+    print("each", each, many), print("lengths", lengths, many);
 }
 
 static void find_earlier_true(void) {

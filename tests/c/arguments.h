@@ -67,6 +67,7 @@ static inline size_t matrix_rows(void) { return n > 0 && n % 500 == 0 ? 500 : n 
 
 static inline bool is_found(const Row *row) { return row->model == FIRST_TRUE || row->model == SEG_FIRST_TRUE; }
 static inline bool is_product(const Row *row) { return uses(row, USE_COLUMNS); }
+static inline bool is_of_runs(const Row *row) { return row->model >= RUN_LENGTHS && row->model <= SEG_RUN_COUNTS; }
 
 /* An element at a place, where the operand holds no indices: none divides by 0, shifts too far or adds up to too much. */
 static inline int32_t element_at(const Row *row, size_t k, size_t place) {
@@ -77,6 +78,7 @@ static inline int32_t element_at(const Row *row, size_t k, size_t place) {
     case USE_INDEX: return lengths[place] == 0 ? 0 : (int32_t)(place % (size_t)lengths[place]);
     default: break;
     }
+    if (is_of_runs(row)) return (int32_t)(kind_of(row, k) == KIND_FLAGS ? place / 3 % 2 : place / 3 + place / 7); /* sorted keys, or flags in runs */
     if (kind_of(row, k) == KIND_FLAGS) return extent_of(row, k) == EXTENT_N ? place * (k + 1) % 5 < 2 : place % 4 < 3;
     if (kind_of(row, k) == KIND_BYTES) return (int32_t)(place * 7907 % 256);
     return (int32_t)((place * 7907 + k) % 31 + 1) % (is_product(row) && k == 2 ? 2 : 32);

@@ -413,6 +413,9 @@ static void fill(const Row *row, Given *g, size_t k, size_t n, size_t m) {
     if (role_of(row, k) == ROLE_LENGTHS) fill_lengths(ints, g->len[k], extent_of(row, k) == EXTENT_N || extent_of(row, k) == EXTENT_TOTAL ? n : m);
     if (role_of(row, k) != ROLE_READS) return;
     for (size_t j = 0; j < g->len[k] && kind_of(row, k) == KIND_INTS; j++) ints[j] = small ? (int32_t)below(19) - 9 : any_int();
+    /* neighbours that are equal */
+    const bool has_runs = row->model >= RUN_LENGTHS && row->model <= SEG_RUN_COUNTS && plain;
+    for (size_t j = 0; j < g->len[k] && has_runs && kind_of(row, k) == KIND_INTS; j++) ints[j] = (int32_t)below(2);
     for (size_t j = 0; j < g->len[k] && kind_of(row, k) == KIND_FLAGS; j++) bytes[j] = chance(2) ? 0 : plain || chance(2) ? 1 : (unsigned char)below(256);
     for (size_t j = 0; j < g->len[k] && kind_of(row, k) == KIND_BYTES; j++) bytes[j] = (unsigned char)below(256);
     for (size_t j = 0; j < g->len[k] && row->model == BYTES_FROM_INTS; j++) ints[j] = (int32_t)below(256);

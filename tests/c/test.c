@@ -1238,6 +1238,43 @@ static void first_trues(void) {
     FAULT(cvl_seg_first_true(f, 5, S(I(INT32_MAX, 1), 2), ints, 2), CVL_TOO_LONG, -1);
 }
 
+static void runs(void) {
+    const int32_t *keys = I(3, 3, 5, 5, 5, 2), *lengths = I(1, 0, 3, 2);
+    const bool *f = B(true, true, false, true);
+    const size_t many = (size_t)CVL_MOST_ELEMENTS + 1;
+    COUNTED_INTS(cvl_run_lengths_int(keys, 6, ints, ROOM, &total), 2, 3, 1);
+    COUNTED_INTS(cvl_run_lengths_int(keys, 6, ints, 3, &total), 2, 3, 1);
+    COUNTED_INTS(cvl_run_starts_int(keys, 6, ints, ROOM, &total), 0, 2, 5);
+    COUNTED_INTS(cvl_run_starts_int(keys, 6, ints, 3, &total), 0, 2, 5);
+    COUNTED_INTS(cvl_run_lengths_int(keys + 2, 3, ints, 1, &total), 3);
+    COUNTED_INTS(cvl_run_lengths_int(I(INT32_MIN, INT32_MAX, INT32_MAX), 3, ints, ROOM, &total), 1, 2);
+    COUNTED_INTS(cvl_run_starts_int(keys + 5, 1, ints, 1, &total), 0);
+    COUNTED_INTS(cvl_run_lengths_bool(f, 4, ints, ROOM, &total), 2, 1, 1);
+    COUNTED_INTS(cvl_run_lengths_bool(O(7, 1, 0, 2), 4, ints, 3, &total), 2, 1, 1);
+    COUNTED_INTS(cvl_run_starts_bool(O(7, 1, 0, 2), 4, ints, ROOM, &total), 0, 2, 3);
+    reset();
+    counts("runs of no element", cvl_run_lengths_int(NULL, 0, NULL, 0, &total), CVL_DONE, 0);
+    leaves("runs of no element", 0, 0);
+    TOO_SHORT(cvl_run_lengths_int(keys, 6, ints, 2, &total), 3);
+    TOO_SHORT(cvl_run_starts_int(keys, 6, ints, 0, &total), 3);
+    TOO_SHORT(cvl_run_starts_bool(O(7, 1, 0, 2), 4, ints, 2, &total), 3);
+    COUNTED_INTS(cvl_seg_run_lengths_int(keys, 6, S(lengths, 4), ints, ROOM, &total), 1, 1, 2, 1, 1);
+    COUNTED_INTS(cvl_seg_run_lengths_int(keys, 6, S(lengths, 4), ints, 5, &total), 1, 1, 2, 1, 1);
+    COUNTED_INTS(cvl_seg_run_starts_int(keys, 6, S(lengths, 4), ints, ROOM, &total), 0, 1, 2, 4, 5);
+    COUNTED_INTS(cvl_seg_run_lengths_bool(O(7, 1, 0, 2), 4, S(I(1, 3), 2), ints, ROOM, &total), 1, 1, 1, 1);
+    COUNTED_INTS(cvl_seg_run_starts_bool(f, 4, S(I(0, 2, 2), 3), ints, ROOM, &total), 0, 2, 3);
+    TOO_SHORT(cvl_seg_run_lengths_int(keys, 6, S(lengths, 4), ints, 4, &total), 5);
+    TOO_SHORT(cvl_seg_run_starts_bool(f, 4, S(I(0, 2, 2), 3), ints, 2, &total), 3);
+    INTS(cvl_seg_run_counts_int(keys, 6, S(lengths, 4), ints, 4), 1, 0, 2, 2);
+    INTS(cvl_seg_run_counts_bool(O(7, 1, 0, 2), 4, S(I(2, 2), 2), ints, 2), 1, 2);
+    FAULT(cvl_run_lengths_int(too_many_ints, many, ints, ROOM, &total), CVL_TOO_LONG, -1);
+    FAULT(cvl_run_starts_bool(too_many_bools, many, ints, ROOM, &total), CVL_TOO_LONG, -1);
+    FAULT(cvl_seg_run_lengths_int(keys, 5, S(lengths, 4), ints, ROOM, &total), CVL_LENGTH_MISMATCH, -1);
+    FAULT(cvl_seg_run_starts_int(keys, 6, S(I(1, -1), 2), ints, ROOM, &total), CVL_NEGATIVE_LENGTH, 1);
+    FAULT(cvl_seg_run_counts_int(keys, 6, S(lengths, 4), ints, 3), CVL_LENGTH_MISMATCH, -1);
+    FAULT(cvl_seg_run_counts_bool(f, 4, S(I(INT32_MAX, 1), 2), ints, 2), CVL_TOO_LONG, -1);
+}
+
 static void permutes_of_wrong_segments(void) {
     const int32_t *five = I(1, 2, 3, 4, 5), *lengths = I(2, 0, 3), *turn = I(1, 0, 2, 0, 1), *negative = I(2, 4, -1);
     const bool *flags = B(false, true, true, false, true);
@@ -1974,6 +2011,7 @@ int main(void) {
     bytes_and_integers();
     exact_sums();
     first_trues();
+    runs();
     texts();
     texts_of_any_length();
     made_descriptors();

@@ -36,8 +36,9 @@ Long calls run on several threads after `set_threads(4)`, or inside `with cvl.th
 
 `read_ints` and `write_ints` read and write texts. `first_senders` finds the first of several places that name one place.
 `combine_exact_sums` adds up by key in 64 bits; `combine_checked_int` and `combine_permute_int` in 32, where the first reports a sum that
-does not fit, and the second wraps. `counts` counts keys. `order`, `rank` and `sort` put keys in order. `exact_sum`, and names
-that end in `_after` or `_range`, are for calls in parts.
+does not fit, and the second wraps. `counts` counts keys. `order`, `rank` and `sort` put keys in order; of sorted keys `run_starts_int`
+has the places of the unique ones, and `run_lengths_int` their counts. `exact_sum`, and names that end in `_after` or `_range`, are for
+calls in parts.
 """
 
 from typing import List

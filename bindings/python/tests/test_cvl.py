@@ -729,7 +729,7 @@ class EachCall(Limited):
                 self.look_at_room(name, example, numpy.ones(places, example.found.dtype))
 
     def look_at_room(self, name, example, room):
-        needed, is_pack = len(example.found), name.startswith(("pck_", "read_"))
+        needed, is_pack = len(example.found), name.startswith(("pck_", "read_", "run_", "seg_run_lengths", "seg_run_starts"))
         if len(room) == needed or is_pack and len(room) > needed:
             found = example.call(**example.arguments, out=room)
             self.assertTrue(found is room or is_pack, name)
@@ -926,6 +926,25 @@ class Slices(Limited):
         marks = flags(False, True, False, False, True)
         self.assertEqual((cvl.first_true(marks), cvl.first_true(marks[2:4]), cvl.first_true(marks[:0])), (1, -1, -1))
         self.assertEqual(cvl.seg_first_true(marks, ints(2, 1, 0, 2)).tolist(), [1, -1, -1, 1])
+
+    def test_runs(self):
+        keys = numpy.sort(numpy.arange(900, dtype=numpy.int32) ** 2 % 97)
+        unique, starts, lengths = numpy.unique(keys, return_index=True, return_counts=True)
+        self.assertEqual(cvl.run_starts_int(keys).tolist(), starts.tolist())
+        self.assertEqual(cvl.run_lengths_int(keys).tolist(), lengths.tolist())
+        self.assertEqual(cvl.bck_puz(keys, cvl.run_starts_int(keys)).tolist(), unique.tolist())
+        sums = cvl.add_rez(numpy.arange(900, dtype=numpy.int32), cvl.run_lengths_int(keys))
+        self.assertEqual(sums.tolist(), numpy.add.reduceat(numpy.arange(900), starts).tolist())
+        segments = ints(1, 0, 2)
+        self.assertEqual(cvl.seg_run_lengths_int(ints(5, 5, 5), segments).tolist(), [1, 2])
+        self.assertEqual(cvl.seg_run_starts_bool(flags(True, True, True), segments).tolist(), [0, 1])
+        self.assertEqual(cvl.seg_run_counts_int(ints(5, 5, 5), segments).lengths.tolist(), [1, 0, 1])
+        self.assertEqual(cvl.run_lengths_bool(flags()).tolist(), [])
+        room = numpy.full(4, 7, numpy.int32)
+        self.assertEqual(cvl.run_lengths_int(ints(3, 3, 2), out=room).tolist(), [2, 1])
+        self.assertEqual(room.tolist(), [2, 1, 7, 7])
+        with self.assertRaisesRegex(cvl.Fault, r"len\(out\) is 1, and has to be 2 or more"):
+            cvl.run_lengths_int(ints(3, 3, 2), out=room[:1])
 
     def test_merges_of_segments(self):
         values = numpy.arange(90, dtype=numpy.int32)

@@ -599,6 +599,25 @@ fn the_first_true_flag_is_found() {
 }
 
 #[test]
+fn sorted_keys_have_one_run_each() {
+    let (keys, values) = ([3, 3, 5, 5, 5, 8], [1, 2, 3, 4, 5, 6]);
+    let (starts, lengths) = (cvl::run_starts_int(&keys).unwrap(), cvl::run_lengths_int(&keys).unwrap());
+    assert_eq!((starts.as_slice(), lengths.as_slice()), ([0, 2, 5].as_slice(), [2, 3, 1].as_slice()));
+    assert_eq!(cvl::bck_puz(&keys, &starts).unwrap(), [3, 5, 8]);
+    assert_eq!(cvl::add_rez(&values, &Segments::new(&lengths).unwrap()).unwrap(), [3, 12, 6]);
+    let segments = Segments::new(&[1, 0, 5]).unwrap();
+    assert_eq!(cvl::seg_run_lengths_int(&keys, &segments).unwrap(), [1, 1, 3, 1]);
+    assert_eq!(cvl::seg_run_starts_int(&keys, &segments).unwrap(), [0, 1, 2, 5]);
+    assert_eq!(cvl::seg_run_counts_int(&keys, &segments).unwrap().lengths(), [1, 0, 3]);
+    assert_eq!(cvl::run_lengths_bool(&[true, true, false]).unwrap(), [2, 1]);
+    assert_eq!(cvl::run_lengths_int(&[]).unwrap(), []);
+    let mut out = [7; 4];
+    let short = cvl::run_lengths_int_into(&keys, &mut out[..2]).unwrap_err();
+    assert_eq!((told(short), out), ((7, None), [7; 4]));
+    assert_eq!((cvl::run_lengths_int_into(&keys, &mut out), out), (Ok(3), [2, 3, 1, 7]));
+}
+
+#[test]
 fn a_merge_is_the_inverse_of_two_packs() {
     let values: Vec<i32> = (0..90).collect();
     let flags: Vec<bool> = values.iter().map(|k| k * k % 7 < 3).collect();

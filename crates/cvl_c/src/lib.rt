@@ -24,6 +24,7 @@ mod parts;
 mod place_by_place;
 mod products;
 mod records;
+mod runs;
 mod scans;
 mod seg_scans;
 mod segment_permutes;

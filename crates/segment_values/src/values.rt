@@ -10,7 +10,7 @@ use cvl_base::{Fault, check_agree};
 use segdes::SegLengths;
 
 /// Makes a value of the elements of a segment.
-pub(crate) trait SegmentValue<X, V> {
+pub trait SegmentValue<X, V> {
     ghost value: { List X → V };
 
     /// The value of at most 2,147,483,647 elements.
@@ -36,7 +36,10 @@ fn write_values<X, V: Copy, S: SegmentValue<X, V>>(a: &[X], d: &SegLengths, out:
 }
 
 /// The value of each segment, into a room that has a place for each.
-pub(crate) fn values_over<X, V: Copy, S: SegmentValue<X, V>>(
+///
+/// `LengthMismatch`, without a place, if the segments do not add up to the vector, or the room does not have a place for each
+/// segment; it is then as before.
+pub fn values_over<X, V: Copy, S: SegmentValue<X, V>>(
     a: &[X],
     d: &SegLengths,
     out: &mut [V],

@@ -22,6 +22,7 @@ pub mod partitions;
 pub mod permuted;
 pub mod races;
 pub mod reduces;
+pub mod runs;
 pub mod scans;
 pub mod senders;
 pub mod shares;

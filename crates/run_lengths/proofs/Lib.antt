@@ -1,0 +1,5 @@
+mod Counted
+mod Fronts
+mod InSegments
+mod Parted
+mod Walked
