@@ -201,7 +201,7 @@ METHODS = (
     ),
     along(
         "unique", None, "numpy.unique(a)", "The distinct elements of each row in order.", "",
-        "cvl.Ragged([[3, 1, 3], []]).unique()", "[[1, 3], []]", calls="seg_sort, neq_wuz, pck_luz, pck_fov",
+        "cvl.Ragged([[3, 1, 3], []]).unique()", "[[1, 3], []]", calls="seg_sort, seg_run_starts_int, bck_puz, seg_run_counts_int",
     ),
     along(
         "shift", None, "", "Each row moved so many places to its end, or to its start below 0, behind so many of fill.",
@@ -258,7 +258,7 @@ WHOLE = (
         "All numbers, row after row, in a new array.", "", "r.flatten()", "[3, 1, 4, 1, 5]",
     ),
     Method(
-        "groupby", BETWEEN, (), ("keys: Any",), "Tuple[IntArray, Ragged]", None, "order, pck_luz, bck_puz", "",
+        "groupby", BETWEEN, (), ("keys: Any",), "Tuple[IntArray, Ragged]", None, "order, bck_puz, run_starts_int, run_lengths_int", "",
         "The distinct keys in order, and the values of each key as a row, in their order. One key a row groups whole rows, a "
         "key for each number the numbers.", "", "r.groupby([7, 7, 2])[1]", "[[[4, 1, 5]], [[3, 1], []]]",
     ),
@@ -310,7 +310,7 @@ FLAT = (
         "It wraps to 32 bits.", "cvl.add_at(cvl.as_ints([0, 0, 0]), [2, 0, 2], [5, 6, 7])", "[6, 0, 12]",
     ),
     Flat(
-        "groupby", "values: Any, keys: Any", "Tuple[IntArray, Ragged]", "order, pck_luz, bck_puz", "",
+        "groupby", "values: Any, keys: Any", "Tuple[IntArray, Ragged]", "order, bck_puz, run_starts_int, run_lengths_int", "",
         "The distinct keys in order, and the values of each key as a row, in their order.", "",
         "cvl.groupby([5, 6, 7, 8], [2, 0, 2, 1])[1]", "[[6], [8], [5, 7]]",
     ),

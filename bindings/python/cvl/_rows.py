@@ -10,10 +10,11 @@ import numpy
 from cvl import calls, faults, operators
 from cvl._elementwise import flags, ints, is_bool, refuse_frozen
 from cvl.calls import (
-    add_rez, add_sez, add_wuz, and_reb, and_wub, append_segments_bool, append_segments_int, bck_pez, bck_peb, bck_pub, bck_puz, boo_wuz,
-    dis_veb, dis_vez, dis_vub, dis_vuz, eql_wuz, ext_veb, ext_vez, gather_segments_bool, gather_segments_int, ind_lez, int_wub, ior_reb,
-    ior_seb, ior_wub, les_wuz, max_rez, max_ruz, max_sez, max_wuz, min_rez, min_ruz, min_sez, min_wuz, neq_wuz, pck_fov, pck_leb, pck_lez, pck_luz,
-    seg_combine_permute_bool, seg_combine_permute_int, seg_counts, seg_exact_sums, seg_first_true, seg_sort, sel_wuz, sub_wuz, xor_wub,
+    add_rez, add_sez, add_wuz, and_reb, and_wub, append_segments_bool, append_segments_int, bck_peb, bck_pez, bck_pub, bck_puz,
+    boo_wuz, dis_veb, dis_vez, dis_vub, dis_vuz, eql_wuz, ext_veb, ext_vez, gather_segments_bool, gather_segments_int, ind_lez,
+    int_wub, ior_reb, ior_seb, ior_wub, les_wuz, max_rez, max_ruz, max_sez, max_wuz, min_rez, min_ruz, min_sez, min_wuz, pck_fov,
+    pck_leb, pck_lez, seg_combine_permute_bool, seg_combine_permute_int, seg_counts, seg_exact_sums, seg_first_true,
+    seg_run_counts_int, seg_run_starts_int, seg_sort, sel_wuz, sub_wuz, xor_wub,
 )  # fmt: skip
 from cvl.fault import Fault
 from cvl.segments import cut
@@ -134,11 +135,8 @@ def sort(rows: Any) -> Any:
 
 def unique(rows: Any) -> Any:
     segments, keys = rows._segments, seg_sort(ints(rows._values), rows._segments)
-    count = len(rows)
-    is_new = eql_wuz(ind_lez(dis_vuz(0, count), dis_vuz(1, count), segments), 0)
-    ior_wub(is_new[1:], neq_wuz(keys[1:], keys[:-1]), out=is_new[1:])
-    found = pck_luz(keys, is_new)
-    return rows._with(boo_wuz(found) if is_bool(rows._values) else found, pck_fov(is_new, segments))
+    found = bck_puz(keys, seg_run_starts_int(keys, segments))
+    return rows._with(boo_wuz(found) if is_bool(rows._values) else found, cut(seg_run_counts_int(keys, segments)))
 
 
 def shift(rows: Any, by: Any, fill: Any = 0) -> Any:

@@ -10,9 +10,7 @@ import numpy
 from cvl import _building, faults, ragged
 from cvl._elementwise import flags, ints, is_bool
 from cvl._rows import same_kind
-from cvl.calls import (
-    bck_pub, bck_puz, counts, dis_vub, dis_vuz, ind_luz, max_ruz, neq_wuz, order, pck_luz, sel_wub, sel_wuz, sub_wuz,
-)  # fmt: skip
+from cvl.calls import bck_pub, bck_puz, counts, max_ruz, order, run_lengths_int, run_starts_int, sel_wub, sel_wuz
 from cvl.fault import Fault
 from cvl.segments import Segments, cut
 
@@ -32,13 +30,13 @@ def _chosen(rows: Any, mask: Any, a: Any, b: Any) -> Any:
 
 
 def where(mask: Any, a: Any, b: Any) -> Ragged:
-    deepest = None
-    for one in (mask, a, b):
-        if type(one) is ragged.Ragged and (deepest is None or one.depth > deepest.depth):
-            deepest = one
-    if deepest is None:
+    rows = [one for one in (mask, a, b) if type(one) is ragged.Ragged]
+    if not rows:
         raise TypeError("where takes a Ragged; numpy.where takes arrays")
-    return deepest._on_rows(_chosen, (mask, a, b))
+    deeper = [one for one in rows if type(one._values) is ragged.Ragged]
+    if deeper:
+        return max(deeper, key=lambda one: one.depth)._on_rows(_chosen, (mask, a, b))
+    return _chosen(rows[0], mask, a, b)
 
 
 def flatten(self: Ragged) -> Any:
@@ -58,13 +56,7 @@ def _runs(keys: Any) -> Tuple[Any, Any, Segments]:
     """The places in the order of their keys, the distinct keys, and how many places each has."""
     places = order(keys)
     found = bck_puz(keys, places)
-    count = len(found)
-    is_new = dis_vub(True, count)
-    neq_wuz(found[1:], found[:-1], out=is_new[1:])
-    distinct, bounds = pck_luz(found, is_new), dis_vuz(count, count + 1)
-    # the starts of the runs, and behind them the end of the last one
-    many = len(pck_luz(ind_luz(0, 1, count), is_new, out=bounds))
-    return places, distinct, cut(sub_wuz(bounds[1 : many + 1], bounds[:many]))
+    return places, bck_puz(found, run_starts_int(found)), cut(run_lengths_int(found))
 
 
 def taken(values: Any, places: Any) -> Any:

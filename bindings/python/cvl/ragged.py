@@ -251,7 +251,7 @@ class Ragged(Methods):
     def _beside(self, other: Any) -> Any:
         """What stands beside the values: those of rows of the same lengths, each number of an array for its row, or a number."""
         if type(other) is not Ragged:
-            if type(other) is numpy.ndarray and other.dtype.char == "i" and other.shape == (len(self),) and other.flags.carray:
+            if self._has_for_rows(other):
                 return dis_vez(other, self._segments)
             if is_number(other):
                 return other[()] if type(other) is numpy.ndarray else other
@@ -261,6 +261,10 @@ class Ragged(Methods):
         if other._segments is not self._segments and other._segments != self._segments:
             raise self._differs(other)
         return other._values
+
+    def _has_for_rows(self, other: Any) -> bool:
+        """Whether it is an array of one integer a row, as the calls take it."""
+        return type(other) is numpy.ndarray and other.dtype.char == "i" and other.shape == (len(self._segments),) and other.flags.carray
 
     def _as_operand(self, other: Any) -> Any:
         """Lists and other arrays as rows, or as an array of one number a row."""
@@ -272,6 +276,8 @@ class Ragged(Methods):
 
     def _as_index(self, index: Any) -> Any:
         """The same, without booleans."""
+        if self._has_for_rows(index):
+            return index
         found = index if type(index) is Ragged or is_number(index) else self._as_operand(index)
         if is_bool(found._flat() if type(found) is Ragged else found):
             raise TypeError("an index is no boolean; write r.filter(mask)")
