@@ -124,7 +124,8 @@ OF_THREADS = (
     (
         "cvl_threads",
         (
-            "How many threads there are: what cvl_set_threads set last, else CVL_NUM_THREADS, a number from 1 to 64 in digits only, else 1. The variable is "
+            "How many threads there are: what cvl_set_threads set last, else what CVL_NUM_THREADS says, else 1. If the variable is anything but a number from 1 "
+            "to 64 in digits only, the nearest such number is taken, and 1 for what is no number; one line on standard error says so. The variable is "
             "read once, by the first call of either function or the first long call. Long calls start the threads; if one cannot be started, the number stays. "
             "It waits for no call. In the child of a fork the number is 1 until you set another; if nobody had asked before the fork, the child starts like any "
             "program.",

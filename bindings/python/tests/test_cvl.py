@@ -651,10 +651,11 @@ class Threads(Limited):
 
     def test_the_variable(self):
         said = "import cvl; print(cvl.get_threads())"
-        for word, count in (("3", 3), ("0", 1), ("many", 1)):
+        is_no_number = 'cvl: CVL_NUM_THREADS is "{}", and has to be a number from 1 to 64; calls have {}\n'
+        for word, count, told_of in (("3", 3, ""), ("", 1, ""), ("65", 64, "64 threads"), (" 4", 4, "4 threads"), ("abc", 1, "1 thread")):
             place = {**os.environ, "CVL_NUM_THREADS": word, "PYTHONPATH": os.pathsep.join(filter(None, sys.path))}
             told = subprocess.run([sys.executable, "-c", said], env=place, capture_output=True, text=True, timeout=self.LIMIT)
-            self.assertEqual((told.stdout, told.stderr), (f"{count}\n", ""))
+            self.assertEqual((told.stdout, told.stderr), (f"{count}\n", told_of and is_no_number.format(word, told_of)))
 
 
 class Locks(Limited):
