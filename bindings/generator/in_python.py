@@ -307,14 +307,15 @@ def _family_row(call):
     operands = ", ".join(map(_operand_row, call.operands))
     make = "NULL" if call.makes_segments else f"make_{call.family.name}"
     room = f"{_extent(_room_extent(call) or '')}, {_measured_by(call)}"
-    rest = f"GIVES_{_gives(call)}, {room}, {int(_spreads(call))}, {_most(call)}, {make}"
+    names = _quoted(",".join(call.family.operators)) if isinstance(call, Direct) and call.family.operators else "NULL"
+    rest = f"GIVES_{_gives(call)}, {room}, {int(_spreads(call))}, {_most(call)}, {names}, {make}"
     return _filled(f"[FAMILY_{call.family.name.upper()}] = {{{len(call.operands)}, {{{operands}}}, {rest}}},")
 
 
 def _length_row(length):
     function, name, kind, gives, *_ = length
     extent, make = ("EXTENT_TOTAL", "make_lengths") if kind == "LENGTHS" else ("EXTENT_N", "make_length")
-    row = f'{{1, {{{{"{name}", KIND_{kind}, {extent}, NULL}}}}, GIVES_{gives}, EXTENT_NONE, 0, 0, SIZE_MAX, {make}}}'
+    row = f'{{1, {{{{"{name}", KIND_{kind}, {extent}, NULL}}}}, GIVES_{gives}, EXTENT_NONE, 0, 0, SIZE_MAX, NULL, {make}}}'
     return _filled(f"[FAMILY_{function.upper()}] = {row},")
 
 
@@ -409,6 +410,25 @@ def faults():
     """`bindings/python/cvl/faults.py`."""
     lines = [f"{_constant(name)} = {number}" for number, name in table.STATUSES if number not in NO_FAULTS]
     return "\n".join(['"""The numbers of faults, as `fault.number` has them.', "", f'{rows.NOTE}\n"""', "", *lines, ""])
+
+
+def _twin(call):
+    """The same call of booleans or of integers, and the operands of which it takes the other kind."""
+    found = [
+        other for other in FUNCTIONS
+        if other.family.general == call.family.general and other.family is not call.family and other.row.operator == call.row.operator
+    ]  # fmt: skip
+    if len(found) != 1:
+        return None
+    names = [name_of(one) for one, other in zip(call.operands, found[0].operands) if one.role == "reads" and one.kind != other.kind]
+    return found[0].name, tuple(names)
+
+
+def twins():
+    """`bindings/python/cvl/_twins.py`."""
+    found = {call.name: _twin(call) for call in FUNCTIONS}
+    said = '"""The same call of booleans or of integers, and the operands of which it takes the other kind.'
+    return "\n".join([said, "", f'{rows.NOTE}\n"""', "", "TWINS = {", *(f"    {name!r}: {twin!r}," for name, twin in found.items() if twin and twin[1]), "}", ""])
 
 
 def operators():

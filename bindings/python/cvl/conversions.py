@@ -7,6 +7,8 @@ from typing import TYPE_CHECKING, Any, Callable
 import numpy
 import numpy.ma
 
+from cvl import _refused
+
 if TYPE_CHECKING:
     from numpy.typing import ArrayLike
 
@@ -26,30 +28,33 @@ def _first(wrong: Any) -> int:
     return int(wrong.argmax()) if wrong.any() else -1
 
 
-def _check(given: Any, named: Callable[[int], str]) -> None:
+def _check(given: Any, named: Callable[[int], str], instead: str) -> None:
     """Raises that an element is not whole, or does not fit 32 bits, with the first that is so."""
     if given.dtype.kind == "f":
         place = _first(~numpy.isfinite(given) | (given != numpy.trunc(given)))
         if place >= 0:
-            raise ValueError(f"{named(place)} is {given[place]}, and has to be a whole number")
+            said = f"{named(place)} is {given[place]}, and has to be a whole number"
+            raise ValueError(said + (instead if numpy.isfinite(given[place]) else ""))
     place = _first((given < -(2**31)) | (given > 2**31 - 1))
     if place >= 0:
         raise OverflowError(f"{named(place)} is {given[place]}, which does not fit 32 bits")
 
 
-def as_elements(numbers: Any, named: Callable[[int], str], name: str, keeps_bools: bool = True) -> Any:
-    """The numbers as `as_ints` has them, and booleans as they are; a message says the place by `named`."""
+def as_elements(numbers: Any, named: Callable[[int], str], name: str, keeps_bools: bool = True, instead: str = "") -> Any:
+    """The numbers as `as_ints` has them, and booleans as they are; a message says the place by `named`, and `instead` of a number
+    that is not whole."""
     if type(numbers) is numpy.ndarray and numbers.ndim == 1 and numbers.flags.carray:
         if numbers.dtype == INT or keeps_bools and numbers.dtype == bool:
             return numbers
     refuse_mask(numbers, name)
     given = numpy.asarray(numbers)
-    if given.ndim != 1:
-        raise TypeError(f"{name} has {given.ndim} dimensions, and has to have one; write numpy.ravel({name})")
     if given.dtype.kind not in "biuf" and given.size:
-        raise TypeError(f"{name} has elements of {given.dtype}, which are no numbers")
+        raise TypeError(f"{name} has elements of {given.dtype}, which are no numbers; {_refused.ints(given, name)}")
+    if given.ndim != 1:
+        write = f"numpy.ravel({name})" if keeps_bools else _refused.ints(given, name)[len("write ") :]
+        raise TypeError(f"{name} has {given.ndim} dimensions, and has to have one; write {write}")
     if given.size and given.dtype.kind in "iuf" and given.dtype != INT:
-        _check(given, named)
+        _check(given, named, instead)
     is_kept = keeps_bools and given.dtype.kind == "b"
     found = numpy.ascontiguousarray(given, given.dtype if is_kept else INT)
     return found if found.flags.aligned else found.copy()
@@ -68,4 +73,5 @@ def as_ints(numbers: ArrayLike, name: str = "numbers") -> IntArray:
     Traceback (most recent call last):
     OverflowError: keys[1] is 2147483648, which does not fit 32 bits
     """
-    return as_elements(numbers, lambda place: f"{name}[{place}]", name, keeps_bools=False)
+    instead = f"; write cvl.as_ints(numpy.rint({name}))"
+    return as_elements(numbers, lambda place: f"{name}[{place}]", name, keeps_bools=False, instead=instead)

@@ -102,8 +102,8 @@ static int spread(Frame *frame) {
 }
 
 /* Takes an argument. An array of numpy's own type, as most are, is read later. */
-static int take_one(PyObject *object, const Operand *operand, int spreads, Given *given) {
-    if (!PyArray_CheckExact(object) || cvl_needs[operand->kind].flags == 0) return cvl_take(object, operand, spreads, given);
+static int take_one(PyObject *object, const Operand *operand, const Row *row, Given *given) {
+    if (!PyArray_CheckExact(object) || cvl_needs[operand->kind].flags == 0) return cvl_take(object, operand, row, given);
     given->array = (PyArrayObject *)object;
     return 0;
 }
@@ -119,9 +119,9 @@ int cvl_begin(Frame *frame, const Row *row, PyObject *const *arguments, Py_ssize
     if (bind(row, arguments, count, keywords, bound) < 0) return -1;
     if (*out == Py_None && !is_over(family)) *out = NULL;
     for (int k = 0; k < family->count; k++) {
-        if (take_one(bound[k], &family->operands[k], family->spreads, &frame->given[k]) < 0) return -1;
+        if (take_one(bound[k], &family->operands[k], row, &frame->given[k]) < 0) return -1;
     }
-    if (*out != NULL && take_one(*out, frame->out, 0, &frame->room) < 0) return -1;
+    if (*out != NULL && take_one(*out, frame->out, row, &frame->room) < 0) return -1;
     return family->spreads ? spread(frame) : 0;
 }
 

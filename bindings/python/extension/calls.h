@@ -116,6 +116,7 @@ typedef struct Family {
     int by;        /* the operand that says how long the room is */
     int spreads;   /* whether a number may stand for an array of it */
     size_t most;   /* how long the room may be at most */
+    const char *operators; /* the names of those that it takes, or nothing */
     CvlStatus (*make)(Frame *frame);
 } Family;
 
@@ -176,11 +177,14 @@ struct Frame {
 /* ---- arrays.c ---- */
 
 /* Each answers -1 if it has set an exception. */
-int cvl_take_array(PyObject *object, const Operand *operand, Given *given);
+int cvl_take_array(PyObject *object, const Operand *operand, const Row *row, Given *given);
 int cvl_learn_kinds(void);
 
 /* Whether an object is a number, and no array of one. */
 int cvl_is_number(PyObject *object);
+
+/* Whether an operand is an array that is read, and no lengths or text. */
+int cvl_is_array(const Operand *operand);
 
 /*
  * A view of the memory of an object, and where that lies, with the format of its elements; nothing with an exception. The memory stays
@@ -190,7 +194,7 @@ PyObject *cvl_view(PyObject *object, Py_buffer *found);
 
 /*
  * Reads where the elements of all arrays lie and how many there are, or -1 with an exception if one is of the wrong kind. It runs no code
- * in Python.
+ * in Python, but to say what is wrong.
  */
 int cvl_look(Frame *frame);
 
@@ -202,8 +206,18 @@ void cvl_tell_change(void);
 /* The name of an object's type as messages have it, with its module if the type is written in C; nothing with an exception. */
 PyObject *cvl_type_name(PyObject *object);
 
-/* Takes an argument; -1 with an exception. */
-int cvl_take(PyObject *object, const Operand *operand, int spreads, Given *given);
+/* Takes an argument of a call; -1 with an exception. */
+int cvl_take(PyObject *object, const Operand *operand, const Row *row, Given *given);
+
+/* ---- refused.c ---- */
+
+/* Raise that an argument is no array that its operand may be, or no operator, and what to write instead. */
+int cvl_refuse_array(PyObject *object, const Operand *operand, const Row *row);
+int cvl_refuse_operator(PyObject *object, const Operand *operand, const Row *row);
+
+/* How a call takes its arguments, as "add_sez(a, segments)"; and whether it takes so many lengths, or more. */
+PyObject *cvl_order_of(const Row *row);
+int cvl_has_order(const Row *row, int least);
 
 /* ---- results.c ---- */
 
