@@ -1,6 +1,6 @@
 # What the compiled module has beside the calls.
 
-from typing import Any, List, Optional, SupportsIndex, Tuple, Type, TypeVar
+from typing import Any, List, Optional, SupportsIndex, Tuple, Type, TypeVar, Union
 
 from cvl._kinds import IntArray
 
@@ -25,6 +25,9 @@ class Lengths:
 
 def get_threads() -> int: ...
 def set_threads(count: SupportsIndex) -> int: ...
+
+# an array of int64 in 32 bits, the place of the first number that does not fit, or None of another object
+def fitting(numbers: object) -> Union[IntArray, int, None]: ...
 
 # an array of Arrow: out of its capsules, with what holds its memory, and into new ones
 def arrow_take(schema: object, array: object) -> Tuple[Tuple[Any, ...], object]: ...

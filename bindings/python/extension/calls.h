@@ -280,6 +280,10 @@ const Operand *cvl_out_of(const Family *family);
 
 extern PyMethodDef cvl_arrow_methods[];
 
+/* ---- conversions.c ---- */
+
+extern PyMethodDef cvl_conversion_methods[];
+
 /* ---- over_ranks.c ---- */
 
 extern PyMethodDef cvl_rank_methods[];

@@ -45,6 +45,32 @@ def zeros(count, dtype):
         raise unittest.SkipTest("there is no room for long vectors here") from None
 
 
+class Column:
+    """A column as pandas has it whose numbers may be missing, where pandas is not: what numpy makes of it are objects."""
+
+    def __init__(self, items, kind):
+        self.items, self.dtype = items, type("Dtype", (), {"numpy_dtype": numpy.dtype(bool if kind == "boolean" else kind.lower())})()
+
+    def isna(self):
+        return numpy.array([item is None for item in self.items])
+
+    def to_numpy(self, dtype):
+        return numpy.array(self.items, dtype)
+
+    def __array__(self, dtype=None, copy=None):
+        return numpy.array(self.items, object)
+
+
+def columns(items, kind):
+    """Columns of these items, of which those that are None are missing: one as pandas has it, and where pandas is its own."""
+    found = [Column(items, kind)]
+    try:
+        import pandas
+    except ImportError:
+        return found
+    return [*found, pandas.Series(items, dtype=kind), pandas.array(items, dtype=kind)]
+
+
 class Limited(unittest.TestCase):
     """A test that takes longer than its limit ends the process, which tells where each thread is."""
 
@@ -480,6 +506,41 @@ class Rooms(Limited):
         ):
             with self.assertRaisesRegex(kind, said):
                 cvl.as_ints(given, "k")
+
+    def test_long_numbers_of_64_bits_as_integers(self):
+        """The first that does not fit is found wherever it stands: numbers are looked at in blocks."""
+        least, greatest = -(2**31), 2**31 - 1
+        for count in (0, 1, 1023, 1024, 1025, 5000):
+            numbers = numpy.random.default_rng(count).integers(least, greatest, count, numpy.int64, endpoint=True)
+            numbers[:2] = [least, greatest][:count]
+            for given in (numbers, numpy.repeat(numbers, 2)[::2]):
+                found = cvl.as_ints(given)
+                self.assertEqual((found.dtype, found.tolist(), found.flags.writeable), (numpy.int32, numbers.tolist(), True))
+            for place in {0, count // 2, count - 1} if count else ():
+                for wrong in (least - 1, greatest + 1, 2**32, -(2**63), 2**63 - 1):
+                    other = numbers.copy()
+                    other[[place, -1]] = wrong
+                    with self.assertRaisesRegex(OverflowError, rf"^k\[{place}\] is {wrong}, which does not fit 32 bits$"):
+                        cvl.as_ints(other, "k")
+
+    def test_columns_that_may_have_missing_numbers(self):
+        for kind, given, wanted in (("Int32", [3, 1], [3, 1]), ("Int64", [3, 1], [3, 1]), ("boolean", [True, False], [1, 0])):
+            for column in columns(given, kind):
+                found = cvl.as_ints(column)
+                self.assertEqual((found.dtype, found.tolist()), (numpy.int32, wanted))
+            for column in columns([given[0], None, given[1], None], kind):
+                with self.assertRaisesRegex(ValueError, r"^k\[1\] is missing, and has to be a number; fill in or drop what is missing$"):
+                    cvl.as_ints(column, "k")
+        for column in columns([2, 0, 1], "Int64"):
+            self.assertEqual((cvl.Segments(column).lengths.tolist(), cvl.argsort(column).tolist()), ([2, 0, 1], [1, 2, 0]))
+            with self.assertRaisesRegex(TypeError, r"write cvl\.as_ints\(a\)$"):
+                cvl.add_suz(column)
+        for column in columns([2, None], "Int64"):
+            with self.assertRaisesRegex(ValueError, r"^lengths\[1\] is missing"):
+                cvl.Segments(column)
+        for column in columns([2, 2**31], "Int64"):
+            with self.assertRaisesRegex(OverflowError, r"^numbers\[1\] is 2147483648, which does not fit 32 bits$"):
+                cvl.as_ints(column)
 
     def test_in_place(self):
         a = ints(3, 1, 4)
