@@ -673,6 +673,16 @@ bool cvl_are_flags(const bool *flags, size_t flags_len);
 /* Changes each byte that is not 0 to 1. */
 void cvl_make_flags(bool *flags, size_t flags_len);
 
+/* ---- indices of 64 bits ---- */
+
+/*
+ * Each index in 32 bits, as calls take it. One outside 32 bits becomes -1, which is no place of any vector: the call returns 10
+ * IndexOutOfRange for it, at the same place and in the same order as for any index that is out of range, unless it skips that
+ * index.
+ * Faults: 102 Overlap; 7 LengthMismatch if index and out differ in length.
+ */
+CVL_CHECKED CvlStatus cvl_narrow_index(const int64_t *index, size_t index_len, int32_t *out, size_t out_len);
+
 /* ---- descriptors: the calls on segments that take one ---- */
 
 /*

@@ -70,6 +70,12 @@ LENGTHS = (
 NAMES = [*(call.name for call in CALLS), *(length[0] for length in LENGTHS), *(direct.name for direct in DIRECT)]
 
 
+
+def is_index(operand):
+    """Whether an operand is an array that names places, which may be of 64 bits."""
+    return operand.role == "reads" and operand.use in ("index", "columns", "starts")
+
+
 # ---- descriptions ----
 
 
@@ -154,6 +160,7 @@ def _purpose(call):
         said += " It gives how many places it wrote." if call.is_range and len(call.row.rooms) > 1 else ""
         said += " out is written over, and returned." if call.over else ""
         said += " op is one of cvl.operators." if call.family.operators else ""
+    said += "".join(f" {operand.name} may be of int64." for operand in call.operands if is_index(operand))
     return said + (" A number may stand for an array of it." if _spreads(call) else "")
 
 
@@ -175,7 +182,7 @@ def _names(call):
 # ---- the compiled table ----
 
 KINDS = {
-    ("reads", "ints"): "INTS", ("reads", "flags"): "FLAGS", ("reads", "bytes"): "BYTES", ("reads", "text"): "TEXT", ("lengths", "ints"): "LENGTHS",
+    ("reads", "ints"): "INTS", ("reads", "index"): "INDEX", ("reads", "flags"): "FLAGS", ("reads", "bytes"): "BYTES", ("reads", "text"): "TEXT", ("lengths", "ints"): "LENGTHS",
     ("operator", "size"): "OPERATOR", ("value", "int"): "INT", ("value", "flag"): "FLAG", ("value", "sum"): "SUM",
     ("value", "size"): "SIZE", ("place", "int"): "WIDE", ("count", "int"): "WIDE", ("room", "ints"): "ROOM_INTS",
     ("room", "flags"): "ROOM_FLAGS", ("room", "marks"): "ROOM_MARKS", ("room", "sums"): "ROOM_SUMS",
@@ -299,8 +306,13 @@ def _families():
     return list({call.family.name: call for call in FUNCTIONS}.values())
 
 
+def kind_of(operand):
+    """How an operand is taken."""
+    return KINDS[operand.role, "index" if is_index(operand) else operand.kind]
+
+
 def _operand_row(operand):
-    return f'{{"{name_of(operand)}", KIND_{KINDS[operand.role, operand.kind]}, {_extent(operand.extent)}, NULL}}'
+    return f'{{"{name_of(operand)}", KIND_{kind_of(operand)}, {_extent(operand.extent)}, NULL}}'
 
 
 def _family_row(call):
@@ -445,7 +457,7 @@ from typing import SupportsIndex, Tuple, TypeVar, Union, overload
 
 import numpy
 
-from cvl._kinds import ByteArray, Bytes, FlagArray, Flags, IntArray, Ints, Marks, SumArray, Sums, Text
+from cvl._kinds import ByteArray, Bytes, FlagArray, Flags, Indices, IntArray, Ints, Marks, SumArray, Sums, Text
 from cvl.segments import Segments
 
 _Ints = TypeVar("_Ints", bound=Ints)
@@ -466,6 +478,8 @@ DIRECT_GIVEN = {"WRITTEN": "int", "TEXT": "str", "READ_NESTED": "Tuple[IntArray,
 def _kind(call, operand):
     if operand.role == "lengths":
         return "Union[Segments, Ints]"
+    if is_index(operand):
+        return "Indices"
     return SPREAD[operand.kind] if _spreads(call) and operand.role == "reads" else TAKEN[operand.kind]
 
 

@@ -1860,6 +1860,33 @@ static void odd_booleans(void) {
     if (memcmp(made, B(false, true, true, true), 4) != 0) fail("cvl_make_flags", "other booleans");
 }
 
+/* Indices of 64 bits: those outside 32 bits become -1, and the rest stay. */
+static void narrow_indices(void) {
+    const int64_t index[] = {3, 0, -1, INT32_MAX, INT32_MIN, (int64_t)INT32_MAX + 1, (int64_t)INT32_MIN - 1, (int64_t)1 << 32, INT64_MAX, INT64_MIN};
+    enum { COUNT = sizeof index / sizeof *index };
+    const int32_t wanted[COUNT] = {3, 0, -1, INT32_MAX, INT32_MIN, -1, -1, -1, -1, -1};
+    int64_t both[COUNT];
+    int32_t found[COUNT + 1] = {[COUNT] = 7}, before[COUNT + 1];
+    CvlStatus status = cvl_narrow_index(index, COUNT, found, COUNT);
+    if (status.number != CVL_DONE || memcmp(found, wanted, sizeof wanted) != 0 || found[COUNT] != 7) fail("cvl_narrow_index", "other indices");
+    memcpy(before, found, sizeof found);
+    for (size_t count = 0; count <= COUNT + 1; count++) {
+        status = cvl_narrow_index(index, COUNT, found, count);
+        if (count != COUNT && (status.number != CVL_LENGTH_MISMATCH || status.place != -1)) fail("cvl_narrow_index", "a room of another length");
+    }
+    status = cvl_narrow_index(NULL, 0, NULL, 0);
+    if (status.number != CVL_DONE || memcmp(before, found, sizeof found) != 0) fail("cvl_narrow_index", "no indices");
+    memcpy(both, index, sizeof index);
+    for (size_t from = 0; from < COUNT; from++) {
+        status = cvl_narrow_index(both, COUNT, (int32_t *)both + from, COUNT);
+        if (status.number != CVL_OVERLAP || memcmp(both, index, sizeof index) != 0) fail("cvl_narrow_index", "a room in the same memory");
+    }
+    /* as a call takes them, with the fault where it stands */
+    if (cvl_bck_puz(wanted, COUNT, found, before, 2).number != CVL_DONE) fail("cvl_narrow_index", "places in range");
+    status = cvl_bck_puz(wanted, COUNT, found, before, COUNT);
+    if (status.number != CVL_INDEX_OUT_OF_RANGE || status.place != 2) fail("cvl_narrow_index", "another fault");
+}
+
 /* Functions that take a boolean by value, as another language calls them, with a byte. */
 typedef CvlStatus (*Distributes)(unsigned char value, int64_t count, bool *out);
 typedef CvlStatus (*Replaces)(const bool *vector, int64_t index, unsigned char value, bool *out, size_t n);
@@ -1982,6 +2009,7 @@ int main(void) {
     long_rows();
     longer_than_a_text();
     odd_booleans();
+    narrow_indices();
     odd_booleans_by_value();
     copied_booleans();
     if (failed) return EXIT_FAILURE;

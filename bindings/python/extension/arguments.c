@@ -117,6 +117,7 @@ int cvl_take(PyObject *object, const Operand *operand, const Row *row, Given *gi
     const char *name = operand->name;
     switch (operand->kind) {
     case KIND_INTS:
+    case KIND_INDEX:
     case KIND_FLAGS:
     case KIND_BYTES:
         if (row->family->spreads && cvl_is_number(object)) return take_spread(object, operand, given);

@@ -11,6 +11,7 @@ enum { TO_READ = NPY_ARRAY_C_CONTIGUOUS | NPY_ARRAY_ALIGNED, TO_WRITE = TO_READ 
 
 const Need cvl_needs[] = {
     [KIND_INTS] = {&cvl_ints, TO_READ},
+    [KIND_INDEX] = {&cvl_ints, TO_READ},
     [KIND_FLAGS] = {&cvl_flags, TO_READ},
     [KIND_BYTES] = {&cvl_bytes, TO_READ},
     [KIND_LENGTHS] = {&cvl_ints, TO_READ},
@@ -42,7 +43,7 @@ int cvl_learn_kinds(void) {
 static int is_room(const Operand *operand) { return cvl_needs[operand->kind].flags == TO_WRITE; }
 
 int cvl_is_array(const Operand *operand) {
-    return operand->kind == KIND_INTS || operand->kind == KIND_FLAGS || operand->kind == KIND_BYTES;
+    return operand->kind == KIND_INTS || operand->kind == KIND_INDEX || operand->kind == KIND_FLAGS || operand->kind == KIND_BYTES;
 }
 
 /* How a room is made. A copy of one would be another room, so the message suggests none. */
@@ -179,9 +180,9 @@ static int look_at(Given *given, const Operand *operand, const Row *row) {
     if (array == NULL) return 0;
     const Need *need = &cvl_needs[operand->kind];
     if (need->element == NULL) return look_at_text(given, operand, row);
-    if (PyArray_NDIM(array) != 1 || !has_flags(array, need->flags) || !has_elements(array, need->element)) {
-        return refuse(array, operand, row);
-    }
+    const int is_other = !has_elements(array, need->element);
+    given->wide = is_other && operand->kind == KIND_INDEX && has_elements(array, &cvl_sums);
+    if (PyArray_NDIM(array) != 1 || !has_flags(array, need->flags) || (is_other && !given->wide)) return refuse(array, operand, row);
     given->at = PyArray_DATA(array);
     given->count = (size_t)PyArray_DIM(array, 0);
     return 0;

@@ -140,7 +140,7 @@ static int make(Frame *frame) {
     size_t much = frame->room.count;
     for (int k = 0; k < family->count; k++) much += frame->given[k].count;
     PyThreadState *state = much < MUCH ? NULL : PyEval_SaveThread();
-    frame->status = family->make(frame);
+    frame->status = cvl_make(frame);
     if (state != NULL) PyEval_RestoreThread(state);
     return 0;
 }
@@ -159,7 +159,7 @@ static void refuse(Frame *frame, int has_room) {
         if (!given->spread || given->held != NULL) continue;
         given->count += given->count == 0 || given->count > family->most ? 1 : (size_t)-1;
     }
-    const CvlStatus status = family->make(frame);
+    const CvlStatus status = cvl_make(frame);
     for (int k = 0; k < family->count; k++) frame->given[k].count = counts[k];
     const int fits = !has_room || (cvl_measure(frame, &needed) && frame->room.count == needed);
     if (status.number == CVL_DONE || (status.number == CVL_LENGTH_MISMATCH && cvl_agree(frame) && fits)) {

@@ -41,7 +41,8 @@ enum { MOST_OPERANDS = 6 };
 
 /* How an argument is taken. */
 typedef enum Kind {
-    KIND_INTS, /* arrays that are read */
+    KIND_INTS, /* arrays that are read; an index may be of 64 bits */
+    KIND_INDEX,
     KIND_FLAGS,
     KIND_BYTES, /* numbers from 0 to 255 */
     KIND_TEXT,
@@ -153,6 +154,7 @@ typedef struct Given {
     size_t count;         /* how many elements it has, or how many lengths */
     int64_t number;       /* of one value */
     int spread;           /* whether that number stands for an array */
+    int wide;             /* whether it is an index of 64 bits, once it is looked at */
     PyArrayObject *array; /* the array to look at, or nothing if no code in Python can change it */
     PyObject *held;       /* what was made to reach the memory, or nothing */
 } Given;
@@ -218,6 +220,15 @@ int cvl_refuse_operator(PyObject *object, const Operand *operand, const Row *row
 /* How a call takes its arguments, as "add_sez(a, segments)"; and whether it takes so many lengths, or more. */
 PyObject *cvl_order_of(const Row *row);
 int cvl_has_order(const Row *row, int least);
+
+/* ---- indices.c ---- */
+
+/* Calls the family of a frame whose arrays were looked at. It runs no code in Python. */
+CvlStatus cvl_make(Frame *frame);
+
+/* What memory two arguments share. */
+typedef enum Shared { SHARED_NOTHING, SHARED_PART, SHARED_ALL } Shared;
+Shared cvl_shared(const Given *a, Kind a_kind, const Given *b, Kind b_kind);
 
 /* ---- results.c ---- */
 

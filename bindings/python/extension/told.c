@@ -164,7 +164,7 @@ static int value_at(const Given *given, const Operand *operand, int64_t place, i
         return *value != INT64_MIN && *value != INT64_MAX;
     }
     if (place < 0 || (uint64_t)place >= given->count) return 0;
-    *value = ((const int32_t *)given->at)[place];
+    *value = given->wide ? ((const int64_t *)given->at)[place] : ((const int32_t *)given->at)[place];
     return 1;
 }
 
@@ -198,26 +198,12 @@ static PyObject *value_at_fault(const Frame *frame, CvlStatus status) {
     return NULL;
 }
 
-static size_t bytes_of(const Given *given, Kind kind) {
-    switch (kind) {
-    case KIND_FLAGS:
-    case KIND_ROOM_FLAGS:
-    case KIND_BYTES:
-    case KIND_ROOM_BYTES:
-    case KIND_TEXT: return given->count;
-    case KIND_ROOM_SUMS: return given->count * sizeof(int64_t);
-    default: return given->count * sizeof(int32_t);
-    }
-}
-
 /* Whether an argument shares memory with the room: all of it, which some calls allow, or a part. */
 static int shares(const Frame *frame, int k, int all) {
     const Operand *operand = &frame->row->family->operands[k];
     const Given *given = &frame->given[k];
     if (given->spread || !(cvl_is_array(operand) || operand->kind == KIND_LENGTHS || operand->kind == KIND_TEXT)) return 0;
-    const uintptr_t room = (uintptr_t)frame->room.at, at = (uintptr_t)given->at;
-    const size_t room_bytes = bytes_of(&frame->room, frame->out->kind), bytes = bytes_of(given, operand->kind);
-    return at < room + room_bytes && room < at + bytes && (at == room && bytes == room_bytes) == all;
+    return cvl_shared(given, operand->kind, &frame->room, frame->out->kind) == (all ? SHARED_ALL : SHARED_PART);
 }
 
 /* The argument that shares memory with the room, first one that shares a part, or nothing. */

@@ -460,6 +460,25 @@ class Rooms(Limited):
             cvl.add_suz(whole[:3], out=whole[1:])
         self.assertEqual((str(caught.exception), whole.tolist()), ("fault 102 Overlap: out and a share memory", [3, 1, 4, 1]))
 
+    def test_an_index_of_64_bits_is_said_as_it_is(self):
+        source, more = ints(3, 1, 4), numpy.array([0, 2**32, -(2**40)])
+        for call, said in (
+            (lambda: cvl.bck_puz(source, more), "10 IndexOutOfRange at 1: index[1] is 4294967296, and len(source) is 3"),
+            (lambda: cvl.smp_puz(source, more[[0, 2, 1]]), "10 IndexOutOfRange at 1: index[1] is -1099511627776, and the result has 3 elements"),
+            (lambda: cvl.smp_puz(source, numpy.array([1, 1, 2**32])), "11 IndexRepeated at 1: index[1] is 1"),
+            (lambda: cvl.sel_puz(source, more, flags(False, True, False)), "10 IndexOutOfRange at 1: index[1] is 4294967296, and the result has 1 elements"),
+            (lambda: cvl.counts(more, 5), "10 IndexOutOfRange at 1: index[1] is 4294967296, and the result has 5 elements"),
+            (lambda: cvl.gather_segments_int(source, more, ints(1, 0, 1)), "10 IndexOutOfRange at 1: starts[1] is 4294967296"),
+            (lambda: cvl.bck_puz(source, more, out=ints(1, 2)), "7 LengthMismatch: len(out) is 2, and has to be 3"),
+        ):
+            with self.assertRaises(cvl.Fault) as caught:
+                call()
+            self.assertEqual(str(caught.exception), f"fault {said}")
+        # an index that is not looked at may be any number
+        self.assertEqual(cvl.sel_puz(source, more, flags(True, False, False)).tolist(), [3])
+        with self.assertRaisesRegex(TypeError, r"source has elements of int64"):
+            cvl.bck_puz(more, more)
+
     def test_a_fault_says_which_value_it_is_about(self):
         a, whole = ints(3, 1, 4), ints(3, 1, 4, 1)
         lengths, columns, x = ints(1, 2), ints(0, 1, 2), ints(5, 6)
@@ -853,6 +872,10 @@ class Example:
                 yield name, {**self.arguments, name: made}
 
 
+# the names of operands that name places, which may be of 64 bits
+INDICES = ("index", "columns", "starts")
+
+
 class EachCall(Limited):
     examples = {name: Example(name) for name in cvl.calls.__all__}
 
@@ -868,8 +891,64 @@ class EachCall(Limited):
             others = (numpy.int64, numpy.int8, float, ">i4")
             for make in (*(lambda a, dtype=dtype: a.astype(dtype) for dtype in others), numpy.ndarray.tolist):
                 for changed, arguments in example.other_arguments(make):
+                    if changed in INDICES and arguments[changed] is not None and getattr(arguments[changed], "dtype", None) == numpy.int64:
+                        continue
                     with self.assertRaisesRegex(TypeError, f"^{changed} ", msg=name):
                         example.call(**arguments)
+
+    def each_index(self):
+        """Each call that takes an index, by its name there."""
+        for name, example in self.examples.items():
+            for changed in INDICES:
+                if isinstance(example.arguments.get(changed), numpy.ndarray):
+                    yield name, example, changed
+
+    def outcome(self, example, **changed):
+        """What a call gives and what stands in its rooms after it, or its fault with them."""
+        arguments = {name: given.copy() if isinstance(given, numpy.ndarray) else given for name, given in {**example.arguments, **changed}.items()}
+        rooms = [given for name, given in arguments.items() if isinstance(given, numpy.ndarray) and name in ("out", "marks")]
+        try:
+            found = example.call(**arguments)
+        except cvl.Fault as fault:
+            found = fault.number, fault.place
+        return found.tolist() if isinstance(found, numpy.ndarray) else found, [room.tolist() for room in rooms]
+
+    def test_an_index_of_64_bits_gives_what_one_of_32_bits_gives(self):
+        tried = 0
+        for name, example, changed in self.each_index():
+            index, wanted = example.arguments[changed], self.outcome(example)
+            wide = index.astype(numpy.int64)
+            for given in (wide, array.array("q", wide.tolist()), memoryview(wide)):
+                self.assertEqual(self.outcome(example, **{changed: given}), wanted, name)
+            for place in range(len(index)):
+                for number in (2**31, -(2**31) - 1, 2**32 + int(index[place]), -(2**63), 2**63 - 1):
+                    outside, other = index.copy(), wide.copy()
+                    outside[place], other[place] = -1, number
+                    self.assertEqual(self.outcome(example, **{changed: other}), self.outcome(example, **{changed: outside}), (name, place, number))
+                    tried += 1
+        self.assertGreater(tried, 500)
+
+    def test_an_index_of_64_bits_that_is_refused(self):
+        for name, example, changed in self.each_index():
+            wide = numpy.repeat(example.arguments[changed].astype(numpy.int64), 2)
+            shifted = numpy.zeros(8 * len(wide) + 1, numpy.uint8)[1:].view(numpy.int64)
+            for given in (wide[::2], shifted, wide.reshape(-1, 2), wide.astype(numpy.uint64), wide.astype(">i8")):
+                with self.assertRaisesRegex(TypeError, rf"^(the elements of )?{changed} ", msg=name):
+                    example.call(**{**example.arguments, changed: given})
+
+    def test_a_room_in_the_memory_of_an_index_of_64_bits(self):
+        for name, example, changed in self.each_index():
+            if not example.has_room or example.found.dtype != numpy.int32 or len(example.found) == 0:
+                continue
+            index = example.arguments[changed]
+            for places in (0, len(index)):
+                wide = numpy.zeros(len(index) + len(example.found), numpy.int64)
+                wide[: len(index)] = index
+                room = wide.view(numpy.int32)[places : places + len(example.found)]
+                with self.assertRaises(cvl.Fault, msg=name) as caught:
+                    example.call(**{**example.arguments, changed: wide[: len(index)], "out": room})
+                self.assertEqual((caught.exception.number, caught.exception.said), (102, f"out and {changed} share memory"))
+                self.assertEqual(wide[: len(index)].tolist(), index.tolist())
 
     def test_a_room_of_the_result(self):
         for name, example in self.examples.items():

@@ -91,6 +91,14 @@ extern "C" {
     /// Makes each byte that is not 0 a 1.
     pub fn cvl_make_flags(flags: *mut bool, flags_len: usize);
 
+    /// Each index in 32 bits, as calls take it: one outside 32 bits becomes -1, which is no place of any vector.
+    pub fn cvl_narrow_index(
+        index: *const i64,
+        index_len: usize,
+        out: *mut i32,
+        out_len: usize,
+    ) -> CvlStatus;
+
     /// Makes the descriptor of segments with these lengths. After a fault of the lengths there is none.
     pub fn cvl_segments_new(lengths: CvlLengths, segments: *mut CvlSegments) -> CvlStatus;
 
