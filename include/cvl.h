@@ -172,6 +172,16 @@ const char *cvl_build(void);
 /* The name of a status, such as "DivideByZero"; "Unknown" if no status has that number. */
 const char *cvl_fault_name(uint32_t number);
 
+/*
+ * Writes why a call is not done, as "fault 10 IndexOutOfRange at 3: index[3] is 12, and source has 8 elements". Behind the
+ * colon it says which value, lengths or arrays are at fault, if the status is what the last call of this thread that was not
+ * done returned. That was found when the call returned: your arrays may have changed since, or be gone. Calls over ranks are
+ * not among them.
+ * At most `size` bytes are written, of which the last one is 0; with a size of 0 `text` may be null. Returns how long the whole
+ * text is, without the 0: 0 for a call that is done.
+ */
+size_t cvl_explain(CvlStatus status, char *text, size_t size);
+
 /* ---- threads ---- */
 
 /*

@@ -1,5 +1,5 @@
 /* Indices of 64 bits, in 32 for the calls. */
-#include "internal.h"
+#include "explain.h"
 
 /*@ logic integer narrow_of(integer index) = INT32_MIN <= index <= INT32_MAX ? index : -1; */
 
@@ -14,8 +14,8 @@ static void narrow(const int64_t *index, int32_t *out, size_t n) {
 }
 
 CvlStatus cvl_narrow_index(const int64_t *index, size_t index_len, int32_t *out, size_t out_len) {
-    if (CVL_MEET(index, index_len, out, out_len)) return cvl_overlap();
-    if (index_len != out_len) return cvl_status(CVL_LENGTH_MISMATCH, -1);
+    if (CVL_MEET(index, index_len, out, out_len)) return cvl_keep_fault(NULL, NULL, cvl_overlap());
+    if (index_len != out_len) return cvl_keep_fault(NULL, NULL, cvl_status(CVL_LENGTH_MISMATCH, -1));
     narrow(index, out, index_len);
     return cvl_done();
 }
