@@ -91,6 +91,17 @@ OF_VERSIONS = (
         "cvl_fault_name", ('The name of a status, such as "DivideByZero"; "Unknown" if no status has that number.',),
         "const char *cvl_fault_name(uint32_t number);",
     ),
+    (
+        "cvl_explain",
+        (
+            'Writes why a call is not done, as "fault 10 IndexOutOfRange at 3: index[3] is 12, and source has 8 elements". Behind the colon it says which value, '
+            "lengths or arrays are at fault, if the status is what the last call of this thread that was not done returned. That was found when the call "
+            "returned: your arrays may have changed since, or be gone. Calls over ranks are not among them.",
+            "At most `size` bytes are written, of which the last one is 0; with a size of 0 `text` may be null. Returns how long the whole text is, without the 0: "
+            "0 for a call that is done.",
+        ),
+        "size_t cvl_explain(CvlStatus status, char *text, size_t size);",
+    ),
 )
 
 THREADS = (
@@ -124,7 +135,8 @@ OF_THREADS = (
     (
         "cvl_threads",
         (
-            "How many threads there are: what cvl_set_threads set last, else CVL_NUM_THREADS, a number from 1 to 64 in digits only, else 1. The variable is "
+            "How many threads there are: what cvl_set_threads set last, else what CVL_NUM_THREADS says, else 1. If the variable is anything but a number from 1 "
+            "to 64 in digits only, the nearest such number is taken, and 1 for what is no number; one line on standard error says so. The variable is "
             "read once, by the first call of either function or the first long call. Long calls start the threads; if one cannot be started, the number stays. "
             "It waits for no call. In the child of a fork the number is 1 until you set another; if nobody had asked before the fork, the child starts like any "
             "program.",
@@ -135,6 +147,17 @@ OF_THREADS = (
 OF_FLAGS = (
     ("cvl_are_flags", ("Whether each byte is 0 or 1.",), "bool cvl_are_flags(const bool *flags, size_t flags_len);"),
     ("cvl_make_flags", ("Changes each byte that is not 0 to 1.",), "void cvl_make_flags(bool *flags, size_t flags_len);"),
+)
+OF_INDICES = (
+    (
+        "cvl_narrow_index",
+        (
+            "Each index in 32 bits, as calls take it. One outside 32 bits becomes -1, which is no place of any vector: the call returns 10 IndexOutOfRange for it, "
+            "at the same place and in the same order as for any index that is out of range, unless it skips that index.",
+            "Faults: 102 Overlap; 7 LengthMismatch if index and out differ in length.",
+        ),
+        "CVL_CHECKED CvlStatus cvl_narrow_index(const int64_t *index, size_t index_len, int32_t *out, size_t out_len);",
+    ),
 )
 
 DESCRIPTORS = (

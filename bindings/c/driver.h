@@ -7,6 +7,7 @@
 #ifndef CVL_DRIVER_H
 #define CVL_DRIVER_H
 
+#include "explain.h"
 #include "proved.h"
 #include "rows.h"
 #include "segments.h"
@@ -325,9 +326,14 @@ CVL_HIDDEN CvlStatus cvl_on(const CvlPool *pool, const CvlRow *row, uint32_t op,
 CVL_WALKS CvlStatus cvl_call(const CvlRow *row, uint32_t op, const CvlSlot *s) {
     if (row->least != 0 && s[row->cut].number >= row->least) {
         const CvlPool *pool = cvl_take_threads();
-        if (pool != NULL) return cvl_give_threads(cvl_on(pool, row, op, s));
+        if (pool != NULL) return cvl_fault_kept(row, s, cvl_give_threads(cvl_on(pool, row, op, s)));
     }
-    return cvl_make_alone(row, op, s);
+    return cvl_fault_kept(row, s, cvl_make_alone(row, op, s));
+}
+
+/* The same by a pool of the caller's. */
+CVL_WALKS CvlStatus cvl_call_on(const CvlPool *pool, const CvlRow *row, uint32_t op, const CvlSlot *s) {
+    return cvl_fault_kept(row, s, cvl_on(pool, row, op, s));
 }
 
 /* ---- lengths that come by a descriptor ---- */
@@ -353,13 +359,13 @@ CVL_WALKS bool cvl_are_apart_from_descriptors(const CvlRow *row, const CvlSlot *
 /* Makes a call whose slots of lengths have descriptors. */
 CVL_WALKS CvlStatus cvl_call_on_segments(const CvlRow *row, uint32_t op, const CvlSlot *s) {
     CvlSlot by_lengths[CVL_MOST_OPERANDS];
-    if (!cvl_are_apart_from_descriptors(row, s)) return cvl_overlap();
+    if (!cvl_are_apart_from_descriptors(row, s)) return cvl_keep_fault(NULL, NULL, cvl_overlap());
     CVL_UNROLLED
     for (size_t k = 0; k < row->operands; k++) {
         const CvlSegments *const segments = s[k].at;
         by_lengths[k] = s[k];
         if (!cvl_is_cut_by(row, k)) continue;
-        if (!cvl_is_made(segments)) return cvl_status(CVL_NO_DESCRIPTOR, -1);
+        if (!cvl_is_made(segments)) return cvl_keep_fault(NULL, NULL, cvl_status(CVL_NO_DESCRIPTOR, -1));
         by_lengths[k].at = segments->lengths, by_lengths[k].number = segments->segments;
     }
     return cvl_call(row, op, by_lengths);

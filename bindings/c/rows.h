@@ -122,6 +122,10 @@ struct CvlRow {
     const CvlStepRow *step;   /* its steps, in order, */
     size_t steps;             /* and how many, where cvl_steps_in_parts runs them */
     const CvlRow *by_lengths; /* of rows that come by offsets: the family of rows that come by lengths */
+    const char *const *names; /* of its operands */
+    uint32_t tells;           /* a bit for each fault whose place counts in an operand, or that is about a number: */
+    unsigned char about;      /* that operand, */
+    unsigned char into;       /* and the one into which its indices lead, or CVL_MOST_OPERANDS */
 };
 
 /* The operands of a call. */

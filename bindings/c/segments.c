@@ -1,4 +1,5 @@
 /* Descriptors, the version, and which build this is. */
+#include "explain.h"
 #include "proved.h"
 #include "segments.h"
 
@@ -23,6 +24,9 @@ static void put(CvlSegments *segments, CvlLengths lengths, bool some) {
 
 static const CvlLengths none = {NULL, 0};
 
+/* A fault of which nothing more can be said than its name. */
+static CvlStatus unexplained(CvlStatus status) { return cvl_fault_kept(NULL, NULL, status); }
+
 CvlStatus cvl_segments_free(CvlSegments *segments) {
     if (segments != NULL) put(segments, none, 0);
     return cvl_done();
@@ -30,9 +34,9 @@ CvlStatus cvl_segments_free(CvlSegments *segments) {
 
 CvlStatus cvl_segments_new(CvlLengths lengths, CvlSegments *segments) {
     size_t total;
-    if (segments != NULL && CVL_MEET(segments, 1, lengths.lengths, lengths.segments)) return cvl_overlap();
+    if (segments != NULL && CVL_MEET(segments, 1, lengths.lengths, lengths.segments)) return unexplained(cvl_overlap());
     const CvlStatus status = cvl_make_descriptor(lengths, &total);
-    if (segments == NULL) return status.number == CVL_DONE ? cvl_status(CVL_NO_DESCRIPTOR, -1) : status;
+    if (segments == NULL) return status.number == CVL_DONE ? unexplained(cvl_status(CVL_NO_DESCRIPTOR, -1)) : status;
     if (status.number == CVL_DONE) put(segments, lengths, 1);
     else put(segments, none, 0);
     return status;
@@ -68,13 +72,14 @@ int32_t *cvl_lengths_between(const int32_t *offsets, size_t offsets_len) {
 CvlStatus cvl_segments_from_offsets(const int32_t *offsets, size_t offsets_len, int32_t *lengths, size_t lengths_len,
                                     CvlSegments *segments) {
     const CvlLengths made = {lengths, lengths_len};
-    if (CVL_MEET(lengths, lengths_len, offsets, offsets_len)) return cvl_overlap();
+    if (CVL_MEET(lengths, lengths_len, offsets, offsets_len)) return unexplained(cvl_overlap());
     if (segments != NULL && (CVL_MEET(segments, 1, offsets, offsets_len) || CVL_MEET(segments, 1, lengths, lengths_len))) {
-        return cvl_overlap();
+        return unexplained(cvl_overlap());
     }
     CvlStatus status = cvl_offsets_told(offsets, offsets_len);
     if (status.number == CVL_DONE && lengths_len != offsets_len - 1) status = cvl_status(CVL_LENGTH_MISMATCH, -1);
-    if (segments == NULL) return status.number == CVL_DONE ? cvl_status(CVL_NO_DESCRIPTOR, -1) : status;
+    status = unexplained(status);
+    if (segments == NULL) return status.number == CVL_DONE ? unexplained(cvl_status(CVL_NO_DESCRIPTOR, -1)) : status;
     if (status.number == CVL_DONE) {
         status = cvl_int2(CVL_SUB, offsets + 1, lengths_len, offsets, lengths_len, lengths, lengths_len);
     }
@@ -84,18 +89,18 @@ CvlStatus cvl_segments_from_offsets(const int32_t *offsets, size_t offsets_len, 
 }
 
 CvlStatus cvl_segments_total(const CvlSegments *segments, size_t *total) {
-    if (CVL_MEET(total, 1, segments, 1)) return cvl_overlap();
-    if (!cvl_is_made(segments)) return cvl_status(CVL_NO_DESCRIPTOR, -1);
+    if (CVL_MEET(total, 1, segments, 1)) return unexplained(cvl_overlap());
+    if (!cvl_is_made(segments)) return unexplained(cvl_status(CVL_NO_DESCRIPTOR, -1));
     return cvl_make_descriptor(cvl_lengths_of(segments), total);
 }
 
 /* The lengths of a descriptor and their total, if the room shares memory with neither; or the first fault. */
 static CvlStatus lengths_told(const CvlSegments *segments, const int32_t *out, size_t out_len, CvlLengths *lengths,
                               size_t *total) {
-    if (CVL_MEET(out, out_len, segments, 1)) return cvl_overlap();
-    if (!cvl_is_made(segments)) return cvl_status(CVL_NO_DESCRIPTOR, -1);
+    if (CVL_MEET(out, out_len, segments, 1)) return unexplained(cvl_overlap());
+    if (!cvl_is_made(segments)) return unexplained(cvl_status(CVL_NO_DESCRIPTOR, -1));
     *lengths = cvl_lengths_of(segments);
-    if (CVL_MEET(out, out_len, lengths->lengths, lengths->segments)) return cvl_overlap();
+    if (CVL_MEET(out, out_len, lengths->lengths, lengths->segments)) return unexplained(cvl_overlap());
     return cvl_make_descriptor(*lengths, total);
 }
 
@@ -103,7 +108,7 @@ CvlStatus cvl_segments_offsets(const CvlSegments *segments, int32_t *out, size_t
     CvlLengths lengths;
     size_t total;
     CvlStatus status = lengths_told(segments, out, out_len, &lengths, &total);
-    if (status.number == CVL_DONE && out_len != lengths.segments + 1) status = cvl_status(CVL_LENGTH_MISMATCH, -1);
+    if (status.number == CVL_DONE && out_len != lengths.segments + 1) status = unexplained(cvl_status(CVL_LENGTH_MISMATCH, -1));
     if (status.number == CVL_DONE) status = cvl_int_scan(CVL_ADD, lengths.lengths, lengths.segments, out, lengths.segments);
     if (status.number == CVL_DONE) out[lengths.segments] = (int32_t)total;
     return status;
@@ -113,10 +118,10 @@ CvlStatus cvl_segments_numbers(const CvlSegments *segments, int32_t *out, size_t
     CvlLengths lengths;
     size_t total;
     CvlStatus status = lengths_told(segments, out, out_len, &lengths, &total);
-    if (status.number == CVL_DONE && out_len != total) status = cvl_status(CVL_LENGTH_MISMATCH, -1);
+    if (status.number == CVL_DONE && out_len != total) status = unexplained(cvl_status(CVL_LENGTH_MISMATCH, -1));
     if (status.number != CVL_DONE || total == 0) return status;
     int32_t *numbers = malloc(lengths.segments * sizeof *numbers);
-    if (numbers == NULL) return cvl_status(CVL_NO_RESOURCES, -1);
+    if (numbers == NULL) return unexplained(cvl_status(CVL_NO_RESOURCES, -1));
     status = cvl_index(0, 1, (int64_t)lengths.segments, numbers, lengths.segments);
     if (status.number == CVL_DONE) status = cvl_seg_distribute_int(numbers, lengths.segments, lengths, out, out_len);
     free(numbers);

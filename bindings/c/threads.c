@@ -10,6 +10,7 @@
 #include <pthread.h>
 #include <stdatomic.h>
 #include <time.h>
+#include <unistd.h>
 
 /* The parts of the word: how many threads there are, whether somebody has them, how many wait to set a number, and the process. */
 enum { COUNT = 0x7f, TAKEN = 0x80, WAITER = 0x100, WAITING = 0xff00 };
@@ -56,11 +57,13 @@ static int start(size_t count) {
     return 0;
 }
 
-/* A number from 1 to 64 in digits alone, else 1. */
+/* ---- the variable ---- */
+
+/* A number from 1 to 64 in digits alone, else 0. */
 /*@ requires valid_read_string(text) && strlen(text) < SIZE_MAX;
     assigns \nothing;
     ensures is_number(text, strlen(text)) && 1 <= number_in(text, strlen(text)) <= CVL_MOST_PARTS ?
-      \result == number_in(text, strlen(text)) : \result == 1; */
+      \result == number_in(text, strlen(text)) : \result == 0; */
 static size_t number_of(const char *text) {
     size_t count = 0, k = 0;
     /*@ loop invariant 0 <= k <= strlen(text) && is_number(text, k);
@@ -71,22 +74,63 @@ static size_t number_of(const char *text) {
     for (; text[k] >= '0' && text[k] <= '9'; k++) {
         if (count <= CVL_MOST_PARTS) count = count * 10 + (size_t)(text[k] - '0');
     }
-    return text[k] != 0 || count == 0 || count > CVL_MOST_PARTS ? 1 : count;
+    return text[k] != 0 || count > CVL_MOST_PARTS ? 0 : count;
 }
 
-/* What the variable says. */
-static size_t asked_for(void) {
-    const char *text = getenv("CVL_NUM_THREADS");
-    return text == NULL ? 1 : number_of(text);
+/* The nearest number from 1 to 64 to one that may have blanks around it and a sign; 1 for what is no number. */
+static size_t nearest(const char *text) {
+    size_t count = 0;
+    text += strspn(text, " \t");
+    const bool is_below = *text == '-';
+    text += is_below || *text == '+';
+    for (; *text >= '0' && *text <= '9'; text++) {
+        if (count <= CVL_MOST_PARTS) count = count * 10 + (size_t)(*text - '0');
+    }
+    text += strspn(text, " \t");
+    if (*text != 0 || is_below || count == 0) return 1;
+    return count > CVL_MOST_PARTS ? CVL_MOST_PARTS : count;
 }
 
-/* The word: the first that asks for it reads the variable. A call starts the threads that it asks for. */
+/* How much of the variable is shown, and how long the line is at most. */
+enum { SHOWN = 24, LINE = 160 };
+
+/* Appends at most so many bytes of a text to a line, and answers how long that is. No control byte reaches a terminal. */
+static size_t put(char *line, size_t length, const char *text, size_t most) {
+    for (size_t k = 0; k < most && text[k] != 0; k++) line[length++] = text[k] >= ' ' && text[k] <= '~' ? text[k] : '?';
+    return length;
+}
+
+/* Says on standard error that the variable is no number of threads, and which one is taken. */
+static void warn(const char *text, size_t count) {
+    char line[LINE];
+    int cancels;
+    const int before = errno;
+    size_t length = put(line, 0, "cvl: CVL_NUM_THREADS is \"", LINE);
+    length = put(line, length, text, SHOWN);
+    length = put(line, length, strnlen(text, SHOWN + 1) > SHOWN ? ".." : "", LINE);
+    length = put(line, length, "\", and has to be a number from 1 to 64; calls have ", LINE);
+    if (count > 9) line[length++] = (char)('0' + count / 10);
+    line[length++] = (char)('0' + count % 10);
+    length = put(line, length, count == 1 ? " thread" : " threads", LINE);
+    line[length++] = '\n';
+    /* a call is no place to be cancelled, and nobody can be told that there is no standard error */
+    pthread_setcancelstate(PTHREAD_CANCEL_DISABLE, &cancels);
+    if (write(STDERR_FILENO, line, length) < 0) errno = before;
+    pthread_setcancelstate(cancels, &cancels);
+}
+
+/* The word: the first that asks for it reads the variable, and warns of it. A call starts the threads that it asks for. */
 static uint64_t asked(void) {
     const uint64_t seen = look();
     if (seen != 0) return seen;
-    change(0, cvl_process() | asked_for());
+    const char *const text = getenv("CVL_NUM_THREADS");
+    const bool is_set = text != NULL && *text != 0;
+    const size_t plain = is_set ? number_of(text) : 1, count = plain != 0 ? plain : nearest(text);
+    if (change(0, cvl_process() | count) && plain == 0) warn(text, count);
     return look();
 }
+
+/* ---- how many there are ---- */
 
 /* How many threads a word says that there are here. */
 static size_t count_here(uint64_t seen) { return is_here(seen) ? count_of(seen) : 1; }

@@ -192,6 +192,7 @@ def header(template):
             "threads": comment(*spaced(about.THREADS)),
             "of_threads": declared(about.OF_THREADS),
             "of_flags": declared(about.OF_FLAGS),
+            "of_indices": declared(about.OF_INDICES),
             "descriptors": comment(*spaced(about.DESCRIPTORS)),
             "of_descriptors": declared(about.OF_DESCRIPTORS),
             "statuses": statuses(),
@@ -292,7 +293,7 @@ def size_of(row, operand):
 
 def public():
     """`bindings/c/public`: each name of the headers, one a line."""
-    named = [name for functions in (about.OF_VERSIONS, about.OF_THREADS, about.OF_FLAGS, about.OF_DESCRIPTORS) for name, _, _ in functions]
+    named = [name for functions in (about.OF_VERSIONS, about.OF_THREADS, about.OF_FLAGS, about.OF_INDICES, about.OF_DESCRIPTORS) for name, _, _ in functions]
     named += ["cvl_pool_alone", "cvl_pool_posix", "cvl_threads_start", "cvl_threads_stop"]
     named += [f"cvl_{row.name}" for row in [*rows.FAMILIES.values(), *rows.CALLS]]
     named += [f"cvl_{row.name}_on" for row in [*rows.FAMILIES.values(), *rows.CALLS] if row.family.cut is not None]

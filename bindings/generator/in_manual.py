@@ -234,7 +234,7 @@ def _overview():
         ".SH DESCRIPTION", *_first(_paragraphs([*INTRODUCTION, *_shared()])),
         ".SH CALLS", *_first(_paragraphs(CALLS)), *_list_of_pages(),
         ".SH CALLS IN PARTS", *_first(_paragraphs(PARTS)),
-        ".SH OTHER FUNCTIONS", *list(_without_rows([*about.OF_VERSIONS, *about.OF_FLAGS])),
+        ".SH OTHER FUNCTIONS", *list(_without_rows([*about.OF_VERSIONS, *about.OF_FLAGS, *about.OF_INDICES])),
         ".SH RETURN VALUE",
         "A CvlStatus has the number of the outcome,", "and the place of a fault, counted from 0, or \\-1.",
         "The numbers, with their constants and the names that cvl_fault_name gives, are", *_statuses(),
@@ -256,7 +256,7 @@ def _list_of_pages():
 def pages():
     """Each page of the manual, and for each other name of it a file that leads there, by their paths."""
     found = {"cvl": _overview(), **{name: _page_of(*said) for name, said in OTHERS.items()}}
-    leads = {name: "cvl" for functions in (about.OF_VERSIONS, about.OF_FLAGS) for name, *_ in functions}
+    leads = {name: "cvl" for functions in (about.OF_VERSIONS, about.OF_FLAGS, about.OF_INDICES) for name, *_ in functions}
     for name, (functions, *_) in OTHERS.items():
         leads.update({other: name for other, *_ in functions if other != name})
     for _, said, entries in _sections():

@@ -72,6 +72,12 @@ LENGTHS = (
 NAMES = [*(call.name for call in CALLS), *(length[0] for length in LENGTHS), *(direct.name for direct in DIRECT)]
 
 
+
+def is_index(operand):
+    """Whether an operand is an array that names places, which may be of 64 bits."""
+    return operand.role == "reads" and operand.use in ("index", "columns", "starts")
+
+
 # ---- descriptions ----
 
 
@@ -156,6 +162,7 @@ def _purpose(call):
         said += " It gives how many places it wrote." if call.is_range and len(call.row.rooms) > 1 else ""
         said += " out is written over, and returned." if call.over else ""
         said += " op is one of cvl.operators." if call.family.operators else ""
+    said += "".join(f" {operand.name} may be of int64." for operand in call.operands if is_index(operand))
     return said + (" A number may stand for an array of it." if _spreads(call) else "")
 
 
@@ -177,7 +184,7 @@ def _names(call):
 # ---- the compiled table ----
 
 KINDS = {
-    ("reads", "ints"): "INTS", ("reads", "flags"): "FLAGS", ("reads", "bytes"): "BYTES", ("reads", "text"): "TEXT", ("lengths", "ints"): "LENGTHS",
+    ("reads", "ints"): "INTS", ("reads", "index"): "INDEX", ("reads", "flags"): "FLAGS", ("reads", "bytes"): "BYTES", ("reads", "text"): "TEXT", ("lengths", "ints"): "LENGTHS",
     ("operator", "size"): "OPERATOR", ("value", "int"): "INT", ("value", "flag"): "FLAG", ("value", "sum"): "SUM",
     ("value", "size"): "SIZE", ("place", "int"): "WIDE", ("count", "int"): "WIDE", ("room", "ints"): "ROOM_INTS",
     ("room", "flags"): "ROOM_FLAGS", ("room", "marks"): "ROOM_MARKS", ("room", "sums"): "ROOM_SUMS",
@@ -301,22 +308,28 @@ def _families():
     return list({call.family.name: call for call in FUNCTIONS}.values())
 
 
+def kind_of(operand):
+    """How an operand is taken."""
+    return KINDS[operand.role, "index" if is_index(operand) else operand.kind]
+
+
 def _operand_row(operand):
-    return f'{{"{name_of(operand)}", KIND_{KINDS[operand.role, operand.kind]}, {_extent(operand.extent)}, NULL}}'
+    return f'{{"{name_of(operand)}", KIND_{kind_of(operand)}, {_extent(operand.extent)}, NULL}}'
 
 
 def _family_row(call):
     operands = ", ".join(map(_operand_row, call.operands))
     make = "NULL" if call.makes_segments else f"make_{call.family.name}"
     room = f"{_extent(_room_extent(call) or '')}, {_measured_by(call)}"
-    rest = f"GIVES_{_gives(call)}, {room}, {int(_spreads(call))}, {_most(call)}, {make}"
+    names = _quoted(",".join(call.family.operators)) if isinstance(call, Direct) and call.family.operators else "NULL"
+    rest = f"GIVES_{_gives(call)}, {room}, {int(_spreads(call))}, {_most(call)}, {names}, {make}"
     return _filled(f"[FAMILY_{call.family.name.upper()}] = {{{len(call.operands)}, {{{operands}}}, {rest}}},")
 
 
 def _length_row(length):
     function, name, kind, gives, *_ = length
     extent, make = ("EXTENT_TOTAL", "make_lengths") if kind == "LENGTHS" else ("EXTENT_N", "make_length")
-    row = f'{{1, {{{{"{name}", KIND_{kind}, {extent}, NULL}}}}, GIVES_{gives}, EXTENT_NONE, 0, 0, SIZE_MAX, {make}}}'
+    row = f'{{1, {{{{"{name}", KIND_{kind}, {extent}, NULL}}}}, GIVES_{gives}, EXTENT_NONE, 0, 0, SIZE_MAX, NULL, {make}}}'
     return _filled(f"[FAMILY_{function.upper()}] = {row},")
 
 
@@ -413,6 +426,25 @@ def faults():
     return "\n".join(['"""The numbers of faults, as `fault.number` has them.', "", f'{rows.NOTE}\n"""', "", *lines, ""])
 
 
+def _twin(call):
+    """The same call of booleans or of integers, and the operands of which it takes the other kind."""
+    found = [
+        other for other in FUNCTIONS
+        if other.family.general == call.family.general and other.family is not call.family and other.row.operator == call.row.operator
+    ]  # fmt: skip
+    if len(found) != 1:
+        return None
+    names = [name_of(one) for one, other in zip(call.operands, found[0].operands) if one.role == "reads" and one.kind != other.kind]
+    return found[0].name, tuple(names)
+
+
+def twins():
+    """`bindings/python/cvl/_twins.py`."""
+    found = {call.name: _twin(call) for call in FUNCTIONS}
+    said = '"""The same call of booleans or of integers, and the operands of which it takes the other kind.'
+    return "\n".join([said, "", f'{rows.NOTE}\n"""', "", "TWINS = {", *(f"    {name!r}: {twin!r}," for name, twin in found.items() if twin and twin[1]), "}", ""])
+
+
 def operators():
     """`bindings/python/cvl/operators.py`."""
     lines = [f"{operator.name} = {operator.number}  # {operator.sentence}" for operator in table.OPERATORS]
@@ -427,7 +459,7 @@ from typing import SupportsIndex, Tuple, TypeVar, Union, overload
 
 import numpy
 
-from cvl._kinds import ByteArray, Bytes, FlagArray, Flags, IntArray, Ints, Marks, SumArray, Sums, Text
+from cvl._kinds import ByteArray, Bytes, FlagArray, Flags, Indices, IntArray, Ints, Marks, SumArray, Sums, Text
 from cvl.segments import Segments
 
 _Ints = TypeVar("_Ints", bound=Ints)
@@ -448,6 +480,8 @@ DIRECT_GIVEN = {"WRITTEN": "int", "TEXT": "str", "READ_NESTED": "Tuple[IntArray,
 def _kind(call, operand):
     if operand.role == "lengths":
         return "Union[Segments, Ints]"
+    if is_index(operand):
+        return "Indices"
     return SPREAD[operand.kind] if _spreads(call) and operand.role == "reads" else TAKEN[operand.kind]
 
 

@@ -20,7 +20,7 @@ def _operand(row, operand):
         return (operand.name, "over", operand.kind, operand.extent)
     if operand.role in ("room", "single", "told"):
         return (operand.name, "room" if operand.role == "room" else "one", operand.kind, operand.extent)
-    return (operand.name, "takes", in_python.KINDS[operand.role, operand.kind].lower(), operand.extent)
+    return (operand.name, "takes", in_python.kind_of(operand).lower(), operand.extent)
 
 
 def _gives(row):

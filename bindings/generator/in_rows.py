@@ -162,6 +162,17 @@ class Family:
         return [found.number for found in table.OPERATORS if found.name in self.family.operators and found.fault]
 
     @property
+    def about(self):
+        """The faults of elements whose place counts in an operand, the place of that operand, and of the one into which its indices lead."""
+        operators = [found.fault for found in table.OPERATORS if found.name in self.family.operators and found.fault]
+        found = [fault for fault in (*self.family.faults, *operators) if fault.about and OF_ELEMENTS & set(fault.numbers)]
+        if len({(fault.about, fault.into) for fault in found}) > 1:
+            raise ValueError(f"{self.name} has faults about several operands")
+        tells = sorted({number for fault in found for number in fault.numbers})
+        about, into = (found[0].about, found[0].into) if found else (None, None)
+        return tells, self.place(lambda o: o.name == about), self.place(lambda o: o.name == into)
+
+    @property
     def is_asked(self):
         """Whether what the export tells last has to be told before."""
         return not self.reads_text and bool(self.family.asks or any(o.copied for o in self.operands) or (self.faulty and self.room))
@@ -225,6 +236,9 @@ def row_of(found):
         lines.append(f".operators = {bits_of(numbers)},")
     if found.faulty:
         lines.append(f".faulty = {'1' if found.faulty == [0] else bits_of(found.faulty)},")
+    tells, about, into = found.about
+    said = f".names = {found.name}_names, .into = {'CVL_MOST_OPERANDS' if into is None else into},"
+    lines.append(said + (f" .about = {about}, .tells = {' | '.join(f'1u << {number}' for number in tells)}," if tells else ""))
     if found.is_cut:
         least = f"CVL_{table.CUTS[found.cut].least}"
         each = f"{least.removesuffix('_SHARED')}_EACH"
@@ -237,7 +251,8 @@ def row_of(found):
     if found.steps:
         made += f", .step = {found.name}_steps, .steps = {len(found.steps)}"
     static = "" if found.name in table.STEP_FAMILIES else "static "
-    head = f"{static}const CvlRow cvl_{found.name}_row = {{\n    .operand = {{"
+    names = f"static const char *const {found.name}_names[] = {{{', '.join(kept(chr(34) + o.name + chr(34)) for o in found.operands)}}};"
+    head = f"{wrapped(names)}\n{static}const CvlRow cvl_{found.name}_row = {{\n    .operand = {{"
     return "\n".join([head, *(operand_row(found, k) for k in range(len(found.operands))), "    },", *(indented(f"{line}") for line in [*lines, made + ","]), "};"])
 
 
@@ -338,7 +353,7 @@ def function(row):
 def function_on(row):
     """The same with a pool."""
     head = f"CvlStatus cvl_{row.name}_on({in_c.POOL}, {parameters(row.arguments)})"
-    return handing(head, f"cvl_on(pool, &cvl_{row.family.name}_row, {operator_of(row)}", [slot(row, o) for o in row.operands])
+    return handing(head, f"cvl_call_on(pool, &cvl_{row.family.name}_row, {operator_of(row)}", [slot(row, o) for o in row.operands])
 
 
 def segments_function(row):

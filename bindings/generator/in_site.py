@@ -248,7 +248,8 @@ def shared_pages():
     families = [(f"cvl_{in_c.segments_name(row)}", (row.family.sentence,), in_c.segments_declaration(row)) for row in in_c.on_segments()]
     pages = {
         "all-calls": ("What all calls share", [_shown(about.ABOUT[2:]), "## Types and numbers", *_constants(), "## The version, and the names of faults",
-                                               *_functions(about.OF_VERSIONS), "## Booleans that are neither 0 nor 1", *_functions(about.OF_FLAGS)]),
+                                               *_functions(about.OF_VERSIONS), "## Booleans that are neither 0 nor 1", *_functions(about.OF_FLAGS),
+                                               "## Indices of 64 bits", *_functions(about.OF_INDICES)]),
         "threads": ("Threads", [_shown(about.THREADS), "## Functions", *_functions(about.OF_THREADS), "[Calls in parts](../parallel.md) has pools of your own."]),
         "descriptors-in-c": ("Descriptors in C", [_shown(about.DESCRIPTORS), _code("C", about.SEGMENTS_TYPE), "## Functions", *_functions((*about.OF_DESCRIPTORS, *families))]),
     }  # fmt: skip

@@ -65,7 +65,7 @@ LINK = re.compile(r"(!?\[[^]]*\]\([^)]*\))")
 def _calls():
     """The name of each call, under which its page is found, as pages have it: in a script, and in C."""
     names = [name for _, _, found in (*reference.of_scripts(), *reference.beside()) for entry in found for name in entry.calls]
-    others = [name.removeprefix("cvl_") for found in (about.OF_VERSIONS, about.OF_FLAGS, about.OF_THREADS, about.OF_DESCRIPTORS) for name, *_ in found]
+    others = [name.removeprefix("cvl_") for found in (about.OF_VERSIONS, about.OF_FLAGS, about.OF_INDICES, about.OF_THREADS, about.OF_DESCRIPTORS) for name, *_ in found]
     in_c = {f"cvl_{name}": f"{{call}}`cvl_{name} <{name}>`" for name in (*names, *others)}
     return {**{name: f"{{call}}`{name}`" for name in names if "_" in name}, **in_c}
 

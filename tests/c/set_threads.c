@@ -15,6 +15,8 @@ enum { LEAST = 1, LEAST_READ = 1, LEAST_WRITTEN = 1 };
 #endif
 enum { LONG = 2 * LEAST + 600, THREADS = 4, ROUNDS = 60 };
 
+#include <fcntl.h>
+
 #include "arguments.h"
 #include "held.h"
 
@@ -53,6 +55,13 @@ static void refused(void) {
 
 /* ---- the variable, in children that nobody has asked before ---- */
 
+/* A warning that nobody has to read. */
+static void silence(void) {
+    const int nowhere = open("/dev/null", O_WRONLY);
+    if (nowhere < 0 || dup2(nowhere, STDERR_FILENO) < 0) abort();
+    close(nowhere);
+}
+
 static void put_variable(const char *text) {
     if (text == NULL) unsetenv("CVL_NUM_THREADS");
     else setenv("CVL_NUM_THREADS", text, 1);
@@ -60,6 +69,7 @@ static void put_variable(const char *text) {
 
 /* The number by a word; and then by others, which nobody reads. */
 static int number_by(const char *text) {
+    silence();
     put_variable(text);
     const size_t count = cvl_threads();
     put_variable("7");
@@ -69,11 +79,45 @@ static int number_by(const char *text) {
 
 /* The same where a call asks first. */
 static int number_by_call(const char *text) {
+    silence();
     put_variable(text);
     const bool right = scans();
     put_variable("7");
     return right ? (int)cvl_threads() : 100;
 }
+
+/* What is said of a word on standard error, once; nothing of a number, or of an empty one. */
+static const struct {
+    const char *text, *said;
+} warnings[] = {
+    {"4", ""}, {"064", ""}, {"", ""},
+    {"65", "cvl: CVL_NUM_THREADS is \"65\", and has to be a number from 1 to 64; calls have 64 threads\n"},
+    {" 4", "cvl: CVL_NUM_THREADS is \" 4\", and has to be a number from 1 to 64; calls have 4 threads\n"},
+    {"abc", "cvl: CVL_NUM_THREADS is \"abc\", and has to be a number from 1 to 64; calls have 1 thread\n"},
+    {"0", "cvl: CVL_NUM_THREADS is \"0\", and has to be a number from 1 to 64; calls have 1 thread\n"},
+    {"\033[7m\n\377", "cvl: CVL_NUM_THREADS is \"?[7m??\", and has to be a number from 1 to 64; calls have 1 thread\n"},
+    {"100000000000000000000000", "cvl: CVL_NUM_THREADS is \"100000000000000000000000\", and has to be a number from 1 to 64; calls have 64 threads\n"},
+    {"1000000000000000000000001", "cvl: CVL_NUM_THREADS is \"100000000000000000000000..\", and has to be a number from 1 to 64; calls have 64 threads\n"},
+};
+
+/* Whether a word has what stands in the table said, and no more, while something asks for the number several times. */
+static int is_warned(const char *text, void (*ask)(void)) {
+    char said[256];
+    size_t k = 0;
+    int ends[2];
+    if (pipe(ends) != 0 || dup2(ends[1], STDERR_FILENO) < 0) return 0;
+    put(text);
+    for (int times = 0; times < 3; times++) ask();
+    close(ends[1]), close(STDERR_FILENO);
+    const ssize_t length = read(ends[0], said, sizeof said);
+    while (strcmp(warnings[k].text, text) != 0) k++;
+    return length == (ssize_t)strlen(warnings[k].said) && memcmp(said, warnings[k].said, (size_t)length) == 0;
+}
+
+static void ask_number(void) { (void)cvl_threads(); }
+static void ask_by_call(void) { (void)scans(); }
+static int warned_once(const char *text) { return is_warned(text, ask_number); }
+static int warned_by_call(const char *text) { return is_warned(text, ask_by_call); }
 
 static int set_before(const char *text) {
     put_variable(text);
@@ -116,11 +160,14 @@ static void variable(void) {
     static const struct {
         const char *text;
         int count;
-    } words[] = {{NULL, 1}, {"", 1}, {"1", 1}, {"4", 4}, {"004", 4}, {"64", 64}, {"65", 1}, {"0", 1}, {"-1", 1}, {"+4", 1}, {" 4", 1}, {"4 ", 1}, {"4x", 1},
-                 {"four", 1}, {"4294967300", 1}, {"18446744073709551620", 1}};
+    } words[] = {{NULL, 1}, {"", 1}, {"1", 1}, {"4", 4}, {"004", 4}, {"64", 64}, {"65", 64}, {"0", 1}, {"-1", 1}, {"-4", 1}, {"+4", 4}, {" 4", 4},
+                 {"4\t ", 4}, {"4x", 1}, {"4 4", 1}, {" ", 1}, {"+", 1}, {"four", 1}, {"4294967300", 64}, {"18446744073709551620", 64}};
     for (size_t k = 0; k < sizeof words / sizeof *words; k++) {
         check(words[k].text == NULL ? "no variable" : words[k].text, in_a_child(number_by, words[k].text) == words[k].count);
         check("a call reads another variable", in_a_child(number_by_call, words[k].text) == words[k].count);
+    }
+    for (size_t k = 0; k < sizeof warnings / sizeof *warnings; k++) {
+        check(warnings[k].text, in_a_child(warned_once, warnings[k].text) == 1 && in_a_child(warned_by_call, warnings[k].text) == 1);
     }
     check("the variable is read after a number was set", in_a_child(set_before, "4") == 2);
     check("a thread that can't be started changes the number, or a result", in_a_child(none_starts, "4") == 4);

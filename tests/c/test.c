@@ -6,6 +6,7 @@
 #define CVL_SHORT_NAMES
 #include "cvl.h"
 
+#include <pthread.h>
 #include <stdio.h>
 #include <stdlib.h>
 #include <string.h>
@@ -1897,6 +1898,93 @@ static void odd_booleans(void) {
     if (memcmp(made, B(false, true, true, true), 4) != 0) fail("cvl_make_flags", "other booleans");
 }
 
+/* Indices of 64 bits: those outside 32 bits become -1, and the rest stay. */
+static void narrow_indices(void) {
+    const int64_t index[] = {3, 0, -1, INT32_MAX, INT32_MIN, (int64_t)INT32_MAX + 1, (int64_t)INT32_MIN - 1, (int64_t)1 << 32, INT64_MAX, INT64_MIN};
+    enum { COUNT = sizeof index / sizeof *index };
+    const int32_t wanted[COUNT] = {3, 0, -1, INT32_MAX, INT32_MIN, -1, -1, -1, -1, -1};
+    int64_t both[COUNT];
+    int32_t found[COUNT + 1] = {[COUNT] = 7}, before[COUNT + 1];
+    CvlStatus status = cvl_narrow_index(index, COUNT, found, COUNT);
+    if (status.number != CVL_DONE || memcmp(found, wanted, sizeof wanted) != 0 || found[COUNT] != 7) fail("cvl_narrow_index", "other indices");
+    memcpy(before, found, sizeof found);
+    for (size_t count = 0; count <= COUNT + 1; count++) {
+        status = cvl_narrow_index(index, COUNT, found, count);
+        if (count != COUNT && (status.number != CVL_LENGTH_MISMATCH || status.place != -1)) fail("cvl_narrow_index", "a room of another length");
+    }
+    status = cvl_narrow_index(NULL, 0, NULL, 0);
+    if (status.number != CVL_DONE || memcmp(before, found, sizeof found) != 0) fail("cvl_narrow_index", "no indices");
+    memcpy(both, index, sizeof index);
+    for (size_t from = 0; from < COUNT; from++) {
+        status = cvl_narrow_index(both, COUNT, (int32_t *)both + from, COUNT);
+        if (status.number != CVL_OVERLAP || memcmp(both, index, sizeof index) != 0) fail("cvl_narrow_index", "a room in the same memory");
+    }
+    /* as a call takes them, with the fault where it stands */
+    if (cvl_bck_puz(wanted, COUNT, found, before, 2).number != CVL_DONE) fail("cvl_narrow_index", "places in range");
+    status = cvl_bck_puz(wanted, COUNT, found, before, COUNT);
+    if (status.number != CVL_INDEX_OUT_OF_RANGE || status.place != 2) fail("cvl_narrow_index", "another fault");
+}
+
+/* What is said of a fault, in rooms of any size. */
+static void explains(CvlStatus status, const char *wanted) {
+    char text[256], shorter[256];
+    const size_t length = cvl_explain(status, text, sizeof text);
+    if (length != strlen(wanted) || strcmp(text, wanted) != 0) fail(wanted, text);
+    for (size_t size = 0; size <= length + 2; size++) {
+        memset(shorter, 7, sizeof shorter);
+        const size_t written = size > length ? length + 1 : size;
+        if (cvl_explain(status, size == 0 ? NULL : shorter, size) != length) fail(wanted, "another length");
+        if (size != 0 && (memcmp(shorter, text, written - 1) != 0 || shorter[written - 1] != 0)) fail(wanted, "another text in a shorter room");
+        if (shorter[written] != 7) fail(wanted, "more is written than there is room for");
+    }
+}
+
+static void *explains_elsewhere(void *status) {
+    explains(*(const CvlStatus *)status, "fault 8 DivideByZero at 1");
+    return NULL;
+}
+
+static void explained(void) {
+    int32_t six[6], index[] = {0, 2, 2}, lengths[] = {2, -1}, *const same = index;
+    bool flags[3];
+    size_t count;
+    CvlSegments rows = CVL_NO_SEGMENTS;
+    CvlStatus status = cvl_div_wuz(I(7, 7), I(2, 0), six, 2);
+    pthread_t other;
+    explains(status, "fault 8 DivideByZero at 1: b[1] is 0");
+    if (pthread_create(&other, NULL, explains_elsewhere, &status) != 0 || pthread_join(other, NULL) != 0) fail("cvl_explain", "no thread");
+    explains(cvl_lsh_wuz(I(1, 1), I(0, 32), six, 2), "fault 9 ShiftOutOfRange at 1: b[1] is 32");
+    explains(cvl_bck_puz(I(7, 8), 2, index, six, 3), "fault 10 IndexOutOfRange at 1: index[1] is 2, and source has 2 elements");
+    explains(cvl_smp_puz(I(7, 8, 9), index, six, 3), "fault 11 IndexRepeated at 2: index[2] is 2");
+    explains(cvl_smp_pez(I(7, 8, 9), index, S(I(1, 2), 2), six, 3), "fault 10 IndexOutOfRange at 1: index[1] is 2");
+    explains(cvl_counts(index, 3, six, 2), "fault 10 IndexOutOfRange at 1: index[1] is 2, and out has 2 elements");
+    explains(cvl_ext_vuz(I(7, 8), 2, (int64_t)1 << 40, six), "fault 10 IndexOutOfRange at 0: index is 1099511627776, and vector has 2 elements");
+    explains(cvl_gather_segments_int(I(7, 8), 2, I(0, 1), 2, S(I(1, 2), 2), six, 3), "fault 10 IndexOutOfRange at 1: starts[1] is 1");
+    explains(cvl_bytes_from_ints(I(1, 256), 2, (uint8_t *)six, 2), "fault 18 Overflow at 1: a[1] is 256");
+    explains(cvl_tot_suz(I(INT32_MAX, 1, 1), six, 3), "fault 18 Overflow at 2");
+    explains(cvl_add_rez(I(1, 2), 2, S(lengths, 2), six), "fault 12 NegativeLength at 1: lengths[1] is -1");
+    explains(cvl_dis_vuz(1, -3, six), "fault 12 NegativeLength: count is -3");
+    explains(cvl_int2(CVL_ADD, I(1, 2), 2, I(1), 1, six, 2), "fault 7 LengthMismatch: b has 1 elements, and a has 2");
+    explains(cvl_int_scan(CVL_ADD, I(1, 2), 2, six, 1), "fault 7 LengthMismatch: out has 1 elements, and a has 2");
+    explains(cvl_add_rez(I(1, 2), 2, S(I(1, 2), 2), six), "fault 7 LengthMismatch: lengths add up to 3, and a has 2 elements");
+    explains(cvl_append_segments_int(I(1), 1, I(2), 1, S(I(1), 1), S(I(1), 1), six, 3), "fault 7 LengthMismatch: out has 3 elements, and has to have 2");
+    explains(cvl_pack_int(I(1, 2), 2, B(true, true), 2, six, 1, &count), "fault 7 LengthMismatch: out has 1 elements, and has to have 2");
+    explains(cvl_distribute_int(1, 3, six, 2), "fault 7 LengthMismatch: out has 2 elements, and has to have 3");
+    explains(cvl_smp_puz(I(7, 8, 9), index, same, 3), "fault 102 Overlap: out and index share memory");
+    explains(cvl_int2(99, I(1), 1, I(1), 1, six, 1), "fault 2 UnknownCall");
+    explains(cvl_les_wuz(I(1, 2), I(2, 1), flags, 2), "");
+    /* of a status that no call returned, and of functions beside the calls, there is no more than the name */
+    explains((CvlStatus){CVL_NO_RESOURCES, -1}, "fault 100 NoResources");
+    explains(cvl_segments_new(S(lengths, 2), &rows), "fault 12 NegativeLength at 1: lengths[1] is -1");
+    explains(cvl_segments_from_offsets(I(0, 2, 1), 3, six, 2, &rows), "fault 12 NegativeLength at 1");
+    explains(cvl_segments_int_scan(CVL_ADD, I(1), 1, &rows, six, 1), "fault 101 NoDescriptor");
+    explains(cvl_narrow_index((const int64_t[]){1}, 1, six, 2), "fault 7 LengthMismatch");
+    /* by the threads of the process, too */
+    if (cvl_set_threads(2) != 0) fail("cvl_explain", "no threads");
+    explains(cvl_div_wuz(I(7, 7), I(2, 0), six, 2), "fault 8 DivideByZero at 1: b[1] is 0");
+    if (cvl_set_threads(1) != 0) fail("cvl_explain", "one thread");
+}
+
 /* Functions that take a boolean by value, as another language calls them, with a byte. */
 typedef CvlStatus (*Distributes)(unsigned char value, int64_t count, bool *out);
 typedef CvlStatus (*Replaces)(const bool *vector, int64_t index, unsigned char value, bool *out, size_t n);
@@ -2020,6 +2108,8 @@ int main(void) {
     long_rows();
     longer_than_a_text();
     odd_booleans();
+    narrow_indices();
+    explained();
     odd_booleans_by_value();
     copied_booleans();
     if (failed) return EXIT_FAILURE;

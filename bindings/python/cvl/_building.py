@@ -9,7 +9,7 @@ import numpy
 
 from cvl import _arrow, faults
 from cvl.calls import dis_vuz, max_ruz
-from cvl.conversions import INT, as_elements
+from cvl.conversions import INT, as_array, as_elements
 from cvl.fault import Fault
 from cvl.segments import Segments, cut
 
@@ -100,7 +100,7 @@ def operand(of: Any, other: Any) -> Any:
     """What may stand beside rows: rows, or one number a row, of a column or an array."""
     if isinstance(other, list) and any(isinstance(item, LISTS) for item in other):
         return of_lists(of, other)
-    found = numpy.asarray(other) if not isinstance(other, numpy.ndarray) else other
+    found = other if isinstance(other, numpy.ndarray) else as_array(other, lambda place: f"numbers[{place}]")
     if found.ndim == 2 and found.shape[1] == 1:
         found = found.reshape(-1)
     return of_array(of, found) if found.ndim > 1 else numbers(found, "numbers")

@@ -27,7 +27,7 @@ from typing import Any, Dict, List, Optional, Sequence, Tuple
 import numpy
 from mpi4py import MPI
 
-from cvl._calls import MOST_ELEMENTS, about, said, take
+from cvl._calls import MOST_ELEMENTS, about, narrowed, said, take
 from cvl.calls import cnt_lub
 from cvl.fault import Fault
 from cvl.over_ranks import CALLS, NAMES
@@ -35,6 +35,7 @@ from cvl.segments import own_lengths
 
 ELEMENTS = {
     "ints": numpy.dtype(numpy.int32),
+    "index": numpy.dtype(numpy.int32),
     "flags": numpy.dtype(numpy.bool_),
     "bytes": numpy.dtype(numpy.uint8),
     "sums": numpy.dtype(numpy.int64),
@@ -48,7 +49,7 @@ NUMBERS = {
 }
 
 # what the maker of a route takes, as a row of a call
-ROUTE = ("route", (("index", "ints", None), ("source_len", "size", None)), "one", False)
+ROUTE = ("route", (("index", "index", None), ("source_len", "size", None)), "one", False)
 
 
 class _Status(ctypes.Structure):
@@ -143,7 +144,7 @@ class Route:
 
     def __init__(self, ranks: Ranks, index: Any, source_len: int) -> None:
         taken = take(ROUTE, index, source_len)
-        index, self.source_len = taken[:2]
+        index, self.source_len = narrowed(taken[0]), taken[1]
         self.ranks, self.index_len, self._at = ranks, len(index), ctypes.c_void_p()
         length = ctypes.c_size_t(self.source_len)
         try:
@@ -285,6 +286,17 @@ def _length(operands: Sequence[Operand], given: Dict[str, Any], extent: Optional
     return None
 
 
+def _indices(takes: Any, taken: List[Any], room: Any) -> List[Any]:
+    """The arguments with each index in 32 bits. One that shares memory with the room stays there, which is a fault of the call."""
+
+    def in_32_bits(kind: str, value: Any) -> Any:
+        if kind == "index" and value.dtype.itemsize > 4 and room is not None and numpy.may_share_memory(value, room):
+            return value.view(ELEMENTS["index"])
+        return narrowed(value) if kind == "index" else value
+
+    return [in_32_bits(kind, value) for (_, kind, _), value in zip(takes, taken)]
+
+
 def _words(operands: Sequence[Operand], values: Dict[str, Any]) -> List[Any]:
     """The arguments in C, in their order."""
     words: List[Any] = []
@@ -320,7 +332,7 @@ def _method(name: str, family: str, operator: Optional[int], gives: str, spreads
         array, out = taken[-2:]
         if length is not None and (role != "room" or out is not None):
             raise TypeError(f"{name}() takes length= for a new array alone")
-        given = {operand[0]: value for operand, value in zip(takes, taken)}
+        given = {operand[0]: value for operand, value in zip(takes, _indices(takes, taken, array))}
         handles = {found: self._segments(found, given[found]) for found, kind, _ in takes if kind == "segments"}
         results = {operand[0]: NUMBERS[operand[2]]() for operand in operands if operand[1] == "one"}
         if role != "one":

@@ -9,7 +9,7 @@ import numpy
 from cvl import faults
 from cvl._calls import MOST_ELEMENTS, Lengths
 from cvl.calls import dis_vez, ind_luz
-from cvl.conversions import INT, as_ints, refuse_mask
+from cvl.conversions import INT, as_array, as_ints, refuse_mask
 from cvl.fault import Fault
 
 if TYPE_CHECKING:
@@ -24,7 +24,7 @@ SHOWN = 12
 def _whole_numbers(numbers: Any, name: str) -> Any:
     """The numbers as an array of integers in one dimension."""
     refuse_mask(numbers, name)
-    given = numpy.asarray(numbers)
+    given = as_array(numbers, lambda place: f"{name}[{place}]")
     if given.size == 0 and given.ndim == 1:
         return given.astype(INT)
     if given.dtype.kind not in "iu" or given.ndim != 1:

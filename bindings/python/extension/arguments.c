@@ -28,8 +28,8 @@ static int refuse_type(PyObject *object, const char *form, const char *name) {
 /* ---- texts ---- */
 
 /* A text is a `str`, or memory that holds bytes. */
-static int take_text(PyObject *object, const Operand *operand, Given *given) {
-    if (PyArray_Check(object)) return cvl_take_array(object, operand, given);
+static int take_text(PyObject *object, const Operand *operand, const Row *row, Given *given) {
+    if (PyArray_Check(object)) return cvl_take_array(object, operand, row, given);
     if (PyUnicode_Check(object)) {
         Py_ssize_t count;
         given->at = (void *)PyUnicode_AsUTF8AndSize(object, &count);
@@ -88,8 +88,8 @@ static int take_flag(PyObject *object, const char *name, Given *given) {
 /* ---- all ---- */
 
 /* Lengths of segments, of a `Segments` or an array. */
-static int take_lengths(PyObject *object, const Operand *operand, Given *given) {
-    if (!PyObject_TypeCheck(object, cvl_lengths_type)) return cvl_take_array(object, operand, given);
+static int take_lengths(PyObject *object, const Operand *operand, const Row *row, Given *given) {
+    if (!PyObject_TypeCheck(object, cvl_lengths_type)) return cvl_take_array(object, operand, row, given);
     const CvlLengths lengths = cvl_cut_of(object);
     given->at = (void *)lengths.lengths;
     given->count = lengths.segments;
@@ -104,28 +104,30 @@ static int take_spread(PyObject *object, const Operand *operand, Given *given) {
 }
 
 /* The operator of a number; the call reports one that no family has. */
-static int take_operator(PyObject *object, const char *name, Given *given) {
+static int take_operator(PyObject *object, const Operand *operand, const Row *row, Given *given) {
     int beyond = 0;
-    if (whole_number(object, name, &given->number, &beyond) < 0) return -1;
+    if (!PyIndex_Check(object)) return cvl_refuse_operator(object, operand, row);
+    if (whole_number(object, operand->name, &given->number, &beyond) < 0) return -1;
     if (given->number < 0 || given->number > UINT32_MAX) given->number = UINT32_MAX;
     return 0;
 }
 
-int cvl_take(PyObject *object, const Operand *operand, int spreads, Given *given) {
+int cvl_take(PyObject *object, const Operand *operand, const Row *row, Given *given) {
     int beyond;
     const char *name = operand->name;
     switch (operand->kind) {
     case KIND_INTS:
+    case KIND_INDEX:
     case KIND_FLAGS:
     case KIND_BYTES:
-        if (spreads && cvl_is_number(object)) return take_spread(object, operand, given);
-        return cvl_take_array(object, operand, given);
-    case KIND_TEXT: return take_text(object, operand, given);
-    case KIND_LENGTHS: return take_lengths(object, operand, given);
+        if (row->family->spreads && cvl_is_number(object)) return take_spread(object, operand, given);
+        return cvl_take_array(object, operand, row, given);
+    case KIND_TEXT: return take_text(object, operand, row, given);
+    case KIND_LENGTHS: return take_lengths(object, operand, row, given);
     case KIND_RANK_SEGMENTS: return 0;
     case KIND_INT: return take_number(object, name, INT32_MIN, INT32_MAX, "32 bits", given);
     case KIND_FLAG: return take_flag(object, name, given);
-    case KIND_OPERATOR: return take_operator(object, name, given);
+    case KIND_OPERATOR: return take_operator(object, operand, row, given);
     case KIND_WIDE: return whole_number(object, name, &given->number, &beyond);
     case KIND_SUM: return take_number(object, name, INT64_MIN, INT64_MAX, "64 bits", given);
     case KIND_SIZE: return take_number(object, name, 0, INT64_MAX, "a number of elements", given);
@@ -133,7 +135,7 @@ int cvl_take(PyObject *object, const Operand *operand, int spreads, Given *given
     case KIND_ROOM_FLAGS:
     case KIND_ROOM_BYTES:
     case KIND_ROOM_SUMS:
-    case KIND_ROOM_MARKS: return cvl_take_array(object, operand, given);
+    case KIND_ROOM_MARKS: return cvl_take_array(object, operand, row, given);
     }
     return -1;
 }

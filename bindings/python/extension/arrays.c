@@ -11,6 +11,7 @@ enum { TO_READ = NPY_ARRAY_C_CONTIGUOUS | NPY_ARRAY_ALIGNED, TO_WRITE = TO_READ 
 
 const Need cvl_needs[] = {
     [KIND_INTS] = {&cvl_ints, TO_READ},
+    [KIND_INDEX] = {&cvl_ints, TO_READ},
     [KIND_FLAGS] = {&cvl_flags, TO_READ},
     [KIND_BYTES] = {&cvl_bytes, TO_READ},
     [KIND_LENGTHS] = {&cvl_ints, TO_READ},
@@ -41,16 +42,15 @@ int cvl_learn_kinds(void) {
 
 static int is_room(const Operand *operand) { return cvl_needs[operand->kind].flags == TO_WRITE; }
 
-/* What to write instead of an object that is no array. A copy of a room would be another room, so the message suggests none. */
-static PyObject *advice_for(const Operand *operand) {
-    const Element *element = cvl_needs[operand->kind].element;
-    if (is_room(operand)) {
-        const char *const form = operand->extent == EXTENT_NONE ? "a room is made by numpy.empty(n, dtype=%s)"
-            : "a room that holds what stands before is made by, for instance, numpy.zeros(n, dtype=%s)";
-        return PyUnicode_FromFormat(form, element->written);
-    }
-    if (element == &cvl_ints) return PyUnicode_FromFormat("write cvl.as_ints(%s)", operand->name);
-    return PyUnicode_FromFormat("write numpy.array(%s, dtype=%s)", operand->name, element->written);
+int cvl_is_array(const Operand *operand) {
+    return operand->kind == KIND_INTS || operand->kind == KIND_INDEX || operand->kind == KIND_FLAGS || operand->kind == KIND_BYTES;
+}
+
+/* How a room is made. A copy of one would be another room, so the message suggests none. */
+static PyObject *room_advice(const Operand *operand) {
+    const char *const form = operand->extent == EXTENT_NONE ? "a room is made by numpy.empty(n, dtype=%s)"
+        : "a room that holds what stands before is made by, for instance, numpy.zeros(n, dtype=%s)";
+    return PyUnicode_FromFormat(form, cvl_needs[operand->kind].element->written);
 }
 
 /* A mask says that elements are missing, which no call knows. */
@@ -80,25 +80,31 @@ static int is_of_numpy(const char *format) {
     return *format != 0 && strchr("?bBhHiIlLqQfd", *format) != NULL && format[1] == 0;
 }
 
+static void refuse_no_room(PyObject *object, const Operand *operand) {
+    PyObject *type = cvl_type_name(object), *advice = type == NULL ? NULL : room_advice(operand);
+    if (advice != NULL) PyErr_Format(PyExc_TypeError, "%s is no array but a %U; %U", operand->name, type, advice);
+    Py_XDECREF(advice);
+    Py_XDECREF(type);
+}
+
 /*
  * An array over the memory of what is no array, or nothing if numpy would have to copy it, which it also does if it has no memory for the
  * array.
  */
-static PyObject *over_memory(PyObject *object, const char *name, PyObject *advice) {
+static PyObject *over_memory(PyObject *object, const Operand *operand, const Row *row) {
     Py_buffer memory;
     PyObject *view = cvl_view(object, &memory);
     if (view == NULL) {
         if (!PyErr_ExceptionMatches(PyExc_TypeError)) return NULL;
         PyErr_Clear();
-        PyObject *type = cvl_type_name(object);
-        if (type != NULL) PyErr_Format(PyExc_TypeError, "%s is no array but a %U; %U", name, type, advice);
-        Py_XDECREF(type);
+        if (is_room(operand)) refuse_no_room(object, operand);
+        else cvl_refuse_array(object, operand, row);
         return NULL;
     }
     PyObject *array = PyArray_FromAny(view, NULL, 0, 0, 0, NULL);
     if (array != NULL && PyArray_DATA((PyArrayObject *)array) != memory.buf) {
         if (is_of_numpy(memory.format)) PyErr_NoMemory();
-        else PyErr_Format(PyExc_TypeError, "the elements of %s are of no kind that numpy has; %U", name, advice);
+        else PyErr_Format(PyExc_TypeError, "the elements of %s are of no kind that numpy has", operand->name);
         Py_CLEAR(array);
     }
     Py_DECREF(view);
@@ -109,27 +115,13 @@ int cvl_is_number(PyObject *object) {
     return !PyArray_Check(object) && (PyIndex_Check(object) || PyFloat_Check(object) || PyArray_IsScalar(object, Generic));
 }
 
-/* Raises that a number is no array. */
-static int refuse_number(PyObject *object, const Operand *operand) {
-    PyObject *type = cvl_type_name(object);
-    if (type != NULL) {
-        PyErr_Format(PyExc_TypeError, "%s is no array but a %U; write numpy.array([%s], dtype=%s)", operand->name, type, operand->name,
-            cvl_needs[operand->kind].element->written);
-    }
-    Py_XDECREF(type);
-    return -1;
-}
-
-int cvl_take_array(PyObject *object, const Operand *operand, Given *given) {
+int cvl_take_array(PyObject *object, const Operand *operand, const Row *row, Given *given) {
     if (PyArray_Check(object)) {
         if (!PyArray_CheckExact(object) && refuse_mask(object, operand->name) < 0) return -1;
         given->held = Py_NewRef(object);
     } else {
-        if (!is_room(operand) && cvl_is_number(object)) return refuse_number(object, operand);
-        PyObject *advice = advice_for(operand);
-        if (advice == NULL) return -1;
-        given->held = over_memory(object, operand->name, advice);
-        Py_DECREF(advice);
+        if (!is_room(operand) && cvl_is_number(object)) return cvl_refuse_array(object, operand, row);
+        given->held = over_memory(object, operand, row);
     }
     given->array = (PyArrayObject *)given->held;
     return given->held == NULL ? -1 : 0;
@@ -142,23 +134,6 @@ static int has_elements(PyArrayObject *array, const Element *element) {
 }
 
 static int has_flags(PyArrayObject *array, int flags) { return (PyArray_FLAGS(array) & flags) == flags; }
-
-static void refuse_read(PyArrayObject *array, const char *name, const Element *element) {
-    if (!has_elements(array, element)) {
-        PyErr_Format(PyExc_TypeError, element == &cvl_flags ? "%s has elements of %S, and has to have %s; write %s != 0"
-                : element == &cvl_ints ? "%s has elements of %S, and has to have %s; write cvl.as_ints(%s)"
-                : "%s has elements of %S, and has to have %s; bytes of another kind are %s.view(numpy.uint8)",
-            name, PyArray_DESCR(array), element->name, name);
-    } else if (PyArray_NDIM(array) != 1) {
-        PyErr_Format(PyExc_TypeError, "%s has %d dimensions, and has to have one; write numpy.ravel(%s)", name,
-            PyArray_NDIM(array), name);
-    } else if (!PyArray_IS_C_CONTIGUOUS(array)) {
-        PyErr_Format(PyExc_TypeError, "the elements of %s do not lie side by side; write numpy.ascontiguousarray(%s)", name,
-            name);
-    } else {
-        PyErr_Format(PyExc_TypeError, "the elements of %s are not aligned in memory; write %s.copy()", name, name);
-    }
-}
 
 static void refuse_room(PyArrayObject *array, const char *name, const Element *element, PyObject *advice) {
     if (!has_elements(array, element)) {
@@ -175,39 +150,39 @@ static void refuse_room(PyArrayObject *array, const char *name, const Element *e
 }
 
 /* Raises why an array is not as a call needs it. */
-static int refuse(PyArrayObject *array, const Operand *operand) {
+static int refuse(PyArrayObject *array, const Operand *operand, const Row *row) {
     const Element *element = cvl_needs[operand->kind].element;
     if (element == NULL) {
         PyObject *type = cvl_type_name((PyObject *)array);
         if (type != NULL) PyErr_Format(PyExc_TypeError, "%s is no text, a str or bytes side by side, but a %U", operand->name, type);
         Py_XDECREF(type);
     } else if (is_room(operand)) {
-        PyObject *advice = advice_for(operand);
+        PyObject *advice = room_advice(operand);
         if (advice != NULL) refuse_room(array, operand->name, element, advice);
         Py_XDECREF(advice);
     } else {
-        refuse_read(array, operand->name, element);
+        cvl_refuse_array((PyObject *)array, operand, row);
     }
     return -1;
 }
 
 /* A text has any number of dimensions. */
-static int look_at_text(Given *given, const Operand *operand) {
+static int look_at_text(Given *given, const Operand *operand, const Row *row) {
     PyArrayObject *array = given->array;
-    if (PyArray_ITEMSIZE(array) != 1 || !has_flags(array, cvl_needs[KIND_TEXT].flags)) return refuse(array, operand);
+    if (PyArray_ITEMSIZE(array) != 1 || !has_flags(array, cvl_needs[KIND_TEXT].flags)) return refuse(array, operand, row);
     given->at = PyArray_DATA(array);
     given->count = (size_t)PyArray_SIZE(array);
     return 0;
 }
 
-static int look_at(Given *given, const Operand *operand) {
+static int look_at(Given *given, const Operand *operand, const Row *row) {
     PyArrayObject *array = given->array;
     if (array == NULL) return 0;
     const Need *need = &cvl_needs[operand->kind];
-    if (need->element == NULL) return look_at_text(given, operand);
-    if (PyArray_NDIM(array) != 1 || !has_flags(array, need->flags) || !has_elements(array, need->element)) {
-        return refuse(array, operand);
-    }
+    if (need->element == NULL) return look_at_text(given, operand, row);
+    const int is_other = !has_elements(array, need->element);
+    given->wide = is_other && operand->kind == KIND_INDEX && has_elements(array, &cvl_sums);
+    if (PyArray_NDIM(array) != 1 || !has_flags(array, need->flags) || (is_other && !given->wide)) return refuse(array, operand, row);
     given->at = PyArray_DATA(array);
     given->count = (size_t)PyArray_DIM(array, 0);
     return 0;
@@ -216,9 +191,9 @@ static int look_at(Given *given, const Operand *operand) {
 int cvl_look(Frame *frame) {
     const Family *family = frame->row->family;
     for (int k = 0; k < family->count; k++) {
-        if (look_at(&frame->given[k], &family->operands[k]) < 0) return -1;
+        if (look_at(&frame->given[k], &family->operands[k], frame->row) < 0) return -1;
     }
-    return look_at(&frame->room, frame->out);
+    return look_at(&frame->room, frame->out, frame->row);
 }
 
 void cvl_tell_change(void) { PyErr_SetString(PyExc_RuntimeError, "an argument was changed during the call"); }

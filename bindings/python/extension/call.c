@@ -102,8 +102,8 @@ static int spread(Frame *frame) {
 }
 
 /* Takes an argument. An array of numpy's own type, as most are, is read later. */
-static int take_one(PyObject *object, const Operand *operand, int spreads, Given *given) {
-    if (!PyArray_CheckExact(object) || cvl_needs[operand->kind].flags == 0) return cvl_take(object, operand, spreads, given);
+static int take_one(PyObject *object, const Operand *operand, const Row *row, Given *given) {
+    if (!PyArray_CheckExact(object) || cvl_needs[operand->kind].flags == 0) return cvl_take(object, operand, row, given);
     given->array = (PyArrayObject *)object;
     return 0;
 }
@@ -119,9 +119,9 @@ int cvl_begin(Frame *frame, const Row *row, PyObject *const *arguments, Py_ssize
     if (bind(row, arguments, count, keywords, bound) < 0) return -1;
     if (*out == Py_None && !is_over(family)) *out = NULL;
     for (int k = 0; k < family->count; k++) {
-        if (take_one(bound[k], &family->operands[k], family->spreads, &frame->given[k]) < 0) return -1;
+        if (take_one(bound[k], &family->operands[k], row, &frame->given[k]) < 0) return -1;
     }
-    if (*out != NULL && take_one(*out, frame->out, 0, &frame->room) < 0) return -1;
+    if (*out != NULL && take_one(*out, frame->out, row, &frame->room) < 0) return -1;
     return family->spreads ? spread(frame) : 0;
 }
 
@@ -140,7 +140,7 @@ static int make(Frame *frame) {
     size_t much = frame->room.count;
     for (int k = 0; k < family->count; k++) much += frame->given[k].count;
     PyThreadState *state = much < MUCH ? NULL : PyEval_SaveThread();
-    frame->status = family->make(frame);
+    frame->status = cvl_make(frame);
     if (state != NULL) PyEval_RestoreThread(state);
     return 0;
 }
@@ -159,7 +159,7 @@ static void refuse(Frame *frame, int has_room) {
         if (!given->spread || given->held != NULL) continue;
         given->count += given->count == 0 || given->count > family->most ? 1 : (size_t)-1;
     }
-    const CvlStatus status = family->make(frame);
+    const CvlStatus status = cvl_make(frame);
     for (int k = 0; k < family->count; k++) frame->given[k].count = counts[k];
     const int fits = !has_room || (cvl_measure(frame, &needed) && frame->room.count == needed);
     if (status.number == CVL_DONE || (status.number == CVL_LENGTH_MISMATCH && cvl_agree(frame) && fits)) {

@@ -41,7 +41,8 @@ enum { MOST_OPERANDS = 6 };
 
 /* How an argument is taken. */
 typedef enum Kind {
-    KIND_INTS, /* arrays that are read */
+    KIND_INTS, /* arrays that are read; an index may be of 64 bits */
+    KIND_INDEX,
     KIND_FLAGS,
     KIND_BYTES, /* numbers from 0 to 255 */
     KIND_TEXT,
@@ -116,6 +117,7 @@ typedef struct Family {
     int by;        /* the operand that says how long the room is */
     int spreads;   /* whether a number may stand for an array of it */
     size_t most;   /* how long the room may be at most */
+    const char *operators; /* the names of those that it takes, or nothing */
     CvlStatus (*make)(Frame *frame);
 } Family;
 
@@ -152,6 +154,7 @@ typedef struct Given {
     size_t count;         /* how many elements it has, or how many lengths */
     int64_t number;       /* of one value */
     int spread;           /* whether that number stands for an array */
+    int wide;             /* whether it is an index of 64 bits, once it is looked at */
     PyArrayObject *array; /* the array to look at, or nothing if no code in Python can change it */
     PyObject *held;       /* what was made to reach the memory, or nothing */
 } Given;
@@ -176,11 +179,14 @@ struct Frame {
 /* ---- arrays.c ---- */
 
 /* Each answers -1 if it has set an exception. */
-int cvl_take_array(PyObject *object, const Operand *operand, Given *given);
+int cvl_take_array(PyObject *object, const Operand *operand, const Row *row, Given *given);
 int cvl_learn_kinds(void);
 
 /* Whether an object is a number, and no array of one. */
 int cvl_is_number(PyObject *object);
+
+/* Whether an operand is an array that is read, and no lengths or text. */
+int cvl_is_array(const Operand *operand);
 
 /*
  * A view of the memory of an object, and where that lies, with the format of its elements; nothing with an exception. The memory stays
@@ -190,7 +196,7 @@ PyObject *cvl_view(PyObject *object, Py_buffer *found);
 
 /*
  * Reads where the elements of all arrays lie and how many there are, or -1 with an exception if one is of the wrong kind. It runs no code
- * in Python.
+ * in Python, but to say what is wrong.
  */
 int cvl_look(Frame *frame);
 
@@ -202,8 +208,27 @@ void cvl_tell_change(void);
 /* The name of an object's type as messages have it, with its module if the type is written in C; nothing with an exception. */
 PyObject *cvl_type_name(PyObject *object);
 
-/* Takes an argument; -1 with an exception. */
-int cvl_take(PyObject *object, const Operand *operand, int spreads, Given *given);
+/* Takes an argument of a call; -1 with an exception. */
+int cvl_take(PyObject *object, const Operand *operand, const Row *row, Given *given);
+
+/* ---- refused.c ---- */
+
+/* Raise that an argument is no array that its operand may be, or no operator, and what to write instead. */
+int cvl_refuse_array(PyObject *object, const Operand *operand, const Row *row);
+int cvl_refuse_operator(PyObject *object, const Operand *operand, const Row *row);
+
+/* How a call takes its arguments, as "add_sez(a, segments)"; and whether it takes so many lengths, or more. */
+PyObject *cvl_order_of(const Row *row);
+int cvl_has_order(const Row *row, int least);
+
+/* ---- indices.c ---- */
+
+/* Calls the family of a frame whose arrays were looked at. It runs no code in Python. */
+CvlStatus cvl_make(Frame *frame);
+
+/* What memory two arguments share. */
+typedef enum Shared { SHARED_NOTHING, SHARED_PART, SHARED_ALL } Shared;
+Shared cvl_shared(const Given *a, Kind a_kind, const Given *b, Kind b_kind);
 
 /* ---- results.c ---- */
 
@@ -265,6 +290,10 @@ const Operand *cvl_out_of(const Family *family);
 /* ---- arrow.c ---- */
 
 extern PyMethodDef cvl_arrow_methods[];
+
+/* ---- conversions.c ---- */
+
+extern PyMethodDef cvl_conversion_methods[];
 
 /* ---- over_ranks.c ---- */
 

@@ -60,13 +60,13 @@ static PyObject *offsets_array(PyObject *self, void *unused) {
 }
 
 static const Operand operand = {"lengths", KIND_INTS, EXTENT_TOTAL, NULL};
-static Family family = {1, {{"lengths", KIND_INTS, EXTENT_TOTAL, NULL}}, GIVES_CUT, EXTENT_NONE, 0, 0, 0, NULL};
+static Family family = {1, {{"lengths", KIND_INTS, EXTENT_TOTAL, NULL}}, GIVES_CUT, EXTENT_NONE, 0, 0, 0, NULL, NULL};
 static const Row row = {"Segments", &family, 0};
 
 /* A copy of the numbers of a frame, once they are taken. */
 static PyObject *copied(Frame *frame, PyObject *given) {
     const Given *found = &frame->given[0];
-    if (cvl_take(given, &operand, 0, &frame->given[0]) < 0 || cvl_look(frame) < 0) return NULL;
+    if (cvl_take(given, &operand, &row, &frame->given[0]) < 0 || cvl_look(frame) < 0) return NULL;
     return PyBytes_FromStringAndSize(found->at, (Py_ssize_t)(found->count * sizeof(int32_t)));
 }
 

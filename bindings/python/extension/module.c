@@ -1,4 +1,7 @@
-/* The module cvl._calls: each call, the type of lengths, the version of the library, its threads, and what cvl.mpi needs of calls. */
+/*
+ * The module cvl._calls: each call, the type of lengths, the version of the library, its threads, and what cvl.mpi, Arrow arrays and
+ * cvl.as_ints need.
+ */
 #define CVL_ASKS_NUMPY
 #include "calls.h"
 
@@ -44,7 +47,7 @@ PyMODINIT_FUNC PyInit__calls(void) {
     Py_INCREF((PyObject *)cvl_lengths_type);
     if (PyModule_AddObject(module, "Lengths", (PyObject *)cvl_lengths_type) < 0 ||
         PyModule_AddFunctions(module, cvl_thread_methods) < 0 || PyModule_AddFunctions(module, cvl_rank_methods) < 0 ||
-        PyModule_AddFunctions(module, cvl_arrow_methods) < 0 ||
+        PyModule_AddFunctions(module, cvl_arrow_methods) < 0 || PyModule_AddFunctions(module, cvl_conversion_methods) < 0 ||
         PyModule_AddIntConstant(module, "MOST_ELEMENTS", CVL_MOST_ELEMENTS) < 0 ||
         PyModule_AddIntConstant(module, "MOST_OF_TEXT", CVL_MOST_OF_TEXT) < 0 ||
         PyModule_AddStringConstant(module, "version", cvl_version()) < 0 ||

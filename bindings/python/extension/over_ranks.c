@@ -10,7 +10,7 @@ typedef struct Word {
 } Word;
 
 static const Word kinds[] = {
-    {"ints", KIND_INTS}, {"flags", KIND_FLAGS}, {"bytes", KIND_BYTES}, {"segments", KIND_RANK_SEGMENTS}, {"int", KIND_INT},
+    {"ints", KIND_INTS}, {"index", KIND_INDEX}, {"flags", KIND_FLAGS}, {"bytes", KIND_BYTES}, {"segments", KIND_RANK_SEGMENTS}, {"int", KIND_INT},
     {"flag", KIND_FLAG}, {"operator", KIND_OPERATOR}, {"wide", KIND_WIDE}, {"size", KIND_SIZE}, {NULL, 0},
 };
 
@@ -158,6 +158,25 @@ static PyObject *about(PyObject *self, PyObject *words) {
     Py_RETURN_NONE;
 }
 
+/* ---- indices of 64 bits ---- */
+
+static PyObject *narrowed(PyObject *self, PyObject *index) {
+    Frame frame = {.no_memory = 0};
+    Given wide = {.at = NULL}, room = {.at = NULL};
+    (void)self;
+    if (!PyArray_Check(index) || !PyArray_EquivTypes(PyArray_DESCR((PyArrayObject *)index), cvl_sums.descr)) return Py_NewRef(index);
+    wide.at = PyArray_DATA((PyArrayObject *)index);
+    wide.count = (size_t)PyArray_SIZE((PyArrayObject *)index);
+    if (cvl_new_room(&frame, &room, wide.count, &cvl_ints) < 0) return NULL;
+    if (frame.no_memory) return PyErr_NoMemory();
+    PyThreadState *state = wide.count < MUCH ? NULL : PyEval_SaveThread();
+    const CvlStatus status = cvl_narrow_index(wide.at, wide.count, room.at, room.count);
+    if (state != NULL) PyEval_RestoreThread(state);
+    if (status.number == CVL_DONE) return room.held;
+    Py_DECREF(room.held);
+    return PyErr_Format(PyExc_SystemError, "an index was narrowed into another length");
+}
+
 /* ---- the functions ---- */
 
 PyDoc_STRVAR(doc_take,
@@ -178,9 +197,15 @@ PyDoc_STRVAR(doc_about,
     "\n"
     "The place of the operand that a fault of this number is about, or None.");
 
+PyDoc_STRVAR(doc_narrowed,
+    "narrowed(index)\n"
+    "\n"
+    "An index that take() gave in 32 bits: a new array if it has 64, in which one that is outside 32 bits is -1.");
+
 PyMethodDef cvl_rank_methods[] = {
     {"take", (PyCFunction)(void (*)(void))take, METH_FASTCALL | METH_KEYWORDS, doc_take},
     {"said", said, METH_VARARGS, doc_said},
     {"about", about, METH_VARARGS, doc_about},
+    {"narrowed", narrowed, METH_O, doc_narrowed},
     {NULL, NULL, 0, NULL},
 };

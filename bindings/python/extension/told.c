@@ -1,8 +1,6 @@
 /* Messages for calls that have no value. */
 #include "calls.h"
 
-static int is_array(const Operand *operand) { return operand->kind == KIND_INTS || operand->kind == KIND_FLAGS || operand->kind == KIND_BYTES; }
-
 /* ---- how long arguments are ---- */
 
 static int is_cut(const Operand *operand) { return operand->kind == KIND_LENGTHS || operand->kind == KIND_RANK_SEGMENTS; }
@@ -57,7 +55,7 @@ static PyObject *differ(const char *form, const char *name, size_t number, const
 static int alike(const Family *family, int k, Extent extent) {
     for (int j = 0; j < k; j++) {
         const Operand *operand = &family->operands[j];
-        if (is_array(operand) ? operand->extent == extent : extent == EXTENT_SEGMENTS && is_cut(operand)) return j;
+        if (cvl_is_array(operand) ? operand->extent == extent : extent == EXTENT_SEGMENTS && is_cut(operand)) return j;
     }
     return -1;
 }
@@ -69,7 +67,7 @@ static PyObject *total_differs(const Frame *frame, int k) {
     size_t found;
     for (int j = 0; j < family->count; j++) {
         const Operand *other = &family->operands[j];
-        if (!is_array(other) || other->extent != operand->extent || !total(&frame->given[k], operand, &found)) continue;
+        if (!cvl_is_array(other) || other->extent != operand->extent || !total(&frame->given[k], operand, &found)) continue;
         return differ("%s add up to %zd, and len(%s) is %zd", operand->name, found, other->name, frame->given[j].count);
     }
     return NULL;
@@ -94,7 +92,7 @@ static PyObject *arguments_differ(const Frame *frame) {
     for (int k = 0; said == NULL && !PyErr_Occurred() && k < family->count; k++) {
         const Operand *operand = &family->operands[k];
         const int cuts = is_cut(operand);
-        if (!cuts && !is_array(operand)) continue;
+        if (!cuts && !cvl_is_array(operand)) continue;
         const int j = alike(family, k, cuts ? EXTENT_SEGMENTS : operand->extent);
         if (j >= 0) said = differ(form, operand->name, frame->given[k].count, family->operands[j].name, frame->given[j].count);
         if (said == NULL && cuts && !PyErr_Occurred()) said = total_differs(frame, k);
@@ -148,7 +146,7 @@ static PyObject *bound_said(const Frame *frame, const Operand *index) {
     int into = -1;
     for (int k = 0; k < family->count; k++) {
         const Extent extent = family->operands[k].extent;
-        if (is_array(&family->operands[k]) && extent != index->extent && extent != EXTENT_OFFSETS) into = k;
+        if (cvl_is_array(&family->operands[k]) && extent != index->extent && extent != EXTENT_OFFSETS) into = k;
     }
     if (into < 0) return PyUnicode_FromFormat("the result has %zd elements", (Py_ssize_t)frame->room.count);
     return PyUnicode_FromFormat("len(%s) is %zd", family->operands[into].name, (Py_ssize_t)frame->given[into].count);
@@ -156,7 +154,7 @@ static PyObject *bound_said(const Frame *frame, const Operand *index) {
 
 /* Whether an argument is one number, or stands for an array of it. */
 static int is_one(const Given *given, const Operand *operand) {
-    return given->spread || !(is_array(operand) || operand->kind == KIND_LENGTHS);
+    return given->spread || !(cvl_is_array(operand) || operand->kind == KIND_LENGTHS);
 }
 
 /* An element, or a number that stands for one, and whether it is known: of a number beyond 64 bits the least or the greatest is kept. */
@@ -166,7 +164,7 @@ static int value_at(const Given *given, const Operand *operand, int64_t place, i
         return *value != INT64_MIN && *value != INT64_MAX;
     }
     if (place < 0 || (uint64_t)place >= given->count) return 0;
-    *value = ((const int32_t *)given->at)[place];
+    *value = given->wide ? ((const int64_t *)given->at)[place] : ((const int32_t *)given->at)[place];
     return 1;
 }
 
@@ -200,26 +198,12 @@ static PyObject *value_at_fault(const Frame *frame, CvlStatus status) {
     return NULL;
 }
 
-static size_t bytes_of(const Given *given, Kind kind) {
-    switch (kind) {
-    case KIND_FLAGS:
-    case KIND_ROOM_FLAGS:
-    case KIND_BYTES:
-    case KIND_ROOM_BYTES:
-    case KIND_TEXT: return given->count;
-    case KIND_ROOM_SUMS: return given->count * sizeof(int64_t);
-    default: return given->count * sizeof(int32_t);
-    }
-}
-
 /* Whether an argument shares memory with the room: all of it, which some calls allow, or a part. */
 static int shares(const Frame *frame, int k, int all) {
     const Operand *operand = &frame->row->family->operands[k];
     const Given *given = &frame->given[k];
-    const uintptr_t room = (uintptr_t)frame->room.at, at = (uintptr_t)given->at;
-    if (given->spread || !(is_array(operand) || operand->kind == KIND_LENGTHS || operand->kind == KIND_TEXT)) return 0;
-    const size_t room_bytes = bytes_of(&frame->room, frame->out->kind), bytes = bytes_of(given, operand->kind);
-    return at < room + room_bytes && room < at + bytes && (at == room && bytes == room_bytes) == all;
+    if (given->spread || !(cvl_is_array(operand) || operand->kind == KIND_LENGTHS || operand->kind == KIND_TEXT)) return 0;
+    return cvl_shared(given, operand->kind, &frame->room, frame->out->kind) == (all ? SHARED_ALL : SHARED_PART);
 }
 
 /* The argument that shares memory with the room, first one that shares a part, or nothing. */
@@ -235,9 +219,20 @@ static PyObject *shared_said(const Frame *frame) {
 
 /* ---- details of a fault ---- */
 
+/* What is said of lengths, or nothing, and how a call takes its arguments if it takes several vectors of lengths: they may be in another order. */
+static PyObject *with_order(const Frame *frame, PyObject *said) {
+    if (PyErr_Occurred() || !cvl_has_order(frame->row, 2)) return said;
+    PyObject *order = cvl_order_of(frame->row), *both = NULL;
+    if (order != NULL) both = PyUnicode_FromFormat(said == NULL ? "%Vthe order of arguments is %U" : "%V; the order of arguments is %U", said, "", order);
+    Py_XDECREF(order);
+    Py_XDECREF(said);
+    return both;
+}
+
 static PyObject *lengths_said(const Frame *frame, int has_room) {
     PyObject *said = arguments_differ(frame);
-    return said == NULL && !PyErr_Occurred() && has_room ? room_differs(frame) : said;
+    if (said != NULL) return with_order(frame, said);
+    return !PyErr_Occurred() && has_room ? room_differs(frame) : NULL;
 }
 
 PyObject *cvl_said(Frame *frame, CvlStatus status, int has_room) {
@@ -250,6 +245,8 @@ PyObject *cvl_said(Frame *frame, CvlStatus status, int has_room) {
     switch (status.number) {
     case CVL_LENGTH_MISMATCH: said = lengths_said(frame, has_room); break;
     case CVL_OVERLAP: said = has_room ? shared_said(frame) : NULL; break;
+    case CVL_NEGATIVE_LENGTH:
+    case CVL_TOO_LONG: said = with_order(frame, value_at_fault(frame, status)); break;
     default: said = value_at_fault(frame, status); break;
     }
     return said == NULL && !PyErr_Occurred() ? Py_NewRef(Py_None) : said;

@@ -310,6 +310,31 @@ def details_of_faults(w):
         assert found == (cvl.Fault, wanted), (found, wanted)
 
 
+def indices_of_64_bits(w):
+    """An index of int64 gives what one of int32 gives, and a fault its number as it is."""
+    ranks, own, index, last = w.ranks, w.own, w.index, w.comm.size - 1
+    wide = index.astype(numpy.int64)
+    for call in (
+        lambda index: ranks.bck_puz(own, index), lambda index: ranks.smp_puz(own, index), lambda index: ranks.route(index, w.count).back(own),
+        lambda index: ranks.combine_permute_int(cvl.operators.ADD, own, index, own.copy()), lambda index: ranks.counts(index, length=w.count),
+    ):  # fmt: skip
+        assert call(wide).tolist() == call(index).tolist()
+    bad = wide.copy()
+    bad[-1] = 2**32 if w.rank == last else bad[-1]
+    for call in (lambda: ranks.smp_puz(own, bad), lambda: ranks.route(bad, w.count)):
+        wanted = "fault 10 IndexOutOfRange at 10" + (f": index[{w.count - 1}] is 4294967296, on rank {last}" if w.rank == last else "")
+        found = refused(call)
+        assert found == (cvl.Fault, wanted), (found, wanted)
+    whole = numpy.zeros(2 * w.count, numpy.int64)
+    whole[: w.count] = wide
+    for places in (0, w.count):
+        room = whole.view(numpy.int32)[places : places + w.count]
+        found = refused(ranks.smp_puz, own, whole[: w.count], out=room)
+        assert found == (cvl.Fault, f"fault 102 Overlap: out and index share memory, on rank {w.rank}"), found
+    # booleans that take part, and other vectors, have no such form
+    assert refused(ranks.bck_puz, wide, index)[0] is TypeError
+
+
 def places_of_32_bits(w):
     """A whole of more places than 32 bits count is refused where these name one. Flags that nobody writes take no memory."""
     if w.comm.size == 1:
@@ -343,7 +368,8 @@ def freed_ranks(w):
 
 PARTS = (
     flat_calls, sorts, segmented_calls, sums_by_key, routes, numbers_and_names, rooms, as_plain_calls_refuse, lengths_are_numbers,
-    segments_are_of_these_ranks, lengths_of_segments, faults, details_of_faults, places_of_32_bits, freed_ranks,
+    segments_are_of_these_ranks, lengths_of_segments, faults, details_of_faults, indices_of_64_bits, places_of_32_bits,
+    freed_ranks,
 )  # fmt: skip
 
 

@@ -8,10 +8,12 @@ import doctest
 import faulthandler
 import importlib
 import inspect
+import operator
 import os
 import pathlib
 import pickle
 import pydoc
+import re
 import signal
 import subprocess
 import sys
@@ -43,6 +45,32 @@ def zeros(count, dtype):
         raise unittest.SkipTest("there is no room for long vectors here") from None
 
 
+class Column:
+    """A column as pandas has it whose numbers may be missing, where pandas is not: what numpy makes of it are objects."""
+
+    def __init__(self, items, kind):
+        self.items, self.dtype = items, type("Dtype", (), {"numpy_dtype": numpy.dtype(bool if kind == "boolean" else kind.lower())})()
+
+    def isna(self):
+        return numpy.array([item is None for item in self.items])
+
+    def to_numpy(self, dtype):
+        return numpy.array(self.items, dtype)
+
+    def __array__(self, dtype=None, copy=None):
+        return numpy.array(self.items, object)
+
+
+def columns(items, kind):
+    """Columns of these items, of which those that are None are missing: one as pandas has it, and where pandas is its own."""
+    found = [Column(items, kind)]
+    try:
+        import pandas
+    except ImportError:
+        return found
+    return [*found, pandas.Series(items, dtype=kind), pandas.array(items, dtype=kind)]
+
+
 class Limited(unittest.TestCase):
     """A test that takes longer than its limit ends the process, which tells where each thread is."""
 
@@ -71,6 +99,96 @@ class Arguments(Limited):
 
     def test_lists_are_refused_with_what_to_write(self):
         self.refused(r"a is no array but a list; write cvl\.as_ints\(a\)", cvl.add_suz, [1, 2])
+
+    def taken_as_advised(self, call, **given):
+        """What a call gives once it is refused and the argument that its message names is given as that says, in one step."""
+        with self.assertRaises(TypeError) as caught:
+            call(**given)
+        said = re.sub(r", or cvl.*|, and to number .*|; the order .*", "", str(caught.exception))
+        name, written = re.search(r"^(?:the elements of )?(\w+).* write (.*)$", said).groups()
+        return call(**{**given, name: eval(written, {"cvl": cvl, "numpy": numpy, **given})}).tolist()
+
+    def test_what_is_advised_is_taken_in_one_step(self):
+        square = numpy.arange(4).reshape(2, 2)
+        shifted = numpy.frombuffer(b"\0" + square.astype(numpy.int32).tobytes(), numpy.uint8)[1:].view(numpy.int32)
+        for given in (
+            numpy.arange(4), square, square.astype(numpy.int32), square.astype(numpy.int16), square.astype(">i4"), square.astype(float), square + 0.25,
+            numpy.arange(4) + 0.25, shifted, shifted.reshape(2, 2), numpy.repeat(square, 2).astype(numpy.int32)[::2], [0, 1, 2, 3], (0, 1, 2, 3), range(4),
+            {0, 1, 2, 3}, [[0, 1], [2, 3]], [0.0, 1.25, 2, 3], [[0.0, 1], [2, 3.25]], ["0", "1", "2", "3"], numpy.array([["0", "1"], ["2", "3"]]),
+            numpy.array([0, 1, 2, 3], object), "0 1 2 3".split(), numpy.array(b"0 1 2 3".split()),
+        ):  # fmt: skip
+            self.assertEqual(self.taken_as_advised(cvl.add_suz, a=given), [0, 0, 1, 3], given)
+        self.assertEqual(self.taken_as_advised(cvl.add_suz, a="3 1"), [0, 3])
+        self.assertEqual(self.taken_as_advised(cvl.add_suz, a=b"\3\1"), [0, 3])
+        self.assertEqual(self.taken_as_advised(cvl.add_suz, a=[]), [])
+        self.assertEqual(self.taken_as_advised(cvl.add_suz, a=numpy.float64(2.25)), [0])
+        for given in (square, square != 0, square + 0.5, [[0, 1], [1, 1]], [False, True, True, True], [0, 1, 2, 3], square.astype(numpy.uint8)):
+            wanted = numpy.ravel(given).astype(bool).tolist()
+            self.assertEqual(self.taken_as_advised(cvl.not_wub, a=given), [not flag for flag in wanted], given)
+        for given in (square, square.astype(float), [0, 1, 2, 3], [[0, 1], [2, 3]], "\0\1\2\3"):
+            self.assertEqual(self.taken_as_advised(cvl.ints_from_bytes, bytes=given), [0, 1, 2, 3], given)
+
+    def test_what_no_call_takes(self):
+        for given in (None, {1: 2}, 1j, numpy.array([1j]), numpy.array(["2026-11-30"], "M8[D]")):
+            self.refused("no call takes such (elements|an object)$", cvl.add_suz, given)
+        self.refused(r"rows that differ in length are a cvl\.Ragged\(a\)$", cvl.add_suz, [[1], [2, 3]])
+        self.refused("such as numpy.ravel.flags. == x$", cvl.cnt_lub, numpy.array(["x"]))
+        keys = numpy.array(["tea", "milk", "tea"])
+        self.refused(r"to number texts as keys cvl\.as_ints\(numpy\.unique\(index, return_inverse=True\)\[1\]\)$", cvl.counts, keys, 2)
+        self.assertEqual(cvl.counts(cvl.as_ints(numpy.unique(keys, return_inverse=True)[1]), 2).tolist(), [1, 2])
+
+    def test_a_number_where_one_a_segment_is_wanted(self):
+        rows = cvl.Segments([2, 0, 3])
+        full = r"numpy\.full\(len\(segments\), {}, dtype=numpy\.int32\)$"
+        self.refused("^inits is no array but a int; write " + full.format("inits"), cvl.ind_lez, 0, 1, rows)
+        self.assertEqual(self.taken_as_advised(cvl.ind_lez, inits=ints(0, 0, 0), strides=1, segments=rows), [0, 1, 0, 1, 2])
+        self.assertEqual(self.taken_as_advised(cvl.ind_lez, inits=ints(0, 0, 0), strides=1.75, segments=ints(2, 0, 3)), [0, 2, 0, 2, 4])
+        self.assertEqual(self.taken_as_advised(cvl.dis_veb, values=True, segments=rows), [True] * 5)
+        self.assertEqual(self.taken_as_advised(cvl.add_rez, a=2, segments=rows), [4, 0, 6])
+        self.assertEqual(self.taken_as_advised(cvl.sel_puz, source=ints(7, 8), index=0, flags=flags(True, False)), [7])
+
+    def test_booleans_are_told_the_call_that_takes_them(self):
+        rows = cvl.Segments([2, 1])
+        self.refused(r"values has elements of bool.*, or cvl\.dis_veb, which takes booleans$", cvl.dis_vez, flags(True, False), rows)
+        self.refused(r"values is no array but a list; .*, or cvl\.dis_veb, which takes booleans$", cvl.dis_vez, [True, False], rows)
+        self.refused(r"values has elements of int32.*, or cvl\.pck_luz, which takes integers$", cvl.pck_lub, ints(1), flags(True))
+        self.refused(r"a has elements of bool, and has to have int32; write cvl\.as_ints\(a\)$", cvl.add_ruz, flags(True))
+        self.refused(r"values has elements of int8, and has to have int32; write cvl\.as_ints\(values\)$", cvl.dis_vez, numpy.zeros(2, numpy.int8), rows)
+        self.refused(r"values is no array but a list; write cvl\.as_ints\(values\)$", cvl.dis_vez, [1, 2], rows)
+        self.refused(r"index has elements of bool.*write cvl\.as_ints\(index\)$", cvl.bck_puz, ints(1), flags(True))
+        self.assertEqual(self.taken_as_advised(cvl.dis_vez, values=flags(True, False), segments=rows), [1, 1, 0])
+
+    def test_arguments_in_another_order(self):
+        a, b, rows, others = ints(1, 2, 3), ints(7, 8, 9), ints(2, 0, 1), ints(1, 2, 0)
+        order = r"the order of arguments is append_segments_int\(a, b, segments, other_segments\)$"
+        for number, said, arguments in (
+            (7, "segments add up to 24, and len(a) is 3", (a, rows, b, others)), (12, "segments[1] is -1", (a, rows, ints(1, -1, 1), others)),
+            (13, None, (a, rows, ints(MOST, 1, 1), others)), (7, "len(other_segments) is 2, and len(segments) is 3", (a, b, rows, ints(3, 0))),
+        ):  # fmt: skip
+            with self.assertRaisesRegex(cvl.Fault, order) as caught:
+                cvl.append_segments_int(*arguments)
+            self.assertEqual(caught.exception.number, number)
+            self.assertTrue(said is None or caught.exception.said.startswith(f"{said}; "), caught.exception.said)
+        self.refused(r"b is no array but a Segments, whose lengths are b\.lengths; " + order, cvl.append_segments_int, a, cvl.Segments(rows), b, others)
+        self.refused(order, cvl.append_segments_int, a, rows.tolist(), b, others)
+        self.refused(r"b has elements of int32.*; the order of arguments is append_segments_bool\(a, b, ", cvl.append_segments_bool, a != 2, rows, b != 7, others)
+        self.refused(r"a is no array but a Segments.*; the order of arguments is add_rez\(a, segments\)$", cvl.add_rez, cvl.Segments(rows), a)
+        self.refused(r"a is no array but a Segments, whose lengths are a\.lengths$", cvl.add_suz, cvl.Segments(rows))
+        # the room is not among them, and a call with one vector of lengths has no other order
+        with self.assertRaisesRegex(cvl.Fault, r"len\(out\) is 1, and has to be 6$"):
+            cvl.append_segments_int(a, b, rows, others, out=ints(0))
+
+    def test_operators_by_other_names(self):
+        given = ints(5, 6), ints(0, 0), ints(7)
+        for word, name in (
+            ("add", "ADD"), ("ADD", "ADD"), ("+", "ADD"), ("sum", "ADD"), (numpy.add, "ADD"), (operator.add, "ADD"), (sum, "ADD"), (numpy.multiply, "MUL"),
+            (min, "MIN"), (numpy.maximum, "MAX"), ("or", "IOR"), (operator.or_, "IOR"), (operator.and_, "AND"), (numpy.bitwise_xor, "XOR"),
+        ):  # fmt: skip
+            self.refused(rf"^op is no number of an operator but a .*; write cvl\.operators\.{name}$", cvl.combine_permute_int, word, *given)
+        for word in ("sub", numpy.subtract, "other", None, 1.5):
+            self.refused("write one of cvl.operators: ADD, MUL, MIN, MAX, AND, IOR, XOR$", cvl.combine_permute_int, word, *given)
+        self.refused("write one of cvl.operators: AND, IOR, XOR$", cvl.combine_permute_bool, "add", flags(True), ints(0), flags(True))
+        self.assertEqual(cvl.combine_permute_int(cvl.operators.ADD, *given).tolist(), [18])
 
     def test_what_is_not_in_one_row_is_refused(self):
         self.refused(r"a has 2 dimensions.*write numpy\.ravel\(a\)", cvl.add_suz, numpy.zeros((2, 2), numpy.int32))
@@ -135,6 +253,7 @@ class Arguments(Limited):
 
     def test_lengths_that_must_agree_are_told_with_their_names(self):
         marks = numpy.zeros(1, numpy.uint32)
+        order = "the order of arguments is def_pez(source, index, defaults, segments, default_segments)"
 
         def permuted(*lengths):
             return cvl.def_pez(ints(1), ints(0), ints(1), *lengths)
@@ -144,8 +263,8 @@ class Arguments(Limited):
             (lambda: cvl.add_sez(ints(1, 2), ints(1)), "segments add up to 1, and len(a) is 2"),
             (lambda: cvl.add_sez(ints(1, 2), cvl.Segments([1, 2])), "segments add up to 3, and len(a) is 2"),
             (lambda: cvl.ext_vez(ints(1, 2), ints(0), ints(1, 1)), "len(segments) is 2, and len(index) is 1"),
-            (lambda: permuted(ints(1), ints(1, 0)), "len(default_segments) is 2, and len(segments) is 1"),
-            (lambda: permuted(ints(1), ints(2)), "default_segments add up to 2, and len(defaults) is 1"),
+            (lambda: permuted(ints(1), ints(1, 0)), f"len(default_segments) is 2, and len(segments) is 1; {order}"),
+            (lambda: permuted(ints(1), ints(2)), f"default_segments add up to 2, and len(defaults) is 1; {order}"),
             (lambda: cvl.sel_wuz(flags(True), ints(1), ints(1, 2)), "len(b) is 2, and len(flags) is 1"),
             (lambda: cvl.pck_luz(ints(1, 2), flags(True)), "len(flags) is 1, and len(values) is 2"),
             (lambda: cvl.add_suz(ints(1, 2), out=ints(1)), "len(out) is 1, and has to be 2"),
@@ -341,6 +460,25 @@ class Rooms(Limited):
             cvl.add_suz(whole[:3], out=whole[1:])
         self.assertEqual((str(caught.exception), whole.tolist()), ("fault 102 Overlap: out and a share memory", [3, 1, 4, 1]))
 
+    def test_an_index_of_64_bits_is_said_as_it_is(self):
+        source, more = ints(3, 1, 4), numpy.array([0, 2**32, -(2**40)])
+        for call, said in (
+            (lambda: cvl.bck_puz(source, more), "10 IndexOutOfRange at 1: index[1] is 4294967296, and len(source) is 3"),
+            (lambda: cvl.smp_puz(source, more[[0, 2, 1]]), "10 IndexOutOfRange at 1: index[1] is -1099511627776, and the result has 3 elements"),
+            (lambda: cvl.smp_puz(source, numpy.array([1, 1, 2**32])), "11 IndexRepeated at 1: index[1] is 1"),
+            (lambda: cvl.sel_puz(source, more, flags(False, True, False)), "10 IndexOutOfRange at 1: index[1] is 4294967296, and the result has 1 elements"),
+            (lambda: cvl.counts(more, 5), "10 IndexOutOfRange at 1: index[1] is 4294967296, and the result has 5 elements"),
+            (lambda: cvl.gather_segments_int(source, more, ints(1, 0, 1)), "10 IndexOutOfRange at 1: starts[1] is 4294967296"),
+            (lambda: cvl.bck_puz(source, more, out=ints(1, 2)), "7 LengthMismatch: len(out) is 2, and has to be 3"),
+        ):
+            with self.assertRaises(cvl.Fault) as caught:
+                call()
+            self.assertEqual(str(caught.exception), f"fault {said}")
+        # an index that is not looked at may be any number
+        self.assertEqual(cvl.sel_puz(source, more, flags(True, False, False)).tolist(), [3])
+        with self.assertRaisesRegex(TypeError, r"source has elements of int64"):
+            cvl.bck_puz(more, more)
+
     def test_a_fault_says_which_value_it_is_about(self):
         a, whole = ints(3, 1, 4), ints(3, 1, 4, 1)
         lengths, columns, x = ints(1, 2), ints(0, 1, 2), ints(5, 6)
@@ -374,19 +512,54 @@ class Rooms(Limited):
             found = cvl.as_ints(given)
             self.assertEqual((found.dtype, found.tolist()), (numpy.int32, wanted))
         for given, kind, said in (
-            ([1, 2.5], ValueError, r"k\[1\] is 2\.5, and has to be a whole number"),
-            ([1.0, numpy.nan], ValueError, r"k\[1\] is nan, and has to be a whole number"),
+            ([1, 2.5], ValueError, r"k\[1\] is 2\.5, and has to be a whole number; write cvl.as_ints\(numpy.rint\(k\)\)$"),
+            ([1.0, numpy.nan], ValueError, r"k\[1\] is nan, and has to be a whole number$"),
             ([numpy.inf, 2.5], ValueError, r"k\[0\] is inf, and has to be a whole number"),
             ([1e10, 1.0], OverflowError, r"k\[0\] is 10000000000\.0, which does not fit 32 bits"),
             (numpy.array([1, 2**31], numpy.uint32), OverflowError, r"k\[1\] is 2147483648, which does not fit 32 bits"),
             ([-(2**31) - 1], OverflowError, r"k\[0\] is -2147483649, which does not fit 32 bits"),
             ([2**70], TypeError, "k has elements of object, which are no numbers"),
-            (["x"], TypeError, "k has elements of <U1, which are no numbers"),
-            ([[1]], TypeError, "k has 2 dimensions, and has to have one"),
+            (["x"], TypeError, "k has elements of <U1, which are no numbers; if they are digits, write "),
+            ([[1]], TypeError, r"k has 2 dimensions, and has to have one; write cvl.as_ints\(numpy.ravel\(k\)\)$"),
             (numpy.ma.array([1], mask=[True]), TypeError, "k has a mask"),
         ):
             with self.assertRaisesRegex(kind, said):
                 cvl.as_ints(given, "k")
+
+    def test_long_numbers_of_64_bits_as_integers(self):
+        """The first that does not fit is found wherever it stands: numbers are looked at in blocks."""
+        least, greatest = -(2**31), 2**31 - 1
+        for count in (0, 1, 1023, 1024, 1025, 5000):
+            numbers = numpy.random.default_rng(count).integers(least, greatest, count, numpy.int64, endpoint=True)
+            numbers[:2] = [least, greatest][:count]
+            for given in (numbers, numpy.repeat(numbers, 2)[::2]):
+                found = cvl.as_ints(given)
+                self.assertEqual((found.dtype, found.tolist(), found.flags.writeable), (numpy.int32, numbers.tolist(), True))
+            for place in {0, count // 2, count - 1} if count else ():
+                for wrong in (least - 1, greatest + 1, 2**32, -(2**63), 2**63 - 1):
+                    other = numbers.copy()
+                    other[[place, -1]] = wrong
+                    with self.assertRaisesRegex(OverflowError, rf"^k\[{place}\] is {wrong}, which does not fit 32 bits$"):
+                        cvl.as_ints(other, "k")
+
+    def test_columns_that_may_have_missing_numbers(self):
+        for kind, given, wanted in (("Int32", [3, 1], [3, 1]), ("Int64", [3, 1], [3, 1]), ("boolean", [True, False], [1, 0])):
+            for column in columns(given, kind):
+                found = cvl.as_ints(column)
+                self.assertEqual((found.dtype, found.tolist()), (numpy.int32, wanted))
+            for column in columns([given[0], None, given[1], None], kind):
+                with self.assertRaisesRegex(ValueError, r"^k\[1\] is missing, and has to be a number; fill in or drop what is missing$"):
+                    cvl.as_ints(column, "k")
+        for column in columns([2, 0, 1], "Int64"):
+            self.assertEqual((cvl.Segments(column).lengths.tolist(), cvl.argsort(column).tolist()), ([2, 0, 1], [1, 2, 0]))
+            with self.assertRaisesRegex(TypeError, r"write cvl\.as_ints\(a\)$"):
+                cvl.add_suz(column)
+        for column in columns([2, None], "Int64"):
+            with self.assertRaisesRegex(ValueError, r"^lengths\[1\] is missing"):
+                cvl.Segments(column)
+        for column in columns([2, 2**31], "Int64"):
+            with self.assertRaisesRegex(OverflowError, r"^numbers\[1\] is 2147483648, which does not fit 32 bits$"):
+                cvl.as_ints(column)
 
     def test_in_place(self):
         a = ints(3, 1, 4)
@@ -651,10 +824,11 @@ class Threads(Limited):
 
     def test_the_variable(self):
         said = "import cvl; print(cvl.get_threads())"
-        for word, count in (("3", 3), ("0", 1), ("many", 1)):
+        is_no_number = 'cvl: CVL_NUM_THREADS is "{}", and has to be a number from 1 to 64; calls have {}\n'
+        for word, count, told_of in (("3", 3, ""), ("", 1, ""), ("65", 64, "64 threads"), (" 4", 4, "4 threads"), ("abc", 1, "1 thread")):
             place = {**os.environ, "CVL_NUM_THREADS": word, "PYTHONPATH": os.pathsep.join(filter(None, sys.path))}
             told = subprocess.run([sys.executable, "-c", said], env=place, capture_output=True, text=True, timeout=self.LIMIT)
-            self.assertEqual((told.stdout, told.stderr), (f"{count}\n", ""))
+            self.assertEqual((told.stdout, told.stderr), (f"{count}\n", told_of and is_no_number.format(word, told_of)))
 
 
 class Locks(Limited):
@@ -698,6 +872,10 @@ class Example:
                 yield name, {**self.arguments, name: made}
 
 
+# the names of operands that name places, which may be of 64 bits
+INDICES = ("index", "columns", "starts")
+
+
 class EachCall(Limited):
     examples = {name: Example(name) for name in cvl.calls.__all__}
 
@@ -713,8 +891,64 @@ class EachCall(Limited):
             others = (numpy.int64, numpy.int8, float, ">i4")
             for make in (*(lambda a, dtype=dtype: a.astype(dtype) for dtype in others), numpy.ndarray.tolist):
                 for changed, arguments in example.other_arguments(make):
+                    if changed in INDICES and arguments[changed] is not None and getattr(arguments[changed], "dtype", None) == numpy.int64:
+                        continue
                     with self.assertRaisesRegex(TypeError, f"^{changed} ", msg=name):
                         example.call(**arguments)
+
+    def each_index(self):
+        """Each call that takes an index, by its name there."""
+        for name, example in self.examples.items():
+            for changed in INDICES:
+                if isinstance(example.arguments.get(changed), numpy.ndarray):
+                    yield name, example, changed
+
+    def outcome(self, example, **changed):
+        """What a call gives and what stands in its rooms after it, or its fault with them."""
+        arguments = {name: given.copy() if isinstance(given, numpy.ndarray) else given for name, given in {**example.arguments, **changed}.items()}
+        rooms = [given for name, given in arguments.items() if isinstance(given, numpy.ndarray) and name in ("out", "marks")]
+        try:
+            found = example.call(**arguments)
+        except cvl.Fault as fault:
+            found = fault.number, fault.place
+        return found.tolist() if isinstance(found, numpy.ndarray) else found, [room.tolist() for room in rooms]
+
+    def test_an_index_of_64_bits_gives_what_one_of_32_bits_gives(self):
+        tried = 0
+        for name, example, changed in self.each_index():
+            index, wanted = example.arguments[changed], self.outcome(example)
+            wide = index.astype(numpy.int64)
+            for given in (wide, array.array("q", wide.tolist()), memoryview(wide)):
+                self.assertEqual(self.outcome(example, **{changed: given}), wanted, name)
+            for place in range(len(index)):
+                for number in (2**31, -(2**31) - 1, 2**32 + int(index[place]), -(2**63), 2**63 - 1):
+                    outside, other = index.copy(), wide.copy()
+                    outside[place], other[place] = -1, number
+                    self.assertEqual(self.outcome(example, **{changed: other}), self.outcome(example, **{changed: outside}), (name, place, number))
+                    tried += 1
+        self.assertGreater(tried, 500)
+
+    def test_an_index_of_64_bits_that_is_refused(self):
+        for name, example, changed in self.each_index():
+            wide = numpy.repeat(example.arguments[changed].astype(numpy.int64), 2)
+            shifted = numpy.zeros(8 * len(wide) + 1, numpy.uint8)[1:].view(numpy.int64)
+            for given in (wide[::2], shifted, wide.reshape(-1, 2), wide.astype(numpy.uint64), wide.astype(">i8")):
+                with self.assertRaisesRegex(TypeError, rf"^(the elements of )?{changed} ", msg=name):
+                    example.call(**{**example.arguments, changed: given})
+
+    def test_a_room_in_the_memory_of_an_index_of_64_bits(self):
+        for name, example, changed in self.each_index():
+            if not example.has_room or example.found.dtype != numpy.int32 or len(example.found) == 0:
+                continue
+            index = example.arguments[changed]
+            for places in (0, len(index)):
+                wide = numpy.zeros(len(index) + len(example.found), numpy.int64)
+                wide[: len(index)] = index
+                room = wide.view(numpy.int32)[places : places + len(example.found)]
+                with self.assertRaises(cvl.Fault, msg=name) as caught:
+                    example.call(**{**example.arguments, changed: wide[: len(index)], "out": room})
+                self.assertEqual((caught.exception.number, caught.exception.said), (102, f"out and {changed} share memory"))
+                self.assertEqual(wide[: len(index)].tolist(), index.tolist())
 
     def test_a_room_of_the_result(self):
         for name, example in self.examples.items():
@@ -881,7 +1115,8 @@ class FirstSenders(Limited):
             (lambda: cvl.first_senders(index, 3, out=ints(7)), 7, None, "len(out) is 1, and has to be 3"),
             (lambda: cvl.select_first_senders(index, flags(True), 3), 7, None, "len(flags) is 1, and len(index) is 100"),
             (lambda: cvl.seg_first_senders(ints(0), ints(1), ints(2), out=ints(7)), 7, None, "len(out) is 1, and has to be 2"),
-            (lambda: cvl.seg_first_senders(ints(0), ints(1), ints(2, 1)), 7, None, "len(result_segments) is 2, and len(segments) is 1"),
+            (lambda: cvl.seg_first_senders(ints(0), ints(1), ints(2, 1)), 7, None,
+                "len(result_segments) is 2, and len(segments) is 1; the order of arguments is seg_first_senders(index, segments, result_segments)"),
             (lambda: cvl.seg_first_senders(ints(0, 2), ints(1, 1), ints(2, 1)), 10, 1, "index[1] is 2"),
         ):
             with self.assertRaises(cvl.Fault) as caught:
@@ -980,7 +1215,7 @@ class Slices(Limited):
         self.assertEqual((caught.exception.number, caught.exception.place), (18, 1))
         for given, said in (
             (numpy.zeros(2, numpy.int8), r"bytes has elements of int8, and has to have uint8; bytes of another kind are bytes.view\(numpy.uint8\)"),
-            ("text", "bytes is no array but a str; write numpy.array"),
+            ("text", "bytes is no array but a str; write bytes.encode"),
         ):
             with self.assertRaisesRegex(TypeError, said):
                 cvl.ints_from_bytes(given)

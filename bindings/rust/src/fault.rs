@@ -1,6 +1,10 @@
 //! Faults: why a call has no value.
 
+use alloc::string::{String, ToString};
+use alloc::vec;
 use core::fmt;
+use core::hash::{Hash, Hasher};
+use core::ptr::null_mut;
 
 use cvl_sys::CvlStatus;
 
@@ -18,6 +22,23 @@ pub struct Fault {
     number: u32,
     place: Option<u64>,
     needed: Option<usize>,
+    by_library: ByLibrary,
+}
+
+/// Whether the library reported a fault, and not this crate: no part of what the fault is.
+#[derive(Clone, Copy, Debug)]
+struct ByLibrary(bool);
+
+impl PartialEq for ByLibrary {
+    fn eq(&self, _: &ByLibrary) -> bool {
+        true
+    }
+}
+
+impl Eq for ByLibrary {}
+
+impl Hash for ByLibrary {
+    fn hash<H: Hasher>(&self, _: &mut H) {}
 }
 
 /// What a count says that the library did not write.
@@ -51,6 +72,29 @@ impl Fault {
         self.needed
     }
 
+    /// The fault, and which value, lengths or slices are at fault, where that is known: of the last call of this thread that the
+    /// library refused.
+    ///
+    /// ```
+    /// let fault = cvl::bck_puz(&[7, 8], &[0, 2]).unwrap_err();
+    /// assert_eq!(fault.explain(), "fault 10 IndexOutOfRange at 1: index[1] is 2, and source has 2 elements");
+    /// ```
+    pub fn explain(&self) -> String {
+        let place = self.place.and_then(|place| i64::try_from(place).ok());
+        let status = CvlStatus {
+            number: self.number,
+            place: place.unwrap_or(-1),
+        };
+        if !self.by_library.0 {
+            return self.to_string();
+        }
+        let length = unsafe { cvl_sys::cvl_explain(status, null_mut(), 0) };
+        let mut text = vec![0; length + 1];
+        unsafe { cvl_sys::cvl_explain(status, text.as_mut_ptr(), text.len()) };
+        text.truncate(length);
+        String::from_utf8(text).unwrap_or_default()
+    }
+
     /// The same fault, with what the library counted, if it did.
     pub(crate) fn needing(self, count: usize) -> Fault {
         Fault {
@@ -75,6 +119,7 @@ impl Fault {
             number: faults::NEGATIVE_LENGTH,
             place: Some(segment as u64),
             needed: None,
+            by_library: ByLibrary(false),
         }
     }
 
@@ -93,6 +138,7 @@ impl Fault {
             number,
             place: None,
             needed: None,
+            by_library: ByLibrary(false),
         }
     }
 }
@@ -118,6 +164,7 @@ pub(crate) fn told(status: CvlStatus) -> Result<(), Fault> {
             number,
             place: u64::try_from(place).ok(),
             needed: None,
+            by_library: ByLibrary(true),
         }),
     }
 }

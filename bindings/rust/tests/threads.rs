@@ -136,7 +136,7 @@ fn threads_of_the_process() {
         println!("threads: {}", cvl::threads());
         return;
     }
-    for (said, threads) in [("3", 3), ("0", 1), ("many", 1), ("65", 1)] {
+    for (said, threads) in [("3", 3), ("0", 1), ("many", 1), ("65", 64), (" 4", 4)] {
         assert_eq!(started_with(said), threads);
     }
     let before = of_the_process();

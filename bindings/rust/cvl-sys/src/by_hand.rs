@@ -78,6 +78,10 @@ extern "C" {
     /// The name of the number of a status, as "DivideByZero", with a zero at its end; "Unknown" where it is no such number.
     pub fn cvl_fault_name(number: u32) -> *const u8;
 
+    /// Writes why a call is not done, at most `size` bytes with a zero at their end, and answers how long the whole text is without
+    /// it. Which value or which lengths are at fault is said of the last call of this thread that was not done.
+    pub fn cvl_explain(status: CvlStatus, text: *mut u8, size: usize) -> usize;
+
     /// Says how many threads there are for long calls, 1 to 64, with the one that calls. The answer is 0, or the number of an
     /// error of the system, and then there are as many as before.
     pub fn cvl_set_threads(threads: usize) -> i32;
@@ -90,6 +94,14 @@ extern "C" {
 
     /// Makes each byte that is not 0 a 1.
     pub fn cvl_make_flags(flags: *mut bool, flags_len: usize);
+
+    /// Each index in 32 bits, as calls take it: one outside 32 bits becomes -1, which is no place of any vector.
+    pub fn cvl_narrow_index(
+        index: *const i64,
+        index_len: usize,
+        out: *mut i32,
+        out_len: usize,
+    ) -> CvlStatus;
 
     /// Makes the descriptor of segments with these lengths. After a fault of the lengths there is none.
     pub fn cvl_segments_new(lengths: CvlLengths, segments: *mut CvlSegments) -> CvlStatus;

@@ -82,6 +82,15 @@ fn bytes_that_are_no_booleans() {
 }
 
 #[test]
+fn indices_of_64_bits() {
+    let (index, mut found) = ([3_i64, -1, 1 << 32, i64::MIN], [7_i32; 4]);
+    let told = unsafe { cvl_narrow_index(index.as_ptr(), 4, found.as_mut_ptr(), 4) };
+    assert_eq!((told, found), (DONE, [3, -1, -1, -1]));
+    let told = unsafe { cvl_narrow_index(index.as_ptr(), 4, found.as_mut_ptr(), 3) };
+    assert_eq!(told.number, CVL_LENGTH_MISMATCH);
+}
+
+#[test]
 fn descriptors() {
     let lengths = [2, 0, 3];
     let (mut made, mut total) = (descriptor(&lengths), 0);
