@@ -256,7 +256,7 @@ class Environment(unittest.TestCase):
             words = [sys.executable, "-c", f"{imports}; Built(sys.argv[1], 1000, 1, False); print(json.dumps(dict(os.environ)))", folder]
             given = {**os.environ, **dict.fromkeys(asked, "x"), "PYTHONPATH": "x"}
             said = json.loads(subprocess.run(words, cwd=TOP, env=given, capture_output=True, text=True, check=True).stdout)
-            self.assertEqual(said.pop("LDFLAGS"), f"-L{folder}/glibc -Wl,-z,x86-64-v2")
+            self.assertEqual(said.pop("LDFLAGS"), f"-L{folder}/glibc -Wl,-z,x86-64-v2 {folder}/glibc/level.o")
         self.assertEqual(set(said) & {*asked, "PYTHONPATH"}, set())
         self.assertEqual(said["SOURCE_DATE_EPOCH"], "1000")
 
@@ -341,6 +341,30 @@ class Older(Tree):
         levels = [0, 0x38983201, 0, 0xd0030128, 0, 0, 0, 0x21, 0]
         self.assertEqual(*[[word & bits for word, bits in zip(found, levels)] for found in told])
         self.assertEqual(told[1][1] & 0x982201, 0x982201, "x86-64-v2")
+
+    def test_what_a_shared_object_asks_of_the_processor(self):
+        # each bit of the registers ecx that x86-64-v2 is about, one of them missing
+        first, second = (0, 9, 13, 19, 20, 23), (0,)
+        rows = [(-1, -1, 0), *((~(1 << bit), -1, 127) for bit in first), *((-1, ~(1 << bit), 127) for bit in second), (0x982201, 1, 0)]
+        self.write("asks.c", f"""#include <cpuid.h>
+            static unsigned registers[2];
+            static int answered(unsigned leaf, unsigned *a, unsigned *b, unsigned *c, unsigned *d) {{
+                *a = *b = *d = 0, *c = registers[leaf != 1];
+                return 1;
+            }}
+            #define __get_cpuid answered
+            #define constructor used
+            #include "{older_glibc.LEVEL}"
+            #include <stdlib.h>
+            int main(int count, char **words) {{
+                for (int k = 0; k < count - 1; k++) registers[k] = (unsigned)atoi(words[k + 1]);
+                ask();
+                return 0;
+            }}""")
+        self.assertEqual(self.run_it("cc", "-Wall", "-Wextra", "-o", "asks", "asks.c").stderr, "")
+        for one, other, status in rows:
+            told = self.run_it("./asks", one, other)
+            self.assertEqual((told.returncode, told.stderr), (status, "libcvl: the processor lacks a feature of x86-64-v2\n" if status else ""), one)
 
     def test_what_the_program_runs_before_main(self):
         self.write("runs.c", """#include <stdio.h>
