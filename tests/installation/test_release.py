@@ -28,6 +28,8 @@ from releasing import built, crates, debian, found_right, licences, older_glibc,
 from trees import Tree
 from whole import Whole, command, written
 
+# a recipe for conda begins without a line of hyphens, and has lines as long as a link
+YAML = "{extends: default, rules: {document-start: disable, line-length: disable, comments: {min-spaces-from-content: 1}}}"
 RECORD = {"tree": "a tree", "kit": "a kit", "last_line": "5 passed, 0 failed", "not_tried": ""}
 
 
@@ -412,22 +414,80 @@ class Parts(unittest.TestCase):
 
 
 class Recipes(Tree):
-    """The recipes for other package managers."""
+    """The recipes for other package managers, each over a small tree, by what stands in for the words of its tool."""
+
+    PLACED = ("bin/cvl", "include/cvl.h", "lib/libcvl.a", "lib/pkgconfig/cvl.pc", "share/doc/cvl/LICENSE")
+    # what vcpkg has beside CMake's own commands
+    OF_VCPKG = """cmake_minimum_required(VERSION 3.13)
+        macro(vcpkg_download_distfile VARIABLE)
+          set(${VARIABLE} "an archive")
+        endmacro()
+        function(vcpkg_extract_source_archive VARIABLE)
+          if(NOT "${ARGN}" STREQUAL "ARCHIVE;an archive")
+            message(FATAL_ERROR "${ARGN}")
+          endif()
+          set(${VARIABLE} "${TREE}" PARENT_SCOPE)
+        endfunction()
+        function(vcpkg_install_copyright WORD FILE)
+          file(INSTALL "${FILE}" DESTINATION "${CURRENT_PACKAGES_DIR}/share/cvl" RENAME copyright)
+        endfunction()
+        include("${PORTFILE}")
+        """
+
+    def setUp(self):
+        super().setUp()
+        self.tree = self.write(trees.FILE, "a tree")
+        self.recipes = recipes.recipes(self.tree)
+        for name in self.PLACED:
+            self.write(f"tree/{name}", name)
+        self.made = self.top / "made"
+        self.made.mkdir()
+
+    def placed(self):
+        return sorted(str(path.relative_to(self.made)) for path in self.made.rglob("*") if path.is_file())
 
     def test_each_takes_the_tree_by_its_sum_and_reads_as_its_language(self):
-        tree = self.write(trees.FILE, "a tree")
-        found = recipes.recipes(tree)
-        self.assertEqual(sorted(found), ["conda/meta.yaml", "homebrew/cvl.rb", "spack/package.py", "vcpkg/portfile.cmake", "vcpkg/vcpkg.json"])
-        for place, text in found.items():
+        self.assertEqual(sorted(self.recipes), ["conda/meta.yaml", "homebrew/cvl.rb", "spack/package.py", "vcpkg/portfile.cmake", "vcpkg/vcpkg.json"])
+        for place, text in self.recipes.items():
             if place.endswith((".yaml", ".rb", "package.py")):
-                self.assertIn(receipt.sum_of(tree), text, place)
+                self.assertIn(receipt.sum_of(self.tree), text, place)
             self.assertNotRegex(text, r"\{(version|url|sha)")
-        self.assertEqual(json.loads(found["vcpkg/vcpkg.json"])["version"], table.VERSION)
-        compile(found["spack/package.py"], "package.py", "exec")
-        for program, place in ((("ruby", "-c"), "homebrew/cvl.rb"),):
-            if shutil.which(program[0]):
-                made = self.write(place, found[place])
-                self.assertEqual(subprocess.run([*program, made], capture_output=True).returncode, 0, place)
+        self.assertEqual(json.loads(self.recipes["vcpkg/vcpkg.json"])["version"], table.VERSION)
+        for words, place in ((("ruby", "-c"), "homebrew/cvl.rb"), (("yamllint", "-s", "-d", YAML), "conda/meta.yaml")):
+            if shutil.which(words[0]):
+                told = subprocess.run([*words, self.write(place, self.recipes[place])], capture_output=True, text=True)
+                self.assertEqual(told.returncode, 0, told.stdout + told.stderr)
+
+    def test_what_conda_runs(self):
+        (script,) = re.findall(r"^  script: (.*)$", self.recipes["conda/meta.yaml"], re.M)
+        subprocess.run(["sh", "-euc", script], cwd=self.top / "tree", env={**os.environ, "PREFIX": str(self.made)}, check=True)
+        self.assertEqual(self.placed(), sorted(self.PLACED))
+
+    @unittest.skipUnless(shutil.which("cmake"), "no cmake")
+    def test_what_vcpkg_runs(self):
+        portfile = self.write("portfile.cmake", self.recipes["vcpkg/portfile.cmake"])
+        script = self.write("script.cmake", self.OF_VCPKG)
+        given = {"TREE": self.top / "tree", "PORTFILE": portfile, "CURRENT_PACKAGES_DIR": self.made}
+        told = subprocess.run(["cmake", *(f"-D{name}={value}" for name, value in given.items()), "-P", script], capture_output=True, text=True)
+        self.assertEqual(told.returncode, 0, told.stderr)
+        self.assertEqual(self.placed(), sorted(["include/cvl.h", "lib/libcvl.a", "lib/pkgconfig/cvl.pc", "share/cvl/copyright"]))
+
+    def test_what_spack_runs(self):
+        said = []
+        words = {name: lambda *given, **named: said.append((given, named)) for name in ("license", "version", "conflicts", "requires")}
+        module = types.ModuleType("spack.package")
+        module.__dict__.update(words, Package=object, join_path=os.path.join, install_tree=lambda source, made: shutil.copytree(source, made))
+        found = {}
+        with mock.patch.dict(sys.modules, {"spack": types.ModuleType("spack"), "spack.package": module}):
+            exec(compile(self.recipes["spack/package.py"], "package.py", "exec"), found)
+        was = os.getcwd()
+        os.chdir(self.top / "tree")
+        try:
+            found["Cvl"]().install(None, str(self.made))
+        finally:
+            os.chdir(was)
+        self.assertEqual(self.placed(), sorted(self.PLACED))
+        self.assertIn(((table.VERSION,), {"sha256": receipt.sum_of(self.tree), "url": f"{texts.ADDRESS}/{trees.FILE}"}), said)
 
 
 class Receipt(Tree):
