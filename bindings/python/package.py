@@ -96,10 +96,10 @@ def compiler():
     return words
 
 
-def check():
-    """Raises all that is missing, one line each."""
+def check(every=False):
+    """Raises all that is missing, one line each, for this Python or the wheel for every one."""
     lacking = []
-    for needed in (numpy_is_new, python_headers, compiler, *([installed_library] if IS_SOURCE else [])):
+    for needed in (numpy_is_new, python_headers, compiler, *([installed_library] if IS_SOURCE else []), *([every_python] if every else [])):
         try:
             needed()
         except Missing as missing:

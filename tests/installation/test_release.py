@@ -22,6 +22,7 @@ sys.path.insert(0, str(TOP / "bindings"))
 import archive
 import generated
 from installer import files
+from installer import over_ranks as installed_over_ranks
 from installer.words import Places
 import table
 from releasing import built, crates, debian, found_right, licences, older_glibc, over_ranks, packed, receipt, recipes, shown, texts, trees, trying, writing
@@ -174,14 +175,22 @@ class Debian(Whole):
         self.install(prefix, *words, destination=self.top / "staged")
         return self.top / "staged/usr"
 
+    def build_over_ranks(self, folder, written, flags=(), compiler=None):
+        """A small library over the other one, as a compiler of MPI would build it."""
+        self.compilers.append(compiler)
+        self.run_it("cc", "-shared", "-fPIC", "-Wl,-soname,libcvl_mpi.so.1", "-o", folder / archive.MPI_FULL, "program.c", folder / archive.FULL)
+        shutil.copyfile(self.top / "staged/usr" / debian.LIBDIR / "libcvl.a", folder / "libcvl_mpi.a")
+
     def written(self, moment):
         """The packages that are written at a moment, each by its name."""
-        folder, work = self.top / f"written at {moment}", self.top / f"work at {moment}"
+        folder, work, self.compilers = self.top / f"written at {moment}", self.top / f"work at {moment}", []
         folder.mkdir()
-        builds = types.SimpleNamespace(installed=self.installed, work=work)
+        shared = self.top / "staged/usr" / debian.LIBDIR / archive.SONAME
+        builds = types.SimpleNamespace(installed=self.installed, work=work, shared=lambda: shared)
         asked = types.SimpleNamespace(run=lambda *words, **more: self.NUMPY)
         with at(moment), mock.patch.object(texts, "copyright_of", lambda: "a licence\n"), \
                 mock.patch.dict(os.environ, {"SOURCE_DATE_EPOCH": "1000"}), \
+                mock.patch.object(archive, "over_ranks", self.build_over_ranks), mock.patch.object(generated, "below", lambda folder: written()), \
                 mock.patch.object(debian, "_put_python", self.put_python), mock.patch.object(debian, "subprocess", asked):  # fmt: skip
             names = debian.write(folder, builds)
         return {name.partition("_")[0]: folder / name for name in names}
@@ -207,8 +216,26 @@ class Debian(Whole):
         for name, path in packages.items():
             self.assertEqual(path.read_bytes(), later[name].read_bytes(), name)
         unpacked = self.unpacked(packages)
+        over_ranks = {name: unpacked.pop(name) for name in ("libcvl-openmpi", "libcvl-mpich")}
         self.check_fields(packages, unpacked)
         self.check_places(unpacked)
+        for name, of_package in over_ranks.items():
+            self.check_over_ranks(name, packages[name], of_package, unpacked)
+        self.assertEqual(self.compilers, [["mpicc.openmpi"], ["mpicc.mpich"]])
+
+    def check_over_ranks(self, name, package, of_package, others):
+        """A package over an MPI has the files of that part of `./install`, stands over the library, and excludes the other one."""
+        fields = {field: self.run_it("dpkg-deb", "-f", package, field).strip() for field in ("Depends", "Conflicts", "Provides", "Replaces")}
+        self.assertEqual({fields.pop(field) for field in ("Conflicts", "Provides", "Replaces")}, {"libcvl-mpi"})
+        of_mpi = {"libcvl-openmpi": "libopenmpi3, libopenmpi-dev", "libcvl-mpich": "libmpich12, libmpich-dev"}[name]
+        libraries, glibc = self.needed(of_package.values())
+        self.assertEqual(libraries, {"libc.so.6", "libcvl.so.1"})
+        self.assertEqual(fields["Depends"], f"libc6 (>= {glibc}), libcvl-dev (= {debian.REVISION}), {of_mpi}")
+        placed, links = installed_over_ranks.placed(Places("/usr", debian.LIBDIR))
+        own = {f"share/doc/{name}/{file}" for file in ("copyright", "changelog.gz", "changelog.Debian.gz")} | {f"share/lintian/overrides/{name}"}
+        self.assertEqual(set(of_package), {f"usr/{place}" for place in {*placed, *links, *own}})
+        self.assertEqual(set(of_package) & {place for other in others.values() for place in other}, set())
+        self.assertEqual(os.readlink(of_package[f"usr/{debian.LIBDIR}/{archive.MPI_LINKED}"]), archive.MPI_SONAME)
 
     def check_fields(self, packages, unpacked):
         """What a package depends on is what its files need."""
