@@ -236,6 +236,8 @@ class Debian(Whole):
         self.assertEqual(set(of_package), {f"usr/{place}" for place in {*placed, *links, *own}})
         self.assertEqual(set(of_package) & {place for other in others.values() for place in other}, set())
         self.assertEqual(os.readlink(of_package[f"usr/{debian.LIBDIR}/{archive.MPI_LINKED}"]), archive.MPI_SONAME)
+        told = self.run_it("dpkg-deb", "-I", package, "shlibs", "triggers")
+        self.assertEqual(told, f"libcvl_mpi 1 {name} (>= 1.0.0)\nactivate-noawait ldconfig\n")
 
     def check_fields(self, packages, unpacked):
         """What a package depends on is what its files need."""
