@@ -178,7 +178,9 @@ class Debian(Whole):
     def build_over_ranks(self, folder, written, flags=(), compiler=None):
         """A small library over the other one, as a compiler of MPI would build it."""
         self.compilers.append(compiler)
-        self.run_it("cc", "-shared", "-fPIC", "-Wl,-soname,libcvl_mpi.so.1", "-o", folder / archive.MPI_FULL, "program.c", folder / archive.FULL)
+        self.write("over.c", "#include <stdlib.h>\nint main(void);\nint over_ranks(void) { return main() + abs(1); }\n")
+        linked = ["-shared", "-fPIC", "-fno-builtin", "-Wl,-soname,libcvl_mpi.so.1"]
+        self.run_it("cc", *linked, "-o", folder / archive.MPI_FULL, "over.c", folder / archive.FULL)
         shutil.copyfile(self.top / "staged/usr" / debian.LIBDIR / "libcvl.a", folder / "libcvl_mpi.a")
 
     def written(self, moment):
