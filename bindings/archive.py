@@ -133,9 +133,10 @@ def shared(made):
 MPI_FULL, MPI_SONAME, MPI_LINKED = f"libcvl_mpi.so.{table.VERSION}", f"libcvl_mpi.so.{MAJOR}", "libcvl_mpi.so"
 
 
-def over_ranks(folder, written, flags=()):
-    """The library of calls over ranks of MPI, as an archive and as a shared object over the one of the calls, which the folder has."""
-    compiler = program("MPICC")
+def over_ranks(folder, written, flags=(), compiler=None):
+    """The library of calls over ranks of MPI, as an archive and as a shared object over the one of the calls, which the folder has, by
+    MPI's compiler."""
+    compiler = compiler or program("MPICC")
     quoted = [f"-iquote{top / of}" for top in (TOP, written) for of in ("bindings/mpi", "bindings/c")]
     with tempfile.TemporaryDirectory() as work:
         work, objects = pathlib.Path(work), []

@@ -11,7 +11,7 @@ PROBE = "#include <mpi.h>\nint cvl_probe(int *size) { return MPI_Comm_size(MPI_C
 TEMPLATES = (("cvl-mpi.pc.in", "pkgconfig"), ("cvl-mpi.cmake.in", "cmake/cvl"))
 
 
-def _placed(places, source):
+def placed(places, source=lambda name: name):
     """Where each file goes, with what `source` answers for its name; and the links."""
     libdir = places.libdir
     found = {
@@ -26,7 +26,7 @@ def check(places, work):
     source = work / "over_ranks.c"
     source.write_text(PROBE)
     archive.run(*archive.program("MPICC"), "-shared", "-fPIC", "-o", work / "over_ranks.so", source)
-    putting.check(places.root, {"mpi": _placed(places, lambda name: proved.TOP / "install")})
+    putting.check(places.root, {"mpi": placed(places, lambda name: proved.TOP / "install")})
 
 
 def files(places, folder, work, written, rpath):
@@ -35,4 +35,4 @@ def files(places, folder, work, written, rpath):
     for name, text in made.items():
         (folder / name).write_text(text)
     tops = {"cvl_mpi.h": written / "bindings/mpi", "cvl_mpi.f90": written / "bindings/fortran", **{name: folder for name in made}}
-    return _placed(places, lambda name: tops.get(name, work) / name)
+    return placed(places, lambda name: tops.get(name, work) / name)

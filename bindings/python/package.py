@@ -96,10 +96,10 @@ def compiler():
     return words
 
 
-def check():
-    """Raises all that is missing, one line each."""
+def check(every=False):
+    """Raises all that is missing, one line each, for this Python or the wheel for every one."""
     lacking = []
-    for needed in (numpy_is_new, python_headers, compiler, *([installed_library] if IS_SOURCE else [])):
+    for needed in (numpy_is_new, python_headers, compiler, *([installed_library] if IS_SOURCE else []), *([every_python] if every else [])):
         try:
             needed()
         except Missing as missing:
@@ -141,6 +141,9 @@ def library(work):
     """The archive of the library: of this checkout, or for a source archive the installed one."""
     if IS_SOURCE:
         return installed_library()
+    if not shutil.which("rt"):
+        raise Missing("the command rt of the kit is not on the path, which proves and builds the library of this checkout; without it install "
+            "the wheel of a release, or its source archive over an installed library")  # fmt: skip
     if not os.environ.get("CVL_ARCHIVE"):
         said = "building the library of this checkout; what `rt ci` has not proved of it is proved first, in up to an hour"
         print(f"{NAME}: {said}", file=sys.stderr, flush=True)

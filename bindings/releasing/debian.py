@@ -11,8 +11,11 @@ import shutil
 import subprocess
 
 import archive
+import generated
 import proved
 import table
+from installer import over_ranks
+from installer.words import Places
 
 from . import built, texts
 from .pythons import BUILDS, PYTHON
@@ -24,6 +27,22 @@ REVISION = f"{table.VERSION}-1"
 #
 # Of the first package that has a pattern for a file. A dependency in braces is filled in.
 Package = collections.namedtuple("Package", "name patterns depends section short long architecture", defaults=("amd64",))
+
+
+def _over_ranks(mpi, name, library):
+    """The package of the calls over ranks of an MPI, whose files are made for it alone."""
+    said = (f"CVL's calls on vectors that are spread over the ranks of {mpi}.", "This package has the shared object, the archive, the header, "
+            "the module for Fortran, and what pkg-config and CMake read.")  # fmt: skip
+    depends = f"{{libc}}, libcvl-dev (= {{version}}), {library}, lib{name}-dev"
+    return Package(f"libcvl-{name}", (), depends, "libs", f"proved vector calls over the ranks of {mpi}", said)
+
+
+# the packages over an MPI of Debian, each with the compiler of that MPI. All have the same files, so that one of them is installed
+OVER_RANKS = {
+    _over_ranks("Open MPI", "openmpi", "libopenmpi3"): "mpicc.openmpi",
+    _over_ranks("MPICH", "mpich", "libmpich12"): "mpicc.mpich",
+}
+ONE_OF_THEM = "libcvl-mpi"
 PACKAGES = (
     Package(
         "cvl", ("bin/*", "share/man/man1/*", "share/bash-completion/*", "share/zsh/*", "share/fish/*"), "{libc}", "math",
@@ -51,14 +70,15 @@ PACKAGES = (
         "cvl-doc", ("share/doc/cvl/*",), "", "doc", "proved vector calls for flat and nested data - documentation",
         ("The tutorial, the reference and the examples of CVL's calls, from scripts and from C, C++, Fortran, Python and Rust.",), "all",
     ),
+    *OVER_RANKS,
 )  # fmt: skip
 
 # where Debian has another folder than `./install`
 MOVED = {"share/zsh/site-functions/": "share/zsh/vendor-completions/"}
 STRIPPED = {
     "bin/*": ("--strip-all", "--remove-section=.comment"),
-    f"{LIBDIR}/*libcvl.so.*": ("--strip-unneeded", "--remove-section=.comment"),
-    f"{LIBDIR}/libcvl.a": ("--strip-debug", "--enable-deterministic-archives"),
+    f"{LIBDIR}/*libcvl*.so.*": ("--strip-unneeded", "--remove-section=.comment"),
+    f"{LIBDIR}/libcvl*.a": ("--strip-debug", "--enable-deterministic-archives"),
 }
 
 
@@ -115,6 +135,7 @@ def _control(package, root, depends):
         f"Package: {package.name}", "Source: cimorelua", f"Version: {REVISION}", f"Architecture: {package.architecture}",
         f"Maintainer: {texts.MAINTAINER}", f"Installed-Size: {size}", *([f"Depends: {depends}"] if depends else []),
         *(["Multi-Arch: same"] if package.name == "libcvl1" else ["Multi-Arch: foreign"] if package.architecture == "all" else []),
+        *([f"Provides: {ONE_OF_THEM}", f"Conflicts: {ONE_OF_THEM}", f"Replaces: {ONE_OF_THEM}"] if package in OVER_RANKS else []),
         *(["Suggests: cvl-doc"] if package.name != "cvl-doc" else []), f"Section: {package.section}", "Priority: optional",
         f"Description: {package.short}", *texts.paragraphs(package.long),
     ]  # fmt: skip
@@ -122,19 +143,31 @@ def _control(package, root, depends):
     return {"control": "\n".join(lines) + "\n", "md5sums": sums, **texts.scripts(package.name)}
 
 
-# what lintian finds in the pages in HTML, and why that stays
 SITE = "usr/share/doc/cvl/html/_static"
-OVERRIDDEN = """# the search of these pages is that of the Sphinx that made their index, and they are read from files, without another package
+# what lintian finds in the pages in HTML, and in a package over an MPI, and why that stays
+IN_SITE = """# the search of these pages is that of the Sphinx that made their index, and they are read from files, without another package
 cvl-doc: embedded-javascript-library please use sphinx [*]
 """
+IN_OVER_RANKS = """# the library has one name over each MPI, and a package for an MPI has all that programs are built and run with
+{name}: package-name-doesnt-match-sonames libcvl-mpi1
+{name}: link-to-shared-library-in-wrong-package *
+"""
+
+
+def _overridden(package, root):
+    """What lintian may find in a package."""
+    if package in OVER_RANKS:
+        return IN_OVER_RANKS.format(name=package.name)
+    return IN_SITE if (root / SITE).is_dir() else ""
 
 
 def _described(package, root):
     """The licence and the changes, which each package has, and what lintian may find."""
-    if (root / SITE).is_dir():
+    overridden = _overridden(package, root)
+    if overridden:
         overrides = root / "usr/share/lintian/overrides"
         overrides.mkdir(parents=True)
-        (overrides / package.name).write_text(OVERRIDDEN)
+        (overrides / package.name).write_text(overridden)
     folder = root / "usr/share/doc" / package.name
     folder.mkdir(parents=True, exist_ok=True)
     (folder / "copyright").write_text(texts.copyright_of())
@@ -164,11 +197,38 @@ def _put_python(staged):
     archive.run(PYTHON, "-B", BUILDS, f"--library={staged / LIBDIR / archive.SONAME}", staged / "lib/python3/dist-packages")
 
 
+def _put_over_ranks(compiler, library, work, root):
+    """Puts the calls over the ranks of an MPI, which its compiler builds over the library."""
+    made, staged = work / "made", work / "staged"
+    made.mkdir(parents=True)
+    (made / archive.FULL).symlink_to(library.with_name(archive.FULL))
+    written = generated.below(work / "written")
+    archive.over_ranks(made, written, compiler=[compiler])
+    found, links = over_ranks.files(Places("/usr", LIBDIR), work, made, written, rpath=False)
+    for name in (*found, *links):
+        (staged / name).parent.mkdir(parents=True, exist_ok=True)
+        if name in links:
+            (staged / name).symlink_to(links[name])
+        else:
+            shutil.copyfile(found[name], staged / name)
+        _put(staged, root, name)
+
+
+def check():
+    """Stops where a compiler is missing, or `dpkg-deb`."""
+    needed = {"dpkg-deb": "dpkg", **{compiler: f"lib{compiler.partition('.')[2]}-dev" for compiler in OVER_RANKS.values()}}
+    missing = [f"{name} is missing, which makes the packages for Debian (Debian: {package})" for name, package in needed.items() if not shutil.which(name)]
+    if missing:
+        proved.stop("\n".join(missing))
+
+
 def write(folder, builds):
     """Writes the packages, and answers their names."""
     staged = builds.installed("debian", "/usr", "--libdir", LIBDIR, "--no-python")
     _put_python(staged)
     roots = {package.name: builds.work / "packages" / package.name for package in PACKAGES}
+    for package, compiler in OVER_RANKS.items():
+        _put_over_ranks(compiler, builds.shared(), builds.work / "over_ranks" / package.name, roots[package.name])
     for path in sorted(staged.rglob("*")):
         name = str(path.relative_to(staged))
         package = _package_of(name)

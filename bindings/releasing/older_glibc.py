@@ -17,8 +17,9 @@ OLDEST = "2.28"
 LIBC, THREADS = "libc.so.6", "libpthread.so.0"
 # a line of `readelf --dyn-syms`: size, type, name, and its version, which is the one for new programs behind two @
 LINE = re.compile(r"^ *\d+: [0-9a-f]+ +(\w+) (FUNC|IFUNC|OBJECT) +(?:GLOBAL|WEAK) +DEFAULT +(?!UND)\w+ (\w+)@(@?)GLIBC_([\d.]+)$", re.M)
-# what the program asks of the processor, of which glibc knows since 2.33, and what it runs before `main`, which glibc does since 2.34
-PROCESSOR, START = (pathlib.Path(__file__).with_name(name) for name in ("processor.c", "start.c"))
+# what the program and a shared object ask of the processor, of which glibc knows since 2.33, and what the program runs before `main`,
+# which glibc does since 2.34
+PROCESSOR, LEVEL, START = (pathlib.Path(__file__).with_name(name) for name in ("processor.c", "level.c", "start.c"))
 
 Name = collections.namedtuple("Name", "name version kind size")
 
@@ -86,6 +87,12 @@ class OlderGlibc:
         (self.folder / "libc.so").write_text(_both(self.folder / LIBC, kit / "toolchain/lib/libc_nonshared.a"))
         (self.folder / "libpthread.so").symlink_to(THREADS)
         self._make_toolchain(kit / "toolchain")
+        self.level = self._compiled(LEVEL)
+
+    def _compiled(self, source):
+        made = self.folder / source.with_suffix(".o").name
+        archive.run(*archive.compiling(), "-c", source, "-o", made)
+        return made
 
     def _make_toolchain(self, kits):
         """A toolchain as the kit's linker wants it."""
@@ -103,13 +110,10 @@ class OlderGlibc:
     @property
     def linked(self):
         """The words for a C compiler that links a shared object. On a processor before x86-64-v2 the loader of glibc from 2.33 on
-        says that it is too old."""
-        return [f"-L{self.folder}", "-Wl,-z,x86-64-v2"]
+        says that it is too old, and with an older one the object does."""
+        return [f"-L{self.folder}", "-Wl,-z,x86-64-v2", str(self.level)]
 
     def program(self, compiled, made):
         """Links a program that the kit compiled."""
-        own = [self.folder / source.with_suffix(".o").name for source in (PROCESSOR, START)]
-        for source, code in zip((PROCESSOR, START), own):
-            archive.run(*archive.compiling(), "-c", source, "-o", code)
-        proved.link(compiled, made, self.toolchain, *own)
+        proved.link(compiled, made, self.toolchain, *map(self._compiled, (PROCESSOR, START)))
         return made

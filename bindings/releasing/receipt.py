@@ -54,6 +54,7 @@ MADE_OF = (
     ("*.tar.xz", "program, exports, bindings, docs, examples, include"),
     ("cvl_*.deb", "program, bindings, docs"),
     ("cvl-doc_*.deb", "docs, examples, bindings"),
+    ("libcvl-*mpi*.deb", "bindings, include"),
     ("*.deb", "exports, bindings, docs, include"),
     ("*.whl", "exports, bindings, include"),
     ("cvl-sys-*.crate", "exports, bindings"),

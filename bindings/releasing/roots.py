@@ -20,7 +20,8 @@ PACKAGES = {
     "python": ("python3-numpy", "python3-venv"),
     "source": ("gcc", "libc6-dev", "python3-numpy", "python3-dev", "python3-venv"),
     "rust": ("cargo", "gcc", "libc6-dev"),
-    "mpi": ("gcc", "libc6-dev", "make", "pkg-config", "libmpich-dev", "mpich"),
+    "mpich": ("gcc", "libc6-dev", "make", "pkg-config", "libmpich-dev", "mpich"),
+    "openmpi": ("gcc", "libc6-dev", "pkg-config", "libopenmpi-dev", "openmpi-bin"),
     "older": ("xz-utils", "gcc", "libc6-dev", "pkg-config", "python3-numpy", "python3-dev", "python3-venv"),
     "next": ("xz-utils", "cargo", "gcc", "libc6-dev", "pkg-config", "python3-numpy", "python3-dev", "python3-venv"),
 }
@@ -33,8 +34,8 @@ class Failed(Exception):
 class Root:
     """The root of a system of its own."""
 
-    def __init__(self, folder):
-        self.folder = pathlib.Path(folder)
+    def __init__(self, folder, kind):
+        self.folder, self.kind = pathlib.Path(folder), kind
 
     def run(self, said, user="root", **variables):
         """What a command of the shell prints, run by a user with these variables alone."""
@@ -77,19 +78,21 @@ class Root:
 
 
 class Roots:
-    """Roots by their kinds, made once and unpacked for each try."""
+    """Roots by their kinds, made once and unpacked for each try. Those of earlier tries stand in the folder `kept`."""
 
-    def __init__(self, work):
-        self.work = pathlib.Path(work)
+    def __init__(self, work, kept):
+        self.work, self.kept = pathlib.Path(work), pathlib.Path(kept)
 
     def _made(self, kind, suite):
-        made = self.work / f"{suite}-{kind}.tar"
+        made = self.kept / f"{suite}-{kind}.tar"
         if not made.exists():
-            packages = ",".join(PACKAGES[kind])
-            words = ["mmdebstrap", "--quiet", "--variant=minbase", *([f"--include={packages}"] if packages else []), suite, made]
+            # of one that was stopped halfway nothing stands under the name
+            part, packages = self.work / made.name, ",".join(PACKAGES[kind])
+            words = ["mmdebstrap", "--quiet", "--variant=minbase", *([f"--include={packages}"] if packages else []), suite, part]
             told = subprocess.run([str(word) for word in words], capture_output=True, text=True, stdin=subprocess.DEVNULL)
             if told.returncode != 0:
                 raise Failed(f"no root of {suite} could be made:\n{told.stderr[-2000:]}")
+            shutil.move(part, made)
         return made
 
     @contextlib.contextmanager
@@ -99,7 +102,7 @@ class Roots:
         with tempfile.TemporaryDirectory(dir=self.work) as folder:
             os.chmod(folder, 0o755)
             subprocess.run(["tar", "-xpf", str(made), "-C", folder], check=True)
-            yield Root(folder)
+            yield Root(folder, kind)
 
 
 def check():

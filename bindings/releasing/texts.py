@@ -94,7 +94,10 @@ fi
 
 def scripts(package):
     """The files for `dpkg` that one package alone has, by their names."""
+    triggers = "activate-noawait ldconfig\n"
     return {
-        "libcvl1": {"shlibs": "libcvl 1 libcvl1 (>= 1.0.0)\n", "symbols": _symbols(), "triggers": "activate-noawait ldconfig\n"},
+        "libcvl1": {"shlibs": "libcvl 1 libcvl1 (>= 1.0.0)\n", "symbols": _symbols(), "triggers": triggers},
+        "libcvl-openmpi": {"shlibs": "libcvl_mpi 1 libcvl-openmpi (>= 1.0.0)\n", "triggers": triggers},
+        "libcvl-mpich": {"shlibs": "libcvl_mpi 1 libcvl-mpich (>= 1.0.0)\n", "triggers": triggers},
         "python3-cvl": {"postinst": COMPILES, "prerm": CLEANS},
     }.get(package, {})

@@ -1,10 +1,13 @@
 """Tries a release where no kit is: in bare roots of Debian, as root and as a user, by the commands that the pages show."""
 
+import os
 import pathlib
 import subprocess
+import tarfile
 import tempfile
 import time
 
+import archive
 import proved
 import table
 
@@ -126,19 +129,48 @@ int main(void) { return puts(cvl_build()) < 0; }
 """
 
 
+def each_alone(own=None):
+    """What the environment of a program has to say so that it runs with each build, and for which processors that is."""
+    return ({}, own or own_build()), (USUAL_ALONE, "x86-64-v2")
+
+
+def is_build(said, cpu):
+    """Compares what the library says of its build."""
+    words = said.split()
+    if words[:1] != [table.VERSION] or words[2:] != [cpu]:
+        raise roots.Failed(f"the library says that it is {said!r}, and should be the build for {cpu}")
+
+
 def own_builds(root, folder, own=None, **variables):
     """The loader finds the build for this processor by itself, and that for all if it is told to, or if the other is not there."""
     root.write("srv/c/build.c", BUILD)
     root.run("cd /srv/c && cc build.c -o build $(pkg-config --cflags --libs cvl)", **variables)
-    own = own or own_build()
-    for more, cpu in (({}, own), (USUAL_ALONE, "x86-64-v2")):
-        said = root.run("/srv/c/build", **variables, **more).split()
-        if said[0] != table.VERSION or said[2:] != [cpu]:
-            raise roots.Failed(f"cvl_build() says {said}, and should have said {cpu} with {more}")
+    for more, cpu in each_alone(own):
+        is_build(root.run("/srv/c/build", **variables, **more), cpu)
     root.run(f"mv {folder}/glibc-hwcaps /srv/c && ldconfig")
-    if root.run("/srv/c/build", **variables).split()[2:] != ["x86-64-v2"]:
-        raise roots.Failed("without the folder glibc-hwcaps another library is found than the usual one")
+    is_build(root.run("/srv/c/build", **variables), "x86-64-v2")
     root.run(f"mv /srv/c/glibc-hwcaps {folder} && ldconfig")
+
+
+# The tests in C that need only what a shared object shows: on worked values, of careless callers, on inputs at random, and in parts.
+IN_C_OVER_SHARED = (("test",), ("careless",), ("differential",), ("parallel", "2"))
+
+
+def each_build(release, made):
+    """Each build of the shared object passes the same tests, here."""
+    with tempfile.TemporaryDirectory() as work:
+        with tarfile.open(release.tree()) as whole:
+            whole.extractall(work)
+        below, program = pathlib.Path(work, trees.NAME), pathlib.Path(work, "build")
+        program.with_suffix(".c").write_text(BUILD)
+        archive.run("cc", f"-I{below}/include", program.with_suffix(".c"), "-o", program, f"-L{below}/lib", "-lcvl")
+        for more, cpu in each_alone():
+            variables = {**os.environ, "LD_LIBRARY_PATH": f"{below}/lib", "CVL_SHARED": f"{below}/lib", "CVL_BUILT": work, **more}
+            is_build(archive.run(program, env=variables), cpu)
+            for words in IN_C_OVER_SHARED:
+                told = subprocess.run([proved.TOP / "tests/c/run", *words], env=variables, capture_output=True, text=True, stdin=subprocess.DEVNULL)
+                if told.returncode != 0:
+                    raise roots.Failed(f"tests/c/run {' '.join(words)} over the build for {cpu}:\n{told.stdout[-2000:]}{told.stderr[-2000:]}")
 
 
 def by_pkg_config(root, **variables):
@@ -219,10 +251,8 @@ def in_python(root, python):
 
 def says_its_build(root, python, own=None):
     """The package has the build for this processor, and that for all if the loader is told so."""
-    for more, cpu in (({}, own or own_build()), (USUAL_ALONE, "x86-64-v2")):
-        said = root.run(f"cd / && {python} -c 'import cvl; print(cvl.build)'", **more).split()
-        if said[0] != table.VERSION or said[2:] != [cpu]:
-            raise roots.Failed(f"cvl.build is {said}, and should be that for {cpu} with {more}")
+    for more, cpu in each_alone(own):
+        is_build(root.run(f"cd / && {python} -c 'import cvl; print(cvl.build)'", **more), cpu)
 
 
 def packages_in_python(release, made):
@@ -336,28 +366,61 @@ def older_system(release, made):
         root.refuses("/srv/own/bin/python -c 'import cvl'", TOO_OLD)
 
 
+# ---- the calls over ranks ----
+
+
+def walks(root, **variables):
+    """The example of calls over ranks, in one rank and in two. Open MPI starts no ranks of root's."""
+    root.run("cd /srv/mpi && mpicc -o walks walks.c $(pkg-config --cflags --libs cvl-mpi)", **variables)
+    for ranks in (1, 2):
+        same(root.run(f"mpirun {STARTED.get(root.kind, '')} -n {ranks} /srv/mpi/walks", "nobody", **variables), WALKS)
+
+
+# Open MPI counts as many places for ranks as it finds processors, of which a bare root shows none
+STARTED = {"openmpi": "--oversubscribe"}
+
+
 def in_mpi(release, made):
-    """The sources of the calls over ranks build over the tree, with the MPI that is there, and run in two ranks."""
-    with made.fresh("mpi") as root:
+    """The sources of the calls over ranks build over the tree, with the MPI that is there."""
+    with made.fresh("mpich") as root:
         root.unpack(release.tree())
         root.put(release.one(over_ranks.FILE))
         prefix = f"/opt/{trees.NAME}"
-        root.run(f"cd /srv && {shown.command('make -C').replace('PREFIX=PREFIX', f'PREFIX={prefix}')}")
-        words = f"export PKG_CONFIG_PATH={prefix}/lib/pkgconfig LD_LIBRARY_PATH={prefix}/lib; cd /srv/{over_ranks.NAME}/examples"
-        root.run(f"{words} && mpicc -o walks walks.c $(pkg-config --cflags --libs cvl-mpi)")
-        for ranks in (1, 2):
-            same(root.run(f"{words} && mpirun -n {ranks} ./walks"), WALKS)
+        root.run(f"cd /srv && {shown.command('make -C').replace('PREFIX=PREFIX', f'PREFIX={prefix}')} && mv {over_ranks.NAME}/examples mpi")
+        moved = "/opt/moved"
+        root.run(f"mv {prefix} {moved}")
+        walks(root, PKG_CONFIG_PATH=f"{moved}/lib/pkgconfig", LD_LIBRARY_PATH=f"{moved}/lib")
 
 
-TRIES = (tree, tree_in_c, lintian, packages, packages_in_c, packages_in_python, wheel, source, crates, in_mpi, newer_system, older_system)
+def packages_over_ranks(release, made):
+    """Debian's packages over its Open MPI and its MPICH have all that a program is built and run with, and leave nothing behind."""
+    for package in debian.OVER_RANKS:
+        with made.fresh(package.name.removeprefix("libcvl-")) as root:
+            before = root.files()
+            names = (package.name, "libcvl1", "libcvl-dev")
+            root.put(*map(release.deb, names))
+            said = shown.command("apt install ./libcvl-openmpi")
+            root.run(f"cd /srv && {said.replace('libcvl-openmpi', package.name)}")
+            example(root, "examples/mpi/walks.c", "srv/mpi")
+            walks(root)
+            root.run(f"dpkg --purge {' '.join(names)} && rm -r /srv/*")
+            left = sorted(name for name in root.files() - before if "cvl" in name)
+            if left:
+                raise roots.Failed(f"{package.name} leaves behind:\n" + "\n".join(left))
 
 
-def all_of(folder):
-    """What is wrong with a release."""
+TRIES = (
+    tree, tree_in_c, each_build, lintian, packages, packages_in_c, packages_in_python, packages_over_ranks, wheel, source, crates, in_mpi,
+    newer_system, older_system,
+)  # fmt: skip
+
+
+def all_of(folder, kept=None):
+    """What is wrong with a release. Roots are kept in a folder if there is one."""
     roots.check()
     wrong, release = [], Release(folder)
     with tempfile.TemporaryDirectory() as work:
-        made = roots.Roots(work)
+        made = roots.Roots(work, kept or work)
         for attempt in TRIES:
             try:
                 attempt(release, made)

@@ -48,8 +48,10 @@ def _files(folder, builds, moment, jobs):
 
 def write(folder, jobs, anew=False):
     """Writes the release into a folder that is empty or not there yet, of objects that are compiled anew, or were compiled
-    before. If this checkout may not be released, it stops before it makes the folder."""
+    before. If this checkout may not be released, or something is missing, it stops before it makes the folder."""
     record, moment = found_right.read(), found_right.time_of_revision()
+    debian.check()
+    pythons.check()
     folder.mkdir(parents=True, exist_ok=True)
     with tempfile.TemporaryDirectory() as work:
         builds = built.Built(work, moment, jobs, anew)

@@ -35,6 +35,7 @@ void *__real_malloc(size_t size);
 void *__wrap_malloc(size_t size);
 void *__wrap_malloc(size_t size) { return refusing && spared-- <= 0 ? NULL : __real_malloc(size); }
 
+#ifndef OVER_SHARED
 /* An export that answers the number that a test names. */
 static uint32_t answered = CVL_DONE;
 CvlStatus __real_cvl_proved_seg_checked_reduce(
@@ -46,6 +47,7 @@ CvlStatus __wrap_cvl_proved_seg_checked_reduce(
     if (answered == CVL_DONE) return __real_cvl_proved_seg_checked_reduce(a, a_len, lengths, lengths_len, out, out_len);
     return (CvlStatus){answered, 2};
 }
+#endif
 
 static void fail(const char *call, const char *why) {
     printf("%s: %s\n", call, why);
@@ -467,8 +469,9 @@ static void checked_sums(void) {
     FAULT(cvl_seg_checked_reduce(a, 5, S(lengths, 3), ints, 2), CVL_LENGTH_MISMATCH, -1);
 }
 
-/* Whatever an export answers that it may find before it looks at all lengths, their faults come first. */
+/* Whatever an export answers that it may find before it looks at all lengths, their faults come first. A shared object shows no exports. */
 static void late_faults(void) {
+#ifndef OVER_SHARED
     static const uint32_t late[] = {
         CVL_DIVIDE_BY_ZERO, CVL_SHIFT_OUT_OF_RANGE, CVL_INDEX_OUT_OF_RANGE, CVL_INDEX_REPEATED, CVL_OVERFLOW, CVL_NO_RESOURCES,
     };
@@ -479,6 +482,7 @@ static void late_faults(void) {
         FAULT(cvl_seg_checked_reduce(I(1, 2, 3), 3, S(I(2, 0, 1), 3), ints, 3), late[k], 2);
     }
     answered = CVL_DONE;
+#endif
 }
 
 static void sparse_products(void) {

@@ -22,12 +22,15 @@ sys.path.insert(0, str(TOP / "bindings"))
 import archive
 import generated
 from installer import files
+from installer import over_ranks as installed_over_ranks
 from installer.words import Places
 import table
 from releasing import built, crates, debian, found_right, licences, older_glibc, over_ranks, packed, receipt, recipes, shown, texts, trees, trying, writing
 from trees import Tree
 from whole import Whole, command, written
 
+# a recipe for conda begins without a line of hyphens, and has lines as long as a link
+YAML = "{extends: default, rules: {document-start: disable, line-length: disable, comments: {min-spaces-from-content: 1}}}"
 RECORD = {"tree": "a tree", "kit": "a kit", "last_line": "5 passed, 0 failed", "not_tried": ""}
 
 
@@ -172,14 +175,24 @@ class Debian(Whole):
         self.install(prefix, *words, destination=self.top / "staged")
         return self.top / "staged/usr"
 
+    def build_over_ranks(self, folder, written, flags=(), compiler=None):
+        """A small library over the other one, as a compiler of MPI would build it."""
+        self.compilers.append(compiler)
+        self.write("over.c", "#include <stdlib.h>\nint main(void);\nint over_ranks(void) { return main() + abs(1); }\n")
+        linked = ["-shared", "-fPIC", "-fno-builtin", "-Wl,-soname,libcvl_mpi.so.1"]
+        self.run_it("cc", *linked, "-o", folder / archive.MPI_FULL, "over.c", folder / archive.FULL)
+        shutil.copyfile(self.top / "staged/usr" / debian.LIBDIR / "libcvl.a", folder / "libcvl_mpi.a")
+
     def written(self, moment):
         """The packages that are written at a moment, each by its name."""
-        folder, work = self.top / f"written at {moment}", self.top / f"work at {moment}"
+        folder, work, self.compilers = self.top / f"written at {moment}", self.top / f"work at {moment}", []
         folder.mkdir()
-        builds = types.SimpleNamespace(installed=self.installed, work=work)
+        shared = self.top / "staged/usr" / debian.LIBDIR / archive.SONAME
+        builds = types.SimpleNamespace(installed=self.installed, work=work, shared=lambda: shared)
         asked = types.SimpleNamespace(run=lambda *words, **more: self.NUMPY)
         with at(moment), mock.patch.object(texts, "copyright_of", lambda: "a licence\n"), \
                 mock.patch.dict(os.environ, {"SOURCE_DATE_EPOCH": "1000"}), \
+                mock.patch.object(archive, "over_ranks", self.build_over_ranks), mock.patch.object(generated, "below", lambda folder: written()), \
                 mock.patch.object(debian, "_put_python", self.put_python), mock.patch.object(debian, "subprocess", asked):  # fmt: skip
             names = debian.write(folder, builds)
         return {name.partition("_")[0]: folder / name for name in names}
@@ -205,8 +218,28 @@ class Debian(Whole):
         for name, path in packages.items():
             self.assertEqual(path.read_bytes(), later[name].read_bytes(), name)
         unpacked = self.unpacked(packages)
+        over_ranks = {name: unpacked.pop(name) for name in ("libcvl-openmpi", "libcvl-mpich")}
         self.check_fields(packages, unpacked)
         self.check_places(unpacked)
+        for name, of_package in over_ranks.items():
+            self.check_over_ranks(name, packages[name], of_package, unpacked)
+        self.assertEqual(self.compilers, [["mpicc.openmpi"], ["mpicc.mpich"]])
+
+    def check_over_ranks(self, name, package, of_package, others):
+        """A package over an MPI has the files of that part of `./install`, stands over the library, and excludes the other one."""
+        fields = {field: self.run_it("dpkg-deb", "-f", package, field).strip() for field in ("Depends", "Conflicts", "Provides", "Replaces")}
+        self.assertEqual({fields.pop(field) for field in ("Conflicts", "Provides", "Replaces")}, {"libcvl-mpi"})
+        of_mpi = {"libcvl-openmpi": "libopenmpi3, libopenmpi-dev", "libcvl-mpich": "libmpich12, libmpich-dev"}[name]
+        libraries, glibc = self.needed(of_package.values())
+        self.assertEqual(libraries, {"libc.so.6", "libcvl.so.1"})
+        self.assertEqual(fields["Depends"], f"libc6 (>= {glibc}), libcvl-dev (= {debian.REVISION}), {of_mpi}")
+        placed, links = installed_over_ranks.placed(Places("/usr", debian.LIBDIR))
+        own = {f"share/doc/{name}/{file}" for file in ("copyright", "changelog.gz", "changelog.Debian.gz")} | {f"share/lintian/overrides/{name}"}
+        self.assertEqual(set(of_package), {f"usr/{place}" for place in {*placed, *links, *own}})
+        self.assertEqual(set(of_package) & {place for other in others.values() for place in other}, set())
+        self.assertEqual(os.readlink(of_package[f"usr/{debian.LIBDIR}/{archive.MPI_LINKED}"]), archive.MPI_SONAME)
+        told = self.run_it("dpkg-deb", "-I", package, "shlibs", "triggers")
+        self.assertEqual(told, f"libcvl_mpi 1 {name} (>= 1.0.0)\nactivate-noawait ldconfig\n")
 
     def check_fields(self, packages, unpacked):
         """What a package depends on is what its files need."""
@@ -256,7 +289,7 @@ class Environment(unittest.TestCase):
             words = [sys.executable, "-c", f"{imports}; Built(sys.argv[1], 1000, 1, False); print(json.dumps(dict(os.environ)))", folder]
             given = {**os.environ, **dict.fromkeys(asked, "x"), "PYTHONPATH": "x"}
             said = json.loads(subprocess.run(words, cwd=TOP, env=given, capture_output=True, text=True, check=True).stdout)
-            self.assertEqual(said.pop("LDFLAGS"), f"-L{folder}/glibc -Wl,-z,x86-64-v2")
+            self.assertEqual(said.pop("LDFLAGS"), f"-L{folder}/glibc -Wl,-z,x86-64-v2 {folder}/glibc/level.o")
         self.assertEqual(set(said) & {*asked, "PYTHONPATH"}, set())
         self.assertEqual(said["SOURCE_DATE_EPOCH"], "1000")
 
@@ -342,6 +375,30 @@ class Older(Tree):
         self.assertEqual(*[[word & bits for word, bits in zip(found, levels)] for found in told])
         self.assertEqual(told[1][1] & 0x982201, 0x982201, "x86-64-v2")
 
+    def test_what_a_shared_object_asks_of_the_processor(self):
+        # each bit of the registers ecx that x86-64-v2 is about, one of them missing
+        first, second = (0, 9, 13, 19, 20, 23), (0,)
+        rows = [(-1, -1, 0), *((~(1 << bit), -1, 127) for bit in first), *((-1, ~(1 << bit), 127) for bit in second), (0x982201, 1, 0)]
+        self.write("asks.c", f"""#include <cpuid.h>
+            static unsigned registers[2];
+            static int answered(unsigned leaf, unsigned *a, unsigned *b, unsigned *c, unsigned *d) {{
+                *a = *b = *d = 0, *c = registers[leaf != 1];
+                return 1;
+            }}
+            #define __get_cpuid answered
+            #define constructor used
+            #include "{older_glibc.LEVEL}"
+            #include <stdlib.h>
+            int main(int count, char **words) {{
+                for (int k = 0; k < count - 1; k++) registers[k] = (unsigned)atoi(words[k + 1]);
+                ask();
+                return 0;
+            }}""")
+        self.assertEqual(self.run_it("cc", "-Wall", "-Wextra", "-o", "asks", "asks.c").stderr, "")
+        for one, other, status in rows:
+            told = self.run_it("./asks", one, other)
+            self.assertEqual((told.returncode, told.stderr), (status, "libcvl: the processor lacks a feature of x86-64-v2\n" if status else ""), one)
+
     def test_what_the_program_runs_before_main(self):
         self.write("runs.c", """#include <stdio.h>
             static int begun;
@@ -388,22 +445,80 @@ class Parts(unittest.TestCase):
 
 
 class Recipes(Tree):
-    """The recipes for other package managers."""
+    """The recipes for other package managers, each over a small tree, by what stands in for the words of its tool."""
+
+    PLACED = ("bin/cvl", "include/cvl.h", "lib/libcvl.a", "lib/pkgconfig/cvl.pc", "share/doc/cvl/LICENSE")
+    # what vcpkg has beside CMake's own commands
+    OF_VCPKG = """cmake_minimum_required(VERSION 3.13)
+        macro(vcpkg_download_distfile VARIABLE)
+          set(${VARIABLE} "an archive")
+        endmacro()
+        function(vcpkg_extract_source_archive VARIABLE)
+          if(NOT "${ARGN}" STREQUAL "ARCHIVE;an archive")
+            message(FATAL_ERROR "${ARGN}")
+          endif()
+          set(${VARIABLE} "${TREE}" PARENT_SCOPE)
+        endfunction()
+        function(vcpkg_install_copyright WORD FILE)
+          file(INSTALL "${FILE}" DESTINATION "${CURRENT_PACKAGES_DIR}/share/cvl" RENAME copyright)
+        endfunction()
+        include("${PORTFILE}")
+        """
+
+    def setUp(self):
+        super().setUp()
+        self.tree = self.write(trees.FILE, "a tree")
+        self.recipes = recipes.recipes(self.tree)
+        for name in self.PLACED:
+            self.write(f"tree/{name}", name)
+        self.made = self.top / "made"
+        self.made.mkdir()
+
+    def placed(self):
+        return sorted(str(path.relative_to(self.made)) for path in self.made.rglob("*") if path.is_file())
 
     def test_each_takes_the_tree_by_its_sum_and_reads_as_its_language(self):
-        tree = self.write(trees.FILE, "a tree")
-        found = recipes.recipes(tree)
-        self.assertEqual(sorted(found), ["conda/meta.yaml", "homebrew/cvl.rb", "spack/package.py", "vcpkg/portfile.cmake", "vcpkg/vcpkg.json"])
-        for place, text in found.items():
+        self.assertEqual(sorted(self.recipes), ["conda/meta.yaml", "homebrew/cvl.rb", "spack/package.py", "vcpkg/portfile.cmake", "vcpkg/vcpkg.json"])
+        for place, text in self.recipes.items():
             if place.endswith((".yaml", ".rb", "package.py")):
-                self.assertIn(receipt.sum_of(tree), text, place)
+                self.assertIn(receipt.sum_of(self.tree), text, place)
             self.assertNotRegex(text, r"\{(version|url|sha)")
-        self.assertEqual(json.loads(found["vcpkg/vcpkg.json"])["version"], table.VERSION)
-        compile(found["spack/package.py"], "package.py", "exec")
-        for program, place in ((("ruby", "-c"), "homebrew/cvl.rb"),):
-            if shutil.which(program[0]):
-                made = self.write(place, found[place])
-                self.assertEqual(subprocess.run([*program, made], capture_output=True).returncode, 0, place)
+        self.assertEqual(json.loads(self.recipes["vcpkg/vcpkg.json"])["version"], table.VERSION)
+        for words, place in ((("ruby", "-c"), "homebrew/cvl.rb"), (("yamllint", "-s", "-d", YAML), "conda/meta.yaml")):
+            if shutil.which(words[0]):
+                told = subprocess.run([*words, self.write(place, self.recipes[place])], capture_output=True, text=True)
+                self.assertEqual(told.returncode, 0, told.stdout + told.stderr)
+
+    def test_what_conda_runs(self):
+        (script,) = re.findall(r"^  script: (.*)$", self.recipes["conda/meta.yaml"], re.M)
+        subprocess.run(["sh", "-euc", script], cwd=self.top / "tree", env={**os.environ, "PREFIX": str(self.made)}, check=True)
+        self.assertEqual(self.placed(), sorted(self.PLACED))
+
+    @unittest.skipUnless(shutil.which("cmake"), "no cmake")
+    def test_what_vcpkg_runs(self):
+        portfile = self.write("portfile.cmake", self.recipes["vcpkg/portfile.cmake"])
+        script = self.write("script.cmake", self.OF_VCPKG)
+        given = {"TREE": self.top / "tree", "PORTFILE": portfile, "CURRENT_PACKAGES_DIR": self.made}
+        told = subprocess.run(["cmake", *(f"-D{name}={value}" for name, value in given.items()), "-P", script], capture_output=True, text=True)
+        self.assertEqual(told.returncode, 0, told.stderr)
+        self.assertEqual(self.placed(), sorted(["include/cvl.h", "lib/libcvl.a", "lib/pkgconfig/cvl.pc", "share/cvl/copyright"]))
+
+    def test_what_spack_runs(self):
+        said = []
+        words = {name: lambda *given, **named: said.append((given, named)) for name in ("license", "version", "conflicts", "requires")}
+        module = types.ModuleType("spack.package")
+        module.__dict__.update(words, Package=object, join_path=os.path.join, install_tree=lambda source, made: shutil.copytree(source, made))
+        found = {}
+        with mock.patch.dict(sys.modules, {"spack": types.ModuleType("spack"), "spack.package": module}):
+            exec(compile(self.recipes["spack/package.py"], "package.py", "exec"), found)
+        was = os.getcwd()
+        os.chdir(self.top / "tree")
+        try:
+            found["Cvl"]().install(None, str(self.made))
+        finally:
+            os.chdir(was)
+        self.assertEqual(self.placed(), sorted(self.PLACED))
+        self.assertIn(((table.VERSION,), {"sha256": receipt.sum_of(self.tree), "url": f"{texts.ADDRESS}/{trees.FILE}"}), said)
 
 
 class Receipt(Tree):

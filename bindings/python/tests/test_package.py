@@ -124,6 +124,10 @@ class Said(unittest.TestCase):
             package.build_wheel("a folder")
         self.assertRegex(str(caught.exception.code), r"^cvl 1\..* cannot be built here:\nno headers$")
 
+    def test_a_checkout_without_the_kit_is_refused_and_a_release_is_named(self):
+        said = self.refusal(lambda: package.library("a folder"), PATH="/no/folder", CVL_ARCHIVE="an archive")
+        self.assertRegex(said, "^the command rt of the kit is not on the path.* wheel of a release")
+
     def headers(self, folder, text):
         """Headers of a numpy, with this text."""
         (folder / "numpy").mkdir(exist_ok=True)
