@@ -1,6 +1,7 @@
 """The library for C, as an archive and as a shared object: the proved exports, as cvl_proved_int2, the C over them, as cvl_int2, and
 the parts in C of the kit. No other object sees the exports."""
 
+import concurrent.futures
 import os
 import pathlib
 import shlex
@@ -29,6 +30,13 @@ def run(*words, **more):
     if told.returncode != 0:
         proved.stop(f"this failed:\n{shlex.join(words)}\n{told.stdout}{told.stderr}")
     return told.stdout
+
+
+def run_all(commands):
+    """Runs programs to their ends, as many at once as there are processors."""
+    with concurrent.futures.ThreadPoolExecutor(os.cpu_count()) as pool:
+        for _ in pool.map(lambda words: run(*words), commands):
+            pass
 
 
 def words_of(name):
@@ -88,11 +96,9 @@ def told_of(flags):
 def compiled(work, written, flags=()):
     """The objects of the C over the exports, by hand and below the folder `written`."""
     flags = [*flags, *told_of(flags), f"-ffile-prefix-map={written}=.", *(f"-iquote{top / 'bindings/c'}" for top in (TOP, written))]
-    found = []
-    for path in generated.both(written, "bindings/c", "*.c").values():
-        found.append(work / f"{path.stem}.o")
-        run(*compiling(flags), "-c", path, "-o", found[-1])
-    return found
+    found = {work / f"{path.stem}.o": path for path in generated.files_of(written, "bindings/c", "*.c").values()}
+    run_all([*compiling(flags), "-c", path, "-o", made] for made, path in found.items())
+    return [*found]
 
 
 def library(folder, archive, flags=()):
@@ -139,11 +145,10 @@ def over_ranks(folder, written, flags=(), compiler=None):
     compiler = compiler or program("MPICC")
     quoted = [f"-iquote{top / of}" for top in (TOP, written) for of in ("bindings/mpi", "bindings/c")]
     with tempfile.TemporaryDirectory() as work:
-        work, objects = pathlib.Path(work), []
-        for path in generated.both(written, "bindings/mpi", "*.c").values():
-            objects.append(work / f"{path.stem}.o")
-            words = [*compiler, *compiling(flags)[len(program("CC")) :], f"-ffile-prefix-map={written}=.", *quoted]
-            run(*words, "-c", path, "-o", objects[-1])
+        work = pathlib.Path(work)
+        objects = {work / f"{path.stem}.o": path for path in generated.files_of(written, "bindings/mpi", "*.c").values()}
+        words = [*compiler, *compiling(flags)[len(program("CC")) :], f"-ffile-prefix-map={written}=.", *quoted]
+        run_all([*words, "-c", path, "-o", made] for made, path in objects.items())
         whole, made, names = work / "cvl_mpi.o", folder / "libcvl_mpi.a", written / "bindings/mpi/public"
         run(*program("LD"), "-r", "-z", "noexecstack", "-o", whole, *objects)
         run(*program("OBJCOPY"), f"--keep-global-symbols={names}", whole)

@@ -16,7 +16,7 @@ def below(folder):
     return pathlib.Path(folder)
 
 
-def both(written, folder, *patterns):
+def files_of(written, folder, *patterns):
     """The files of a folder of the repository that have such names, by hand or below the folder `written`: each by its path from there,
     in their order."""
     tops = [top / folder for top in (TOP, written)]

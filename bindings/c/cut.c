@@ -39,14 +39,14 @@ bool cvl_step(const CvlPool *pool, CvlWork *w, CvlKind kind, CvlStepPart part) {
     return done;
 }
 
-static CvlStatus nothing_part(CvlWork *w, size_t k) {
+static CvlStatus no_op_part(CvlWork *w, size_t k) {
     (void)w, (void)k;
     return cvl_done();
 }
 
 /* Whether a pool runs each part, as a step without work shows; those of the library do. */
 static bool runs_all(const CvlPool *pool, CvlWork *w) {
-    return pool->run == cvl_run_alone || pool->run == cvl_run_posix || cvl_step(pool, w, CVL_READS, nothing_part);
+    return pool->run == cvl_run_alone || pool->run == cvl_run_posix || cvl_step(pool, w, CVL_READS, no_op_part);
 }
 
 /*@ requires \valid_read(pool) && each > 0;
@@ -229,7 +229,7 @@ bool cvl_lengths_in_parts(const CvlPool *pool, CvlWork *w) {
 
 /* ---- flags that are neither 0 nor 1: looked at in parts, and copied at once ---- */
 
-size_t cvl_share(const CvlWork *w, size_t len, size_t k) {
+size_t cvl_part_from(const CvlWork *w, size_t len, size_t k) {
     return len / w->parts * k + (k < len % w->parts ? k : len % w->parts);
 }
 
@@ -242,7 +242,7 @@ static size_t next_copied(const CvlRow *row, size_t k) {
 static CvlStatus flags_part(CvlWork *w, size_t k) {
     for (size_t j = next_copied(w->row, 0); j < w->row->operands; j = next_copied(w->row, j + 1)) {
         const CvlSlot flags = w->in[w->row->operand[j].as];
-        const size_t from = cvl_share(w, flags.number, k), to = cvl_share(w, flags.number, k + 1);
+        const size_t from = cvl_part_from(w, flags.number, k), to = cvl_part_from(w, flags.number, k + 1);
         if (!cvl_proved_are_flags((const bool *)flags.at + from, to - from)) return cvl_status(CVL_NO_RESOURCES, -1);
     }
     return cvl_done();
@@ -253,7 +253,7 @@ static CvlStatus copies_part(CvlWork *w, size_t k) {
     bool *copy = w->copies;
     for (size_t j = next_copied(w->row, 0); j < w->row->operands; j = next_copied(w->row, j + 1)) {
         const CvlSlot flags = w->in[w->row->operand[j].as];
-        const size_t from = cvl_share(w, flags.number, k), n = cvl_share(w, flags.number, k + 1) - from;
+        const size_t from = cvl_part_from(w, flags.number, k), n = cvl_part_from(w, flags.number, k + 1) - from;
         if (n > 0) memcpy(copy + from, (const bool *)flags.at + from, n);
         cvl_proved_make_flags(copy + from, n);
         copy += flags.number;

@@ -104,7 +104,7 @@ CVL_HIDDEN bool cvl_cut(const CvlPool *pool, CvlWork *w, const CvlRow *row, cons
 /*@ requires \valid_read(w) && 0 < w->parts && k <= w->parts;
     assigns \nothing;
     ensures \result == share_place(len, w->parts, k) <= len; */
-CVL_HIDDEN size_t cvl_share(const CvlWork *w, size_t len, size_t k);
+CVL_HIDDEN size_t cvl_part_from(const CvlWork *w, size_t len, size_t k);
 
 /* What a step does: it reads, writes memory of the call's own, or writes the rooms. */
 typedef enum CvlKind { CVL_READS, CVL_COPIES, CVL_WRITES } CvlKind;

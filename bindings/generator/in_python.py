@@ -382,7 +382,7 @@ def compiled():
         "    static PyObject *call_##name(PyObject *self, PyObject *const *given, Py_ssize_t count, PyObject *keywords) { \\",
         "        static const Row row = {#name, &cvl_families[family], op}; \\",
         "        (void)self; \\",
-        "        return cvl_call(&row, given, count, keywords); \\",
+        "        return cvl_call_from_python(&row, given, count, keywords); \\",
         "    }",
         *(f"FUNCTION({name}, FAMILY_{family.upper()}, {op})" for name, family, op in functions),
         "",

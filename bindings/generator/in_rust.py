@@ -210,7 +210,7 @@ def _checks(function):
             yield f"same(&[{', '.join(_alike(function, extent))}])?;"
 
 
-def _extent(function):
+def _result_length(function):
     """How long the result is."""
     if function.alike("offsets"):
         return f"{function.alike('offsets')[0].name}.len().saturating_sub(1)"
@@ -304,14 +304,14 @@ def _several(function):
 
 def _filled(function):
     """The body of a function whose result has a length that is known before the call."""
-    yield f"let mut out = zeros({_extent(function)})?;"
+    yield f"let mut out = zeros({_result_length(function)})?;"
     yield f"{function.name}_into({', '.join([*_passed(function), '&mut out'])})?;"
     yield "Segments::new(&out)" if function.gives_segments else "Ok(out)"
 
 
 def _counted(function):
     """The body of a function whose call reports the length of its result; the room is as long as the result can be."""
-    places = _enough(function) or _extent(function)
+    places = _enough(function) or _result_length(function)
     filled = f"counted({places}, |out| {function.name}_into({', '.join([*_passed(function), 'out'])}))"
     yield f"{filled}.map(text_of)" if function.result.kind == "text" else filled
 

@@ -21,8 +21,8 @@ def _for_processors(libdir, work, also):
 def base(places, work, written, also, made):
     """What each install has, and its links. `work` is where the library was built, also for some processors, and below `written` stands
     what the repository has not; `made` are files for this install alone, with where they go."""
-    libdir, headers = places.libdir, generated.both(written, "include", "*.h", "*.hpp")
-    crates = generated.both(written, "bindings/rust", *CRATE, *(f"cvl-sys/{name}" for name in CRATE))
+    libdir, headers = places.libdir, generated.files_of(written, "include", "*.h", "*.hpp")
+    crates = generated.files_of(written, "bindings/rust", *CRATE, *(f"cvl-sys/{name}" for name in CRATE))
     own, links = _for_processors(libdir, work, also)
     found = {
         "bin/cvl": work / "cvl",
@@ -37,7 +37,7 @@ def base(places, work, written, also, made):
         **made,
         **own,
         **{f"include/{name}": path for name, path in headers.items()},
-        **{f"share/man/man3/{name}": path for name, path in generated.both(written, "docs/man", "*.3").items()},
+        **{f"share/man/man3/{name}": path for name, path in generated.files_of(written, "docs/man", "*.3").items()},
         **{f"share/cvl/rust/{name}": path for name, path in crates.items()},
     }
     return found, {f"{libdir}/{archive.SONAME}": archive.FULL, f"{libdir}/{archive.LINKED}": archive.SONAME, **links}

@@ -30,7 +30,7 @@ def is_inside(root, name):
     return os.path.commonpath([real, os.path.realpath(root / path.parent)]) == real
 
 
-def place(root, name):
+def resolved(root, name):
     """Where a name leads to, with folders that are links followed, so that two names of one file are the same."""
     path = root / name
     return os.path.join(os.path.realpath(path.parent), path.name) if is_inside(root, name) else name

@@ -17,8 +17,8 @@ def _gone(root, part, new, earlier):
     kept = {own, *new, *(name for other, pairs in earlier.items() if other != own for name, _ in pairs)}
     gone = {pair for pair in earlier.get(own, ()) if pair[0] not in kept}
     # a file that a link of a folder gives a second name is no other one
-    places = {lists.place(root, name) for name in kept} if any(not lists.is_folder(name) for name, _ in gone) else set()
-    return {pair for pair in gone if lists.place(root, pair[0]) not in places}
+    places = {lists.resolved(root, name) for name in kept} if any(not lists.is_folder(name) for name, _ in gone) else set()
+    return {pair for pair in gone if lists.resolved(root, pair[0]) not in places}
 
 
 def check(root, parts):

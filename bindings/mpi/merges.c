@@ -11,7 +11,7 @@ typedef struct Sides {
 } Sides;
 
 /* Counts the flags; it is a fault if the vectors have not as many elements in all. */
-static Sides look_at_sides(CvlCall *c) {
+static Sides count_sides(CvlCall *c) {
     const size_t n = c->in[CVL_AS_FLAGS].number;
     int32_t count = 0;
     if (c->status.number == CVL_DONE) cvl_say(c, cvl_count(c->in[CVL_AS_FLAGS].at, n, &count));
@@ -42,7 +42,7 @@ static void merge(CvlCall *c, const Sides *sides) {
 }
 
 CvlStatus cvl_merge_over_ranks(CvlCall *c) {
-    Sides sides = look_at_sides(c);
+    Sides sides = count_sides(c);
     take_sides(c, &sides);
     if (cvl_agree(c, c->in[CVL_AS_FLAGS].number)) merge(c, &sides);
     free(sides.when_true), free(sides.when_false);

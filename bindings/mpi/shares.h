@@ -107,7 +107,7 @@ static inline size_t cvl_up_to(const int32_t *keys, size_t n, int64_t most) {
 /* Of keys that equal the one at a cut, how many of a rank's own go before it: those of earlier ranks go first. */
 /*@ assigns \nothing;
     ensures \result == \max(0, \min(own, wanted - before)); */
-static inline uint64_t cvl_taken(uint64_t wanted, uint64_t before, uint64_t own) {
+static inline uint64_t cvl_ties_taken(uint64_t wanted, uint64_t before, uint64_t own) {
     if (wanted <= before) return 0;
     return wanted - before < own ? wanted - before : own;
 }

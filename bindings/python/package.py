@@ -188,7 +188,7 @@ def files(written, folder, *patterns):
     """The files of a folder of the package that have such names, in their order."""
     if IS_SOURCE:
         return sorted(path for pattern in patterns for path in (HERE / folder).glob(pattern))
-    return list(generated.both(written, f"bindings/python/{folder}", *patterns).values())
+    return list(generated.files_of(written, f"bindings/python/{folder}", *patterns).values())
 
 
 def compiled(work, written, library, target, linked=()):

@@ -16,8 +16,8 @@ FILE = f"{NAME}.tar.gz"
 
 def _sources(written, work):
     """Each file by its name in the archive."""
-    found = generated.both(written, "bindings/mpi", "*.c", "*.h", "public", "cvl-mpi.pc.in")
-    of_library = generated.both(written, "bindings/c", "*.h")
+    found = generated.files_of(written, "bindings/mpi", "*.c", "*.h", "public", "cvl-mpi.pc.in")
+    of_library = generated.files_of(written, "bindings/c", "*.h")
     left = [path.read_text() for path in found.values()]
     while left:
         # the headers of the library that are included, and what these include
@@ -28,7 +28,7 @@ def _sources(written, work):
     makefile = work / "Makefile"
     template = (proved.TOP / "bindings/mpi/Makefile.in").read_text()
     makefile.write_text(template.replace("@version@", table.VERSION).replace("@major@", archive.MAJOR))
-    examples = generated.both(written, "examples/mpi", "*.c", "*.h")
+    examples = generated.files_of(written, "examples/mpi", "*.c", "*.h")
     return {
         **found, "Makefile": makefile, "cvl_mpi.f90": written / "bindings/fortran/cvl_mpi.f90", "LICENSE": proved.TOP / "LICENSE",
         **{f"examples/{name}": path for name, path in examples.items()},

@@ -134,7 +134,8 @@ static inline void fill_indices(const Row *row, int32_t *index, Use use) {
     }
 }
 
-/* What each byte of a room is before a call. A boolean that a call joins with others is true, by 1 or by any byte but 0; a sum may grow. */
+/* What each byte of a room is before a call. A boolean that a call joins with others is true, by 1 or by any byte but 0; a sum may grow; but
+ * integers that a call joins or moves are elements. */
 static inline int byte_before(const Row *row, size_t k, bool odd) {
     if (kind_of(row, k) == KIND_SEGMENTS) return 0;
     const bool is_over = row->operands[k].is_over;
@@ -147,7 +148,7 @@ static inline void fill(const Row *row, size_t k, void *at, bool odd) {
     int32_t *const ints = (int32_t *)at;
     const Use use = use_of(row, k);
     const size_t count = elements_of(row, k);
-    if (is_written(row, k)) {
+    if (is_written(row, k) && !(row->operands[k].is_over && kind_of(row, k) == KIND_INTS)) {
         memset(at, byte_before(row, k, odd), bytes_of(row, k));
     } else if (kind_of(row, k) == KIND_SEGMENTS) {
         /* field by field over zeros, since the bytes between the fields are compared too */

@@ -410,6 +410,7 @@ static void fill(const Row *row, Given *g, size_t k, size_t n, size_t m) {
     const bool joins = (row->model == COMBINE_PERMUTE || row->model == COMBINE_PERMUTE_RANGE) && role_of(row, k) == ROLE_ROOM && kind_of(row, k) == KIND_FLAGS;
     for (size_t j = 0; j < g->len[k] && joins && plain; j++) bytes[j] = (unsigned char)below(2);
     if (role_of(row, k) == ROLE_ROOM && kind_of(row, k) == KIND_SUMS && adds_up(row)) fill_sums(bytes, g->len[k], small);
+    for (size_t j = 0; j < g->len[k] && row->operands[k].is_over && kind_of(row, k) == KIND_INTS; j++) ints[j] = small ? (int32_t)below(19) - 9 : any_int();
     if (role_of(row, k) == ROLE_LENGTHS) fill_lengths(ints, g->len[k], extent_of(row, k) == EXTENT_N || extent_of(row, k) == EXTENT_TOTAL ? n : m);
     if (role_of(row, k) != ROLE_READS) return;
     for (size_t j = 0; j < g->len[k] && kind_of(row, k) == KIND_INTS; j++) ints[j] = small ? (int32_t)below(19) - 9 : any_int();

@@ -7,6 +7,7 @@
  */
 #define _DEFAULT_SOURCE
 #include "cvl_parallel.h"
+#include "waits.h"
 
 #include <pthread.h>
 #include <signal.h>
@@ -17,7 +18,7 @@
 #include <sys/wait.h>
 #include <unistd.h>
 
-enum { MOST = 600, SEGMENTS = 30, CALLERS = 4, ROUNDS = 60, PARTS = 4, UNTOUCHED = 0x5a };
+enum { MOST = 600, SEGMENTS = 30, CALLERS = 4, ROUNDS = 60, PARTS = 4, UNTOUCHED = 0x5a, SECONDS = 120 };
 
 static int32_t a[MOST], wanted[MOST];
 static CvlThreads *threads;
@@ -203,7 +204,7 @@ static atomic_int at_work;
 static void meet(void *nothing, size_t k) {
     (void)nothing, (void)k;
     at_work++;
-    for (int naps = 0; at_work < PARTS && naps < 60000; naps++) usleep(200);
+    BECOMES(at_work == PARTS);
 }
 
 /*
@@ -314,7 +315,7 @@ static void in_a_child(void) {
     fflush(stdout);
     const pid_t child = fork();
     if (child == 0) {
-        alarm(5);
+        alarm(SECONDS);
         const bool right = scans_by(&pool);
         cvl_threads_stop(threads);
         _exit(right ? 0 : 1);
@@ -328,9 +329,12 @@ static atomic_bool ends_soon;
 /* A child of a process whose threads have ended by themselves. */
 static inline void child_after_threads(void) {
     const CvlPool pool = cvl_pool_posix(threads);
+    check("threads that ended call otherwise", scans_by(&pool));
+    const int left = living() - (PARTS - 1);
     atomic_store(&ends_soon, true);
     check("threads that are about to end call otherwise", scans_by(&pool));
-    usleep(20000);
+    BECOMES(living() <= left);
+    check("threads whose time is up do not end", living() <= left);
     in_a_child();
     atomic_store(&ends_soon, false);
 }
@@ -364,7 +368,7 @@ int __wrap_pthread_cond_timedwait(pthread_cond_t *condition, pthread_mutex_t *lo
 int __wrap_pthread_cond_timedwait(pthread_cond_t *condition, pthread_mutex_t *lock, const struct timespec *until) {
     while (atomic_load(&hold_waits)) {
         atomic_store(&waits_are_held, true);
-        usleep(200);
+        usleep(SLEEP);
     }
     const struct timespec end = {atomic_load(&ends_soon) ? 0 : until->tv_sec + 60, 0};
     return __real_pthread_cond_timedwait(condition, lock, &end);
@@ -374,7 +378,7 @@ int __wrap_pthread_cond_timedwait(pthread_cond_t *condition, pthread_mutex_t *lo
 static void fork_with_lock_held(void) {
     atomic_store(&hold_waits, true);
     if (cvl_threads_start(PARTS, &threads) != 0) abort();
-    for (int k = 0; k < 25000 && !atomic_load(&waits_are_held); k++) usleep(200);
+    BECOMES(atomic_load(&waits_are_held));
     check("no thread of a pool waits", atomic_load(&waits_are_held));
     in_a_child();
     atomic_store(&hold_waits, false);
@@ -383,13 +387,13 @@ static void fork_with_lock_held(void) {
 
 /* ---- a thread that is cancelled in its call ends the call first ---- */
 
-static atomic_bool is_calling, may_end;
+static atomic_bool may_end;
+static atomic_long calls_made;
 
 static void *call_and_end(void *found) {
     const CvlPool pool = cvl_pool_posix(threads);
     bool right = true;
-    atomic_store(&is_calling, true);
-    while (!atomic_load(&may_end)) right = right && scans_by(&pool);
+    for (; !atomic_load(&may_end); calls_made++) right = right && scans_by(&pool);
     *(bool *)found = right;
     return NULL;
 }
@@ -399,11 +403,14 @@ static void cancelled(void) {
     for (int k = 0; k < ROUNDS; k++) {
         bool right = false;
         atomic_store(&may_end, false);
-        atomic_store(&is_calling, false);
+        calls_made = 0;
         if (pthread_create(&caller, NULL, call_and_end, &right) != 0) abort();
-        while (!atomic_load(&is_calling)) usleep(100);
+        BECOMES(calls_made > 0);
         pthread_cancel(caller);
-        usleep(500);
+        /* one call was at work, and another one begins after that */
+        const long before = calls_made;
+        BECOMES(calls_made > before + 1);
+        check("a thread that is cancelled makes no more calls", calls_made > before + 1);
         atomic_store(&may_end, true);
         pthread_join(caller, NULL);
         check("a call is cancelled in its middle", right);
@@ -411,7 +418,7 @@ static void cancelled(void) {
 }
 
 int main(void) {
-    alarm(120);
+    alarm(SECONDS);
     for (int32_t k = 0; k < MOST; k++) a[k] = k * 2654435 % 1000 - 500;
     if (cvl_add_suz(a, wanted, MOST).number != CVL_DONE || cvl_threads_start(PARTS, &threads) != 0) abort();
     parts_of_pools();

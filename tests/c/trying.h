@@ -6,8 +6,8 @@
 #define TRYING_H
 
 #include "cvl_parallel.h"
+#include "waits.h"
 
-#include <dirent.h>
 #include <errno.h>
 #include <pthread.h>
 #include <signal.h>
@@ -19,8 +19,8 @@
 #include <sys/wait.h>
 #include <unistd.h>
 
-/* How long a test waits for what has to come, in naps of so many microseconds, and how many seconds a test may take in all. */
-enum { SLEEP = 200, NAPS = 60000, LIMIT = 120 };
+/* How many seconds a test may take in all. */
+enum { LIMIT = 120 };
 
 static int32_t a[LONG], wanted[LONG];
 static int failed;
@@ -31,10 +31,6 @@ static inline void check(const char *what, bool is_so) {
         failed = 1;
     }
 }
-
-/* Waits until it is so, but not for ever. */
-#define BECOMES(so)                                                                                                            \
-    for (int naps = 0; !(so) && naps < NAPS; naps++) usleep(SLEEP)
 
 /* The thread sanitizer waits for a second at the end of each process that has threads, unless it is told not to. */
 const char *__tsan_default_options(void);
@@ -127,18 +123,6 @@ static inline int in_a_child(int (*work)(const char *), const char *with) {
     const pid_t child = fork();
     if (child == 0) answer(work, with);
     return child > 0 ? answer_of(child) : -1;
-}
-
-/* ---- threads ---- */
-
-/* How many threads the process has, as the system counts them. */
-static inline int living(void) {
-    int count = 0;
-    DIR *folder = opendir("/proc/self/task");
-    if (folder == NULL) abort();
-    for (const struct dirent *task = readdir(folder); task != NULL; task = readdir(folder)) count += task->d_name[0] != '.';
-    closedir(folder);
-    return count;
 }
 
 #endif

@@ -235,7 +235,7 @@ class ForACpu(Tree):
             self.program(f"programs/{name}", f"""echo "{name}|$*" >> '{self.log}'
                 for word in "$@"; do [ "$before" != -o ] || made=$word; before=$word; done
                 {make}""")
-        sources = [*generated.both(generated.below(self.top / "written"), "bindings/c", "*.c")]
+        sources = [*generated.files_of(generated.below(self.top / "written"), "bindings/c", "*.c")]
         given = {name: "" for name in ("CC", "CPPFLAGS", "CFLAGS", "LDFLAGS", "LD", "OBJCOPY", "NM", "AR")}
         given.update(CVL_ARCHIVE=str(self.write("libcvl_c.a")), CVL_PROGRAM=str(self.write("program")))
         for cpu in ("", "x86-64-v3"):

@@ -39,7 +39,7 @@ class Installs(Whole):
         self.install(self.root)
         site = self.root / "lib/python3.11/site-packages/cvl"
         for given, there in (("bindings/python/cvl", site), ("bindings/rust/src", self.root / "share/cvl/rust/src")):
-            wanted = {*generated.both(written(), given, "*.py", "*.pyi", "*.rs", "*.typed")}
+            wanted = {*generated.files_of(written(), given, "*.py", "*.pyi", "*.rs", "*.typed")}
             self.assertEqual({path.name for path in there.iterdir()} - {self.module}, wanted)
             self.assertTrue({"calls.py", "calls.rs"} & wanted)
         self.assertTrue((site / self.module).is_file() and (site.parent / "cvl-1.0.0.dist-info/METADATA").is_file())

@@ -75,7 +75,7 @@ class Whole(Tree):
         if words == ("--check",):
             return ""
         made = pathlib.Path(words[-1])
-        sources = generated.both(written(), "bindings/python/cvl", "*.py", "*.pyi", "*.typed")
+        sources = generated.files_of(written(), "bindings/python/cvl", "*.py", "*.pyi", "*.typed")
         texts = {f"cvl/{name}": path.read_text() for name, path in sources.items()}
         texts.update({f"cvl/{self.module}": "module", "cvl-1.0.0.dist-info/METADATA": "Name: cvl"})
         for name, text in texts.items():

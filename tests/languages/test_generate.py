@@ -288,7 +288,7 @@ class Packages(Folder):
         self.assertEqual(self.found(self.written), {path for path in generate.texts()[0] if not (TOP / path).exists()})
 
     def test_both_are_found(self):
-        found = generated.both(self.written, "bindings/rust", "src/*.rs", "cvl-sys/src/*.rs")
+        found = generated.files_of(self.written, "bindings/rust", "src/*.rs", "cvl-sys/src/*.rs")
         self.assertEqual((found["src/lib.rs"], found["src/calls.rs"]), (TOP / "bindings/rust/src/lib.rs", self.written / "bindings/rust/src/calls.rs"))
         self.assertEqual(list(found), sorted(found))
         self.assertIn("cvl-sys/src/functions.rs", found)

@@ -90,7 +90,7 @@ static int take_flag(PyObject *object, const char *name, Given *given) {
 /* Lengths of segments, of a `Segments` or an array. */
 static int take_lengths(PyObject *object, const Operand *operand, const Row *row, Given *given) {
     if (!PyObject_TypeCheck(object, cvl_lengths_type)) return cvl_take_array(object, operand, row, given);
-    const CvlLengths lengths = cvl_cut_of(object);
+    const CvlLengths lengths = cvl_cut_lengths(object);
     given->at = (void *)lengths.lengths;
     given->count = lengths.segments;
     return 0;
@@ -112,7 +112,7 @@ static int take_operator(PyObject *object, const Operand *operand, const Row *ro
     return 0;
 }
 
-int cvl_take(PyObject *object, const Operand *operand, const Row *row, Given *given) {
+int cvl_take_argument(PyObject *object, const Operand *operand, const Row *row, Given *given) {
     int beyond;
     const char *name = operand->name;
     switch (operand->kind) {

@@ -103,7 +103,7 @@ static int spread(Frame *frame) {
 
 /* Takes an argument. An array of numpy's own type, as most are, is read later. */
 static int take_one(PyObject *object, const Operand *operand, const Row *row, Given *given) {
-    if (!PyArray_CheckExact(object) || cvl_needs[operand->kind].flags == 0) return cvl_take(object, operand, row, given);
+    if (!PyArray_CheckExact(object) || cvl_needs[operand->kind].flags == 0) return cvl_take_argument(object, operand, row, given);
     given->array = (PyArrayObject *)object;
     return 0;
 }
@@ -162,7 +162,7 @@ static void refuse(Frame *frame, int has_room) {
     const CvlStatus status = cvl_make(frame);
     for (int k = 0; k < family->count; k++) frame->given[k].count = counts[k];
     const int fits = !has_room || (cvl_measure(frame, &needed) && frame->room.count == needed);
-    if (status.number == CVL_DONE || (status.number == CVL_LENGTH_MISMATCH && cvl_agree(frame) && fits)) {
+    if (status.number == CVL_DONE || (status.number == CVL_LENGTH_MISMATCH && cvl_lengths_agree(frame) && fits)) {
         if (!PyErr_Occurred()) PyErr_SetString(PyExc_MemoryError, "there is no memory for the result");
     } else if (!PyErr_Occurred()) {
         cvl_tell(frame, status, has_room);
@@ -316,7 +316,7 @@ static PyObject *result(Frame *frame, PyObject **bound, PyObject *out) {
     }
 }
 
-PyObject *cvl_call(const Row *row, PyObject *const *arguments, Py_ssize_t count, PyObject *keywords) {
+PyObject *cvl_call_from_python(const Row *row, PyObject *const *arguments, Py_ssize_t count, PyObject *keywords) {
     PyObject *bound[MOST_OPERANDS + 1], *found = NULL;
     Frame frame;
     if (cvl_begin(&frame, row, arguments, count, keywords, bound) == 0) found = result(&frame, bound, bound[row->family->count]);

@@ -209,7 +209,7 @@ void cvl_tell_change(void);
 PyObject *cvl_type_name(PyObject *object);
 
 /* Takes an argument of a call; -1 with an exception. */
-int cvl_take(PyObject *object, const Operand *operand, const Row *row, Given *given);
+int cvl_take_argument(PyObject *object, const Operand *operand, const Row *row, Given *given);
 
 /* ---- refused.c ---- */
 
@@ -259,7 +259,7 @@ int cvl_measure(const Frame *frame, size_t *needed);
 CvlStatus cvl_sized(const Frame *frame, int k);
 
 /* Whether arguments are as long as they have to be. */
-int cvl_agree(const Frame *frame);
+int cvl_lengths_agree(const Frame *frame);
 
 /* ---- lengths.c ---- */
 
@@ -270,11 +270,11 @@ int cvl_lengths_ready(void);
 
 /* Segments of an array of lengths, and the lengths of segments where they lie. */
 PyObject *cvl_segments_of(PyObject *lengths);
-CvlLengths cvl_cut_of(PyObject *segments);
+CvlLengths cvl_cut_lengths(PyObject *segments);
 
 /* ---- call.c ---- */
 
-PyObject *cvl_call(const Row *row, PyObject *const *arguments, Py_ssize_t count, PyObject *keywords);
+PyObject *cvl_call_from_python(const Row *row, PyObject *const *arguments, Py_ssize_t count, PyObject *keywords);
 int cvl_keywords_ready(void);
 
 /*

@@ -11,7 +11,7 @@ typedef struct Lengths {
     Py_ssize_t total;
 } Lengths;
 
-CvlLengths cvl_cut_of(PyObject *segments) { return ((Lengths *)segments)->lengths; }
+CvlLengths cvl_cut_lengths(PyObject *segments) { return ((Lengths *)segments)->lengths; }
 
 PyObject *cvl_segments_of(PyObject *lengths) {
     static PyObject *type;
@@ -66,7 +66,7 @@ static const Row row = {"Segments", &family, 0};
 /* A copy of the numbers of a frame, once they are taken. */
 static PyObject *copied(Frame *frame, PyObject *given) {
     const Given *found = &frame->given[0];
-    if (cvl_take(given, &operand, &row, &frame->given[0]) < 0 || cvl_look(frame) < 0) return NULL;
+    if (cvl_take_argument(given, &operand, &row, &frame->given[0]) < 0 || cvl_look(frame) < 0) return NULL;
     return PyBytes_FromStringAndSize(found->at, (Py_ssize_t)(found->count * sizeof(int32_t)));
 }
 
@@ -104,14 +104,14 @@ static void lengths_dealloc(PyObject *self) {
     Py_DECREF(type);
 }
 
-static Py_ssize_t lengths_length(PyObject *self) { return (Py_ssize_t)cvl_cut_of(self).segments; }
+static Py_ssize_t lengths_length(PyObject *self) { return (Py_ssize_t)cvl_cut_lengths(self).segments; }
 
 /* Whether two have the same lengths. */
 static PyObject *lengths_compare(PyObject *self, PyObject *other, int op) {
     if (!PyObject_TypeCheck(self, cvl_lengths_type) || !PyObject_TypeCheck(other, cvl_lengths_type) || (op != Py_EQ && op != Py_NE)) {
         Py_RETURN_NOTIMPLEMENTED;
     }
-    const CvlLengths a = cvl_cut_of(self), b = cvl_cut_of(other);
+    const CvlLengths a = cvl_cut_lengths(self), b = cvl_cut_lengths(other);
     const int same = a.segments == b.segments && memcmp(a.lengths, b.lengths, a.segments * sizeof *a.lengths) == 0;
     return PyBool_FromLong(same == (op == Py_EQ));
 }

@@ -38,7 +38,7 @@ static PyObject *set_threads(PyObject *self, PyObject *count) {
     static const Operand operand = {"count", KIND_SIZE, EXTENT_NONE, NULL};
     Given given = {.at = NULL};
     (void)self;
-    if (cvl_take(count, &operand, NULL, &given) < 0) return NULL;
+    if (cvl_take_argument(count, &operand, NULL, &given) < 0) return NULL;
     /* this waits for a call of another thread, which may have the interpreter's lock */
     PyThreadState *state = PyEval_SaveThread();
     const size_t before = cvl_threads();

@@ -101,7 +101,7 @@ static PyObject *arguments_differ(const Frame *frame) {
     return said;
 }
 
-int cvl_agree(const Frame *frame) {
+int cvl_lengths_agree(const Frame *frame) {
     PyObject *said = arguments_differ(frame);
     Py_XDECREF(said);
     return said == NULL;
