@@ -15,12 +15,9 @@ READING = """## Reading an entry
 
 - A name is an operator and [three letters](sheet.md#names): `bck_puz` is a back permute (`p`) of a flat vector (`u`) of integers (`z`).
 - `Takes` has the arguments in order. *Integers* and *booleans* are vectors, an *integer* and a *boolean* single values; *elements* are integers or booleans, by the name's last letter.
-- A descriptor is the lengths of the segments of a vector; its *total* is their sum. A segmented call does in each segment what the flat call does on a whole vector.
-- If `Equal lengths` differ, the call stops with fault 7 LengthMismatch, without a place. Then come those under `Faults`, of the entry or its section; there are no others. [Faults of any line](script.md#when-a-script-stops) come first.
+- A descriptor is the lengths of the segments that it *cuts* a vector into; its *total* is their sum. A segmented call does in each segment what the flat call does on a whole vector.
+- Vectors whose elements go together have equal lengths, and the total of a descriptor is the length of each vector that it cuts; two descriptors have equally many segments. If not, the call stops with fault 7 LengthMismatch, without a place. Then come those under `Faults`, of the entry or its section; there are no others. [Faults of any line](script.md#when-a-script-stops) come first.
 - Places count from 0, in the whole vector. Of several bad elements the first is reported."""
-
-# sections that say which lengths are equal, so that no entry does
-OF_EQUAL_LENGTHS = {"Elementwise calls"}
 
 # the faults that a section says for those of its entries that have no others
 OF_FAULTS = {"Permutes": f"{entries.AT_INDICES}."}
@@ -45,12 +42,11 @@ def index(found, leads_to):
 
 
 def said(entry):
-    """What an entry takes and gives, and which lengths must agree and its other faults, if its section does not say so."""
-    lines = [f"Takes: {entry.takes}. Gives: {entry.gives}."]
-    lines += [f"Equal lengths: {entry.agree}."] if entry.agree and entry.section not in OF_EQUAL_LENGTHS else []
+    """What an entry takes and gives, and its faults, other than those that the page or its section says."""
+    lines = [f"**Takes:** {entry.takes}. **Gives:** {entry.gives}."]
     others = re.sub(r"^7 LengthMismatch(?:\.|; )", "", entry.faults)
-    lines += [f"Faults: {others}"] if others not in ("", "none.", OF_FAULTS.get(entry.section)) else []
-    return "\n".join(f"- {line}" for line in lines)
+    lines += [f"**Faults:** {others}"] if others not in ("", "none.", OF_FAULTS.get(entry.section)) else []
+    return " ".join(lines)
 
 
 def also(entry, found, leads_to):

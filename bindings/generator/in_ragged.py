@@ -202,10 +202,6 @@ def flat():
 # ---- the page ----
 
 
-def _code(text):
-    return ", ".join(f"`{word}`" for word in text.split(", ")) if text else ""
-
-
 def _taken(part):
     """A parameter without its kind."""
     name, _, default = part.partition(" = ")
@@ -242,16 +238,9 @@ def _of_operators():
         yield f"| {shown} | {' '.join(f'`{name}`' for name in names.split())} | {says} |"
 
 
-def _of_flat():
-    yield from ["| Function | What it gives | Calls |", "|---|---|---|"]
-    for row in table.FLAT:
-        takes, says = ", ".join(map(_taken, row.takes.split(", "))), " ".join(filter(None, [row.says, row.differs]))
-        yield f"| `cvl.{row.name}({takes})` | {says} | {_code(row.calls)} |"
-
-
 def page(text):
     """`docs/user/ragged.md` with its tables."""
-    tables = {"operators": _of_operators(), "flat": _of_flat()}
+    tables = {"operators": _of_operators()}
     tables.update({section: _of_methods(section) for section in (table.ROW, table.ALONG, table.BETWEEN)})
     for name, lines in tables.items():
         written = "\n".join([f"<!-- written: {name} -->", "", *lines, "", "<!-- end -->"])
