@@ -262,6 +262,7 @@ BESIDE = {
     "First senders": "For each place of a result the least place whose index names it, or -1; `select_` only of places whose flag is true.",
     "Combining permutes": "Combine each element with the value at the place that its index names: sums by key, or the least of each; `counts` counts keys.",
     "Orders, ranks and sorts": "The places in ascending order of their keys, equal keys in their order; how many keys come before each; the keys.",
+    "Sorts by key": "The keys in ascending or descending order, equal keys in their order, and each value with its key: both in place.",
     "Slices and merges": "Slices one behind another, by starts and lengths; segments behind segments; the next element of one vector or another, by a flag; the "
     "place of the first true flag, or -1; sums in 64 bits.",
     "Transposes, and integers of a byte": "A matrix stored by rows, transposed; bytes as integers from 0 to 255, and back, or fault 18.",

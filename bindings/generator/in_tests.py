@@ -63,6 +63,8 @@ def _holds(row, operand):
         return "NESTED_TEXT" if nested else READ[operand.kind, operand.extent]
     if operand.role == "lengths":
         return "LENGTHS"
+    if "sort_by_key" in row.name and operand.over:
+        return "ROOM_OF_KEYS" if operand == row.result else "ROOM_OF_VALUES"
     if operand.role == "room":
         return WRITTEN[operand.kind, "both" if operand.extent == "both" else _extent(row, operand)]
     return SINGLE[operand.kind] if operand.role in ("single", "told") else None

@@ -34,7 +34,7 @@ static CvlPool pool;
  * What an array of a call holds. An index names places of the whole vector, or of the element's own segment; one of trues names a place
  * for each true flag, and is -1 where the flag is false. What is of segments has an element for each of them, and starts are places from which
  * on so many elements as the segment has are there. What is of true or false flags has an element for each of these, and lengths of them are
- * how many a segment has; a room for both has an element for each of two vectors.
+ * how many a segment has; a room for both has an element for each of two vectors. Keys and their values are rooms that hold what is sorted.
  */
 typedef enum Holds {
     NO_MORE,
@@ -42,7 +42,7 @@ typedef enum Holds {
     TRUE_INTS, FALSE_INTS, TRUE_FLAGS, FALSE_FLAGS, BYTES,
     LENGTHS, TRUE_LENGTHS, FALSE_LENGTHS, OFFSETS, DESCRIPTOR, TRUE_DESCRIPTOR, FALSE_DESCRIPTOR, TEXT, NESTED_TEXT,
     /* what is written */
-    ROOM_FOR_INTS, ROOM_FOR_FLAGS, ROOM_FOR_BOTH_INTS, ROOM_FOR_BOTH_FLAGS, ROOM_FOR_TRUE_INTS, ROOM_FOR_TRUE_FLAGS, ROOM_FOR_SEGMENT_INTS, ROOM_FOR_SEGMENT_FLAGS,
+    ROOM_FOR_INTS, ROOM_OF_KEYS, ROOM_OF_VALUES, ROOM_FOR_FLAGS, ROOM_FOR_BOTH_INTS, ROOM_FOR_BOTH_FLAGS, ROOM_FOR_TRUE_INTS, ROOM_FOR_TRUE_FLAGS, ROOM_FOR_SEGMENT_INTS, ROOM_FOR_SEGMENT_FLAGS,
     ROOM_FOR_SUMS, ROOM_FOR_SEGMENT_SUMS, ROOM_FOR_BYTES,
     ROOM_FOR_OFFSETS, ROOM_FOR_MARKS, ROOM_FOR_TRUE_MARKS, ROOM_FOR_TEXT, ONE_INT, ONE_FLAG, ONE_SUM, ONE_COUNT, NEW_DESCRIPTOR
 } Holds;
@@ -86,7 +86,7 @@ typedef struct Array {
 static Array array_of(Holds holds) {
     const size_t of_int = sizeof(int32_t);
     switch (holds) {
-    case INTS: case INDEX: case INDEX_IN_SEGMENTS: case INDEX_OF_TRUES: case INDEX_OF_TRUES_IN_SEGMENTS: case ROOM_FOR_INTS:
+    case INTS: case INDEX: case INDEX_IN_SEGMENTS: case INDEX_OF_TRUES: case INDEX_OF_TRUES_IN_SEGMENTS: case ROOM_FOR_INTS: case ROOM_OF_KEYS: case ROOM_OF_VALUES:
         return (Array){of_int, n};
     case FLAGS: case ROOM_FOR_FLAGS: case BYTES: case ROOM_FOR_BYTES: return (Array){1, n};
     case ROOM_FOR_BOTH_INTS: return (Array){of_int, 2 * n};
@@ -123,6 +123,7 @@ static size_t array_count(const Row *row) {
 }
 
 static inline bool is_room(Holds holds) { return holds >= ROOM_FOR_INTS; }
+static inline bool is_sorted_room(Holds holds) { return holds == ROOM_OF_KEYS || holds == ROOM_OF_VALUES; }
 static inline bool is_index(Holds holds) { return holds >= INDEX && holds <= INDEX_OF_TRUES_IN_SEGMENTS; }
 static inline bool is_flags(Holds holds) { return holds == FLAGS || holds == SEGMENT_FLAGS || holds == TRUE_FLAGS || holds == FALSE_FLAGS; }
 static inline bool is_descriptor(Holds holds) { return holds >= DESCRIPTOR && holds <= FALSE_DESCRIPTOR; }

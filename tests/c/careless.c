@@ -83,11 +83,12 @@ static CvlSegments described(Holds holds) {
     return descriptor;
 }
 
-/* Fills an input of a call that has no fault, or of one with any integers and flags; a room is as if nobody had written it. */
+/* Fills an input of a call that has no fault, or of one with any integers and flags; a room is as if nobody had written it, unless the call
+ * sorts what is there. */
 static void fill(Holds holds, unsigned char *at, bool any) {
     const Array array = array_of(holds);
     int32_t *ints = (int32_t *)(void *)at;
-    if (is_room(holds)) {
+    if (is_room(holds) && !is_sorted_room(holds)) {
         memset(at, holds == NEW_DESCRIPTOR ? 0 : UNTOUCHED, array.size * array.count);
         return;
     }
@@ -103,7 +104,7 @@ static void fill(Holds holds, unsigned char *at, bool any) {
     }
     for (size_t k = 0; k < array.count; k++) {
         switch (holds) {
-        case INTS: case SEGMENT_INTS: case TRUE_INTS: case FALSE_INTS: ints[k] = int_at(k, any); break;
+        case INTS: case SEGMENT_INTS: case TRUE_INTS: case FALSE_INTS: case ROOM_OF_KEYS: case ROOM_OF_VALUES: ints[k] = int_at(k, any); break;
         case TRUE_FLAGS: case FALSE_FLAGS: at[k] = any ? any_byte() : k % 2; break;
         case FLAGS: case SEGMENT_FLAGS: at[k] = any ? any_byte() : flag_at(k); break;
         case LENGTHS: ints[k] = length_at(k); break;

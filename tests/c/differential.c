@@ -408,6 +408,8 @@ static void fill(const Row *row, Given *g, size_t k, size_t n, size_t m) {
     const bool joins = (row->model == COMBINE_PERMUTE || row->model == COMBINE_PERMUTE_RANGE) && role_of(row, k) == WRITES && kind_of(row, k) == FLAG;
     for (size_t j = 0; j < g->len[k] && joins && plain; j++) bytes[j] = (unsigned char)below(2);
     if (role_of(row, k) == WRITES && kind_of(row, k) == SUM && adds_up(row->model)) fill_sums(bytes, g->len[k], small);
+    const bool sorts = role_of(row, k) == WRITES && sorts_by_key(row->model);
+    for (size_t j = 0; j < g->len[k] && sorts; j++) ints[j] = small ? (int32_t)below(19) - 9 : any_int();
     if (role_of(row, k) == CUTS) fill_lengths(ints, g->len[k], extent_of(row, k) == OF_N || extent_of(row, k) == OF_TOTAL ? n : m);
     if (role_of(row, k) != READS) return;
     for (size_t j = 0; j < g->len[k] && kind_of(row, k) == INT; j++) ints[j] = small ? (int32_t)below(19) - 9 : any_int();

@@ -29,6 +29,9 @@ static bool begins(const char *name, const char *with) { return strncmp(name, wi
 
 static int32_t *held[MOST_ARRAYS], *wanted;
 
+/* The values that keys move with them. */
+static int32_t *moved;
+
 /* The most elements of a short segment. */
 static size_t most_of_short = 200;
 
@@ -347,6 +350,22 @@ static size_t order(const char *call) {
     return n;
 }
 
+/* The same of keys beside their values, behind the lengths of segments, in either direction. */
+static size_t order_values(const char *call) {
+    const size_t keys = by_segments(call) ? 1 : 0;
+    for (size_t g = 0; g < groups(by_segments(call)); g++) {
+        size_t next = from(by_segments(call), g);
+        for (int32_t nth = 1; nth <= 31; nth++) {
+            const int32_t key = begins(call, "sbd") ? 32 - nth : nth;
+            for (size_t k = from(by_segments(call), g); k < to(by_segments(call), g); k++) {
+                if (held[keys][k] != key) continue;
+                wanted[next] = key, moved[next++] = held[keys + 1][k];
+            }
+        }
+    }
+    return n;
+}
+
 static size_t gather_slices(const char *call) {
     size_t made = 0;
     (void)call;
@@ -425,7 +444,7 @@ static const struct Reading {
     {"pck", "f", count_trues}, {"cnt", "l", count_trues}, {"ext", "v", extract}, {"rep", "v", replace}, {"dis", "v", distribute},
     {"ind", "l", number}, {"fst", "l", send_first}, {"fsr", "l", send_first_flagged}, {"cmb", "l", combine},
     {"cmc", "l", combine}, {"cmx", "l", combine},
-    {"nmd", "l", count_named}, {"ord", "l", order}, {"rnk", "l", order}, {"srt", "l", order}, {"gth", "l", gather_slices}, {"app", "l", append},
+    {"nmd", "l", count_named}, {"ord", "l", order}, {"rnk", "l", order}, {"srt", "l", order}, {"sbk", "l", order_values}, {"sbd", "l", order_values}, {"gth", "l", gather_slices}, {"app", "l", append},
     {"mrg", "l", merge}, {"trn", "l", transpose}, {"ftr", "l", find_true}, {"mke", "f", total}, {"off", "f", tell_offsets},
     {"len", "f", tell_lengths}, {"num", "f", tell_numbers}, {"prd", "r", multiply}, {"", "w", place_by_place}, {"", "s", scan},
     {"", "r", reduce},
@@ -454,7 +473,7 @@ static const char *const calls_of_exports[][2] = {
     {"first_senders_range", "fst_luz"}, {"select_first_senders_range", "fsr_luz"}, {"combine_permute_int", "cmb_luz"},
     {"combine_permute_bool", "cmb_lub"}, {"counts", "nmd_luz"}, {"combine_permute_int_range", "cmb_luz"}, {"combine_permute_bool_range", "cmb_lub"},
     {"combine_checked_int", "cmc_luz"}, {"combine_exact_sums", "cmx_luz"}, {"combine_exact_sums_range", "cmx_luz"},
-    {"counts_range", "nmd_luz"}, {"order", "ord_luz"}, {"rank", "rnk_luz"}, {"sort", "srt_luz"},
+    {"counts_range", "nmd_luz"}, {"order", "ord_luz"}, {"rank", "rnk_luz"}, {"sort", "srt_luz"}, {"sort_by_key", "sbk_luz"}, {"sort_by_key_descending", "sbd_luz"},
     {"gather_segments_int", "gth_lez"}, {"gather_segments_bool", "gth_leb"}, {"append_segments_int", "app_lez"}, {"append_segments_bool", "app_leb"},
     {"merge_by_flags_int", "mrg_luz"}, {"merge_by_flags_bool", "mrg_lub"}, {"first_true", "ftr_luz"}, {"exact_sums", "tot_ruz"},
     {"transpose_int", "trn_luz"}, {"transpose_bool", "trn_lub"}, {"transpose_int_range", "trn_luz"}, {"transpose_bool_range", "trn_lub"}, {"ints_from_bytes", "cpy_wuz"}, {"bytes_from_ints", "cpy_wuz"},
@@ -503,7 +522,7 @@ static void put(const Row *row, size_t j, bool odd) {
     const Holds holds = row->arrays[j];
     const Array array = array_of(holds);
     const CvlSegments descriptor = {holds == DESCRIPTOR ? lengths : held[j], segments, true};
-    if (is_room(holds)) {
+    if (is_room(holds) && !is_sorted_room(holds)) {
         memset(memory[j], byte_before(row, holds, odd), bytes_of(holds));
     } else if (is_descriptor(holds)) {
         memcpy(memory[j], &descriptor, sizeof descriptor);
@@ -537,6 +556,7 @@ static int32_t right_at(Holds holds, bool are_lengths, size_t k) {
     case ROOM_FOR_TRUE_MARKS: return marks_at(trues, k);
     case ROOM_FOR_TEXT: return text[k];
     case ROOM_FOR_SEGMENT_INTS: return are_lengths ? lengths[k] : wanted[k];
+    case ROOM_OF_VALUES: return moved[k];
     default: return wanted[k];
     }
 }
@@ -603,6 +623,7 @@ static void *zeros(size_t count, size_t size) {
 static void make_arrays(size_t most, size_t most_segments) {
     lengths = (int32_t *)zeros(most_segments, sizeof *lengths), starts = (size_t *)zeros(most_segments, sizeof *starts);
     wanted = (int32_t *)zeros(2 * most, sizeof *wanted), text = (char *)zeros(most, 3);
+    moved = (int32_t *)zeros(most, sizeof *moved);
     for (size_t j = 0; j < MOST_ARRAYS; j++) {
         held[j] = (int32_t *)zeros(most, sizeof *wanted), memory[j] = (unsigned char *)zeros(2 * most, sizeof *wanted);
     }

@@ -1,7 +1,11 @@
 /* Messages for calls that have no value. */
 #include "calls.h"
 
-static int is_array(const Operand *operand) { return operand->kind == KIND_INTS || operand->kind == KIND_FLAGS || operand->kind == KIND_BYTES; }
+/* An array that is read, or one that is changed and has to be as long as others. */
+static int is_array(const Operand *operand) {
+    if (operand->kind == KIND_ROOM_INTS) return operand->extent != EXTENT_NONE;
+    return operand->kind == KIND_INTS || operand->kind == KIND_FLAGS || operand->kind == KIND_BYTES;
+}
 
 /* ---- how long arguments are ---- */
 
