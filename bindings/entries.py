@@ -258,6 +258,7 @@ BESIDE = {
     "First senders": "For each place of a result the first element that is sent there, or -1; `select_` only of those whose flag is true.",
     "Combining permutes": "Combine each element with the value at its index: sums by key, or the least of each; `counts` counts keys.",
     "Orders, ranks and sorts": "The places in ascending order of their keys, equal keys in their order; how many keys come before each; the keys.",
+    "Sorts by key": "The keys in ascending or descending order, equal keys in their order, and each value with its key: both in place.",
     "Runs of equal neighbours": "How long each run of equal neighbours is, or where it begins: unique keys, counts and sums by key of sorted keys; "
     "`seg_run_counts_` has how many runs each segment has.",
     "Slices and merges": "Slices one behind another, by starts and lengths; segments behind segments; two vectors merged by flags; the first true flag, or -1; "

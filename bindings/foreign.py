@@ -14,6 +14,7 @@ Names = namedtuple("Names", "words calls task note", defaults=(None, None))
 
 RUNNING, BY_KEY, RUNS, UNIQUE = "Keep a running total", "Sum by key", "Find runs of equal elements", "Remove duplicates"
 FILTER, ORDER, TOP, JOIN = "Filter", "Sort, or find an order", "Find the k greatest", "Join two tables"
+HEADS = "Take the first of each row"
 EACH_ROW, SPLIT, SCATTER = "Add up each row", "Split, and merge again", "Scatter, and see wrong indices"
 SPARSE, COUNT, EARLIER = "Multiply a sparse matrix", "Count by key", "Find the nearest earlier true"
 RANKS, SEGMENTS = "from 0, equal keys in their order", "once each k is a segment"
@@ -112,6 +113,7 @@ LIBRARIES = {
             Names("sort_values", "sort | order", ORDER),
             Names("rank", "rank", note=RANKS),
             Names("nlargest", "order not_wuz", TOP),
+            Names("groupby(k).head(n)", "gather_segments_int min_wuz", HEADS, "once each k is a segment"),
             Names("query  loc[f]", "pck_luz", FILTER),
             Names("ffill", "sel_wuz max_suz bck_puz", EARLIER),
             Names("explode", "nested"),
@@ -144,7 +146,7 @@ LIBRARIES = {
             Names("fill", "dis_vuz"),
             Names("sequence  iota", "ind_luz"),
             Names("sort  stable_sort", "sort", ORDER),
-            Names("sort_by_key", "order bck_puz", ORDER),
+            Names("sort_by_key  stable_sort_by_key", "sort_by_key | order bck_puz", ORDER),
             Names("nth_element  partial_sort", "order", TOP),
             Names("unique  unique_by_key", "run_starts_int bck_puz", RUNS),
             Names("lower_bound", "counts add_suz bck_puz", note="of keys that are small numbers"),

@@ -101,6 +101,7 @@ KEPT_ELEMENTS = OverRanks("pack", "what a rank keeps stays with it, and *count i
 NO_TEXTS = OverRanks(None, "bindings/mpi/cvl_mpi.h.in has functions of its own for texts")
 RUNS_CROSS = OverRanks(None, "a run may go on over any number of ranks, and none of them could tell its length alone")
 NO_PARTS = OverRanks(None, "a part of a call: a rank makes it alone")
+BY_AN_ORDER = OverRanks(None, "over ranks an order of the keys and a back permute by it move any number of vectors")
 
 # How the calls of a family are cut.
 #
@@ -149,6 +150,8 @@ CUTS = {
     ),
     "rank": Cut(DIGITS, OverRanks("rank", "keys go to the ranks of the sorted vector, and their ranks back", named=True), "rank"),
     "sort": Cut(DIGITS, OverRanks("sort", "keys go to the ranks of the sorted vector, which is spread as out is", spread=True), "sort"),
+    "sort_by_key": Cut(DIGITS, BY_AN_ORDER, "sort_by_key"),
+    "sort_by_key_descending": Cut(DIGITS, BY_AN_ORDER, "sort_by_key_descending"),
     "merge": Cut("cut at places; each part goes on in both vectors behind those that the flags before it take", SPREAD_SIDES, "merge"),
     "replace": Cut("the copy is cut at places", OverRanks("replace", "the rank that has the place writes it"), "steps"),
     "lengths": Cut("the lengths are cut; the parts' totals are added", OverRanks("lengths", "the ranks' totals are added", named=True), "lengths"),
@@ -178,7 +181,8 @@ MOST_STACK = 32768
 
 # The exports that only the driver calls: the steps of orders, of sorts, and of sums by place, in parts.
 STEPS = (
-    "placed_from", "key_block", "placed_block", "gather_keys", "gather_placed", "places_of", "add_sums", "sums_from_ints", "ints_from_sums",
+    "placed_from", "placed_values", "placed_values_descending", "key_block", "placed_block", "gather_keys", "gather_placed", "places_of", "keys_of",
+    "keys_of_descending", "add_sums", "sums_from_ints", "ints_from_sums",
 )
 
 # The families that steps of other calls in parts make.
@@ -282,6 +286,12 @@ OF_FAMILIES = {
         "the keys before a call, and on the result of a sort. A sort may be in place.",
         "An order and a rank take up to 16 bytes a key while they run, a sort up to 4 (by segments, for the keys of the longest one), and all up to 8192 bytes "
         "more for each thread, else 100 NoResources.",
+    ),
+    "sorts by key": (
+        "No script calls these. Each is in place: keys and values hold what is sorted, and then the result, and may not overlap. Keys are signed integers, and "
+        "the values of equal keys stay as they stood (a stable sort). To keep the keys as they are, copy them first; to move several vectors, take the order of "
+        "the keys instead, and a back permute of each by it.",
+        "They take up to 16 bytes a key while they run, and up to 8192 bytes more for each thread, else 100 NoResources.",
     ),
     "runs of equal neighbours": (
         "No script calls these. A run is as long as its neighbours are equal, so that in sorted keys each key has one run. Unique keys are a back permute of the "
@@ -536,6 +546,7 @@ NOT_AS_MANY = Fault((7,), "7 LengthMismatch if source and index differ in length
 SUMS_OF_SENT = Fault(
     (7,), "7 LengthMismatch if source and index differ in length, or the lengths do not add up to them, or the result lengths to out", False)
 GREAT_SUM = Fault((18,), "18 Overflow at the first place that held a sum below -2^62, or 2^62 or more", False)
+VALUES_DIFFER = Fault((7,), "7 LengthMismatch if keys and values differ in length", False)
 BAD_SLICE = Fault((10,), "10 IndexOutOfRange at the first segment that starts below 0 or ends behind the source", False, "starts")
 SUMS_OF_BOTH = Fault((7,), "7 LengthMismatch if the lengths do not add up to a, or the other lengths to b", False)
 SUMS_OF_SIDES = Fault(
@@ -563,7 +574,7 @@ OVERFLOW_AT_SEGMENT = Fault((18,), "18 Overflow at the first segment whose sum d
 # of the lengths of arrays, as all calls have them: what stands before the functions says them once
 OF_LENGTHS = (
     TOO_LONG, SUM_OF_N, NO_ROOM, SUM_OR_NO_ROOM, SUMS_OF_DEFAULTS, SUMS_OF_INDEX, SUMS_OF_RESULT, SUMS_OF_SENT, SUMS_OF_BOTH, SUMS_OF_SIDES, FLAGS_DIFFER,
-    NOT_AS_MANY, SUM_OF_ENTRIES, LONG_ROOM,
+    NOT_AS_MANY, SUM_OF_ENTRIES, LONG_ROOM, VALUES_DIFFER,
 )
 RANGE_FAULTS = (
     Fault((13,), f"13 TooLong, by the index, and if the range ends behind place {MOST_ELEMENTS}", False),
@@ -913,6 +924,35 @@ FAMILIES = (
         in_place=(("keys",),), faults=(TOO_LONG, SUM_OF_N), asks=True, cut=("segments", "n"),
         over_ranks=OverRanks("sort", "keys of segments that cross ranks go to the ranks of the sorted segments"), shape="keys and out have n elements.",
         example={"keys": "3 1 9 2 7", "lengths": "2 0 3", "out": "1 3 2 7 9"},
+    ),
+    # ---- sorts by key ----
+    family(
+        "sort_by_key", "sorts by key", (over("ints", "n", "keys"), over("ints", "n", "values")),
+        "The keys in ascending order, and the values, each of which moves with its key.",
+        faults=(TOO_LONG, VALUES_DIFFER), asks=True, cut=("sort_by_key", "n"),
+        example={"keys_before": "3 1 2 1", "values_before": "10 20 30 40", "keys": "1 1 2 3", "values": "20 40 30 10"},
+    ),
+    family(
+        "sort_by_key_descending", "sorts by key", (over("ints", "n", "keys"), over("ints", "n", "values")),
+        "The keys in descending order, and the values, each of which moves with its key.",
+        faults=(TOO_LONG, VALUES_DIFFER), asks=True, cut=("sort_by_key_descending", "n"),
+        example={"keys_before": "3 1 2 1", "values_before": "10 20 30 40", "keys": "3 2 1 1", "values": "10 30 20 40"},
+    ),
+    family(
+        "seg_sort_by_key", "sorts by key", (lengths(), over("ints", "n", "keys"), over("ints", "n", "values")),
+        "The keys of each segment in ascending order, and the values, each of which moves with its key.",
+        faults=(TOO_LONG, VALUES_DIFFER, SUM_OF_N), asks=True, cut=("segments", "n"), over_ranks=BY_AN_ORDER,
+        example={
+            "lengths": "2 0 3", "keys_before": "3 1 9 2 2", "values_before": "10 20 30 40 50", "keys": "1 3 2 2 9", "values": "20 10 40 50 30",
+        },
+    ),
+    family(
+        "seg_sort_by_key_descending", "sorts by key", (lengths(), over("ints", "n", "keys"), over("ints", "n", "values")),
+        "The keys of each segment in descending order, and the values, each of which moves with its key.",
+        faults=(TOO_LONG, VALUES_DIFFER, SUM_OF_N), asks=True, cut=("segments", "n"), over_ranks=BY_AN_ORDER,
+        example={
+            "lengths": "2 0 3", "keys_before": "1 3 2 9 2", "values_before": "10 20 30 40 50", "keys": "3 1 9 2 2", "values": "20 10 40 30 50",
+        },
     ),
     # ---- runs of equal neighbours ----
     *twins(

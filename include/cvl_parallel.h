@@ -280,6 +280,18 @@ CVL_CHECKED CvlStatus cvl_seg_rank_on(const CvlPool *pool, const int32_t *keys, 
     int32_t *out, size_t out_len);
 CVL_CHECKED CvlStatus cvl_seg_sort_on(const CvlPool *pool, const int32_t *keys, size_t keys_len, CvlLengths lengths,
     int32_t *out, size_t out_len);
+
+/* Cut at places; each part sorts its own keys by a digit, and gathers a range of the result. */
+CVL_CHECKED CvlStatus cvl_sort_by_key_on(const CvlPool *pool, int32_t *keys, size_t keys_len, int32_t *values,
+    size_t values_len);
+CVL_CHECKED CvlStatus cvl_sort_by_key_descending_on(const CvlPool *pool, int32_t *keys, size_t keys_len, int32_t *values,
+    size_t values_len);
+
+/* Cut between segments. */
+CVL_CHECKED CvlStatus cvl_seg_sort_by_key_on(const CvlPool *pool, CvlLengths lengths, int32_t *keys, size_t keys_len,
+    int32_t *values, size_t values_len);
+CVL_CHECKED CvlStatus cvl_seg_sort_by_key_descending_on(const CvlPool *pool, CvlLengths lengths, int32_t *keys, size_t keys_len,
+    int32_t *values, size_t values_len);
 CVL_CHECKED CvlStatus cvl_gather_segments_int_on(const CvlPool *pool, const int32_t *source, size_t source_len,
     const int32_t *starts, size_t starts_len, CvlLengths lengths, int32_t *out, size_t out_len);
 CVL_CHECKED CvlStatus cvl_gather_segments_bool_on(const CvlPool *pool, const bool *source, size_t source_len,

@@ -85,11 +85,11 @@ def is_total(row, said, before):
 
 
 def is_alike(row, said, before):
-    """Whether two arrays are read, as long as each other, and no third one is."""
+    """Whether two arrays are read or changed, as long as each other, and no third one is."""
     found = said.split(" and ")
     extents = {extent(row, name) for name in found}
     before += extents
-    reads = {other.name for other in row.operands if other.role == "reads" and other.extent in extents}
+    reads = {other.name for other in row.operands if (other.role == "reads" or other.over) and other.extent in extents}
     # a select permute of a range has the fault of the other one by the source, too
     return len(extents) == 1 and (reads == set(found) or row.name == "select_permute_int_range" and set(found) < reads)
 

@@ -286,15 +286,18 @@ bool cvl_keep(CvlWork *w, size_t bytes) {
     return w->kept != NULL;
 }
 
+/* A second room is as long as the room, and what stood in it is kept behind what stood in the room. */
 static CvlStatus kept_part(CvlWork *w, size_t k) {
     const size_t from = w->rooms[k] * cvl_size(w), bytes = w->rooms[k + 1] * cvl_size(w) - from;
     if (bytes > 0) memcpy(w->kept + from, (const char *)w->in[CVL_AS_OUT].at + from, bytes);
+    if (bytes > 0 && (w->row->is & CVL_MOVES)) memcpy(w->kept + cvl_room_bytes(w) + from, (const char *)w->in[CVL_AS_OTHER_OUT].at + from, bytes);
     return w->part(w, k);
 }
 
 void cvl_put_back(CvlWork *w) {
-    const CvlSlot out = w->in[CVL_AS_OUT];
-    if (out.number > 0) memcpy((void *)out.at, w->kept, out.number * cvl_size(w));
+    const size_t bytes = cvl_room_bytes(w);
+    if (bytes > 0) memcpy((void *)w->in[CVL_AS_OUT].at, w->kept, bytes);
+    if (bytes > 0 && (w->row->is & CVL_MOVES)) memcpy((void *)w->in[CVL_AS_OTHER_OUT].at, w->kept + bytes, bytes);
 }
 
 bool cvl_writes_kept(const CvlPool *pool, CvlWork *w, CvlStepPart part) {

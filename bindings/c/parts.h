@@ -56,7 +56,7 @@ struct CvlWork {
     /* a sort */
     uint32_t pass;            /* the number of the digit that it goes by */
     const int32_t *keys;      /* what it reads */
-    CvlPlaced *placed;        /* or, of an order, keys beside their places */
+    CvlPlaced *placed;        /* or keys beside their places, or beside values that move with them */
     void *blocks;             /* each part's elements in the order of the digit, */
     uint32_t *ends;           /* and where each digit of each part ends */
 };
@@ -76,6 +76,10 @@ static inline bool cvl_of_bools(const CvlWork *w) { return (w->row->is & CVL_OF_
 /* The bytes of an element of the room. */
 /*@ assigns \nothing; */
 static inline size_t cvl_size(const CvlWork *w) { return w->row->operand[w->row->out].size; }
+
+/* The bytes of the room. */
+/*@ assigns \nothing; */
+static inline size_t cvl_room_bytes(const CvlWork *w) { return w->in[CVL_AS_OUT].number * cvl_size(w); }
 
 /* What an argument has from one place to another. */
 static inline CvlSlot cvl_range(const CvlWork *w, CvlAs as, size_t from, size_t to) {
@@ -194,6 +198,12 @@ CVL_HIDDEN bool cvl_order_in_parts(const CvlPool *pool, CvlWork *w);
 /*@ requires 0 < w->parts <= CVL_MOST_PARTS;
     assigns *w, rooms, kept, made; */
 CVL_HIDDEN bool cvl_rank_in_parts(const CvlPool *pool, CvlWork *w);
+/*@ requires 0 < w->parts <= CVL_MOST_PARTS;
+    assigns *w, rooms, kept, made; */
+CVL_HIDDEN bool cvl_sort_by_key_in_parts(const CvlPool *pool, CvlWork *w);
+/*@ requires 0 < w->parts <= CVL_MOST_PARTS;
+    assigns *w, rooms, kept, made; */
+CVL_HIDDEN bool cvl_sort_by_key_descending_in_parts(const CvlPool *pool, CvlWork *w);
 /*@ requires w->parts <= CVL_MOST_PARTS;
     assigns *w, rooms, made; */
 CVL_HIDDEN bool cvl_turns_in_parts(const CvlPool *pool, CvlWork *w);

@@ -78,7 +78,8 @@ enum {
     CVL_MERGES = 1024,    /* A has an element for each true flag, and B one for each false one */
     CVL_APPENDS = 2048,   /* the room is as long as A and B together */
     CVL_TURNS = 4096,     /* the elements are those of so many rows and columns */
-    CVL_ADDS = 8192       /* elements are added to the room without wrapping, in sums of 64 bits */
+    CVL_ADDS = 8192,      /* elements are added to the room without wrapping, in sums of 64 bits */
+    CVL_MOVES = 16384     /* the other room has values that move with the keys of the room */
 };
 
 typedef struct CvlRow CvlRow;

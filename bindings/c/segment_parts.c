@@ -278,6 +278,6 @@ static bool cut_others(const CvlPool *pool, CvlWork *w) {
 bool cvl_segments_in_parts(const CvlPool *pool, CvlWork *w) {
     w->told = cvl_done();
     w->rooms = cvl_boundaries(w, w->row->operand[w->row->out].by);
-    return cut_others(pool, w) && cvl_make_all(pool, w) && cvl_keep(w, w->in[CVL_AS_OUT].number * cvl_size(w)) &&
+    return cut_others(pool, w) && cvl_make_all(pool, w) && cvl_keep(w, cvl_room_bytes(w) * (w->row->is & CVL_MOVES ? 2 : 1)) &&
         cvl_writes_kept(pool, w, cvl_make_part);
 }

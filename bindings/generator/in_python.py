@@ -20,26 +20,29 @@ class Direct(packages.Call):
         super().__init__(row)
         self.told = [operand for operand in row.operands if operand.role == "told"]
         self.is_range = any(operand.extent == "range" for operand in row.operands)
-        rooms = [operand for operand in row.operands if operand.role == "room"]
-        if self.is_range:
-            self.operands = [*self.operands, *rooms]
+        # both are changed in place, as a list is by its own sort
+        self.changes_several = len(super().over) > 1
+        if self.is_range or self.changes_several:
+            self.operands = [*self.operands, *row.rooms]
         if row.family.operators:
             self.operands = [table.Operand("op", "operator", "size", None, False), *self.operands]
 
     @property
     def over(self):
-        """The rooms that hold what stands before; that of a range is an operand."""
-        return [] if self.is_range else super().over
+        """The room that holds what stands before; that of a range is an operand, and so are several."""
+        return [] if self.is_range or self.changes_several else super().over
 
     @property
     def fills(self):
-        return super().fills and self.gives not in ("TEXT", "READ_NESTED", "WRITTEN")
+        return super().fills and self.gives not in ("TEXT", "READ_NESTED", "WRITTEN", "NOTHING")
 
     @property
     def gives(self):
         """What it gives that no call of the table gives, or nothing."""
         if self.is_range:
             return "WRITTEN"
+        if self.changes_several:
+            return "NOTHING"
         if self.over:
             return f"OVER_{self.result.kind.upper()}"
         if self.result.kind == "text":
@@ -112,8 +115,10 @@ def _shown(call, operand):
 def _direct_result(call, shown):
     """The last line of the example of a function beside the calls, and what it shows; nothing for one that is as a call."""
     said = call.example
+    rooms = [operand.name for operand in call.row.rooms]
+    if call.gives == "NOTHING":
+        return ", ".join(f"{name}.tolist()" for name in rooms), tuple(_literal(said[name].split()) for name in rooms)
     if call.gives == "WRITTEN":
-        rooms = [operand.name for operand in call.row.rooms]
         found = int(said[call.told[0].name]), *(_literal(said[name].split()) for name in rooms)
         return ", ".join([shown, *(f"{name}.tolist()" for name in rooms)]), found
     if call.gives == "TEXT":
@@ -130,7 +135,7 @@ def _example(call):
     shown = f"cvl.{call.name}({', '.join(map(name_of, taken))})"
     direct = _direct_result(call, shown) if isinstance(call, Direct) else None
     if direct:
-        lines += [f"values, segments = {shown}"] if call.gives == "READ_NESTED" else []
+        lines += [f"values, segments = {shown}"] if call.gives == "READ_NESTED" else [shown] if call.gives == "NOTHING" else []
         return [*lines, direct[0]], repr(direct[1])
     values = _literal(_example_of(call)["lengths" if call.makes_segments else "out"].split())
     if call.gives_segments:
@@ -161,6 +166,7 @@ def _purpose(call):
         said += f" It gives {call.told[0].name}." if call.is_range and len(call.row.rooms) == 1 else ""
         said += " It gives how many places it wrote." if call.is_range and len(call.row.rooms) > 1 else ""
         said += " out is written over, and returned." if call.over else ""
+        said += f" {' and '.join(room.name for room in call.row.rooms)} are written over." if call.changes_several else ""
         said += " op is one of cvl.operators." if call.family.operators else ""
     said += "".join(f" {operand.name} may be of int64." for operand in call.operands if is_index(operand))
     return said + (" A number may stand for an array of it." if _spreads(call) else "")
@@ -474,7 +480,7 @@ TAKEN = {
 SPREAD = {"ints": "Union[Ints, SupportsIndex]", "flags": "Union[Flags, bool, numpy.bool_]"}
 GIVEN = {"ints": "IntArray", "flags": "FlagArray", "bytes": "ByteArray", "sums": "SumArray", "int": "int", "flag": "bool", "sum": "int"}
 ROOMS = {"ints": "_Ints", "flags": "_Flags", "bytes": "_Bytes", "sums": "_Sums"}
-DIRECT_GIVEN = {"WRITTEN": "int", "TEXT": "str", "READ_NESTED": "Tuple[IntArray, Segments]"}
+DIRECT_GIVEN = {"WRITTEN": "int", "NOTHING": "None", "TEXT": "str", "READ_NESTED": "Tuple[IntArray, Segments]"}
 
 
 def _kind(call, operand):

@@ -34,6 +34,10 @@ class Family:
         """The place of the first operand for which a test is true, or None."""
         return next((k for k, operand in enumerate(self.operands) if test(operand)), None)
 
+    def is_joined(self, operand):
+        """Whether it is a room whose elements are joined with what is read."""
+        return operand.over and any(o.role == "reads" for o in self.operands)
+
     @property
     def is_cut(self):
         """Whether the family is made in parts where it is long, by itself or as the one that takes lengths."""
@@ -125,7 +129,7 @@ class Family:
         limited = operand is rows.limited(self.family)
         if limited or k in self.lengths[:1] or cut or operand.over:
             yield "BOUNDED"
-        if limited or operand.extent == "range" or operand.over and not self.lengths:
+        if limited or operand.extent == "range" or self.is_joined(operand) and not self.lengths:
             yield "TOO_MANY"
         if operand.copied:
             yield "COPIED"
@@ -208,7 +212,8 @@ class Family:
             "OF_BOOLS": self.of_bools, "AT_PLACE": any(o.role == "place" for o in self.operands),
             "TOGETHER": any(len(names) > 1 for names in self.family.in_place), "MERGES": not self.lengths and any(o.extent == "falses" for o in self.operands),
             "APPENDS": any(o.extent == "both" for o in self.operands), "TURNS": any(o.use == "row_count" for o in self.operands),
-            "ADDS": self.room is not None and self.room.over and not self.family.operators,
+            "MOVES": len([o for o in self.operands if o.over]) > 1,
+            "ADDS": self.room is not None and self.is_joined(self.room) and not self.family.operators,
         }
         return [word for word, is_so in said.items() if is_so]
 

@@ -131,10 +131,12 @@ def _example_of_range(function):
 
 
 def _example_over(function):
-    room = function.result.name
-    yield f"let mut {room} = [{', '.join(function.example[table.before(room)].split())}];"
-    yield f"cvl::{function.name}({', '.join([*_example_arguments(function), f'&mut {room}'])})?;"
-    yield f"assert_eq!({room}, {_result(function)});"
+    rooms = [room.name for room in function.over]
+    for room in rooms:
+        yield f"let mut {room} = [{', '.join(function.example[table.before(room)].split())}];"
+    yield f"cvl::{function.name}({', '.join([*_example_arguments(function), *(f'&mut {room}' for room in rooms)])})?;"
+    for room in rooms:
+        yield f"assert_eq!({room}, [{', '.join(function.example[room].split())}]);"
 
 
 def _tuple(words, several):
@@ -416,13 +418,19 @@ def _of_given(operand):
     return OF_EXAMPLE[operand.kind].format(number) if operand.role == "value" else number
 
 
+def _rooms_of_test(rooms):
+    """The rooms of a test: each of its kind, and the second one of integers."""
+    kinds = [room.kind for room in rooms]
+    return [f"&mut room.{'seconds' if kind in kinds[:k] else kind}" for k, kind in enumerate(kinds)]
+
+
 def _tried(function):
     """A function with its forms, as one line."""
     operator = _operator(function, f"cvl::Operator::{_operator_of_example(function)}")
 
     def called(end, operands, rooms, place=None):
         words = [f"&mut room.{o.kind}" if o == place else _of_given(o) for o in operands]
-        return f"cvl::{function.name}{end}({', '.join([*operator, *words, *(f'&mut room.{o.kind}' for o in rooms)])})"
+        return f"cvl::{function.name}{end}({', '.join([*operator, *words, *_rooms_of_test(rooms)])})"
 
     gives = fills = within = "None"
     if _has_ranges(function) or function.over:

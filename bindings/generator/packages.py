@@ -47,7 +47,7 @@ class Call:
     def example(self):
         """The row's example, with what C does not take."""
         said = self.row.example
-        return {**said, "count": str(len(said["out"].split()))} if said and self.is_sized else said
+        return {**said, "count": str(len(said[self.result.name].split()))} if said and self.is_sized else said
 
     @property
     def fills(self):
@@ -113,7 +113,7 @@ class Call:
     @property
     def given(self):
         """The words of the result in the example."""
-        return self.row.example["lengths" if self.makes_segments else "out"].split()
+        return self.row.example["lengths" if self.makes_segments else self.result.name].split()
 
     @property
     def faults(self):

@@ -127,8 +127,10 @@ def said_by_lengths(row):
 
 
 def limited(family):
-    """The operand whose number of elements is limited: the index of a permute, the flags of a pack, else the first vector."""
+    """The operand whose number of elements is limited: the index of a permute, the flags of a pack, else the first vector that is read, or
+    written over where none is read."""
     arrays = [operand for operand in family.operands if operand.role == "reads" and operand.extent == family.limit]
+    arrays = arrays or [operand for operand in family.operands if operand.over and operand.extent == family.limit]
     if not arrays:
         return None
     return next((o for use in ("index", "mask") for o in arrays if o.use == use), arrays[0])
@@ -263,7 +265,7 @@ def extent_differences():
             elif operand.over:
                 lengths[operand.extent].add(len(row.example[table.before(operand.name)].split()))
         if row.result and row.result.role == "room" and row.result.kind not in ("text", "marks") and row.result.extent in ("n", "m", "segments", "total"):
-            lengths[row.result.extent].add(len(row.example["out"].split()))
+            lengths[row.result.extent].add(len(row.example[row.result.name].split()))
         for extent, found in lengths.items():
             if len(found) > 1:
                 yield f"in the example of {row.name} what is as long as {extent} has the lengths {sorted(found)}"

@@ -51,10 +51,13 @@ static void sum_by_key(void) {
 }
 
 static void sort_or_order(void) {
-    int32_t sorted[5], order[5];
+    int32_t sorted[5], order[5], own[5], moved[5];
+    must(cvl_cpy_wuz(v, own, 5));
+    must(cvl_cpy_wuz(amounts, moved, 5));
     must(cvl_sort(v, 5, sorted, 5));
     must(cvl_order(v, 5, order, 5));
-    print("sorted", sorted, 5), print("order", order, 5);
+    must(cvl_sort_by_key_descending(own, 5, moved, 5));
+    print("sorted", sorted, 5), print("order", order, 5), print("descending", own, 5), print("moved", moved, 5);
 }
 
 static void find_the_greatest(void) {
@@ -62,6 +65,15 @@ static void find_the_greatest(void) {
     must(cvl_not_wuz(v, descending, 5));
     must(cvl_order(descending, 5, order, 5)); /* order[0] to order[k - 1] */
     print("top", order, 2);
+}
+
+static void take_the_first_of_each_row(void) {
+    int32_t starts[3], heads[3], first[5], many;
+    must(cvl_add_suz(lengths_of_rows, starts, 3));
+    must(cvl_min_wuz(lengths_of_rows, two, heads, 3)); /* two of each row, or fewer */
+    must(cvl_add_ruz(heads, 3, &many));
+    must(cvl_gather_segments_int(v, 5, starts, 3, (CvlLengths){heads, 3}, first, (size_t)many));
+    print("first of each row", first, (size_t)many);
 }
 
 static void remove_duplicates(void) {
@@ -158,7 +170,8 @@ static void find_words(void) {
 }
 
 int main(void) {
-    add_up_each_row(), keep_a_running_total(), count_by_key(), sum_by_key(), sort_or_order(), find_the_greatest(), remove_duplicates();
+    add_up_each_row(), keep_a_running_total(), count_by_key(), sum_by_key(), sort_or_order(), find_the_greatest();
+    take_the_first_of_each_row(), remove_duplicates();
     join_two_tables(), filter(), find_runs(), find_earlier_true(), transpose(), multiply_a_sparse_matrix(), scatter(), split_and_merge();
     find_words();
     return EXIT_SUCCESS;

@@ -184,6 +184,10 @@ static bool is_white(char byte) { return byte == ' ' || byte == '\t' || byte == 
     X(seg_order, cvl_seg_order, in.a, in.n, BY(in.lengths, in.segments), r->ints, in.n)                                        \
     X(seg_rank, cvl_seg_rank, in.a, in.n, BY(in.lengths, in.segments), r->ints, in.n)                                          \
     X(seg_sort, cvl_seg_sort, in.a, in.n, BY(in.lengths, in.segments), r->ints, in.n)                                          \
+    X(sort_by_key, cvl_sort_by_key, r->ints, in.n, r->ints + in.n, in.n)                                                       \
+    X(sort_by_key_descending, cvl_sort_by_key_descending, r->ints, in.n, r->ints + in.n, in.n)                                 \
+    X(seg_sort_by_key, cvl_seg_sort_by_key, BY(in.lengths, in.segments), r->ints, in.n, r->ints + in.n, in.n)                  \
+    X(seg_sort_by_key_descending, cvl_seg_sort_by_key_descending, BY(in.lengths, in.segments), r->ints, in.n, r->ints + in.n, in.n)\
     X(askew, cvl_int2, CVL_ADD, r->ints, in.n / 2, in.b, in.n / 2, r->ints + in.n / 4, in.n / 2)                               \
     X(askew_scan, cvl_int_scan, CVL_ADD, r->ints, in.n / 2, r->ints + in.n / 4, in.n / 2)                                      \
     X(differ, cvl_int2, CVL_ADD, in.a, in.n, in.b, in.n / 2, r->ints, in.n)                                                    \
@@ -416,7 +420,8 @@ static void let_go(void) {
 }
 
 static size_t longest_room(void) {
-    size_t most = in.n > in.m ? in.n : in.m;
+    /* the keys of a sort by key, and their values behind them */
+    size_t most = 2 * in.n > in.m ? 2 * in.n : in.m;
     if (in.k > most) most = in.k;
     if (in.few > most) most = in.few;
     return in.segments > most ? in.segments : most;

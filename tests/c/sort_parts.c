@@ -1,5 +1,5 @@
 /*
- * Tries how sorts, orders and ranks in parts share their work: they make a pass for each digit in which keys differ, or one if all keys are
+ * Tries how sorts, orders, ranks and sorts by key in parts share their work: they make a pass for each digit in which keys differ, or one if all keys are
  * equal, and in a pass each part gathers about as many elements. No result depends on that. The linker puts functions of this file in place
  * of the proved steps. It prints what is not as it should be, and its status is then 1. `tests/c/run sort_parts` builds and runs it.
  */
@@ -10,7 +10,7 @@
 
 enum { MOST = 8192, PARTS = 4 };
 
-/* Keys beside their places: only the library looks at them. */
+/* Keys beside their places or values: only the library looks at them. */
 typedef struct CvlPlaced CvlPlaced;
 
 /* ---- gathers: how many there were, and how many elements the greatest one had ---- */
@@ -75,11 +75,16 @@ static void compare(const char *call, const char *of, const char *what, size_t g
 static CvlStatus sort(const CvlPool *pool) { return cvl_sort_on(pool, keys, MOST, out, MOST); }
 static CvlStatus order(const CvlPool *pool) { return cvl_order_on(pool, keys, MOST, out, MOST); }
 static CvlStatus rank(const CvlPool *pool) { return cvl_rank_on(pool, keys, MOST, out, MOST); }
+static CvlStatus by_key(const CvlPool *pool) { return cvl_sort_by_key_on(pool, keys, MOST, out, MOST); }
+static CvlStatus descending(const CvlPool *pool) { return cvl_sort_by_key_descending_on(pool, keys, MOST, out, MOST); }
 
 static const struct {
     const char *name;
     CvlStatus (*call)(const CvlPool *pool);
-} calls[] = {{"cvl_sort_on", sort}, {"cvl_order_on", order}, {"cvl_rank_on", rank}};
+} calls[] = {
+    {"cvl_sort_on", sort}, {"cvl_order_on", order}, {"cvl_rank_on", rank}, {"cvl_sort_by_key_on", by_key},
+    {"cvl_sort_by_key_descending_on", descending},
+};
 
 /* A part gathers whole pieces, each of one digit of one part: its own share, and half as much again at most. */
 static void try_kind(size_t kind, size_t call) {

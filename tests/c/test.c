@@ -1009,6 +1009,37 @@ static void orders_ranks_and_sorts_of_segments(void) {
     FAULT(cvl_seg_sort(own, 5, S(own, 5), own, 5), CVL_OVERLAP, -1);
 }
 
+/* Keys and values are as these, and no integer behind them was written. */
+static void are_sorted(const char *call, const int32_t *keys, const int32_t *values, const int32_t *wanted_keys, const int32_t *wanted_values, size_t n) {
+    if (memcmp(keys, wanted_keys, n * sizeof *keys) != 0) fail(call, "other keys");
+    if (memcmp(values, wanted_values, n * sizeof *values) != 0) fail(call, "other values");
+}
+
+static void sorts_by_key(void) {
+    int32_t keys[] = {3, 1, 2, 1, 77}, values[] = {10, 20, 30, 40, 77};
+    int32_t extremes[] = {0, INT32_MIN, INT32_MAX, -1, 1}, places[] = {0, 1, 2, 3, 4};
+    const int32_t *lengths = I(2, 0, 3);
+    int32_t of_segments[] = {3, 1, 9, 2, 2}, moved[] = {10, 20, 30, 40, 50};
+    const size_t many = (size_t)CVL_MOST_ELEMENTS + 1;
+    tells("cvl_sort_by_key", cvl_sort_by_key(keys, 4, values, 4), CVL_DONE, -1);
+    are_sorted("cvl_sort_by_key", keys, values, I(1, 1, 2, 3, 77), I(20, 40, 30, 10, 77), 5);
+    tells("cvl_sort_by_key", cvl_sort_by_key(extremes, 5, places, 5), CVL_DONE, -1);
+    are_sorted("extremes by key", extremes, places, I(INT32_MIN, -1, 0, 1, INT32_MAX), I(1, 3, 0, 4, 2), 5);
+    tells("cvl_seg_sort_by_key", cvl_seg_sort_by_key(S(lengths, 3), of_segments, 5, moved, 5), CVL_DONE, -1);
+    are_sorted("cvl_seg_sort_by_key", of_segments, moved, I(1, 3, 2, 2, 9), I(20, 10, 40, 50, 30), 5);
+    FAULT(cvl_sort_by_key(NULL, 0, NULL, 0), CVL_DONE, -1);
+    FAULT(cvl_seg_sort_by_key(S(I(0, 0), 2), NULL, 0, NULL, 0), CVL_DONE, -1);
+    FAULT(cvl_sort_by_key(keys, 4, values, 3), CVL_LENGTH_MISMATCH, -1);
+    FAULT(cvl_sort_by_key(keys, 2, keys + 1, 2), CVL_OVERLAP, -1);
+    FAULT(cvl_sort_by_key(keys, 4, keys, 4), CVL_OVERLAP, -1);
+    FAULT(cvl_seg_sort_by_key(S(lengths, 3), keys, 5, values, 4), CVL_LENGTH_MISMATCH, -1);
+    FAULT(cvl_seg_sort_by_key(S(I(2, 2), 2), keys, 5, values, 5), CVL_LENGTH_MISMATCH, -1);
+    FAULT(cvl_seg_sort_by_key(S(I(2, -1, 4), 3), keys, 5, values, 5), CVL_NEGATIVE_LENGTH, 1);
+    FAULT(cvl_seg_sort_by_key(S(keys, 4), keys, 4, values, 4), CVL_OVERLAP, -1);
+    are_sorted("a sort by key with a fault", keys, values, I(1, 1, 2, 3, 77), I(20, 40, 30, 10, 77), 5);
+    FAULT(cvl_sort_by_key(too_many_ints, many, values, 4), CVL_TOO_LONG, -1);
+}
+
 /* More keys than are sorted by insertion, so that each call asks for memory; where some is refused the room and the keys are as they were. */
 static void sorts_without_memory(void) {
     enum { MANY = 60, LENGTHS = 2 };
@@ -1035,6 +1066,26 @@ static void sorts_without_memory(void) {
             if (status.number == CVL_DONE && (which == 2 || which == 6) && memcmp(out, sorted, sizeof sorted) != 0) fail("cvl_sort", "other keys");
         }
         for (int32_t k = 0; k < MANY; k++) keys[k] = k * 7 % MANY;
+    }
+}
+
+/* The same of keys and their values: each request for memory is refused in turn. */
+static void sorts_by_key_without_memory(void) {
+    enum { MANY = 60, REQUESTS = 3 };
+    int32_t keys[MANY], values[MANY], kept_keys[MANY], kept_values[MANY];
+    for (int cut_up = 0; cut_up < 2; cut_up++) {
+        for (int32_t k = 0; k < MANY; k++) kept_keys[k] = keys[k] = k * 7 % MANY, kept_values[k] = values[k] = k;
+        for (int granted = 0; granted <= REQUESTS; granted++) {
+            spared = granted;
+            refusing = 1;
+            const CvlStatus status = cut_up ? cvl_seg_sort_by_key(S(I(MANY), 1), keys, MANY, values, MANY) : cvl_sort_by_key(keys, MANY, values, MANY);
+            refusing = spared = 0;
+            tells("a sort by key", status, granted < REQUESTS ? CVL_NO_RESOURCES : CVL_DONE, -1);
+            if (status.number != CVL_DONE) are_sorted("a sort by key without memory", keys, values, kept_keys, kept_values, MANY);
+        }
+        for (int32_t k = 0; k < MANY; k++) {
+            if (keys[k] != k || kept_keys[values[k]] != k) fail("a sort by key", "another key, or another value beside it");
+        }
     }
 }
 
@@ -2092,7 +2143,9 @@ int main(void) {
     combining_permutes_of_segments();
     orders_ranks_and_sorts();
     orders_ranks_and_sorts_of_segments();
+    sorts_by_key();
     sorts_without_memory();
+    sorts_by_key_without_memory();
     slices();
     appends();
     merges();

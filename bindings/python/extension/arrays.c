@@ -43,6 +43,7 @@ int cvl_learn_kinds(void) {
 static int is_room(const Operand *operand) { return cvl_needs[operand->kind].flags == TO_WRITE; }
 
 int cvl_is_array(const Operand *operand) {
+    if (operand->kind == KIND_ROOM_INTS) return operand->extent != EXTENT_NONE;
     return operand->kind == KIND_INTS || operand->kind == KIND_INDEX || operand->kind == KIND_FLAGS || operand->kind == KIND_BYTES;
 }
 

@@ -312,6 +312,7 @@ static PyObject *result(Frame *frame, PyObject **bound, PyObject *out) {
     case GIVES_READ: return read_text(frame, out);
     case GIVES_READ_NESTED: return read_nested(frame);
     case GIVES_TEXT: return write_text(frame);
+    case GIVES_NOTHING: return done(frame, 0) ? Py_NewRef(Py_None) : NULL;
     default: return single_result(frame);
     }
 }

@@ -96,7 +96,8 @@ typedef enum Gives {
     GIVES_READ,        /* integers of a text */
     GIVES_READ_NESTED, /* integers of a text and their segments */
     GIVES_TEXT,
-    GIVES_WRITTEN /* how many places of a caller's room it wrote */
+    GIVES_WRITTEN, /* how many places of a caller's room it wrote */
+    GIVES_NOTHING  /* nothing: it changes its arguments */
 } Gives;
 
 typedef struct Operand {

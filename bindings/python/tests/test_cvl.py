@@ -1385,6 +1385,28 @@ class Sorts(Limited):
             for call, flat in ((cvl.seg_order, cvl.order), (cvl.seg_rank, cvl.rank), (cvl.seg_sort, cvl.sort)):
                 self.assertEqual(call(keys, lengths).tolist(), [*flat(pieces[0].copy()).tolist(), *flat(pieces[1].copy()).tolist()])
 
+    def test_by_key(self):
+        for keys in self.vectors:
+            values = numpy.arange(len(keys), dtype=numpy.int32)
+            for call, sign in ((cvl.sort_by_key, 1), (cvl.sort_by_key_descending, -1)):
+                own, moved = keys.copy(), values.copy()
+                self.assertIsNone(call(own, moved))
+                order = numpy.argsort(sign * keys.astype(numpy.int64), kind="stable")
+                self.assertEqual((own.tolist(), moved.tolist()), (keys[order].tolist(), order.tolist()))
+
+    def test_by_key_by_segments(self):
+        for keys in self.vectors:
+            cut = len(keys) // 3
+            calls = (cvl.seg_sort_by_key, cvl.sort_by_key), (cvl.seg_sort_by_key_descending, cvl.sort_by_key_descending)
+            for call, flat in calls:
+                own, moved = keys.copy(), numpy.arange(len(keys), dtype=numpy.int32)
+                pieces = [(own[a:b].copy(), moved[a:b].copy()) for a, b in ((0, cut), (cut, len(keys)))]
+                call(ints(cut, 0, len(keys) - cut), own, moved)
+                for piece in pieces:
+                    flat(*piece)
+                self.assertEqual(own.tolist(), [key for piece in pieces for key in piece[0].tolist()])
+                self.assertEqual(moved.tolist(), [value for piece in pieces for value in piece[1].tolist()])
+
     def test_faults(self):
         room = ints(1, 2)
         for call, number, place, said in (
@@ -1392,6 +1414,9 @@ class Sorts(Limited):
             (lambda: cvl.order(room, out=room), 102, None, "out and keys share memory"),
             (lambda: cvl.seg_rank(ints(3, 1), ints(1)), 7, None, "segments add up to 1, and len(keys) is 2"),
             (lambda: cvl.seg_sort(ints(3, 1), ints(3, -1)), 12, 1, "segments[1] is -1"),
+            (lambda: cvl.sort_by_key(ints(3, 1), ints(7)), 7, None, "len(values) is 1, and len(keys) is 2"),
+            (lambda: cvl.seg_sort_by_key(ints(1), ints(3, 1), ints(7, 8)), 7, None, "segments add up to 1, and len(keys) is 2"),
+            (lambda: cvl.sort_by_key(room, room), 102, None, None),
         ):
             with self.assertRaises(cvl.Fault) as caught:
                 call()

@@ -152,10 +152,11 @@ impl Given {
     }
 }
 
-/// The rooms of a call, each of its kind.
+/// The rooms of a call, each of its kind, and a second one of integers.
 #[derive(Clone, Debug, Default, PartialEq)]
 pub struct Room {
     ints: Vec<i32>,
+    seconds: Vec<i32>,
     flags: Vec<bool>,
     bytes: Vec<u8>,
     text: Vec<u8>,
@@ -166,7 +167,8 @@ pub struct Room {
 impl Room {
     fn put(&mut self, kind: &str, numbers: impl Iterator<Item = i64>) {
         match kind {
-            "ints" => self.ints = numbers.map(|number| number as i32).collect(),
+            "ints" if self.ints.is_empty() => self.ints = numbers.map(|number| number as i32).collect(),
+            "ints" => self.seconds = numbers.map(|number| number as i32).collect(),
             "flags" => self.flags = numbers.map(|number| number != 0).collect(),
             "bytes" => self.bytes = numbers.map(|number| number as u8).collect(),
             "text" => self.text = numbers.map(|number| number as u8).collect(),
@@ -221,9 +223,10 @@ fn partners(example: &Example, one: &Operand) -> usize {
     others.count()
 }
 
-/// Whether no operand says how long the room is.
+/// Whether no operand says how long the rooms are.
 fn is_sized_by_room(example: &Example) -> bool {
-    result(example).extent == "m" && example.operands.iter().filter(|operand| operand.extent == "m").count() == 1
+    let extent = result(example).extent;
+    ["m", "n"].contains(&extent) && example.operands.iter().all(|operand| operand.extent != extent || operand.role == "room")
 }
 
 /// A call on lengths that do not agree.

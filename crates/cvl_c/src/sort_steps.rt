@@ -1,6 +1,6 @@
-//! What one of several threads does in an order or a sort: keys beside their places, a block by a digit, one range of a pass's
-//! result, and places alone. The driver runs them. A step whose operands do not agree reports `LengthMismatch`, without a place,
-//! and writes nothing.
+//! What one of several threads does in an order or a sort: keys beside their places or values, a block by a digit, one range of
+//! a pass's result, and keys or places alone. The driver runs them. A step whose operands do not agree reports `LengthMismatch`,
+//! without a place, and writes nothing.
 
 ghost use Rattle.std.specs.Prelude.{◌≡◌, ◌≢◌, ◌+◌, ◌^◌, ◌≤◌, false, length, map, IsTrue, MatchResult};
 ghost use Rattle.std.specs.List.{enumerate_from, flat_map, range_with_len};
@@ -11,14 +11,18 @@ ghost use Rattle.cvl_base.specs.Limits.{most_places};
 ghost use Rattle.digit_partitions.specs.Ends.{digit_ends};
 ghost use Rattle.digit_partitions.specs.Partitions.{partitioned};
 ghost use Rattle.digit_partitions.specs.Pieces.{IsRange, digit_piece};
-ghost use Rattle.stable_sorts.specs.Placed.{with_key};
+ghost use Rattle.orders.specs.SortsByKey.{inverted};
+ghost use Rattle.stable_sorts.specs.Placed.{with_key, with_values};
 ghost use Rattle.stable_sorts.specs.Steps.{IsBlock, digit_of_pass};
 
 use c_calls::or_tell;
 use c_calls::status::{CvlStatus, done};
 use cvl_base::{Fault, FaultNo};
 use digit_partitions::gather_pieces;
-use stable_sorts::{DIGITS, Placed, key_block, placed_from, places_of};
+use stable_sorts::{
+    Ascending, DIGITS, Descending, Placed, key_block, keys_of, placed_from, placed_values,
+    places_of,
+};
 
 /// Checks that the operands of a step agree, else `LengthMismatch`, without a place.
 fn check_step(agrees: bool) -> Result<(), Fault>
@@ -138,5 +142,57 @@ pub extern "C" fn cvl_proved_places_of(placed: &[Placed], out: &mut [i32]) -> Cv
     ensures as_before { result ≢ done → out.new ≡ out.old }
 {
     or_tell!(check_step(places_of(placed, out)));
+    done()
+}
+
+/// Each key of a block beside its value.
+#[unsafe(no_mangle)]
+pub extern "C" fn cvl_proved_placed_values(
+    keys: &[i32],
+    values: &[i32],
+    placed: &mut [Placed],
+) -> CvlStatus
+    ensures done { (length values.now ≡ length keys.now) × (length placed.old ≡ length keys.now) → result ≡ done }
+    ensures written { result ≡ done → placed.new ≡ with_values (λ key. key) keys.now values.now }
+    ensures as_before { result ≢ done → placed.new ≡ placed.old }
+{
+    or_tell!(check_step(placed_values::<Ascending>(keys, values, placed)));
+    done()
+}
+
+/// The same for a descending sort: each key with its bits inverted.
+#[unsafe(no_mangle)]
+pub extern "C" fn cvl_proved_placed_values_descending(
+    keys: &[i32],
+    values: &[i32],
+    placed: &mut [Placed],
+) -> CvlStatus
+    ensures done { (length values.now ≡ length keys.now) × (length placed.old ≡ length keys.now) → result ≡ done }
+    ensures written { result ≡ done → placed.new ≡ with_values inverted keys.now values.now }
+    ensures as_before { result ≢ done → placed.new ≡ placed.old }
+{
+    or_tell!(check_step(placed_values::<Descending>(keys, values, placed)));
+    done()
+}
+
+/// The keys alone.
+#[unsafe(no_mangle)]
+pub extern "C" fn cvl_proved_keys_of(placed: &[Placed], out: &mut [i32]) -> CvlStatus
+    ensures done { length out.old ≡ length placed.now → result ≡ done }
+    ensures written { result ≡ done → out.new ≡ map (λ p. p.key) placed.now }
+    ensures as_before { result ≢ done → out.new ≡ out.old }
+{
+    or_tell!(check_step(keys_of::<Ascending>(placed, out)));
+    done()
+}
+
+/// The same for a descending sort.
+#[unsafe(no_mangle)]
+pub extern "C" fn cvl_proved_keys_of_descending(placed: &[Placed], out: &mut [i32]) -> CvlStatus
+    ensures done { length out.old ≡ length placed.now → result ≡ done }
+    ensures written { result ≡ done → out.new ≡ map (λ p. inverted p.key) placed.now }
+    ensures as_before { result ≢ done → out.new ≡ out.old }
+{
+    or_tell!(check_step(keys_of::<Descending>(placed, out)));
     done()
 }
