@@ -859,6 +859,12 @@ CVL_CHECKED CvlStatus cvl_segments_rank(const int32_t *keys, size_t keys_len, co
 CVL_CHECKED CvlStatus cvl_segments_sort(const int32_t *keys, size_t keys_len, const CvlSegments *segments, int32_t *out,
     size_t out_len);
 
+CVL_CHECKED CvlStatus cvl_segments_sort_by_key(const CvlSegments *segments, int32_t *keys, size_t keys_len, int32_t *values,
+    size_t values_len);
+
+CVL_CHECKED CvlStatus cvl_segments_sort_by_key_descending(const CvlSegments *segments, int32_t *keys, size_t keys_len,
+    int32_t *values, size_t values_len);
+
 CVL_CHECKED CvlStatus cvl_segments_run_lengths_int(const int32_t *a, size_t a_len, const CvlSegments *segments, int32_t *out,
     size_t out_len, size_t *count);
 
@@ -1264,6 +1270,30 @@ CVL_CHECKED CvlStatus cvl_seg_rank(const int32_t *keys, size_t keys_len, CvlLeng
 
 /* The keys of each segment in ascending order. */
 CVL_CHECKED CvlStatus cvl_seg_sort(const int32_t *keys, size_t keys_len, CvlLengths lengths, int32_t *out, size_t out_len);
+
+/* ---- sorts by key: families ---- */
+
+/*
+ * No script calls these. Each is in place: keys and values hold what is sorted, and then the result, and may not overlap. Keys
+ * are signed integers, and the values of equal keys stay as they stood (a stable sort). To keep the keys as they are, copy them
+ * first; to move several vectors, take the order of the keys instead, and a back permute of each by it.
+ *
+ * They take up to 16 bytes a key while they run, and up to 8192 bytes more for each thread, else 100 NoResources.
+ */
+
+/* The keys in ascending order, and the values, each of which moves with its key. */
+CVL_CHECKED CvlStatus cvl_sort_by_key(int32_t *keys, size_t keys_len, int32_t *values, size_t values_len);
+
+/* The keys in descending order, and the values, each of which moves with its key. */
+CVL_CHECKED CvlStatus cvl_sort_by_key_descending(int32_t *keys, size_t keys_len, int32_t *values, size_t values_len);
+
+/* The keys of each segment in ascending order, and the values, each of which moves with its key. */
+CVL_CHECKED CvlStatus cvl_seg_sort_by_key(CvlLengths lengths, int32_t *keys, size_t keys_len, int32_t *values,
+    size_t values_len);
+
+/* The keys of each segment in descending order, and the values, each of which moves with its key. */
+CVL_CHECKED CvlStatus cvl_seg_sort_by_key_descending(CvlLengths lengths, int32_t *keys, size_t keys_len, int32_t *values,
+    size_t values_len);
 
 /* ---- runs of equal neighbours: families ---- */
 

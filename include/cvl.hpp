@@ -2170,6 +2170,39 @@ inline std::vector<std::int32_t> seg_sort(const char *call, Ints keys, const Seg
     return out;
 }
 
+inline void sort_by_key(const char *call, IntRoom keys, IntRoom values, Status &status) noexcept {
+    if (!status.ok()) return;
+    const CvlStatus found = run_in_parts(cvl_sort_by_key, cvl_sort_by_key_on, keys.data(), keys.size(), values.data(),
+        values.size());
+    if (found.number != CVL_DONE) tell(status, found, call, {{"keys", Extent::n, keys, about(CVL_TOO_LONG)},
+        {"values", Extent::n, values}});
+}
+
+inline void sort_by_key_descending(const char *call, IntRoom keys, IntRoom values, Status &status) noexcept {
+    if (!status.ok()) return;
+    const CvlStatus found = run_in_parts(cvl_sort_by_key_descending, cvl_sort_by_key_descending_on, keys.data(), keys.size(),
+        values.data(), values.size());
+    if (found.number != CVL_DONE) tell(status, found, call, {{"keys", Extent::n, keys, about(CVL_TOO_LONG)},
+        {"values", Extent::n, values}});
+}
+
+inline void seg_sort_by_key(const char *call, const Segments &segments, IntRoom keys, IntRoom values, Status &status) noexcept {
+    if (!status.ok()) return;
+    const CvlStatus found = run_in_parts(cvl_seg_sort_by_key, cvl_seg_sort_by_key_on, given(segments), keys.data(), keys.size(),
+        values.data(), values.size());
+    if (found.number != CVL_DONE) tell(status, found, call, {{"segments", Extent::n, segments},
+        {"keys", Extent::n, keys, about(CVL_TOO_LONG)}, {"values", Extent::n, values}});
+}
+
+inline void seg_sort_by_key_descending(const char *call, const Segments &segments, IntRoom keys, IntRoom values, Status &status)
+    noexcept {
+    if (!status.ok()) return;
+    const CvlStatus found = run_in_parts(cvl_seg_sort_by_key_descending, cvl_seg_sort_by_key_descending_on, given(segments),
+        keys.data(), keys.size(), values.data(), values.size());
+    if (found.number != CVL_DONE) tell(status, found, call, {{"segments", Extent::n, segments},
+        {"keys", Extent::n, keys, about(CVL_TOO_LONG)}, {"values", Extent::n, values}});
+}
+
 inline std::size_t run_lengths_int(const char *call, Ints a, IntRoom out, Status &status) noexcept {
     if (!status.ok()) return 0;
     std::size_t count = not_told;
@@ -4873,6 +4906,48 @@ inline void seg_sort(Ints keys, const Segments &segments, IntRoom out, Status &s
 inline void seg_sort(Ints keys, const Segments &segments, IntRoom out) {
     Status status;
     cvl::seg_sort(keys, segments, out, status);
+    detail::check(status);
+}
+
+// -- sorts by key --
+
+/// The keys in ascending order, and the values, each of which moves with its key.
+inline void sort_by_key(IntRoom keys, IntRoom values, Status &status) noexcept {
+    detail::sort_by_key("sort_by_key", keys, values, status);
+}
+inline void sort_by_key(IntRoom keys, IntRoom values) {
+    Status status;
+    cvl::sort_by_key(keys, values, status);
+    detail::check(status);
+}
+
+/// The keys in descending order, and the values, each of which moves with its key.
+inline void sort_by_key_descending(IntRoom keys, IntRoom values, Status &status) noexcept {
+    detail::sort_by_key_descending("sort_by_key_descending", keys, values, status);
+}
+inline void sort_by_key_descending(IntRoom keys, IntRoom values) {
+    Status status;
+    cvl::sort_by_key_descending(keys, values, status);
+    detail::check(status);
+}
+
+/// The keys of each segment in ascending order, and the values, each of which moves with its key.
+inline void seg_sort_by_key(const Segments &segments, IntRoom keys, IntRoom values, Status &status) noexcept {
+    detail::seg_sort_by_key("seg_sort_by_key", segments, keys, values, status);
+}
+inline void seg_sort_by_key(const Segments &segments, IntRoom keys, IntRoom values) {
+    Status status;
+    cvl::seg_sort_by_key(segments, keys, values, status);
+    detail::check(status);
+}
+
+/// The keys of each segment in descending order, and the values, each of which moves with its key.
+inline void seg_sort_by_key_descending(const Segments &segments, IntRoom keys, IntRoom values, Status &status) noexcept {
+    detail::seg_sort_by_key_descending("seg_sort_by_key_descending", segments, keys, values, status);
+}
+inline void seg_sort_by_key_descending(const Segments &segments, IntRoom keys, IntRoom values) {
+    Status status;
+    cvl::seg_sort_by_key_descending(segments, keys, values, status);
     detail::check(status);
 }
 
