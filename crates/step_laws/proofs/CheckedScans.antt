@@ -87,7 +87,8 @@ module _ (fits : (xs : List ℤ) → length xs ≤ 2 ^ 32 → AllPass is_number 
       let still : lists looked ≡ lists carried = alike LooksAtSums (λ p. p.elements) (λ p. p.elements) (λ own left does. ap (λ (p : Sums). p.elements) does.1) carried looked looks in
       let before : befores_of looked ≡ befores_of carried = alike LooksAtSums (λ p. p.before) (λ p. p.before) (λ own left does. ap (λ (p : Sums). p.before) does.1) carried looked looks in
       let room_told : map (λ p. p.room) summed ≡ map (λ p. p.room) start = alike Totals (λ p. p.room) (λ p. p.room) (λ own left does. ap (λ (p : Sums). p.room) does.1) start summed first in
-      let room_held : map (λ p. p.room) carried ≡ map (λ p. p.room) summed = alike CarriesAlone (λ p. p.room) (λ p. p.room) (λ own left does. ap (λ (p : Sums). p.room) does) summed carried carries.1 in
+      let room_held : map (λ p. p.room) carried ≡ map (λ p. p.room) summed =
+      alike CarriesAlone (λ p. p.room) (λ p. p.room) (λ own left does. ap (λ (p : Sums). p.room) does) summed carried carries.1 in
       let room_seen : map (λ p. p.room) looked ≡ map (λ p. p.room) carried = alike LooksAtSums (λ p. p.room) (λ p. p.room) (λ own left does. ap (λ (p : Sums). p.room) does.1) carried looked looks in
       let few_each = some-fewer (λ (p : Sums). p.elements) most_places start few in
       let at_first : All Fits start = λ k d lt. (rooms k d lt, few_each k d lt) in
