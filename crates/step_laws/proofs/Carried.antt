@@ -1,5 +1,5 @@
 -- Sums of parts that are put together in 64 bits are those over whole numbers.
-use Rattle.std.proofs.Common.{◌≡◌, ◌++◌, ◌+◌, ◌≤◌, ◌^◌, ◌∙◌, ◌∷◌, ◌+ℤ◌, ℤ, pos, FitsSigned, List, [], length, map, refl, sym, ap, arith, append_assoc, length-append, subst, take_at}
+use Rattle.std.proofs.Common.{◌≡◌, ◌++◌, ◌≤◌, ◌^◌, ◌∙◌, ◌∷◌, ◌+ℤ◌, ℤ, pos, FitsSigned, List, [], length, map, refl, sym, ap, arith, append_assoc, length-append, subst, take_at}
 use Rattle.std.specs.Int.{w64}
 use Rattle.std.specs.List.{AllPass, fold}
 use Rattle.std.proofs.lemmas.Int.{int_wrap_fits}

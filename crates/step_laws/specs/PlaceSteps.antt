@@ -25,5 +25,5 @@ module _ {X R Y : Type 0} where
   -- the same where each place has a value
   abbrev pub FillsAll : (X → Y) → Part X R Y → Part X R Y → Type 0
   FillsAll value own left =
-      ((status : CvlStatus) × RoomTold (in_limit own.elements (Ok (map value own.elements))) status own.room left.room) ×
-      FillsAlone own left
+      ((status : CvlStatus) × RoomTold (in_limit own.elements (Ok (map value own.elements))) status own.room left.room)
+      × FillsAlone own left

@@ -33,8 +33,7 @@ pub fn places_by_steps<X, R, Y>()
 pub fn replaces_by_steps<R, X>()
     ensures { (start end : List (Part X R X)) (k : ℕ) (value before now : X) (status : CvlStatus) →
         k < length (elements_of start) → length (elements_of start) ≤ most_places → HaveRooms start →
-        InParts (FillsAll (λ x. x)) start end →
-        slice_get (room_of end) k ≡ Some before →
+        InParts (FillsAll (λ x. x)) start end → slice_get (room_of end) k ≡ Some before →
         RoomTold (distribute_within most_places value (pos 1)) status (before ∷ []) (now ∷ []) →
         RoomTold (replace_of (elements_of start) (pos k) value) done (room_of start) (slice_set (room_of end) k now) }
 {}
