@@ -28,7 +28,8 @@ const AFTER_HELP: &str = "Exit status:
   2  the command line was refused
   3  a file, memory or a write failed
 
-Each call is described in docs/user/calls.md, and scripts, inputs and faults in docs/user/script.md.";
+For more see man cvl, and, in share/doc/cvl of an installation or in a checkout, docs/user/calls.md
+for each call and docs/user/script.md for scripts, inputs and faults.";
 
 /// An option `--NAME N` with a default.
 fn number_option<'a>(
