@@ -34,8 +34,8 @@ typedef enum CvlRelation {
 } CvlRelation;
 
 /*
- * Where the parts of an operand begin: the boundaries in CvlWork of this name; or each part has the whole; or it has its own place of a
- * record, or the number that stands there.
+ * What each part has of an operand: the whole (NONE); what lies between two boundaries of CvlWork (FROM to THIRD, named as the array that has
+ * them); its own place of a record (PART); or the number that stands there (INT, FLAG).
  */
 typedef enum CvlBy {
     CVL_BY_NONE, CVL_BY_FROM, CVL_BY_FIRST, CVL_BY_START, CVL_BY_OTHER, CVL_BY_THIRD,

@@ -139,8 +139,8 @@ typedef struct Element {
 extern Element cvl_ints, cvl_flags, cvl_bytes, cvl_marks, cvl_sums;
 
 /*
- * What an array needs to be an operand: the kind of its elements, or none if it is a text, which has any of one byte; and flags of numpy,
- * of which one value needs none.
+ * What an array has to have to be an operand: elements of this kind, or of any kind of one byte if it is a text (null); and these flags of
+ * numpy. One value needs no flags.
  */
 typedef struct Need {
     const Element *element;
