@@ -37,10 +37,9 @@ def _enough(function):
     first, result = function.row.takes[0], function.result
     if function.counts and any(operand.kind == "text" for operand in function.row.takes):
         return "most_words(text)"
-    if function.counts and not any(operand.use == "mask" for operand in function.row.takes):
-        return f"{first.name}.len()"
     if result is None or result.kind != "text":
-        return None
+        is_measured = not function.counts or any(operand.use == "mask" for operand in function.row.takes)
+        return None if is_measured else f"{first.name}.len()"
     of_lists = "".join(f" + 3 * {packages.name_of(cut)}.len()" for cut in function.cuts)
     return f"{BYTES[first.kind]} * {first.name}.len(){of_lists} + 2"
 

@@ -29,9 +29,12 @@ if not IS_SOURCE:
     import generated
 
 NAME = "cvl"
-FLAGS = ["-std=c11", "-O2", "-fPIC", "-fvisibility=hidden", "-Wall", "-Wextra", "-Wshadow"]
+# a name that Python's limited interface has not is an error here, and not one of the loader
+FLAGS = ["-std=c11", "-O2", "-fPIC", "-fvisibility=hidden", "-Wall", "-Wextra", "-Wshadow", "-Werror=implicit-function-declaration"]
 LINKED = ["-shared", "-pthread", "-Wl,--exclude-libs,ALL", "-Wl,-z,relro", "-Wl,-z,now", "-Wl,-s"]
 OLDEST_NUMPY = (1, 23)
+# the interface that all Pythons from 3.11 on have
+LIMITED = "-DPy_LIMITED_API=0x030b0000"
 # the library in the folder of a module, which loads it from there, whatever LD_LIBRARY_PATH says
 SONAME = "libcvl.so.1"
 BESIDE = ["-Wl,--disable-new-dtags", "-Wl,-rpath,$ORIGIN"]
@@ -131,7 +134,7 @@ def every_python():
     """Every Python from 3.9 on: by the limited interface of 3.11, of which 3.9 and 3.10 have each name that the module uses."""
     if sys.version_info[:2] != (3, 11):
         raise Missing("a wheel for every Python is built with the headers of Python 3.11: later ones ask for names that 3.9 has not")
-    return Target(["-DPy_LIMITED_API=0x030b0000"], ".abi3.so", "cp39-abi3", ">=3.9", "numpy>={}.{}".format(*OLDEST_NUMPY), numpy_of_2())
+    return Target([LIMITED], ".abi3.so", "cp39-abi3", ">=3.9", "numpy>={}.{}".format(*OLDEST_NUMPY), numpy_of_2())
 
 
 # ---- the compiled module ----
@@ -191,18 +194,22 @@ def files(written, folder, *patterns):
     return list(generated.files_of(written, f"bindings/python/{folder}", *patterns).values())
 
 
-def compiled(work, written, library, target, linked=()):
-    """The compiled module, in the folder `work`, of what stands here and below the folder `written`."""
+def compiling(written, target):
+    """The words that compile a file of the module."""
     # Debian has headers of its own numpy among those of Python
     folders = [TOP / "include", target.headers, python_headers()]
     # the module is the same wherever it is built
     maps = [f"-ffile-prefix-map={top}/=" for top in (TOP, written)]
     included = [word for folder in folders for word in ("-isystem", folder)]
-    flags = [*FLAGS, *target.flags, *maps, "-iquote", HERE / "extension", *included, *words_of("CFLAGS")]
+    return [*compiler(), *FLAGS, *target.flags, *maps, "-iquote", HERE / "extension", *included, *words_of("CFLAGS")]
+
+
+def compiled(work, written, library, target, linked=()):
+    """The compiled module, in the folder `work`, of what stands here and below the folder `written`."""
     objects = []
     for path in files(written, "extension", "*.c"):
         objects.append(work / f"{path.stem}.o")
-        run(*compiler(), *flags, "-c", path, "-o", objects[-1])
+        run(*compiling(written, target), "-c", path, "-o", objects[-1])
     made = work / f"_calls{target.suffix}"
     run(*compiler(), *words_of("CFLAGS"), *LINKED, *linked, "-o", made, *objects, library, *words_of("LDFLAGS"))
     return made

@@ -418,6 +418,8 @@ TRIES = (
 def all_of(folder, kept=None):
     """What is wrong with a release. Roots are kept in a folder if there is one."""
     roots.check()
+    if kept:
+        kept.mkdir(parents=True, exist_ok=True)
     wrong, release = [], Release(folder)
     with tempfile.TemporaryDirectory() as work:
         made = roots.Roots(work, kept or work)

@@ -56,16 +56,20 @@ static size_t descriptors_of(const Row *row) {
 
 static bool sorts(const Row *row) { return row->model == SORT || row->model == SEG_SORT; }
 
+/* Whether a call sorts keys and moves their values with them. */
+static bool moves(const Row *row) { return row->model >= SORT_BY_KEY && row->model <= SEG_SORT_BY_KEY_DESCENDING; }
+
 /* Whether a call orders keys, which it does as a whole. */
 static bool orders(const Row *row) {
-    return sorts(row) || row->model == ORDER || row->model == RANK || row->model == SEG_ORDER || row->model == SEG_RANK;
+    return sorts(row) || moves(row) || row->model == ORDER || row->model == RANK || row->model == SEG_ORDER || row->model == SEG_RANK;
 }
 
-/* How many bytes such a call asks for: few keys are sorted where they are, and others in as much room and in counts of digits. */
+/* How many bytes such a call asks for: few keys are sorted where they are, and others in as much room and in counts of digits. Places stand
+ * beside the keys of one segment, and values beside all keys. */
 static size_t memory_of_keys(const Row *row) {
     const size_t keys = is_cut_up(row) ? longest : n, counts = keys <= 1535 ? 256 : 2048;
     const size_t each = sorts(row) ? sizeof(int32_t) : 2 * sizeof(int32_t), room = keys <= 48 ? 0 : each * keys + sizeof(uint32_t) * counts;
-    return room + (sorts(row) ? 0 : each * keys);
+    return room + (sorts(row) ? 0 : each * (moves(row) ? n : keys));
 }
 
 /* How many bytes of memory a call asks for that has no text: its descriptors, and a mark or a sender for each place of a permute, or a
@@ -115,7 +119,7 @@ static size_t memory_in_parts(const Row *row) {
     if (!keeps_room(row)) return 0;
     if (row->model == COMBINE_CHECKED_INT) return sizeof(int64_t) * n; /* the sums of all ranges */
     if (uses(row, USE_OFFSETS)) return bytes_of(row, room) + sizeof(int32_t) * segments; /* the rows' lengths, too */
-    if (is_cut_up(row) || !permutes(row)) return bytes_of(row, room);
+    if (is_cut_up(row) || !permutes(row)) return bytes_of(row, room) * (moves(row) ? 2 : 1);
     return (bytes_of(row, room) + 3) / 4 * 4 + sizeof(uint32_t) * (elements_of(row, room) / 32 + PARTS);
 }
 

@@ -1,5 +1,6 @@
 /* Arrays of Arrow by its C data interface, in capsules: taken from a producer, and given to a consumer. */
 #include "calls.h"
+#include <stdlib.h>
 
 typedef struct ArrowSchema ArrowSchema;
 typedef struct ArrowArray ArrowArray;
@@ -50,7 +51,7 @@ static PyObject *addresses(const ArrowArray *array) {
     for (Py_ssize_t k = 0; found != NULL && k < count; k++) {
         PyObject *address = array->buffers[k] == NULL ? Py_NewRef(Py_None) : PyLong_FromVoidPtr((void *)array->buffers[k]);
         if (address == NULL) Py_CLEAR(found);
-        else PyTuple_SET_ITEM(found, k, address);
+        else if (PyTuple_SetItem(found, k, address) < 0) Py_CLEAR(found);
     }
     return found;
 }
@@ -60,7 +61,7 @@ static PyObject *describe_children(const ArrowSchema *schema, const ArrowArray *
     for (Py_ssize_t k = 0; found != NULL && k < (Py_ssize_t)array->n_children; k++) {
         PyObject *child = describe(schema->children[k], array->children[k], depth + 1);
         if (child == NULL) Py_CLEAR(found);
-        else PyTuple_SET_ITEM(found, k, child);
+        else if (PyTuple_SetItem(found, k, child) < 0) Py_CLEAR(found);
     }
     return found;
 }
@@ -201,7 +202,8 @@ static int make_array(PyObject *node, ArrowArray *made) {
     made->release = release_array;
     held->objects = Py_NewRef(buffers);
     for (Py_ssize_t k = 0; k < BUFFERS; k++) {
-        PyObject *array = PyTuple_GET_ITEM(buffers, k);
+        PyObject *array = PyTuple_GetItem(buffers, k);
+        if (array == NULL) return -1;
         held->buffers[k] = PyArray_Check(array) ? PyArray_DATA((PyArrayObject *)array) : NULL;
     }
     if (child == Py_None) return 0;

@@ -150,6 +150,19 @@ class Said(unittest.TestCase):
         with mock.patch.object(package.sys, "version_info", (3, 13, 0)):
             self.assertIn("headers of Python 3.11", self.refusal(package.every_python))
 
+    @unittest.skipIf(sys.version_info < (3, 11), "the limited interface is that of 3.11")
+    def test_the_module_uses_names_of_the_limited_interface_alone(self):
+        # headers of numpy 1 name a type that this interface has not
+        target = package.this_python()._replace(flags=[package.LIMITED, "-DPyUnicodeObject=PyObject"])
+        with tempfile.TemporaryDirectory() as folder:
+            words = package.compiling(package.written_below(folder), target)
+            for path in package.files(pathlib.Path(folder), "extension", "*.c"):
+                package.run(*words, "-fsyntax-only", path)
+            source = pathlib.Path(folder, "taken.c")
+            source.write_text('#include "calls.h"\nPyObject *taken(PyObject *given) { return PyTuple_GET_ITEM(given, 0); }\n')
+            with self.assertRaisesRegex(package.Missing, "implicit declaration of function .PyTuple_GET_ITEM"):
+                package.run(*words, "-fsyntax-only", source)
+
     def platform(self, needed, versions, *beside):
         """The platform of a module that needs these libraries, and symbols of these versions, with libraries beside it."""
         told = {
