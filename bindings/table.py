@@ -291,7 +291,8 @@ OF_FAMILIES = {
         "No script calls these. Each is in place: keys and values hold what is sorted, and then the result, and may not overlap. Keys are signed integers, and "
         "the values of equal keys stay as they stood (a stable sort). To keep the keys as they are, copy them first; to move several vectors, take the order of "
         "the keys instead, and a back permute of each by it.",
-        "They take up to 16 bytes a key while they run, and up to 8192 bytes more for each thread, else 100 NoResources.",
+        "They take up to 16 bytes a key while they run, by segments on several threads up to 24, and up to 8192 bytes more for each thread, else 100 "
+        "NoResources.",
     ),
     "runs of equal neighbours": (
         "No script calls these. A run is as long as its neighbours are equal, so that in sorted keys each key has one run. Unique keys are a back permute of the "

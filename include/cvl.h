@@ -1278,7 +1278,8 @@ CVL_CHECKED CvlStatus cvl_seg_sort(const int32_t *keys, size_t keys_len, CvlLeng
  * are signed integers, and the values of equal keys stay as they stood (a stable sort). To keep the keys as they are, copy them
  * first; to move several vectors, take the order of the keys instead, and a back permute of each by it.
  *
- * They take up to 16 bytes a key while they run, and up to 8192 bytes more for each thread, else 100 NoResources.
+ * They take up to 16 bytes a key while they run, by segments on several threads up to 24, and up to 8192 bytes more for each
+ * thread, else 100 NoResources.
  */
 
 /* The keys in ascending order, and the values, each of which moves with its key. */
