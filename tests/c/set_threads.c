@@ -106,7 +106,7 @@ static int is_warned(const char *text, void (*ask)(void)) {
     size_t k = 0;
     int ends[2];
     if (pipe(ends) != 0 || dup2(ends[1], STDERR_FILENO) < 0) return 0;
-    put(text);
+    put_variable(text);
     for (int times = 0; times < 3; times++) ask();
     close(ends[1]), close(STDERR_FILENO);
     const ssize_t length = read(ends[0], said, sizeof said);
