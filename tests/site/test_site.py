@@ -36,7 +36,7 @@ NARROW = 360
 # names of other libraries, and words of the field, by which the search has to find a call among its first three answers
 ELSEWHERE = {
     "cumsum": "add_suz", "prefix sum": "add_suz", "scatter": "smp_puz", "gather": "bck_puz", "argsort": "order", "bincount": "counts", "unique": "sort",
-    "group by": "combine_permute_int", "reduce_by_key": "add_rez", "nonzero": "pck_luz",
+    "group by": "combine_permute_int", "reduce_by_key": "run_lengths_int", "nonzero": "pck_luz",
 }  # fmt: skip
 
 # the least contrast of a text, and of one whose letters are large: WCAG 2.1, level AA

@@ -136,7 +136,7 @@ def sort(rows: Any) -> Any:
 def unique(rows: Any) -> Any:
     segments, keys = rows._segments, seg_sort(ints(rows._values), rows._segments)
     found = bck_puz(keys, seg_run_starts_int(keys, segments))
-    return rows._with(boo_wuz(found) if is_bool(rows._values) else found, cut(seg_run_counts_int(keys, segments)))
+    return rows._with(boo_wuz(found) if is_bool(rows._values) else found, seg_run_counts_int(keys, segments))
 
 
 def shift(rows: Any, by: Any, fill: Any = 0) -> Any:
