@@ -87,7 +87,7 @@ class Foreign(unittest.TestCase):
 
     def test_pages_name_some(self):
         text = "".join(page.read_text() for page in PAGES)
-        self.assertGreater(len(named(text)), 40)
+        self.assertGreater(len(named(text)), 20)
         self.assertGreater(sum(len(names_in(word)) for word in words_of("numpy")), 60)
 
     def test_a_name_that_is_not_there_is_reported(self):
