@@ -9,7 +9,6 @@ import numpy
 
 from cvl import _building, faults, ragged
 from cvl._elementwise import flags, ints, is_bool
-from cvl._rows import same_kind
 from cvl.calls import bck_pub, bck_puz, counts, max_ruz, order, run_lengths_int, run_starts_int, sel_wub, sel_wuz
 from cvl.fault import Fault
 from cvl.segments import Segments, cut
@@ -25,18 +24,21 @@ def concat(several: Sequence[Ragged]) -> Ragged:
 
 
 def _chosen(rows: Any, mask: Any, a: Any, b: Any) -> Any:
-    chosen, x, y = flags(rows._beside(mask)), *same_kind(rows._beside(a), rows._beside(b))
-    return rows._with((sel_wub if is_bool(x) else sel_wuz)(chosen, x, y))
+    chosen, x, y = flags(rows._beside(mask)), rows._beside(a), rows._beside(b)
+    x_is_bool = is_bool(x)
+    if x_is_bool != is_bool(y):
+        x, y, x_is_bool = ints(x), ints(y), False
+    return rows._with((sel_wub if x_is_bool else sel_wuz)(chosen, x, y))
 
 
 def where(mask: Any, a: Any, b: Any) -> Ragged:
-    rows = [one for one in (mask, a, b) if type(one) is ragged.Ragged]
-    if not rows:
+    rows = mask if type(mask) is ragged.Ragged else a if type(a) is ragged.Ragged else b
+    if type(rows) is not ragged.Ragged:
         raise TypeError("where takes a Ragged; numpy.where takes arrays")
-    deeper = [one for one in rows if type(one._values) is ragged.Ragged]
-    if deeper:
-        return max(deeper, key=lambda one: one.depth)._on_rows(_chosen, (mask, a, b))
-    return _chosen(rows[0], mask, a, b)
+    for one in (a, b):
+        if type(one) is ragged.Ragged and type(one._values) is ragged.Ragged and one.depth > rows.depth:
+            rows = one
+    return rows._on_rows(_chosen, (mask, a, b)) if type(rows._values) is ragged.Ragged else _chosen(rows, mask, a, b)
 
 
 def flatten(self: Ragged) -> Any:
@@ -70,8 +72,13 @@ def groupby(self: Ragged, keys: Any) -> Tuple[Any, Ragged]:
         raise TypeError("keys are one a row, or one for each number")
     found = keys if isinstance(keys, ragged.Ragged) else self._as_operand(keys)
     if isinstance(found, ragged.Ragged):
-        return grouped(self._flat(), self._flat_beside(found))
+        return _by(self._flat(), ints(self._flat_beside(found)))
     return grouped(self, found)
+
+
+def _by(values: Any, keys: Any) -> Tuple[Any, Ragged]:
+    places, distinct, runs = _runs(keys)
+    return distinct, ragged.Ragged._new(taken(values, places), runs)
 
 
 def grouped(values: Any, keys: Any) -> Tuple[Any, Ragged]:
@@ -80,8 +87,7 @@ def grouped(values: Any, keys: Any) -> Tuple[Any, Ragged]:
     numbers = ints(_building.numbers(keys, "keys"))
     if len(numbers) != len(found):
         raise Fault(faults.LENGTH_MISMATCH, "LengthMismatch", None, f"there are {len(numbers)} keys, and {len(found)} values")
-    places, distinct, runs = _runs(numbers)
-    return distinct, ragged.Ragged._new(taken(found, places), runs)
+    return _by(found, numbers)
 
 
 def explode(self: Ragged) -> Tuple[Any, Any]:
