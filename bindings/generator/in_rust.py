@@ -433,7 +433,8 @@ def _tried(function):
 
     gives = fills = within = "None"
     if _has_ranges(function) or function.over:
-        fills = f"Some(|given, room| told({called('', function.operands, function.row.rooms)}))"
+        made = called("", function.operands, function.row.rooms)
+        fills = f"Some(|{'given' if 'given.' in made else '_'}, room| told({made}))"
     else:
         gives = f"Some(|given| numbers({called('', function.operands, [])}))"
     if gives != "None" and function.fills:
