@@ -113,7 +113,7 @@ static void warn(const char *text, size_t count) {
     line[length++] = (char)('0' + count % 10);
     length = put(line, length, count == 1 ? " thread" : " threads", LINE);
     line[length++] = '\n';
-    /* a call is no place to be cancelled, and nobody can be told that there is no standard error */
+    /* a call is not cancelled here; without a standard error the line is lost */
     pthread_setcancelstate(PTHREAD_CANCEL_DISABLE, &cancels);
     if (write(STDERR_FILENO, line, length) < 0) errno = before;
     pthread_setcancelstate(cancels, &cancels);
