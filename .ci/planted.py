@@ -4,14 +4,24 @@ If the first text is empty, the other one stands at the end of the file, which m
 CALLS, SCRIPT, MANUAL = "docs/user/calls.md", "docs/user/script.md", "docs/man/cvl.1"
 
 # a table of wrong bodies
-PROVED, BODIES, TABLE = "docs/user/proved.md", "docs/dev/wrong-bodies.md", "\n## What shows each promise\n\n| Wrong body | Refused by |\n|---|---|\n"
+PROVED, BODIES, TABLE = (
+    "docs/user/proved.md",
+    "docs/dev/wrong-bodies.md",
+    "\n## What shows each promise\n\n| Wrong body | Refused by |\n|---|---|\n",
+)
 
 EDITS = {
     "examples.check_examples": [(CALLS, "sum = [22 -5", "sum = [23 -5")],
     "examples.check_runs": [("README.md", "\n    y = [5 0 18]", "\n    y = [5 0 19]")],
     "examples.check_code": [("docs/dev/embedding.md", "pub fn sums<", "pub fn totals<")],
     "examples.check_tasks": [("docs/user/tasks.md", "### Transpose", "### Turn a matrix")],
-    "examples.check_scripts": [("docs/user/tasks.md", "Script: [tutorial](tutorial.md#5-a-histogram)", "Script: [tutorial](tutorial.md#where-to-go-from-here)")],
+    "examples.check_scripts": [
+        (
+            "docs/user/tasks.md",
+            "Script: [tutorial](tutorial.md#5-a-histogram)",
+            "Script: [tutorial](tutorial.md#where-to-go-from-here)",
+        )
+    ],
     "examples.check_blocks": [("docs/dev/embedding.md", "`crates/embedding/src/memory.rt`", "In memory:")],
     "examples.check_embedding": [("docs/dev/embedding.md", "sums: Ok([4, 2, 8", "sums: Ok([4, 2, 9")],
     "examples.check_inputs": [("crates/script_cases/data/tutorial.cases", "\n10 20 30 40\n== script", "\n10 20 30\n== script")],
@@ -58,9 +68,13 @@ EDITS = {
     "paths.check_tests": [("tests/README.md", "`nests.c`", "another")],
     "paths.check_named_pages": [("README.md", "", "\nSee `no-such-page.md`.\n")],
     "commands.check_commands": [("README.md", "", "\n    docs/dev/definitions.md\n")],
-    "commands.check_own_paths": [("docs/dev/performance/in_c", "$top/docs/dev/performance/$source", "$top/docs/performance/$source")],
+    "commands.check_own_paths": [
+        ("docs/dev/performance/in_c", "$top/docs/dev/performance/$source", "$top/docs/performance/$source")
+    ],
     "docs/dev/performance/draw": [("docs/user/performance.svg", "</svg>", "<!-- another --></svg>")],
-    "docs/dev/performance/over_ranks": [("docs/user/parallel.md", "<!-- drawn: ranks -->\n", "<!-- drawn: ranks -->\nAnother line.\n")],
+    "docs/dev/performance/over_ranks": [
+        ("docs/user/parallel.md", "<!-- drawn: ranks -->\n", "<!-- drawn: ranks -->\nAnother line.\n")
+    ],
     "docs/dev/pictures/draw": [("docs/user/pictures/pack.svg", "</svg>", "<!-- another --></svg>")],
     "docs/dev/pictures/draw_race": [("docs/dev/least-words.svg", "</svg>", "<!-- another --></svg>")],
     "bindings/generate": [("include/cvl.h", "", "/* another */\n")],

@@ -84,11 +84,14 @@ OF_VERSIONS = (
     ("cvl_version", ("The version of the library; CVL_VERSION is that of the header.",), "const char *cvl_version(void);"),
     (
         "cvl_build",
-        ('Which library this is: its version, the revision of its sources and the processors that it was built for, as "1.0.0 0123abcd x86-64-v3".',),
+        (
+            'Which library this is: its version, the revision of its sources and the processors that it was built for, as "1.0.0 0123abcd x86-64-v3".',
+        ),
         "const char *cvl_build(void);",
     ),
     (
-        "cvl_fault_name", ('The name of a status, such as "DivideByZero"; "Unknown" if no status has that number.',),
+        "cvl_fault_name",
+        ('The name of a status, such as "DivideByZero"; "Unknown" if no status has that number.',),
         "const char *cvl_fault_name(uint32_t number);",
     ),
     (
@@ -170,7 +173,8 @@ DESCRIPTORS = (
 )
 OF_DESCRIPTORS = (
     (
-        "cvl_segments_free", ("Empties a descriptor; a null pointer is allowed. The lengths stay yours.",),
+        "cvl_segments_free",
+        ("Empties a descriptor; a null pointer is allowed. The lengths stay yours.",),
         "CvlStatus cvl_segments_free(CvlSegments *segments);",
     ),
     (
@@ -196,7 +200,8 @@ OF_DESCRIPTORS = (
         "    CvlSegments *segments);",
     ),
     (
-        "cvl_segments_total", ("How many elements the segments have in all.",),
+        "cvl_segments_total",
+        ("How many elements the segments have in all.",),
         "CVL_CHECKED CvlStatus cvl_segments_total(const CvlSegments *segments, size_t *total);",
     ),
     (

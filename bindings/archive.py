@@ -95,7 +95,12 @@ def told_of(flags):
 
 def compiled(work, written, flags=()):
     """The objects of the C over the exports, by hand and below the folder `written`."""
-    flags = [*flags, *told_of(flags), f"-ffile-prefix-map={written}=.", *(f"-iquote{top / 'bindings/c'}" for top in (TOP, written))]
+    flags = [
+        *flags,
+        *told_of(flags),
+        f"-ffile-prefix-map={written}=.",
+        *(f"-iquote{top / 'bindings/c'}" for top in (TOP, written)),
+    ]
     found = {work / f"{path.stem}.o": path for path in generated.files_of(written, "bindings/c", "*.c").values()}
     run_all([*compiling(flags), "-c", path, "-o", made] for made, path in found.items())
     return [*found]
@@ -157,7 +162,18 @@ def over_ranks(folder, written, flags=(), compiler=None):
         hardened = ["-Wl,-z,relro", "-Wl,-z,now", "-Wl,-z,noexecstack", f"-Wl,-soname,{MPI_SONAME}"]
         # it loads the library of the calls from its own folder
         beside = "-Wl,-rpath,$ORIGIN"
-        run(*compiler, "-fno-lto", *words_of("LDFLAGS"), "-shared", *hardened, beside, "-o", folder / MPI_FULL, whole, folder / FULL)
+        run(
+            *compiler,
+            "-fno-lto",
+            *words_of("LDFLAGS"),
+            "-shared",
+            *hardened,
+            beside,
+            "-o",
+            folder / MPI_FULL,
+            whole,
+            folder / FULL,
+        )
     return made
 
 

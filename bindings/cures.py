@@ -21,5 +21,5 @@ CURES = {
     18: "scale down, or `cvl_seg_exact_sums`, of 64 bits; `add` instead of `tot` wraps",
     100: "give it memory: shorter vectors, or calls in place",
     101: "make the descriptor first: `cvl_segments_new`",
-    102: "give the result a buffer of its own, if the call does not say \"In place\"",
+    102: 'give the result a buffer of its own, if the call does not say "In place"',
 }

@@ -135,7 +135,12 @@ LIBRARIES = {
             Names("min_element", "min_ruz", note="it leads to the element"),
             Names("any_of", "ior_rub"),
             Names("all_of", "and_rub"),
-            Names("reduce_by_key", "run_lengths_int add_rez", RUNS, "of rows that you know [`add_rez`](tasks.md#add-up-each-row) alone"),
+            Names(
+                "reduce_by_key",
+                "run_lengths_int add_rez",
+                RUNS,
+                "of rows that you know [`add_rez`](tasks.md#add-up-each-row) alone",
+            ),
             Names("transform_reduce  inner_product", "mul_wuz add_ruz"),
             Names("scatter", "smp_puz | def_puz", SCATTER),
             Names("scatter_if", "sel_puz"),
@@ -165,7 +170,9 @@ LIBRARIES = {
             Names("LIMIT", "order", TOP),
             Names("DISTINCT", "sort neq_wuz pck_luz", UNIQUE),
             Names("JOIN", "bck_puz", JOIN),
-            Names("SUM(x) OVER (ORDER BY k)", "add_suz add_wuz", RUNNING, "once the rows are in order; equal k have one sum there"),
+            Names(
+                "SUM(x) OVER (ORDER BY k)", "add_suz add_wuz", RUNNING, "once the rows are in order; equal k have one sum there"
+            ),
             Names("SUM(x) OVER (PARTITION BY k)", "add_rez dis_vez", note=SEGMENTS),
             Names("ROW_NUMBER()  RANK()", "rank", note=RANKS),
             Names("LAG", "ind_luz bck_puz"),

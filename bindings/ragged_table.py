@@ -36,10 +36,23 @@ OPERATIONS = (
     Operation("subtract", "-", "sub", "sub_wuz", None, "ints", "The differences", ""),
     Operation("multiply", "*", "mul", "mul_wuz", "and_wub", None, "The products", ""),
     Operation(
-        "floor_divide", "//", "floordiv", "_elementwise.floor_divide", None, "ints", "The quotients, rounded down", BY_ZERO,
+        "floor_divide",
+        "//",
+        "floordiv",
+        "_elementwise.floor_divide",
+        None,
+        "ints",
+        "The quotients, rounded down",
+        BY_ZERO,
     ),
     Operation(
-        "remainder", "%", "mod", "_elementwise.remainder", None, "ints", "The remainders, with the divisor's sign",
+        "remainder",
+        "%",
+        "mod",
+        "_elementwise.remainder",
+        None,
+        "ints",
+        "The remainders, with the divisor's sign",
         BY_ZERO,
     ),
     Operation("left_shift", "<<", "lshift", "lsh_wuz", None, "ints", "Shifted left", SHIFTS),
@@ -117,7 +130,9 @@ def at(name, word, says):
     )  # fmt: skip
 
 
-AT_ON_PAGE = "Change r, and give it: each value is combined with the element at its index in the row. Several at one place all count."
+AT_ON_PAGE = (
+    "Change r, and give it: each value is combined with the element at its index in the row. Several at one place all count."
+)
 
 NO_EMPTY = "A row without elements is a ValueError, as in numpy"
 METHODS = (

@@ -36,7 +36,12 @@ def check_names():
 def check_plain_reading():
     """The plain reading that writes cases has each call of the table, but those that read inputs."""
     read = sorted({*plain_reading.CALLS, "input", "nested"})
-    yield from held("crates/script_cases/generator/calls.py", "crates/call_table/specs/Calls.antt", read, sorted(set(call_table.read(TOP)) - {"write"}))
+    yield from held(
+        "crates/script_cases/generator/calls.py",
+        "crates/call_table/specs/Calls.antt",
+        read,
+        sorted(set(call_table.read(TOP)) - {"write"}),
+    )
 
 
 def check_index():
@@ -75,7 +80,11 @@ def sentence(page, begin, end):
 
 def check_letters():
     """docs/user/sheet.md explains each of the letters that names of calls end in, in its place."""
-    shown = [f"{place} {letter}" for place, meanings in rows_of(lines_of(SHEET), "## Names") for letter in re.findall(r"`(\w)`", meanings)]
+    shown = [
+        f"{place} {letter}"
+        for place, meanings in rows_of(lines_of(SHEET), "## Names")
+        for letter in re.findall(r"`(\w)`", meanings)
+    ]
     ends = {name[-3:] for name in set(call_table.read(TOP)) - {"input", "nested", "write"}}
     wanted = {f"{place} {end[k]}" for end in ends for k, place in enumerate(("first", "second", "third"))}
     yield from held(SHEET, "the names of calls", sorted(shown), sorted(wanted))
@@ -146,7 +155,9 @@ def check_thresholds():
 
 def check_faults():
     wanted = re.findall(r"^number_of no\.([A-Za-z]+) = ([0-9]+)$", text_of(FAULTS), re.M)
-    yield from held(SCRIPT, FAULTS, faults_of_page(), [f"{number} {name}" for name, number in sorted(wanted, key=lambda fault: int(fault[1]))])
+    yield from held(
+        SCRIPT, FAULTS, faults_of_page(), [f"{number} {name}" for name, number in sorted(wanted, key=lambda fault: int(fault[1]))]
+    )
 
 
 def limits_of_page():

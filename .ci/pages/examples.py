@@ -13,14 +13,19 @@ TASKS, TASKS_IN_C, FINDER = "docs/user/tasks.md", "examples/c/tasks.c", "docs/us
 
 PAGES_WITH_RUNS = ("README.md", "docs/user/README.md", "docs/user/examples.md")
 
-PAGES_WITH_CODE = ("README.md", "docs/dev/embedding.md", *(f"docs/user/{name}.md" for name in ("cpp", "parallel", "programs", "python", "segments")))
+PAGES_WITH_CODE = (
+    "README.md",
+    "docs/dev/embedding.md",
+    *(f"docs/user/{name}.md" for name in ("cpp", "parallel", "programs", "python", "segments")),
+)
 
 EMBEDDING = "crates/embedding"
 
 
 def cases_of(file):
     """The cases of a file without their inputs and tiles, in a form that pages are brought to as well: a line for each part, then
-    what it holds. What explains a stop stands right below it: all of the first explanation of a file, and the last line of the others."""
+    what it holds. What explains a stop stands right below it: all of the first explanation of a file, and the last line of the others.
+    """
     lines, shown, part, is_first = lines_of(file), [], "", True
     for line, below in zip(lines, [*lines[1:], "== "]):
         if line.startswith("== "):
@@ -165,7 +170,11 @@ def check_scripts():
     own = {line.removeprefix("== case ### ") for line in examples_of(lines_of(TASKS))}
     for section in text_of(TASKS).split("\n### ")[1:]:
         title = section.partition("\n")[0]
-        links = [link for line in re.findall(r"Script[^:\n]*: (.*)", section) for link in re.findall(r"\]\(([\w-]+\.md)(#[\w-]+)\)", line)]
+        links = [
+            link
+            for line in re.findall(r"Script[^:\n]*: (.*)", section)
+            for link in re.findall(r"\]\(([\w-]+\.md)(#[\w-]+)\)", line)
+        ]
         if title not in own and not links:
             yield f"{TASKS} has no script for the task {title}"
         for page, heading in links:
@@ -185,8 +194,15 @@ def check_blocks():
 def check_embedding():
     """What docs/dev/embedding.md says that its program prints, and the line of crates.txt, are the crate's."""
     page = lines_of("docs/dev/embedding.md")
-    yield from held("docs/dev/embedding.md", f"{EMBEDDING}/stdout", indented_behind(page, "## What it prints"), lines_of(f"{EMBEDDING}/stdout"))
-    shown, wanted = ([line.strip() for line in lines if line.strip().startswith("embedding: ")] for lines in (page, lines_of("crates.txt")))
+    yield from held(
+        "docs/dev/embedding.md",
+        f"{EMBEDDING}/stdout",
+        indented_behind(page, "## What it prints"),
+        lines_of(f"{EMBEDDING}/stdout"),
+    )
+    shown, wanted = (
+        [line.strip() for line in lines if line.strip().startswith("embedding: ")] for lines in (page, lines_of("crates.txt"))
+    )
     yield from held("docs/dev/embedding.md", "crates.txt", shown, wanted)
 
 
@@ -217,7 +233,9 @@ def check_inputs():
             for line in script:
                 said = re.search(r"= (?:input|nested) ([0-9]+) +# ([-0-9\[\] ]+)$", line)
                 if said and inputs.get(int(said[1])) is not None:
-                    yield from held(f"{file}: {name}: {line}", "its input", said[2].split(), " ".join(inputs[int(said[1])]).split())
+                    yield from held(
+                        f"{file}: {name}: {line}", "its input", said[2].split(), " ".join(inputs[int(said[1])]).split()
+                    )
 
 
 def check_session():

@@ -7,7 +7,9 @@ from pages.texts import TOP, lines_of, outside_blocks
 
 def pages():
     """The lines of all pages, by their paths."""
-    paths = sorted(str(path.relative_to(TOP)) for files in ("*.md", "docs/*/*.md", "bindings/*.md", "tests/*.md") for path in TOP.glob(files))
+    paths = sorted(
+        str(path.relative_to(TOP)) for files in ("*.md", "docs/*/*.md", "bindings/*.md", "tests/*.md") for path in TOP.glob(files)
+    )
     return {path: lines_of(path) for path in paths}
 
 
@@ -57,5 +59,7 @@ def check_named_pages():
     for page, lines in pages().items():
         for number, line in outside_blocks(lines):
             for name in re.findall(r"`([a-z-]+\.md)`", line):
-                if not any((folder / name).exists() for folder in ((TOP / page).parent, TOP / "docs/user", TOP / "docs/dev", TOP)):
+                if not any(
+                    (folder / name).exists() for folder in ((TOP / page).parent, TOP / "docs/user", TOP / "docs/dev", TOP)
+                ):
                     yield f"{page}:{number} {name} is not there"

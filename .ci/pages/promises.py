@@ -111,11 +111,17 @@ def check_trusted():
     [line] = [line for line in lines_of(PAGE) if line.startswith("- What its standard library and its crates state: ")]
     listed = set(re.findall("`([^`]+)`", line))
     yield from (f"{PAGE} does not list {name} of crates.txt among what the proofs trust" for name in sorted(used - listed))
-    yield from (f"{PAGE} lists {name} among what the proofs trust, and crates.txt does not have it" for name in sorted(listed - used))
+    yield from (
+        f"{PAGE} lists {name} among what the proofs trust, and crates.txt does not have it" for name in sorted(listed - used)
+    )
 
 
 # the pages that say what is proved of the library from other languages; the manual takes the words from the same place
-PAGES_FROM_C = ("README.md", "bindings/rust/README.md", *(f"docs/user/{name}.md" for name in ("programs", "cpp", "python", "rust", "fortran")))
+PAGES_FROM_C = (
+    "README.md",
+    "bindings/rust/README.md",
+    *(f"docs/user/{name}.md" for name in ("programs", "cpp", "python", "rust", "fortran")),
+)
 
 
 def check_from_c():

@@ -84,11 +84,14 @@ static const CvlSlot *slot_of(const CvlRow *row, const CvlSlot *s, CvlAs as) {
 
 /* How long the room has to be, as elements say, or a fault. */
 static CvlStatus needed_told(const CvlRow *row, const CvlSlot *s, size_t *needed) {
-    const CvlSlot *const a = slot_of(row, s, CVL_AS_A), *const flags = slot_of(row, s, CVL_AS_FLAGS), *const lengths = slot_of(row, s, CVL_AS_LENGTHS);
+    const CvlSlot *const a = slot_of(row, s, CVL_AS_A), *const flags = slot_of(row, s, CVL_AS_FLAGS),
+                         *const lengths = slot_of(row, s, CVL_AS_LENGTHS);
     int32_t trues = 0;
     if (row->is & CVL_WRITES_TEXT) {
         /* no segments have the text of no elements, so that their array may be null */
-        *needed = text_length(row->is & CVL_OF_BOOLS ? NULL : a->at, a->number, lengths == NULL ? NULL : lengths->at, lengths == NULL ? 0 : lengths->number);
+        *needed = text_length(
+            row->is & CVL_OF_BOOLS ? NULL : a->at, a->number, lengths == NULL ? NULL : lengths->at,
+            lengths == NULL ? 0 : lengths->number);
         return cvl_done();
     }
     const CvlStatus counted = cvl_proved_count(flags->at, flags->number, &trues);
@@ -98,16 +101,19 @@ static CvlStatus needed_told(const CvlRow *row, const CvlSlot *s, size_t *needed
 
 /* The fault of vectors that are merged, whose lengths depend on flags. */
 static CvlStatus sides_told(const CvlRow *row, const CvlSlot *s) {
-    const CvlSlot *const a = slot_of(row, s, CVL_AS_A), *const b = slot_of(row, s, CVL_AS_B), *const flags = slot_of(row, s, CVL_AS_FLAGS);
+    const CvlSlot *const a = slot_of(row, s, CVL_AS_A), *const b = slot_of(row, s, CVL_AS_B),
+                         *const flags = slot_of(row, s, CVL_AS_FLAGS);
     int32_t trues = 0;
     const CvlStatus counted = cvl_proved_count(flags->at, flags->number, &trues);
     if (counted.number != CVL_DONE) return counted;
-    return (size_t)trues == a->number && flags->number - (size_t)trues == b->number ? cvl_done() : cvl_status(CVL_LENGTH_MISMATCH, -1);
+    const bool fit = (size_t)trues == a->number && flags->number - (size_t)trues == b->number;
+    return fit ? cvl_done() : cvl_status(CVL_LENGTH_MISMATCH, -1);
 }
 
 /* The fault of a room for two vectors together. */
 static CvlStatus appended_told(const CvlRow *row, const CvlSlot *s) {
-    const size_t room = slot_of(row, s, CVL_AS_OUT)->number, a = slot_of(row, s, CVL_AS_A)->number, b = slot_of(row, s, CVL_AS_B)->number;
+    const size_t room = slot_of(row, s, CVL_AS_OUT)->number, a = slot_of(row, s, CVL_AS_A)->number,
+                 b = slot_of(row, s, CVL_AS_B)->number;
     return room == a + b ? cvl_done() : cvl_status(CVL_LENGTH_MISMATCH, -1);
 }
 
@@ -234,7 +240,8 @@ bool cvl_many_words(const char *text, size_t text_len, bool nested) {
     assigns \nothing; */
 static bool is_too_long_to_read(const CvlRow *row, const CvlSlot *s) {
     const CvlSlot *const text = slot_of(row, s, CVL_AS_A), *const before = slot_of(row, s, CVL_AS_VALUE);
-    return (before != NULL && before->number > CVL_MOST_ELEMENTS) || cvl_many_words(text->at, text->number, slot_of(row, s, CVL_AS_OTHER_OUT) != NULL);
+    return (before != NULL && before->number > CVL_MOST_ELEMENTS) ||
+        cvl_many_words(text->at, text->number, slot_of(row, s, CVL_AS_OTHER_OUT) != NULL);
 }
 
 CvlStatus cvl_told_late(const CvlRow *row, uint32_t op, const CvlSlot *s, CvlStatus status) {

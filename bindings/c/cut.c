@@ -267,7 +267,8 @@ bool cvl_make_all(const CvlPool *pool, CvlWork *w) {
     if (w->made || next_copied(row, 0) == row->operands) return 1;
     w->made = cvl_step(pool, w, CVL_READS, flags_part);
     if (w->made || w->left_out) return w->made;
-    for (size_t j = next_copied(row, 0); j < row->operands; j = next_copied(row, j + 1)) bytes += w->in[row->operand[j].as].number;
+    for (size_t j = next_copied(row, 0); j < row->operands; j = next_copied(row, j + 1))
+        bytes += w->in[row->operand[j].as].number;
     w->copies = malloc(bytes);
     if (w->copies == NULL || !cvl_step(pool, w, CVL_COPIES, copies_part)) return 0;
     const bool *copy = w->copies;
@@ -290,7 +291,8 @@ bool cvl_keep(CvlWork *w, size_t bytes) {
 static CvlStatus kept_part(CvlWork *w, size_t k) {
     const size_t from = w->rooms[k] * cvl_size(w), bytes = w->rooms[k + 1] * cvl_size(w) - from;
     if (bytes > 0) memcpy(w->kept + from, (const char *)w->in[CVL_AS_OUT].at + from, bytes);
-    if (bytes > 0 && (w->row->is & CVL_MOVES)) memcpy(w->kept + cvl_room_bytes(w) + from, (const char *)w->in[CVL_AS_OTHER_OUT].at + from, bytes);
+    if (bytes > 0 && (w->row->is & CVL_MOVES))
+        memcpy(w->kept + cvl_room_bytes(w) + from, (const char *)w->in[CVL_AS_OTHER_OUT].at + from, bytes);
     return w->part(w, k);
 }
 

@@ -49,7 +49,8 @@ CvlStatus cvl_make_on_copies(const CvlRow *row, uint32_t op, const CvlSlot *s) {
     status = done ? cvl_make(row, op, mine) : cvl_status(CVL_NO_RESOURCES, -1);
     for (size_t k = 0; k < row->operands; k++) {
         /* a room that holds what stands before was copied, too, and the copy has the result */
-        if (copies[k] != NULL && (row->operand[k].is & CVL_WRITTEN) && status.number == CVL_DONE) memcpy((void *)s[k].at, copies[k], s[k].number);
+        if (copies[k] != NULL && (row->operand[k].is & CVL_WRITTEN) && status.number == CVL_DONE)
+            memcpy((void *)s[k].at, copies[k], s[k].number);
         free(copies[k]);
     }
     return status;

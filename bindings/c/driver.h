@@ -73,7 +73,8 @@
     assigns \nothing;
     ensures \result <==> is_compared(row, j, k); */
 CVL_WALKS bool cvl_is_compared(const CvlRow *row, size_t j, size_t k) {
-    return (row->operand[j].is & CVL_WRITTEN) && ((row->operand[k].is & CVL_READ) || (k > j && (row->operand[k].is & CVL_WRITTEN)));
+    return (row->operand[j].is & CVL_WRITTEN) &&
+        ((row->operand[k].is & CVL_READ) || (k > j && (row->operand[k].is & CVL_WRITTEN)));
 }
 
 /* Whether two operands have memory in common. */

@@ -107,7 +107,8 @@ static void find_lengths(Kept *k, const CvlSlot *s) {
     for (size_t j = 0; j < k->row->operands; j++) {
         const CvlOperand *const o = &k->row->operand[j];
         if (total_differs(k, s, j)) return;
-        if (o->relation == CVL_SAME && (o->size != 0 || is_cut(o)) && differ(k, SAID_LENGTHS, j, s[j].number, o->like, s[o->like].number)) {
+        if (o->relation == CVL_SAME && (o->size != 0 || is_cut(o)) &&
+            differ(k, SAID_LENGTHS, j, s[j].number, o->like, s[o->like].number)) {
             /* a room that is as long as a count says */
             if (k->row->operand[o->like].size == 0) k->said = SAID_ROOM;
             return;

@@ -17,9 +17,11 @@ static bool count_parts(const CvlPool *pool, CvlWork *w) {
 static CvlStatus pack_part(CvlWork *w, size_t k) {
     const size_t from = w->from[k], n = w->from[k + 1] - from, to = w->other[k], kept = w->other[k + 1] - to;
     if (cvl_of_bools(w)) {
-        return cvl_proved_pack_bool(CVL_BOOLS(w, CVL_AS_A, from), n, CVL_BOOLS(w, CVL_AS_FLAGS, from), n, CVL_BOOL_ROOM(w, to), kept, &w->counts[k]);
+        return cvl_proved_pack_bool(
+            CVL_BOOLS(w, CVL_AS_A, from), n, CVL_BOOLS(w, CVL_AS_FLAGS, from), n, CVL_BOOL_ROOM(w, to), kept, &w->counts[k]);
     }
-    return cvl_proved_pack_int(CVL_INTS(w, CVL_AS_A, from), n, CVL_BOOLS(w, CVL_AS_FLAGS, from), n, CVL_INT_ROOM(w, to), kept, &w->counts[k]);
+    return cvl_proved_pack_int(
+        CVL_INTS(w, CVL_AS_A, from), n, CVL_BOOLS(w, CVL_AS_FLAGS, from), n, CVL_INT_ROOM(w, to), kept, &w->counts[k]);
 }
 
 /* The flags before a part say how many elements of either vector are taken before it. */

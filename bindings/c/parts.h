@@ -36,29 +36,29 @@ struct CvlWork {
     CvlItem heads[CVL_MOST_PARTS];    /* what those elements of each part join to that belong to a segment of an earlier part */
     CvlItem before[CVL_MOST_PARTS];   /* the carry into each part */
     int64_t head_totals[CVL_MOST_PARTS]; /* the same as sums that never wrap */
-    size_t counts[CVL_MOST_PARTS]; /* how many elements each part gives */
-    CvlRecord of_parts;            /* what a step tells of each part */
-    CvlRecord before_parts;        /* and what stands before each one */
-    CvlStatus told;                /* what the call returns if its parts are done */
-    bool left_out;                 /* whether the pool left a part out */
-    char *kept;                    /* what stood in the room before, if it may have to be put back, or the parts' texts */
-    bool *copies;                  /* copies of flags that are neither 0 nor 1 */
-    bool made;                     /* whether the flags are 0 and 1, and need no other look */
+    size_t counts[CVL_MOST_PARTS];       /* how many elements each part gives */
+    CvlRecord of_parts;                  /* what a step tells of each part */
+    CvlRecord before_parts;              /* and what stands before each one */
+    CvlStatus told;                      /* what the call returns if its parts are done */
+    bool left_out;                       /* whether the pool left a part out */
+    char *kept;                          /* what stood in the room before, if it may have to be put back, or the parts' texts */
+    bool *copies;                        /* copies of flags that are neither 0 nor 1 */
+    bool made;                           /* whether the flags are 0 and 1, and need no other look */
     /* the call */
     const CvlRow *row;
     const CvlStepRow *step; /* the step that is run */
     uint32_t op;
-    CvlSlot in[CVL_ROLES];    /* its arguments, by what they are to it */
-    const int32_t *lengths;   /* those that it is cut by */
+    CvlSlot in[CVL_ROLES];  /* its arguments, by what they are to it */
+    const int32_t *lengths; /* those that it is cut by */
     size_t segments;
-    const size_t *rooms;     /* the first place of each part in the room */
-    CvlStepPart part;         /* what each part does after it kept its range of the room */
+    const size_t *rooms; /* the first place of each part in the room */
+    CvlStepPart part;    /* what each part does after it kept its range of the room */
     /* a sort */
-    uint32_t pass;            /* the number of the digit that it goes by */
-    const int32_t *keys;      /* what it reads */
-    CvlPlaced *placed;        /* or keys beside their places, or beside values that move with them */
-    void *blocks;             /* each part's elements in the order of the digit, */
-    uint32_t *ends;           /* and where each digit of each part ends */
+    uint32_t pass;       /* the number of the digit that it goes by */
+    const int32_t *keys; /* what it reads */
+    CvlPlaced *placed;   /* or keys beside their places, or beside values that move with them */
+    void *blocks;        /* each part's elements in the order of the digit, */
+    uint32_t *ends;      /* and where each digit of each part ends */
 };
 
 /* Elements of an argument from a place on. */
@@ -162,9 +162,10 @@ CVL_HIDDEN void cvl_let_go(CvlWork *w);
 
 /* The elements of a part: the end of a segment of an earlier part, whole segments, and the beginning of a segment that is cut. */
 typedef struct CvlPiece {
-    size_t from, head, tail, to; /* the end of the earlier segment stands before `head`, the beginning of the cut one from `tail` on */
-    size_t first, count;         /* the whole segments */
-    bool starts, cut;            /* whether a segment starts in the part, and whether its last one is cut */
+    size_t from, head;   /* the end of the earlier segment stands before `head`, */
+    size_t tail, to;     /* and the beginning of the cut one from `tail` on */
+    size_t first, count; /* the whole segments */
+    bool starts, cut;    /* whether a segment starts in the part, and whether its last one is cut */
 } CvlPiece;
 
 CVL_HIDDEN CvlPiece cvl_piece(const CvlWork *w, size_t k);

@@ -18,8 +18,8 @@ enum { PATIENCE = 1 };
 enum { LOOKS = 500 };
 
 struct CvlThreads {
-    size_t most;      /* how many there may be, with the one that calls */
-    uint64_t process; /* the one in which they are */
+    size_t most;           /* how many there may be, with the one that calls */
+    uint64_t process;      /* the one in which they are */
     pthread_mutex_t calls; /* held by the call whose parts are run */
     pthread_mutex_t lock;  /* held to read or write what follows */
     pthread_cond_t begun, ended;
@@ -29,8 +29,8 @@ struct CvlThreads {
     void *work;
     size_t parts, taken; /* how many parts there are, and were taken */
     bool stopping;
-    size_t looks; /* how often a thread looks before it sleeps: not at all if the threads share processors */
-    _Atomic size_t left; /* how many parts are not done; looked at without the lock */
+    size_t looks;         /* how often a thread looks before it sleeps: not at all if the threads share processors */
+    _Atomic size_t left;  /* how many parts are not done; looked at without the lock */
     _Atomic size_t turns; /* changes if there is something to do; looked at without the lock */
 };
 

@@ -98,7 +98,8 @@ bool cvl_senders_in_parts(const CvlPool *pool, CvlWork *w) {
 static CvlStatus turn_part(CvlWork *w, size_t k) {
     const size_t from = w->from[k], n = w->from[k + 1] - from, len = w->in[CVL_AS_A].number;
     const size_t rows = w->in[CVL_AS_ROWS].number, columns = w->in[CVL_AS_COLUMNS].number;
-    if (cvl_of_bools(w)) return cvl_proved_transpose_bool_range(w->in[CVL_AS_A].at, len, rows, columns, from, CVL_BOOL_ROOM(w, from), n);
+    if (cvl_of_bools(w))
+        return cvl_proved_transpose_bool_range(w->in[CVL_AS_A].at, len, rows, columns, from, CVL_BOOL_ROOM(w, from), n);
     return cvl_proved_transpose_int_range(w->in[CVL_AS_A].at, len, rows, columns, from, CVL_INT_ROOM(w, from), n);
 }
 

@@ -14,16 +14,23 @@ typedef struct CvlSlot {
 } CvlSlot;
 
 /* What an operand is to a call. */
+/* clang-format off */
 typedef enum CvlAs {
-    CVL_AS_A, CVL_AS_B, CVL_AS_FLAGS, CVL_AS_INDEX,              /* arrays that are read */
-    CVL_AS_LENGTHS, CVL_AS_OTHER_LENGTHS, CVL_AS_THIRD_LENGTHS, CVL_AS_OFFSETS, /* lengths that the call is cut by, others, and offsets of rows */
-    CVL_AS_VALUE, CVL_AS_STRIDE, CVL_AS_PLACE, CVL_AS_COUNT, CVL_AS_LOWEST, CVL_AS_ROWS, CVL_AS_COLUMNS, /* numbers */
-    CVL_AS_OUT, CVL_AS_MARKS, CVL_AS_TOLD, CVL_AS_OTHER_OUT, CVL_AS_OTHER_TOLD, /* what is written */
-    CVL_AS_SUMS, CVL_AS_BEFORE,                  /* the records of a call in parts: a number for each part, */
-    CVL_AS_TOTALS, CVL_AS_CARRIES,               /* of 32 bits or of 64 */
-    CVL_AS_ONE, CVL_AS_AT_PLACE, CVL_AS_NOTHING, /* the number 1, the element of the room at the place, and no array */
+    /* arrays that are read */
+    CVL_AS_A, CVL_AS_B, CVL_AS_FLAGS, CVL_AS_INDEX,
+    /* lengths that the call is cut by, others, and offsets of rows */
+    CVL_AS_LENGTHS, CVL_AS_OTHER_LENGTHS, CVL_AS_THIRD_LENGTHS, CVL_AS_OFFSETS,
+    /* numbers */
+    CVL_AS_VALUE, CVL_AS_STRIDE, CVL_AS_PLACE, CVL_AS_COUNT, CVL_AS_LOWEST, CVL_AS_ROWS, CVL_AS_COLUMNS,
+    /* what is written */
+    CVL_AS_OUT, CVL_AS_MARKS, CVL_AS_TOLD, CVL_AS_OTHER_OUT, CVL_AS_OTHER_TOLD,
+    /* the records of a call in parts: a number of 32 bits or of 64 for each part */
+    CVL_AS_SUMS, CVL_AS_BEFORE, CVL_AS_TOTALS, CVL_AS_CARRIES,
+    /* the number 1, the element of the room at the place, and no array */
+    CVL_AS_ONE, CVL_AS_AT_PLACE, CVL_AS_NOTHING,
     CVL_ROLES
 } CvlAs;
+/* clang-format on */
 
 /* How the number of an operand depends on that of another one. */
 typedef enum CvlRelation {
@@ -37,19 +44,21 @@ typedef enum CvlRelation {
  * What each part has of an operand: the whole (NONE); what lies between two boundaries of CvlWork (FROM to THIRD, named as the array that has
  * them); its own place of a record (PART); or the number that stands there (INT, FLAG).
  */
+/* clang-format off */
 typedef enum CvlBy {
     CVL_BY_NONE, CVL_BY_FROM, CVL_BY_FIRST, CVL_BY_START, CVL_BY_OTHER, CVL_BY_THIRD,
     CVL_BY_PART, CVL_BY_INT, CVL_BY_FLAG, CVL_BY_LONG
 } CvlBy;
+/* clang-format on */
 
 /* How a call uses an operand. */
 enum {
-    CVL_READ = 1,      /* an array that is read */
-    CVL_WRITTEN = 2,   /* a room, or one value that is written */
-    CVL_IN_PLACE = 4,  /* an array that may be the room */
-    CVL_BOUNDED = 8,   /* has no more elements than a vector may have, */
-    CVL_TOO_MANY = 16, /* and more are reported */
-    CVL_COPIED = 32,   /* flags that the export takes only as 0 and 1: others are copied, and a room is copied back */
+    CVL_READ = 1,            /* an array that is read */
+    CVL_WRITTEN = 2,         /* a room, or one value that is written */
+    CVL_IN_PLACE = 4,        /* an array that may be the room */
+    CVL_BOUNDED = 8,         /* has no more elements than a vector may have, */
+    CVL_TOO_MANY = 16,       /* and more are reported */
+    CVL_COPIED = 32,         /* flags that the export takes only as 0 and 1: others are copied, and a room is copied back */
     CVL_COPIED_IN_PARTS = 64 /* the same in parts */
 };
 
@@ -89,10 +98,10 @@ enum { CVL_MOST_OPERANDS = 7 };
 
 /* What a step of a call in parts does. */
 typedef enum CvlStepKind {
-    CVL_LOOKS,  /* each part looks for faults of its elements, without a room, if the operator has some */
-    CVL_TELLS,  /* each part writes its place of a record */
-    CVL_JOINS,  /* made once, on the records of all parts */
-    CVL_FILLS   /* each part writes its range of the room */
+    CVL_LOOKS, /* each part looks for faults of its elements, without a room, if the operator has some */
+    CVL_TELLS, /* each part writes its place of a record */
+    CVL_JOINS, /* made once, on the records of all parts */
+    CVL_FILLS  /* each part writes its range of the room */
 } CvlStepKind;
 
 /* The operator of a step, if it is the call's. */
@@ -111,26 +120,27 @@ typedef struct CvlStepRow {
 struct CvlRow {
     CvlOperand operand[CVL_MOST_OPERANDS];
     unsigned char operands;
-    unsigned char out;      /* the operand that is the room, or the value that is written */
-    unsigned char cut;      /* the operand whose elements are cut */
-    uint16_t is;            /* CVL_ASKED .. */
-    uint32_t operators;     /* a bit for each operator of the family, or 0 if it takes none */
-    uint32_t faulty;        /* a bit for each operator, or the first, that has no value on some elements */
-    size_t most;            /* the most elements of a vector, and the most that lengths add up to */
-    size_t least, each;     /* from how many elements on the call is cut, or 0; and how many each part has at least */
+    unsigned char out;  /* the operand that is the room, or the value that is written */
+    unsigned char cut;  /* the operand whose elements are cut */
+    uint16_t is;        /* CVL_ASKED .. */
+    uint32_t operators; /* a bit for each operator of the family, or 0 if it takes none */
+    uint32_t faulty;    /* a bit for each operator, or the first, that has no value on some elements */
+    size_t most;        /* the most elements of a vector, and the most that lengths add up to */
+    size_t least, each; /* from how many elements on the call is cut, or 0; and how many each part has at least */
     CvlStatus (*make)(uint32_t op, const CvlSlot *s);
     bool (*in_parts)(const CvlPool *pool, CvlWork *w); /* runs the parts, or null */
-    const CvlStepRow *step;   /* its steps, in order, */
-    size_t steps;             /* and how many, where cvl_steps_in_parts runs them */
-    const CvlRow *by_lengths; /* of rows that come by offsets: the family of rows that come by lengths */
-    const char *const *names; /* of its operands */
-    uint32_t tells;           /* a bit for each fault whose place counts in an operand, or that is about a number: */
-    unsigned char about;      /* that operand, */
-    unsigned char into;       /* and the one into which its indices lead, or CVL_MOST_OPERANDS */
+    const CvlStepRow *step;                            /* its steps, in order, */
+    size_t steps;                                      /* and how many, where cvl_steps_in_parts runs them */
+    const CvlRow *by_lengths;                          /* of rows that come by offsets: the family of rows that come by lengths */
+    const char *const *names;                          /* of its operands */
+    uint32_t tells;      /* a bit for each fault whose place counts in an operand, or that is about a number: */
+    unsigned char about; /* that operand, */
+    unsigned char into;  /* and the one into which its indices lead, or CVL_MOST_OPERANDS */
 };
 
 /* The operands of a call. */
-#define CVL_SLOTS(...) (const CvlSlot[]){__VA_ARGS__}
+#define CVL_SLOTS(...) \
+    (const CvlSlot[]) { __VA_ARGS__ }
 
 /* Whether an operand is another one, from its first to its last element. */
 /*@ assigns \nothing;

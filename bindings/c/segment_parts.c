@@ -38,7 +38,8 @@ static CvlStatus scan_part(CvlWork *w, size_t k) {
     CvlItem unit;
     const CvlStatus status = cvl_reduce_of(w, 0, 0, &unit);
     if (status.number != CVL_DONE) return status;
-    return cvl_first_of(cvl_scan_range(w, w->before[k], p.from, p.head), row->make(w->op, whole), cvl_scan_range(w, unit, p.tail, p.to));
+    return cvl_first_of(
+        cvl_scan_range(w, w->before[k], p.from, p.head), row->make(w->op, whole), cvl_scan_range(w, unit, p.tail, p.to));
 }
 
 bool cvl_seg_scan_in_parts(const CvlPool *pool, CvlWork *w) {
@@ -59,9 +60,11 @@ static CvlStatus reduce_whole(const CvlWork *w, CvlPiece p) {
     const int32_t *lengths = w->lengths + p.first;
     const size_t n = p.tail - p.head;
     if (cvl_of_bools(w)) {
-        return cvl_proved_seg_bool_reduce(w->op, CVL_BOOLS(w, CVL_AS_A, p.head), n, lengths, p.count, CVL_BOOL_ROOM(w, p.first), p.count);
+        return cvl_proved_seg_bool_reduce(
+            w->op, CVL_BOOLS(w, CVL_AS_A, p.head), n, lengths, p.count, CVL_BOOL_ROOM(w, p.first), p.count);
     }
-    return cvl_proved_seg_int_reduce(w->op, CVL_INTS(w, CVL_AS_A, p.head), n, lengths, p.count, CVL_INT_ROOM(w, p.first), p.count);
+    return cvl_proved_seg_int_reduce(
+        w->op, CVL_INTS(w, CVL_AS_A, p.head), n, lengths, p.count, CVL_INT_ROOM(w, p.first), p.count);
 }
 
 static CvlStatus reduce_part(CvlWork *w, size_t k) {
@@ -92,7 +95,8 @@ static CvlStatus count_part(CvlWork *w, size_t k) {
     return cvl_first_of(
         cvl_proved_count(CVL_BOOLS(w, CVL_AS_FLAGS, p.from), p.head - p.from, &w->heads[k].number),
         cvl_proved_seg_count(
-            CVL_BOOLS(w, CVL_AS_FLAGS, p.head), p.tail - p.head, w->lengths + p.first, p.count, CVL_INT_ROOM(w, p.first), p.count),
+            CVL_BOOLS(w, CVL_AS_FLAGS, p.head), p.tail - p.head, w->lengths + p.first, p.count, CVL_INT_ROOM(w, p.first),
+            p.count),
         cvl_proved_count(CVL_BOOLS(w, CVL_AS_FLAGS, p.tail), p.to - p.tail, &w->sums[k].number));
 }
 
@@ -130,7 +134,8 @@ static CvlStatus checked_look(CvlWork *w, size_t k) {
 bool cvl_seg_checked_scan_in_parts(const CvlPool *pool, CvlWork *w) {
     w->op = CVL_ADD;
     if (!cvl_step(pool, w, CVL_READS, total_part)) return 0;
-    for (size_t k = 0; k + 1 < w->parts; k++) w->before_parts.longs[k + 1] = w->of_parts.longs[k] + (cvl_piece(w, k).starts ? 0 : w->before_parts.longs[k]);
+    for (size_t k = 0; k + 1 < w->parts; k++)
+        w->before_parts.longs[k + 1] = w->of_parts.longs[k] + (cvl_piece(w, k).starts ? 0 : w->before_parts.longs[k]);
     return cvl_step(pool, w, CVL_READS, checked_look) && cvl_seg_scan_in_parts(pool, w);
 }
 
@@ -163,7 +168,8 @@ bool cvl_seg_checked_reduce_in_parts(const CvlPool *pool, CvlWork *w) {
 static CvlStatus copies(const CvlWork *w, size_t segment, size_t from, size_t to) {
     const size_t n = to - from;
     if (n == 0) return cvl_done();
-    if (cvl_of_bools(w)) return cvl_proved_distribute_bool(*CVL_BOOLS(w, CVL_AS_A, segment) != 0, (int32_t)n, CVL_BOOL_ROOM(w, from), n);
+    if (cvl_of_bools(w))
+        return cvl_proved_distribute_bool(*CVL_BOOLS(w, CVL_AS_A, segment) != 0, (int32_t)n, CVL_BOOL_ROOM(w, from), n);
     return cvl_proved_distribute_int(*CVL_INTS(w, CVL_AS_A, segment), (int32_t)n, CVL_INT_ROOM(w, from), n);
 }
 

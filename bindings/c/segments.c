@@ -69,8 +69,8 @@ int32_t *cvl_lengths_between(const int32_t *offsets, size_t offsets_len) {
 }
 
 /* Each length is the difference of two offsets that do not fall, and so fits 32 bits. */
-CvlStatus cvl_segments_from_offsets(const int32_t *offsets, size_t offsets_len, int32_t *lengths, size_t lengths_len,
-                                    CvlSegments *segments) {
+CvlStatus cvl_segments_from_offsets(
+    const int32_t *offsets, size_t offsets_len, int32_t *lengths, size_t lengths_len, CvlSegments *segments) {
     const CvlLengths made = {lengths, lengths_len};
     if (CVL_MEET(lengths, lengths_len, offsets, offsets_len)) return unexplained(cvl_overlap());
     if (segments != NULL && (CVL_MEET(segments, 1, offsets, offsets_len) || CVL_MEET(segments, 1, lengths, lengths_len))) {
@@ -95,8 +95,8 @@ CvlStatus cvl_segments_total(const CvlSegments *segments, size_t *total) {
 }
 
 /* The lengths of a descriptor and their total, if the room shares memory with neither; or the first fault. */
-static CvlStatus lengths_told(const CvlSegments *segments, const int32_t *out, size_t out_len, CvlLengths *lengths,
-                              size_t *total) {
+static CvlStatus lengths_told(
+    const CvlSegments *segments, const int32_t *out, size_t out_len, CvlLengths *lengths, size_t *total) {
     if (CVL_MEET(out, out_len, segments, 1)) return unexplained(cvl_overlap());
     if (!cvl_is_made(segments)) return unexplained(cvl_status(CVL_NO_DESCRIPTOR, -1));
     *lengths = cvl_lengths_of(segments);

@@ -29,7 +29,9 @@ static CvlStatus seg_write_part(CvlWork *w, size_t k) {
     const size_t place = text_place(w, k), room = text_place(w, k + 1) - place;
     const int32_t *lengths = w->lengths + first;
     if (count == 0) return cvl_done();
-    if (cvl_of_bools(w)) return cvl_proved_seg_write_bools(CVL_BOOLS(w, CVL_AS_A, start), n, lengths, count, text_room(w, place), room, &w->counts[k]);
+    if (cvl_of_bools(w))
+        return cvl_proved_seg_write_bools(
+            CVL_BOOLS(w, CVL_AS_A, start), n, lengths, count, text_room(w, place), room, &w->counts[k]);
     return cvl_proved_seg_write_ints(CVL_INTS(w, CVL_AS_A, start), n, lengths, count, text_room(w, place), room, &w->counts[k]);
 }
 
@@ -66,7 +68,8 @@ static size_t read_place(const CvlWork *w, size_t k) { return (w->from[k] + k) /
 
 static CvlStatus read_part(CvlWork *w, size_t k) {
     const size_t from = w->from[k], n = w->from[k + 1] - from;
-    return cvl_proved_read_ints(CVL_BOOLS(w, CVL_AS_A, from), n, (int32_t *)(void *)w->kept + read_place(w, k), (n + 1) / 2, &w->counts[k]);
+    return cvl_proved_read_ints(
+        CVL_BOOLS(w, CVL_AS_A, from), n, (int32_t *)(void *)w->kept + read_place(w, k), (n + 1) / 2, &w->counts[k]);
 }
 
 static CvlStatus put_read_part(CvlWork *w, size_t k) {

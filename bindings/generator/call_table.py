@@ -9,7 +9,10 @@ TABLE = pathlib.Path("crates/call_table")
 
 # The families of operators, with the definitions of their labels.
 LABELS = {
-    "IntBinary": "int_binary_label", "IntMonoid": "int_monoid_label", "BoolBinary": "bool_binary_label", "Comparison": "comparison_label",
+    "IntBinary": "int_binary_label",
+    "IntMonoid": "int_monoid_label",
+    "BoolBinary": "bool_binary_label",
+    "Comparison": "comparison_label",
     "Unary": "unary_label",
 }
 
@@ -114,8 +117,10 @@ class _Definitions:
                 return value == [last]
             names[pattern] = value
             return True
-        return len(pattern) == len(value) and pattern[0] == value[0] and all(
-            map(lambda p, v: self._fits(p, v, names), pattern[1:], value[1:])
+        return (
+            len(pattern) == len(value)
+            and pattern[0] == value[0]
+            and all(map(lambda p, v: self._fits(p, v, names), pattern[1:], value[1:]))
         )
 
 

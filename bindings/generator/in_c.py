@@ -30,7 +30,14 @@ def comment(*paragraphs, width=WIDTH):
     lines = []
     for paragraph in paragraphs:
         indent = re.match(r" *(?:\d\. |- )?", paragraph).end()
-        lines += textwrap.wrap(paragraph, width - 3, subsequent_indent=" " * indent, drop_whitespace=True, break_long_words=False, break_on_hyphens=False) or [""]
+        lines += textwrap.wrap(
+            paragraph,
+            width - 3,
+            subsequent_indent=" " * indent,
+            drop_whitespace=True,
+            break_long_words=False,
+            break_on_hyphens=False,
+        ) or [""]
     return "\n".join(["/*", *(f" * {line}".rstrip() for line in lines), " */"])
 
 
@@ -55,7 +62,11 @@ def parameters(arguments, alone=False):
 
 def nonnull(arguments):
     """The places, from 1, of the pointers to single values, which may never be null."""
-    single = [k for k, argument in enumerate(arguments, 1) if argument.operand is not None and argument.operand.role in ("single", "told")]
+    single = [
+        k
+        for k, argument in enumerate(arguments, 1)
+        if argument.operand is not None and argument.operand.role in ("single", "told")
+    ]
     return f" CVL_NONNULL(({', '.join(map(str, single))}))" if single else ""
 
 
@@ -149,7 +160,10 @@ def segments_declarations():
 def operators():
     """The numbers of the operators, one a line."""
     last = table.OPERATORS[-1]
-    return "\n".join(f"    CVL_{found.name} = {found.number}{' ' if found is last else ','} /* {found.sentence} */" for found in table.OPERATORS)
+    return "\n".join(
+        f"    CVL_{found.name} = {found.number}{' ' if found is last else ','} /* {found.sentence} */"
+        for found in table.OPERATORS
+    )
 
 
 def of_operators():
@@ -235,10 +249,27 @@ def short_names():
 # ---- the proved exports ----
 
 TYPES = {
-    "&[i32]": "const int32_t *", "&[u8]": "const bool *", "&[bool]": "const bool *", "&mut [i32]": "int32_t *", "&mut [u8]": "bool *",
-    "&mut [bool]": "bool *", "&[u32]": "const uint32_t *", "&mut [u32]": "uint32_t *", "&[Placed]": "const CvlPlaced *", "&mut [Placed]": "CvlPlaced *",
-    "&[i64]": "const int64_t *", "&mut [i64]": "int64_t *", "&mut i32": "int32_t *", "&mut i64": "int64_t *", "&mut bool": "bool *",
-    "&mut usize": "size_t *", "u32": "uint32_t ", "i32": "int32_t ", "i64": "int64_t ", "usize": "size_t ", "bool": "bool ",
+    "&[i32]": "const int32_t *",
+    "&[u8]": "const bool *",
+    "&[bool]": "const bool *",
+    "&mut [i32]": "int32_t *",
+    "&mut [u8]": "bool *",
+    "&mut [bool]": "bool *",
+    "&[u32]": "const uint32_t *",
+    "&mut [u32]": "uint32_t *",
+    "&[Placed]": "const CvlPlaced *",
+    "&mut [Placed]": "CvlPlaced *",
+    "&[i64]": "const int64_t *",
+    "&mut [i64]": "int64_t *",
+    "&mut i32": "int32_t *",
+    "&mut i64": "int64_t *",
+    "&mut bool": "bool *",
+    "&mut usize": "size_t *",
+    "u32": "uint32_t ",
+    "i32": "int32_t ",
+    "i64": "int64_t ",
+    "usize": "size_t ",
+    "bool": "bool ",
 }
 
 
@@ -259,7 +290,9 @@ def proved_header(exports):
     """`bindings/c/proved.h`."""
     said = comment("proved.h: the proved exports of crates/cvl_c, under their names beneath those of the headers.", rows.NOTE)
     declared = [proved_declaration(name, found) for name, found in sorted(exports.items())]
-    return "\n".join([said, "#ifndef CVL_PROVED_H", "#define CVL_PROVED_H", "", '#include "internal.h"', "", *declared, "", "#endif", ""])
+    return "\n".join(
+        [said, "#ifndef CVL_PROVED_H", "#define CVL_PROVED_H", "", '#include "internal.h"', "", *declared, "", "#endif", ""]
+    )
 
 
 # ---- the functions ----
@@ -293,7 +326,11 @@ def size_of(row, operand):
 
 def public():
     """`bindings/c/public`: each name of the headers, one a line."""
-    named = [name for functions in (about.OF_VERSIONS, about.OF_THREADS, about.OF_FLAGS, about.OF_INDICES, about.OF_DESCRIPTORS) for name, _, _ in functions]
+    named = [
+        name
+        for functions in (about.OF_VERSIONS, about.OF_THREADS, about.OF_FLAGS, about.OF_INDICES, about.OF_DESCRIPTORS)
+        for name, _, _ in functions
+    ]
     named += ["cvl_pool_alone", "cvl_pool_posix", "cvl_threads_start", "cvl_threads_stop"]
     named += [f"cvl_{row.name}" for row in [*rows.FAMILIES.values(), *rows.CALLS]]
     named += [f"cvl_{row.name}_on" for row in [*rows.FAMILIES.values(), *rows.CALLS] if row.family.cut is not None]

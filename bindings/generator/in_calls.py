@@ -37,7 +37,9 @@ def _names(entry):
 
 def index(found, leads_to):
     """A table of sections: of each entry the first name, with a link."""
-    lines = [f"| {title} | {' '.join(f'[`{entry.name}`]({leads_to(entry)})' for entry in section)} |" for title, _, section in found]
+    lines = [
+        f"| {title} | {' '.join(f'[`{entry.name}`]({leads_to(entry)})' for entry in section)} |" for title, _, section in found
+    ]
     return "\n".join(["| Section | The first call of each entry |", "|---|---|", *lines])
 
 
@@ -79,13 +81,17 @@ def _entry(entry):
 
 def _beside():
     """The functions that no script calls, by their sections."""
-    lines = [f"| {' '.join(_names(entry) for entry in found)} | {entries.BESIDE[title]} |" for title, _, found in reference.beside()]
+    lines = [
+        f"| {' '.join(_names(entry) for entry in found)} | {entries.BESIDE[title]} |" for title, _, found in reference.beside()
+    ]
     return "\n".join(["| Functions | What they do |", "|---|---|", *lines])
 
 
 def page():
     """`docs/user/calls.md`."""
     found = reference.of_scripts()
-    sections = ["\n\n".join([f"## {title}", *([intro] if intro else []), *map(_entry, section)]) for title, intro, section in found]
+    sections = [
+        "\n\n".join([f"## {title}", *([intro] if intro else []), *map(_entry, section)]) for title, intro, section in found
+    ]
     parts = [HEAD, "## Index", index(found, _leads_to), READING, *sections, BESIDE, _beside()]
     return "\n\n".join(parts) + "\n"

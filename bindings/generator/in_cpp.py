@@ -16,13 +16,32 @@ WIDTH = 128
 PARTS = pathlib.Path(__file__).resolve().parent.parent / "cpp"
 
 TAKEN = {
-    "ints": "Ints ", "flags": "Bools ", "bytes": "Bytes ", "text": "std::string_view ", "int": "std::int32_t ", "flag": "bool ", "sum": "std::int64_t ",
+    "ints": "Ints ",
+    "flags": "Bools ",
+    "bytes": "Bytes ",
+    "text": "std::string_view ",
+    "int": "std::int32_t ",
+    "flag": "bool ",
+    "sum": "std::int64_t ",
     "size": "std::size_t ",
 }
-ROOMS = {"ints": "IntRoom ", "flags": "BoolRoom ", "bytes": "ByteRoom ", "text": "TextRoom ", "marks": "MarkRoom ", "sums": "SumRoom "}
+ROOMS = {
+    "ints": "IntRoom ",
+    "flags": "BoolRoom ",
+    "bytes": "ByteRoom ",
+    "text": "TextRoom ",
+    "marks": "MarkRoom ",
+    "sums": "SumRoom ",
+}
 GIVEN = {
-    "ints": "std::vector<std::int32_t>", "flags": "Flags", "bytes": "std::vector<std::uint8_t>", "text": "std::string", "sums": "std::vector<std::int64_t>",
-    "int": "std::int32_t", "flag": "bool", "sum": "std::int64_t",
+    "ints": "std::vector<std::int32_t>",
+    "flags": "Flags",
+    "bytes": "std::vector<std::uint8_t>",
+    "text": "std::string",
+    "sums": "std::vector<std::int64_t>",
+    "int": "std::int32_t",
+    "flag": "bool",
+    "sum": "std::int64_t",
 }
 
 NAMES = dict(table.STATUSES)
@@ -91,6 +110,7 @@ def _beside_room(function):
 
 def _passed(function):
     """What the library is given."""
+
     def word(argument):
         operand = argument.operand
         if operand is None:
@@ -98,7 +118,13 @@ def _passed(function):
         name = name_of(operand)
         if argument.size:
             return f"{name}.size()"
-        at = {"reads": f"{name}.data()", "room": f"{name}.data()", "single": f"&{name}", "told": f"&{name}", "lengths": f"given({name})"}
+        at = {
+            "reads": f"{name}.data()",
+            "room": f"{name}.data()",
+            "single": f"&{name}",
+            "told": f"&{name}",
+            "lengths": f"given({name})",
+        }
         return at.get(operand.role, name)
 
     return [word(argument) for argument in rows.FAMILIES[function.family.name].arguments]
@@ -107,7 +133,11 @@ def _passed(function):
 def _faults_about(function):
     """The faults that are about an operand of a family, those of its operators too."""
     of_operators = [found.fault for found in table.OPERATORS if found.name in function.family.operators and found.fault]
-    return [fault for fault in (*function.family.faults, *of_operators, *(table.BAD_COUNT if function.is_sized else ())) if fault.about]
+    return [
+        fault
+        for fault in (*function.family.faults, *of_operators, *(table.BAD_COUNT if function.is_sized else ()))
+        if fault.about
+    ]
 
 
 def _about(function, operand):
@@ -132,7 +162,11 @@ def _argument(function, operand):
 
 
 def _arguments(function, operands):
-    return "{" + ", ".join(_argument(function, operand) for operand in operands if operand.role not in ("value", "single", "told")) + "}"
+    return (
+        "{"
+        + ", ".join(_argument(function, operand) for operand in operands if operand.role not in ("value", "single", "told"))
+        + "}"
+    )
 
 
 def _block(head, lines):
@@ -140,7 +174,13 @@ def _block(head, lines):
     line = f"{head} {{ {' '.join(lines)} }}".replace(in_c.KEPT, " ")
     if len(line) <= WIDTH:
         return line
-    return "\n".join([in_c.wrapped(f"{head}{in_c.kept(' {')}", width=WIDTH), *(textwrap.indent(in_c.wrapped(text, width=WIDTH - 4), "    ") for text in lines), "}"])
+    return "\n".join(
+        [
+            in_c.wrapped(f"{head}{in_c.kept(' {')}", width=WIDTH),
+            *(textwrap.indent(in_c.wrapped(text, width=WIDTH - 4), "    ") for text in lines),
+            "}",
+        ]
+    )
 
 
 # ---- families ----
@@ -225,7 +265,9 @@ def _new(function):
     count = "may_be_count(count, call, status) && " if function.is_sized else ""
     called = f"{name}({', '.join(['call', *words, 'status'])});"
     fits = f"const bool fits = {count}fit(out, {size}, call, status);"
-    return _block(head, [f"{given} out;", fits, f"if (fits){in_c.KEPT}{called}", f"if (!status.ok()) out = {given}();", "return out;"])
+    return _block(
+        head, [f"{given} out;", fits, f"if (fits){in_c.KEPT}{called}", f"if (!status.ok()) out = {given}();", "return out;"]
+    )
 
 
 def _family(function):
@@ -245,7 +287,13 @@ def families():
 
 def _of_family(function, operands, end="status"):
     """The call of a function's family."""
-    operator = [f"CVL_{function.row.operator}"] if function.row.operator else ["static_cast<std::uint32_t>(op)"] if function.family.operators else []
+    operator = (
+        [f"CVL_{function.row.operator}"]
+        if function.row.operator
+        else ["static_cast<std::uint32_t>(op)"]
+        if function.family.operators
+        else []
+    )
     words = [f'"{function.name}"', *operator, *map(name_of, operands), end]
     return f"detail::{function.family.name}({', '.join(words)})"
 
@@ -311,7 +359,11 @@ def _comment(function):
     """What a function does, its faults beside those of lengths, and what may be the room."""
     of_count = table.BAD_COUNT if function.is_sized else ()
     faults = "; ".join(fault.said for fault in (*of_count, *function.row.faults) if fault not in table.OF_LENGTHS)
-    said = [function.sentences, f"Faults: {faults}." if faults else "", f"In place: {function.in_place_words}" if function.in_place_words else ""]
+    said = [
+        function.sentences,
+        f"Faults: {faults}." if faults else "",
+        f"In place: {function.in_place_words}" if function.in_place_words else "",
+    ]
     return "\n".join(textwrap.wrap(_in_cpp(" ".join(filter(None, said))), WIDTH, initial_indent="/// ", subsequent_indent="/// "))
 
 
@@ -336,13 +388,18 @@ def calls():
 
 
 def _faults():
-    lines = [f"inline constexpr std::uint32_t {in_c.constant(name).lower()} = CVL_{in_c.constant(name)};" for _, name in table.STATUSES[1:]]
+    lines = [
+        f"inline constexpr std::uint32_t {in_c.constant(name).lower()} = CVL_{in_c.constant(name)};"
+        for _, name in table.STATUSES[1:]
+    ]
     return "\n".join(["/// The numbers of faults.", "namespace faults {", *lines, "} // namespace faults", ""])
 
 
 def _operators():
     used = {name for function in WRITTEN if function.row.call is None for name in function.family.operators}
-    lines = [f"    {found.name.title()} = CVL_{found.name}, // {found.sentence}" for found in table.OPERATORS if found.name in used]
+    lines = [
+        f"    {found.name.title()} = CVL_{found.name}, // {found.sentence}" for found in table.OPERATORS if found.name in used
+    ]
     return "\n".join(["enum class Operator : std::uint32_t {", *lines, "};"])
 
 
@@ -353,7 +410,10 @@ def _extents():
 
 def header():
     """`include/cvl.hpp`."""
-    parts = {name: (PARTS / f"{name}.hpp.in").read_text() for name in ("spans", "flags", "status", "pools", "messages", "segments", "results")}
+    parts = {
+        name: (PARTS / f"{name}.hpp.in").read_text()
+        for name in ("spans", "flags", "status", "pools", "messages", "segments", "results")
+    }
     parts |= {"note": f" * {rows.NOTE}", "faults": _faults(), "operators": _operators(), "families": families(), "calls": calls()}
     parts["messages"] = in_c.filled(parts["messages"], {"extents": _extents()})
     return in_c.filled((PARTS / "cvl.hpp.in").read_text(), parts)

@@ -57,7 +57,12 @@ def _tried(function):
     elif function.is_written_over:
         rooms = [room for room in function.rooms]
         wanted = ", ".join(_literal(room, function.example[room.name]) for room in rooms)
-        before = ", ".join(_literal(room, function.example[table.before(room.name)]) if room.over else "another(" + _literal(room, function.example[room.name]) + ")" for room in rooms)
+        before = ", ".join(
+            _literal(room, function.example[table.before(room.name)])
+            if room.over
+            else "another(" + _literal(room, function.example[room.name]) + ")"
+            for room in rooms
+        )
         told = f", {function.example[function.told[0].name]}" if function.told else ""
         yield f'over("{name}", std::tuple({before}), std::tuple({wanted}){told or ", 0"}, {_called(function, function.operands, "more")});'
         return

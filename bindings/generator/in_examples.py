@@ -20,7 +20,9 @@ def _numbers(operand, words):
 
 def _operand(operand, words, role=None):
     numbers = _numbers(operand, words)
-    return " ".join(map(str, [role or operand.role, operand.name, operand.kind, operand.extent or "alone", len(numbers), *numbers]))
+    return " ".join(
+        map(str, [role or operand.role, operand.name, operand.kind, operand.extent or "alone", len(numbers), *numbers])
+    )
 
 
 def _lines(row):

@@ -49,7 +49,10 @@ def _declaration(row, operand):
     if _is_held(row, operand):
         return f"type(cvl_rank_segments), {intent}", operand.name.replace("lengths", "segments")
     if rows.is_array(operand) or operand.role == "lengths":
-        return f"{KINDS['ints' if operand.role == 'lengths' else operand.kind]}, {intent}, target, contiguous", f"{operand.name}(:)"
+        return (
+            f"{KINDS['ints' if operand.role == 'lengths' else operand.kind]}, {intent}, target, contiguous",
+            f"{operand.name}(:)",
+        )
     kind = "integer(c_int64_t)" if operand.role in ("place", "count") else KINDS[operand.kind]
     return f"{kind}, {intent}", operand.name
 

@@ -20,7 +20,9 @@ INTRODUCTION = (
     "reduces, permutes, packs and texts, flat and by segments, on integers of 32 bits and on booleans.",
     about.FROM_C,
 )
-CALLS = ("Each call takes its operands in the order of a script, see cvl(1). Each of these pages has several calls, and the families that make them.",)
+CALLS = (
+    "Each call takes its operands in the order of a script, see cvl(1). Each of these pages has several calls, and the families that make them.",
+)
 PARTS = (
     "The header cvl_parallel.h has each call again, with _on after its name and a pool of threads as its first argument, such as "
     "cvl_add_wuz_on(&pool, a, b, out, n): it cuts long vectors into parts, one for each thread. A pool has POSIX "
@@ -98,7 +100,7 @@ def _code(text):
 
 def _statuses():
     for number, name in table.STATUSES:
-        yield from (".TP", f".BR {number} \" (CVL_{in_c.constant(name)})\"", name)
+        yield from (".TP", f'.BR {number} " (CVL_{in_c.constant(name)})"', name)
 
 
 def _head(name, purpose, names=()):
@@ -145,14 +147,21 @@ def _homes():
 def _sections():
     """The sections of the reference, with the entries that C has."""
     found = [*reference.of_scripts(), *reference.beside()]
-    return [(title, said, [entry for entry in entries if entry.rows]) for title, said, entries in found if any(entry.rows for entry in entries)]
+    return [
+        (title, said, [entry for entry in entries if entry.rows])
+        for title, said, entries in found
+        if any(entry.rows for entry in entries)
+    ]
 
 
 def _families_of(entry):
     """The families whose page this is, and their forms with a descriptor."""
     own = [row for row in entry.families if row.call is None and _homes()[row.name] == f"cvl_{entry.name}"]
     named = {f"cvl_{row.name}": in_c.declaration(row) for row in own if row.name not in entry.calls}
-    return {**named, **{f"cvl_{in_c.segments_name(row)}": in_c.segments_declaration(row) for row in in_c.on_segments() if row in own}}
+    return {
+        **named,
+        **{f"cvl_{in_c.segments_name(row)}": in_c.segments_declaration(row) for row in in_c.on_segments() if row in own},
+    }
 
 
 def _described(entry):
@@ -262,6 +271,8 @@ def pages():
     for _, said, entries in _sections():
         for entry in entries:
             found[f"cvl_{entry.name}"] = _entry(entry, said)
-            leads.update({other: f"cvl_{entry.name}" for other in (*(f"cvl_{call}" for call in entry.calls[1:]), *_families_of(entry))})
+            leads.update(
+                {other: f"cvl_{entry.name}" for other in (*(f"cvl_{call}" for call in entry.calls[1:]), *_families_of(entry))}
+            )
     links = {name: f".so man3/{page}.3\n" for name, page in leads.items()}
     return {f"docs/man/{name}.3": text for name, text in sorted({**links, **found}.items())}

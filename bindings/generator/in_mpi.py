@@ -45,7 +45,8 @@ def arguments(row):
     if not is_held(row):
         return measured(row)
     return [
-        argument._replace(type="const CvlRankSegments *") if argument.type == "const CvlSegments *" else argument for argument in in_c.held(measured(row))
+        argument._replace(type="const CvlRankSegments *") if argument.type == "const CvlSegments *" else argument
+        for argument in in_c.held(measured(row))
     ]
 
 
@@ -86,7 +87,11 @@ def plain_argument(found, k):
     """What the plain family is given of a slot."""
     operand = found.operands[k]
     if operand.role in ("value", "place", "count"):
-        kind = "int64_t" if operand.role != "value" else {"int": "int32_t", "flag": "", "sum": "int64_t", "size": "size_t"}[operand.kind]
+        kind = (
+            "int64_t"
+            if operand.role != "value"
+            else {"int": "int32_t", "flag": "", "sum": "int64_t", "size": "size_t"}[operand.kind]
+        )
         return f"s[{k}].number != 0" if not kind else f"({kind})s[{k}].number"
     if operand.role == "lengths":
         return f"(CvlLengths){{s[{k}].at, s[{k}].number}}"
@@ -110,7 +115,15 @@ def plain_function(found):
 def operand_row(found, k):
     own = found.family.over_ranks.spread and found.operands[k].role == "room"
     like, relation = (k, "SAME") if own else found.like(k)
-    words = [f"CVL_AS_{found.role(k)}", found.size(k), str(like), f"CVL_{relation}", str(found.total(k)), "CVL_BY_NONE", in_rows.flags_of(found.marks(k))]
+    words = [
+        f"CVL_AS_{found.role(k)}",
+        found.size(k),
+        str(like),
+        f"CVL_{relation}",
+        str(found.total(k)),
+        "CVL_BY_NONE",
+        in_rows.flags_of(found.marks(k)),
+    ]
     return "        " + "    {" + ", ".join(words) + "},"
 
 
@@ -128,7 +141,9 @@ def row_of(number, row):
     if found.faulty:
         said.append(f".faulty = {'1' if found.faulty == [0] else in_rows.bits_of(found.faulty)},")
     marks = {
-        "asks": row.family.asks, "held": is_held(row), "checked": any(18 in fault.numbers for fault in row.family.faults),
+        "asks": row.family.asks,
+        "held": is_held(row),
+        "checked": any(18 in fault.numbers for fault in row.family.faults),
         "named": over.named or any(o.role == "count" for o in found.operands),
     }
     so = "".join(f", .{mark} = 1" for mark, is_so in marks.items() if is_so)
@@ -190,6 +205,7 @@ def calls_file():
 
 def rank_row(row):
     """The function over ranks beside the row of tests/c/call_rows.h: whether the result may be spread otherwise than what is read, and its arguments."""
+
     def given(argument):
         held = argument.operand is not None and argument.operand.role == "lengths" and is_held(row)
         return f"segments[{row.operands.index(argument.operand)}]" if held else in_tests.argument(row, argument)
@@ -200,7 +216,9 @@ def rank_row(row):
 
 def rank_rows():
     """`tests/mpi/rank_rows.h`."""
-    head = in_c.comment("rank_rows.h: a row for each family and each call over ranks. tests/mpi/differential.c reads it.", rows.NOTE)
+    head = in_c.comment(
+        "rank_rows.h: a row for each family and each call over ranks. tests/mpi/differential.c reads it.", rows.NOTE
+    )
     return "\n".join([head, *map(rank_row, [*families(), *calls()]), ""])
 
 

@@ -14,7 +14,9 @@ HERE = pathlib.Path(__file__).resolve().parent
 PAGE, COSTS = HERE.parent.parent / "docs/user/tutorial.md", HERE / "notebook_costs.py"
 
 # the page says where the notebook is, and the notebook where the page is
-OF_NOTEBOOK = "The same hour is a notebook, `tutorial.ipynb`, with plots of what the calls cost. An installation has it beside this page."
+OF_NOTEBOOK = (
+    "The same hour is a notebook, `tutorial.ipynb`, with plots of what the calls cost. An installation has it beside this page."
+)
 OF_PAGE = "This is the page [tutorial.md](tutorial.md) as a notebook. Run a cell by shift and return; plots of what the calls cost follow at its end."
 
 
@@ -69,7 +71,12 @@ def notebook():
     cells = [*cells_of_page(PAGE.read_text()), *cells_of_costs(COSTS.read_text())]
     cells = [{**cell, "id": f"cell-{number}"} for number, cell in enumerate(cells)]
     kernel = {"display_name": "Python 3", "language": "python", "name": "python3"}
-    return {"cells": cells, "metadata": {"kernelspec": kernel, "language_info": {"name": "python"}}, "nbformat": 4, "nbformat_minor": 5}
+    return {
+        "cells": cells,
+        "metadata": {"kernelspec": kernel, "language_info": {"name": "python"}},
+        "nbformat": 4,
+        "nbformat_minor": 5,
+    }
 
 
 def text():

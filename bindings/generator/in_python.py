@@ -13,6 +13,7 @@ from packages import name_of
 WIDTH = 118
 NUMPY = {"ints": "numpy.int32", "flags": "bool", "bytes": "numpy.uint8", "marks": "numpy.uint32", "sums": "numpy.int64"}
 
+
 class Direct(packages.Call):
     """A family that Python has under its own name."""
 
@@ -73,7 +74,6 @@ LENGTHS = (
     ),
 )  # fmt: skip
 NAMES = [*(call.name for call in CALLS), *(length[0] for length in LENGTHS), *(direct.name for direct in DIRECT)]
-
 
 
 def is_index(operand):
@@ -270,7 +270,11 @@ def _spreads(call):
 
 def _most(call):
     extent = _room_extent(call)
-    return "CVL_MOST_ELEMENTS" if extent and (extent in ("count", "trues", "total", "offsets") or call.is_bounded(extent)) else "SIZE_MAX"
+    return (
+        "CVL_MOST_ELEMENTS"
+        if extent and (extent in ("count", "trues", "total", "offsets") or call.is_bounded(extent))
+        else "SIZE_MAX"
+    )
 
 
 def _argument(call, operand):
@@ -305,7 +309,11 @@ def _make(call):
     lines = [_filled(f"return cvl_{name}({given});")]
     if call.is_sized:
         k = call.operands.index(packages.COUNT)
-        lines = [f"    const CvlStatus status = cvl_sized(frame, {k});", "    if (status.number != CVL_DONE) return status;", *lines]
+        lines = [
+            f"    const CvlStatus status = cvl_sized(frame, {k});",
+            "    if (status.number != CVL_DONE) return status;",
+            *lines,
+        ]
     return "\n".join([f"static CvlStatus make_{name}(Frame *frame) {{", *lines, "}", ""])
 
 
@@ -440,7 +448,9 @@ def _twin(call):
     ]  # fmt: skip
     if len(found) != 1:
         return None
-    names = [name_of(one) for one, other in zip(call.operands, found[0].operands) if one.role == "reads" and one.kind != other.kind]
+    names = [
+        name_of(one) for one, other in zip(call.operands, found[0].operands) if one.role == "reads" and one.kind != other.kind
+    ]
     return found[0].name, tuple(names)
 
 
@@ -448,7 +458,18 @@ def twins():
     """`bindings/python/cvl/_twins.py`."""
     found = {call.name: _twin(call) for call in FUNCTIONS}
     said = '"""The same call of booleans or of integers, and the operands of which it takes the other kind.'
-    return "\n".join([said, "", f'{rows.NOTE}\n"""', "", "TWINS = {", *(f"    {name!r}: {twin!r}," for name, twin in found.items() if twin and twin[1]), "}", ""])
+    return "\n".join(
+        [
+            said,
+            "",
+            f'{rows.NOTE}\n"""',
+            "",
+            "TWINS = {",
+            *(f"    {name!r}: {twin!r}," for name, twin in found.items() if twin and twin[1]),
+            "}",
+            "",
+        ]
+    )
 
 
 def operators():
@@ -459,7 +480,7 @@ def operators():
 
 # ---- the stubs ----
 
-STUB_HEAD = f'''# The kinds of what each call takes and gives. {rows.NOTE}
+STUB_HEAD = f"""# The kinds of what each call takes and gives. {rows.NOTE}
 
 from typing import SupportsIndex, Tuple, TypeVar, Union, overload
 
@@ -472,13 +493,21 @@ _Ints = TypeVar("_Ints", bound=Ints)
 _Flags = TypeVar("_Flags", bound=Flags)
 _Bytes = TypeVar("_Bytes", bound=Bytes)
 _Sums = TypeVar("_Sums", bound=Sums)
-'''
+"""
 TAKEN = {
     "ints": "Ints", "flags": "Flags", "bytes": "Bytes", "text": "Text", "marks": "Marks", "sums": "Sums", "int": "SupportsIndex", "sum": "SupportsIndex",
     "size": "SupportsIndex", "flag": "Union[bool, numpy.bool_]",
 }  # fmt: skip
 SPREAD = {"ints": "Union[Ints, SupportsIndex]", "flags": "Union[Flags, bool, numpy.bool_]"}
-GIVEN = {"ints": "IntArray", "flags": "FlagArray", "bytes": "ByteArray", "sums": "SumArray", "int": "int", "flag": "bool", "sum": "int"}
+GIVEN = {
+    "ints": "IntArray",
+    "flags": "FlagArray",
+    "bytes": "ByteArray",
+    "sums": "SumArray",
+    "int": "int",
+    "flag": "bool",
+    "sum": "int",
+}
 ROOMS = {"ints": "_Ints", "flags": "_Flags", "bytes": "_Bytes", "sums": "_Sums"}
 DIRECT_GIVEN = {"WRITTEN": "int", "NOTHING": "None", "TEXT": "str", "READ_NESTED": "Tuple[IntArray, Segments]"}
 

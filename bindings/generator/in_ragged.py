@@ -76,7 +76,9 @@ def _dunder(word, body, more=""):
 def _operators(row):
     """The methods of an operator: between a `Ragged` and another value, swapped, and where it is."""
     name = row.name.upper()
-    yield from _dunder(row.word, f"self._applied({name}, other)", "  # type: ignore[override]" if row.word in ("eq", "ne") else "")
+    yield from _dunder(
+        row.word, f"self._applied({name}, other)", "  # type: ignore[override]" if row.word in ("eq", "ne") else ""
+    )
     if row.word in SWAPPED:
         yield from _dunder(f"r{row.word}", f"self._applied({name}, other, True)")
         yield from _dunder(f"i{row.word}", f"self._changed({name}, other)")

@@ -13,8 +13,16 @@ READ = {"index": "INDEX", "columns": "INDEX", "mask": "FLAGS", "offsets": "OFFSE
 NUMBERS = {"stride": "STRIDE", "lowest": "LOWEST", "row_count": "ROWS", "column_count": "COLUMNS"}
 
 SIZES = {
-    "ints": "sizeof(int32_t)", "flags": "sizeof(bool)", "bytes": "sizeof(uint8_t)", "text": "sizeof(char)", "marks": "sizeof(uint32_t)", "sums": "sizeof(int64_t)", "int": "sizeof(int32_t)",
-    "flag": "sizeof(bool)", "sum": "sizeof(int64_t)", "size": "sizeof(size_t)",
+    "ints": "sizeof(int32_t)",
+    "flags": "sizeof(bool)",
+    "bytes": "sizeof(uint8_t)",
+    "text": "sizeof(char)",
+    "marks": "sizeof(uint32_t)",
+    "sums": "sizeof(int64_t)",
+    "int": "sizeof(int32_t)",
+    "flag": "sizeof(bool)",
+    "sum": "sizeof(int64_t)",
+    "size": "sizeof(size_t)",
 }
 
 # The faults that an export tells of elements, behind those that it tells of lengths.
@@ -52,7 +60,9 @@ class Family:
             others = [o for o in self.operands if o.role == "reads" and o.use not in READ]
             return READ.get(operand.use) or ("A" if operand is others[0] else "B")
         if operand.role == "lengths":
-            first = operand.extent == self.extent or self.cut in (None, "lengths") and k == self.lengths[0] or len(self.lengths) == 1
+            first = (
+                operand.extent == self.extent or self.cut in (None, "lengths") and k == self.lengths[0] or len(self.lengths) == 1
+            )
             return "LENGTHS" if first else "THIRD_LENGTHS" if k in self.lengths[2:] else "OTHER_LENGTHS"
         if operand.role in ("room", "single"):
             return "MARKS" if operand.kind == "marks" else "OUT" if k == self.out else "OTHER_OUT"
@@ -114,7 +124,11 @@ class Family:
             return "START"
         if operand.extent in ("falses", "both"):
             return "THIRD"
-        return "OTHER" if operand.extent == "trues" or any(self.operands[j].extent == operand.extent for j in self.lengths) else "NONE"
+        return (
+            "OTHER"
+            if operand.extent == "trues" or any(self.operands[j].extent == operand.extent for j in self.lengths)
+            else "NONE"
+        )
 
     def marks(self, k):
         """What is so of an operand."""
@@ -125,7 +139,11 @@ class Family:
             yield "WRITTEN"
         if any(operand.name in names for names in self.family.in_place):
             yield "IN_PLACE"
-        cut = rows.is_array(operand) and self.first_of(operand.extent) == k and any(self.operands[j].extent == operand.extent for j in self.lengths)
+        cut = (
+            rows.is_array(operand)
+            and self.first_of(operand.extent) == k
+            and any(self.operands[j].extent == operand.extent for j in self.lengths)
+        )
         limited = operand is rows.limited(self.family)
         if limited or k in self.lengths[:1] or cut or operand.over:
             yield "BOUNDED"
@@ -139,7 +157,13 @@ class Family:
     def size(self, k):
         """The bytes of an element, or none of a number."""
         operand = self.operands[k]
-        return "sizeof(int32_t)" if operand.role == "lengths" else "0" if operand.role in ("value", "place", "count") else SIZES[operand.kind]
+        return (
+            "sizeof(int32_t)"
+            if operand.role == "lengths"
+            else "0"
+            if operand.role in ("value", "place", "count")
+            else SIZES[operand.kind]
+        )
 
     # ---- the family ----
 
@@ -179,7 +203,9 @@ class Family:
     @property
     def is_asked(self):
         """Whether what the export tells last has to be told before."""
-        return not self.reads_text and bool(self.family.asks or any(o.copied for o in self.operands) or (self.faulty and self.room))
+        return not self.reads_text and bool(
+            self.family.asks or any(o.copied for o in self.operands) or (self.faulty and self.room)
+        )
 
     @property
     def is_late(self):
@@ -206,12 +232,19 @@ class Family:
         measured = self.room is not None and (self.room.kind == "text" or any(o.use == "mask" for o in self.operands))
         by_elements = measured and self.room.extent in ("trues", "room") and not self.reads_text
         said = {
-            "ASKED": self.is_asked, "LATE": self.is_late, "READS_TEXT": self.reads_text,
-            "COUNTED": any(o.role == "count" for o in self.operands), "BY_TRUES": by_elements and self.room.kind != "text",
-            "WRITES_TEXT": by_elements and self.room.kind == "text", "FRONT": by_elements and self.room.extent == "room",
-            "OF_BOOLS": self.of_bools, "AT_PLACE": any(o.role == "place" for o in self.operands),
-            "TOGETHER": any(len(names) > 1 for names in self.family.in_place), "MERGES": not self.lengths and any(o.extent == "falses" for o in self.operands),
-            "APPENDS": any(o.extent == "both" for o in self.operands), "TURNS": any(o.use == "row_count" for o in self.operands),
+            "ASKED": self.is_asked,
+            "LATE": self.is_late,
+            "READS_TEXT": self.reads_text,
+            "COUNTED": any(o.role == "count" for o in self.operands),
+            "BY_TRUES": by_elements and self.room.kind != "text",
+            "WRITES_TEXT": by_elements and self.room.kind == "text",
+            "FRONT": by_elements and self.room.extent == "room",
+            "OF_BOOLS": self.of_bools,
+            "AT_PLACE": any(o.role == "place" for o in self.operands),
+            "TOGETHER": any(len(names) > 1 for names in self.family.in_place),
+            "MERGES": not self.lengths and any(o.extent == "falses" for o in self.operands),
+            "APPENDS": any(o.extent == "both" for o in self.operands),
+            "TURNS": any(o.use == "row_count" for o in self.operands),
             "MOVES": len([o for o in self.operands if o.over]) > 1,
             "ADDS": self.room is not None and self.is_joined(self.room) and not self.family.operators,
         }
@@ -258,7 +291,15 @@ def row_of(found):
     static = "" if found.name in table.STEP_FAMILIES else "static "
     names = f"static const char *const {found.name}_names[] = {{{', '.join(kept(chr(34) + o.name + chr(34)) for o in found.operands)}}};"
     head = f"{wrapped(names)}\n{static}const CvlRow cvl_{found.name}_row = {{\n    .operand = {{"
-    return "\n".join([head, *(operand_row(found, k) for k in range(len(found.operands))), "    },", *(indented(f"{line}") for line in [*lines, made + ","]), "};"])
+    return "\n".join(
+        [
+            head,
+            *(operand_row(found, k) for k in range(len(found.operands))),
+            "    },",
+            *(indented(f"{line}") for line in [*lines, made + ","]),
+            "};",
+        ]
+    )
 
 
 # ---- the steps of a call in parts ----
@@ -284,11 +325,15 @@ def step_row(found, step):
     on_flags = any(operand.copied and role in roles for operand, (role, _) in zip(called.operands, takes))
     op = f"CVL_{step.operator}" if step.operator else "CVL_OP_OF_CALL"
     said = f".operands = {len(operands)}, .kind = CVL_{step.kind.upper()}, .op = {op}, .on_flags = {int(on_flags)}, .make = make_{called.name}"
-    return "\n".join([indented("{.operand = {"), *(indented(f"{operand},", 2) for operand in operands), indented(f"}}, {said}}},")])
+    return "\n".join(
+        [indented("{.operand = {"), *(indented(f"{operand},", 2) for operand in operands), indented(f"}}, {said}}},")]
+    )
 
 
 def steps_table(found):
-    return "\n".join([f"static const CvlStepRow {found.name}_steps[] = {{", *(step_row(found, step) for step in found.steps), "};"])
+    return "\n".join(
+        [f"static const CvlStepRow {found.name}_steps[] = {{", *(step_row(found, step) for step in found.steps), "};"]
+    )
 
 
 # ---- the function that calls the exports of a family ----
@@ -299,10 +344,22 @@ def export_argument(found, k, is_room=False):
     if operand.role == "place":
         return f"cvl_place_of((int64_t)s[{k}].number)"
     if operand.role in ("value", "count"):
-        return {"int": f"(int32_t)s[{k}].number", "flag": f"s[{k}].number != 0", "sum": f"(int64_t)s[{k}].number", "size": f"s[{k}].number"}[operand.kind]
+        return {
+            "int": f"(int32_t)s[{k}].number",
+            "flag": f"s[{k}].number != 0",
+            "sum": f"(int64_t)s[{k}].number",
+            "size": f"s[{k}].number",
+        }[operand.kind]
     if operand.role in ("single", "told"):
         return f"({rows.NUMBERS[operand.kind]}*)s[{k}].at"
-    kind = {"ints": "int32_t *", "flags": "bool *", "bytes": "bool *", "text": "bool *", "marks": "uint32_t *", "sums": "int64_t *"}[operand.kind]
+    kind = {
+        "ints": "int32_t *",
+        "flags": "bool *",
+        "bytes": "bool *",
+        "text": "bool *",
+        "marks": "uint32_t *",
+        "sums": "int64_t *",
+    }[operand.kind]
     cast = f"({kind})" if operand.role == "room" or is_room else ""
     return f"{cast}s[{k}].at, s[{k}].number"
 
@@ -342,7 +399,9 @@ def slot(row, operand):
 
 
 def handing(head, called, slots):
-    return "\n".join([wrapped(f"{head}{kept(' {')}"), indented(f"return {called}, CVL_SLOTS({', '.join(map(kept, slots))}));"), "}"])
+    return "\n".join(
+        [wrapped(f"{head}{kept(' {')}"), indented(f"return {called}, CVL_SLOTS({', '.join(map(kept, slots))}));"), "}"]
+    )
 
 
 def operator_of(row):
@@ -358,7 +417,9 @@ def function(row):
 def function_on(row):
     """The same with a pool."""
     head = f"CvlStatus cvl_{row.name}_on({in_c.POOL}, {parameters(row.arguments)})"
-    return handing(head, f"cvl_call_on(pool, &cvl_{row.family.name}_row, {operator_of(row)}", [slot(row, o) for o in row.operands])
+    return handing(
+        head, f"cvl_call_on(pool, &cvl_{row.family.name}_row, {operator_of(row)}", [slot(row, o) for o in row.operands]
+    )
 
 
 def segments_function(row):
@@ -370,7 +431,16 @@ def segments_function(row):
 
 def fault_names():
     names = [f'    case CVL_{in_c.constant(name)}: return "{name}";' for _, name in table.STATUSES]
-    return "\n".join(["const char *cvl_fault_name(uint32_t number) {", "    switch (number) {", *names, '    default: return "Unknown";', "    }", "}"])
+    return "\n".join(
+        [
+            "const char *cvl_fault_name(uint32_t number) {",
+            "    switch (number) {",
+            *names,
+            '    default: return "Unknown";',
+            "    }",
+            "}",
+        ]
+    )
 
 
 def calls_file():
@@ -385,5 +455,11 @@ def calls_file():
     )
     blocks = [make_function(found) for found in [*families, *map(Family, rows.BETWEEN.values())]]
     blocks += [block for found in families for block in ([steps_table(found)] if found.steps else []) + [row_of(found)]]
-    blocks += [fault_names(), *("\n".join(found) for found in (map(function, whole), map(function_on, in_parts), map(segments_function, in_c.on_segments())))]
+    blocks += [
+        fault_names(),
+        *(
+            "\n".join(found)
+            for found in (map(function, whole), map(function_on, in_parts), map(segments_function, in_c.on_segments()))
+        ),
+    ]
     return "\n\n".join([f'{head}\n#include "driver.h"\n#include "parts.h"', *blocks]) + "\n"

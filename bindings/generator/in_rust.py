@@ -19,10 +19,33 @@ HEAD = """//! {about}
 """
 
 TAKEN = {
-    "ints": "&[i32]", "flags": "&[bool]", "bytes": "&[u8]", "text": "impl AsRef<[u8]>", "int": "i32", "flag": "bool", "sum": "i64", "size": "usize",
+    "ints": "&[i32]",
+    "flags": "&[bool]",
+    "bytes": "&[u8]",
+    "text": "impl AsRef<[u8]>",
+    "int": "i32",
+    "flag": "bool",
+    "sum": "i64",
+    "size": "usize",
 }
-GIVEN = {"ints": "Vec<i32>", "flags": "Vec<bool>", "bytes": "Vec<u8>", "text": "String", "sums": "Vec<i64>", "int": "i32", "flag": "bool", "sum": "i64"}
-ROOMS = {"ints": "&mut [i32]", "flags": "&mut [bool]", "bytes": "&mut [u8]", "text": "&mut [u8]", "marks": "&mut [u32]", "sums": "&mut [i64]"}
+GIVEN = {
+    "ints": "Vec<i32>",
+    "flags": "Vec<bool>",
+    "bytes": "Vec<u8>",
+    "text": "String",
+    "sums": "Vec<i64>",
+    "int": "i32",
+    "flag": "bool",
+    "sum": "i64",
+}
+ROOMS = {
+    "ints": "&mut [i32]",
+    "flags": "&mut [bool]",
+    "bytes": "&mut [u8]",
+    "text": "&mut [u8]",
+    "marks": "&mut [u32]",
+    "sums": "&mut [i64]",
+}
 
 # The most bytes of an element in a text that is written: an integer has up to 11 and a blank, a boolean one and a blank.
 BYTES = {"ints": 12, "flags": 2}
@@ -178,7 +201,9 @@ def _type_taken(operand):
 def _taken(function, place=None, operands=None):
     """The parameters of a function in Rust. In the form that works in place, the operand `place` is the room."""
     operands = function.operands if operands is None else operands
-    return _operator(function, "operator: Operator") + [f"{name_of(o)}: {ROOMS[o.kind] if o == place else _type_taken(o)}" for o in operands]
+    return _operator(function, "operator: Operator") + [
+        f"{name_of(o)}: {ROOMS[o.kind] if o == place else _type_taken(o)}" for o in operands
+    ]
 
 
 def _passed(function):
@@ -220,7 +245,11 @@ def _result_length(function):
         return f"{name_of(by)}.total()" if by.role == "lengths" else f"true_flags({by.name})"
     if function.result.extent == "both":
         return " + ".join(f"{operand.name}.len()" for operand in function.alike("n") + function.alike("m"))
-    return "places(count)?" if function.is_sized or function.result.extent == "count" else _alike(function, function.result.extent)[0]
+    return (
+        "places(count)?"
+        if function.is_sized or function.result.extent == "count"
+        else _alike(function, function.result.extent)[0]
+    )
 
 
 def _argument(function, argument):

@@ -142,10 +142,14 @@ def _held(argument):
     if argument.size:
         return f'held.len("{operand.name}")'
     if operand.role == "lengths":
-        return f'&held.descriptor("{operand.name}")' if argument.type == "const CvlSegments *" else f'held.lengths("{operand.name}")'
+        return (
+            f'&held.descriptor("{operand.name}")' if argument.type == "const CvlSegments *" else f'held.lengths("{operand.name}")'
+        )
     if operand.role in ("place", "count"):
         return f'held.number("{operand.name}")'
-    return VALUES[operand.kind].format(f'held.number("{operand.name}")') if operand.role == "value" else f'held.at("{operand.name}")'
+    return (
+        VALUES[operand.kind].format(f'held.number("{operand.name}")') if operand.role == "value" else f'held.at("{operand.name}")'
+    )
 
 
 def _tried(row, name, arguments, pool=False):

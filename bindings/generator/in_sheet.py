@@ -15,7 +15,10 @@ import table
 TOP = pathlib.Path(__file__).resolve().parent.parent.parent
 FAULTS = "crates/cvl_base/specs/Faults.antt"
 
-TITLE, INTRO = "Cheat sheet", "A name is an operator and three letters: `add_rez` adds up, as a reduce, in each segment, integers."
+TITLE, INTRO = (
+    "Cheat sheet",
+    "A name is an operator and three letters: `add_rez` adds up, as a reduce, in each segment, integers.",
+)
 OPERATORS = "Before each end stand its operators. Calls come in C, C++, Fortran, Python and Rust too, but for `input`, `nested` and lengths."
 STOPS = "A script stops at its first fault, a call returns it, with the place from 0. Those from 100 on are of programs."
 
@@ -91,7 +94,9 @@ WIDTH, HEIGHT, LINE = 1120, 792, 14.5
 
 def _spans(text):
     """A line in which words of code have their own letters."""
-    return "".join(f'<tspan class="code">{escape(part)}</tspan>' if k % 2 else escape(part) for k, part in enumerate(text.split("`")))
+    return "".join(
+        f'<tspan class="code">{escape(part)}</tspan>' if k % 2 else escape(part) for k, part in enumerate(text.split("`"))
+    )
 
 
 def _wrapped(text, width):
@@ -107,7 +112,9 @@ class _Column:
         self.left, self.top, self.found = left, top, []
 
     def add(self, text, kind="", indent=0):
-        self.found.append(f'<text x="{self.left + indent}" y="{self.top}"{f" class={chr(34)}{kind}{chr(34)}" if kind else ""}>{_spans(text)}</text>')
+        self.found.append(
+            f'<text x="{self.left + indent}" y="{self.top}"{f" class={chr(34)}{kind}{chr(34)}" if kind else ""}>{_spans(text)}</text>'
+        )
         self.top += LINE
 
     def heading(self, text):
@@ -160,7 +167,11 @@ def _put(column, title, found, width):
 def columns():
     """The three columns; the faults of programs alone stand below the families."""
     last = [fault for fault in faults() if fault[0] >= 100]
-    return _names(), _put(_families(), "Faults of programs", last, 56), _put(_Column(724, 36), "Faults", [f for f in faults() if f not in last], 66)
+    return (
+        _names(),
+        _put(_families(), "Faults of programs", last, 56),
+        _put(_Column(724, 36), "Faults", [f for f in faults() if f not in last], 66),
+    )
 
 
 def picture():

@@ -70,7 +70,11 @@ def _call(row):
     said = [row.sentences]
     if row.example:
         said += [f"`{in_c.example_text(row)}`"]
-    names = f"`cvl_{row.name}` in C and Fortran, `cvl::{row.name}` in C++ and Rust, `cvl.{row.name}` in Python" if row.call else f"`cvl_{row.name}`"
+    names = (
+        f"`cvl_{row.name}` in C and Fortran, `cvl::{row.name}` in C++ and Rust, `cvl.{row.name}` in Python"
+        if row.call
+        else f"`cvl_{row.name}`"
+    )
     body = "\n\n".join([_in_words(said[0]), *said[1:], names])
     return f"```{{call}} {row.name}\n{body}\n```"
 
@@ -112,7 +116,9 @@ def _faults(entry):
     found = [f"**Faults in a script:** {entry.faults}"] if entry.said else []
     row = entry.rows[0] if entry.rows else None
     if row:
-        found.append(f"**Faults in C, C++, Python, Rust and Fortran:** {_in_words(rows.fault_text(row)) or 'those of [all calls](all-calls.md).'}")
+        found.append(
+            f"**Faults in C, C++, Python, Rust and Fortran:** {_in_words(rows.fault_text(row)) or 'those of [all calls](all-calls.md).'}"
+        )
         found.append(f"**In place:** {rows.in_place_words(row.family) or 'no, 102 Overlap.'}")
     return found
 
@@ -150,7 +156,11 @@ def _of_families(entry):
         return []
     said = "C makes these calls by one function, too, which takes the number of elements behind each array"
     said += " and first the number of an operator:" if families[0].family.operators else ":"
-    own = [f"```{{call}} {row.name}\n{_in_words(row.family.sentence)}\n\n`{signatures.of_c(row)}`\n```" for row in families if _homes()[row.name] == entry.name]
+    own = [
+        f"```{{call}} {row.name}\n{_in_words(row.family.sentence)}\n\n`{signatures.of_c(row)}`\n```"
+        for row in families
+        if _homes()[row.name] == entry.name
+    ]
     others = [f"[`cvl_{row.name}`]({_homes()[row.name]}.md)" for row in families if _homes()[row.name] != entry.name]
     return ["## The family in C", said, *own, *([" ".join(others)] if others else [])]
 
@@ -178,8 +188,21 @@ def entry_page(entry):
     what = [f"**Takes:** {entry.takes}. **Gives:** {entry.gives}."] if entry.said else []
     pictures = [text.replace("](pictures/", "](../pictures/") for text in in_calls.picture(entry)]
     parts = [
-        f"# {title}", _names(entry), said, *_elsewhere(entry), *pictures, _signatures(signatures.of_entry(entry)),
-        "## Lengths and faults", *what, *lengths, *_faults(entry), *_examples(entry), *_costs(entry), "## Calls", *calls, *_of_families(entry),
+        f"# {title}",
+        _names(entry),
+        said,
+        *_elsewhere(entry),
+        *pictures,
+        _signatures(signatures.of_entry(entry)),
+        "## Lengths and faults",
+        *what,
+        *lengths,
+        *_faults(entry),
+        *_examples(entry),
+        *_costs(entry),
+        "## Calls",
+        *calls,
+        *_of_families(entry),
     ]
     return "\n\n".join([*parts, *_see_also(entry)]) + "\n"
 
@@ -192,7 +215,9 @@ def _toctree(names, caption=""):
 def _intro(said):
     """What stands before the entries of a section."""
     if isinstance(said, str):
-        return [said.replace("](mistakes.md", "](../mistakes.md").replace("](#checked-sums)", "](checked-sums.md)")] if said else []
+        return (
+            [said.replace("](mistakes.md", "](../mistakes.md").replace("](#checked-sums)", "](checked-sums.md)")] if said else []
+        )
     found = []
     for paragraph in said:
         item = re.match(r"  (?:(\d)\. |- )", paragraph)
@@ -212,7 +237,9 @@ def _index(found):
 
 
 def section_page(title, said, found):
-    return "\n\n".join([f"# {title}", *_intro(said), _index([(title, "", found)]), _toctree([entry.name for entry in found])]) + "\n"
+    return (
+        "\n\n".join([f"# {title}", *_intro(said), _index([(title, "", found)]), _toctree([entry.name for entry in found])]) + "\n"
+    )
 
 
 # ---- what all calls from C share ----
@@ -233,19 +260,26 @@ def _constants():
     statuses = "\n".join(f"| {number} | `CVL_{in_c.constant(name)}` | {name} |" for number, name in table.STATUSES)
     operators = "\n".join(f"| {found.number} | `CVL_{found.name}` | {found.sentence} |" for found in table.OPERATORS)
     return [
-        _code("C", about.STATUS_TYPE), f"| Number | Constant | Name |\n|---|---|---|\n{statuses}", _code("C", about.LENGTHS_TYPE),
+        _code("C", about.STATUS_TYPE),
+        f"| Number | Constant | Name |\n|---|---|---|\n{statuses}",
+        _code("C", about.LENGTHS_TYPE),
         f"`CVL_MOST_ELEMENTS` is {table.MOST_ELEMENTS}, `CVL_MOST_OF_TEXT` {table.MOST_OF_TEXT}, and `CVL_MOST_STACK` {table.MOST_STACK}. The operators:",
         f"| Number | Constant | What it gives |\n|---|---|---|\n{operators}",
     ]
 
 
 def _functions(found):
-    return [f"```{{call}} {name.removeprefix('cvl_')}\n{_in_words(' '.join(said))}\n\n`{signatures.MARKS.sub('', declared)}`\n```" for name, said, declared in found]
+    return [
+        f"```{{call}} {name.removeprefix('cvl_')}\n{_in_words(' '.join(said))}\n\n`{signatures.MARKS.sub('', declared)}`\n```"
+        for name, said, declared in found
+    ]
 
 
 def shared_pages():
     """The pages of what all calls from C share, of threads and of descriptors."""
-    families = [(f"cvl_{in_c.segments_name(row)}", (row.family.sentence,), in_c.segments_declaration(row)) for row in in_c.on_segments()]
+    families = [
+        (f"cvl_{in_c.segments_name(row)}", (row.family.sentence,), in_c.segments_declaration(row)) for row in in_c.on_segments()
+    ]
     pages = {
         "all-calls": ("What all calls share", [_shown(about.ABOUT[2:]), "## Types and numbers", *_constants(), "## The version, and the names of faults",
                                                *_functions(about.OF_VERSIONS), "## Booleans that are neither 0 nor 1", *_functions(about.OF_FLAGS),
@@ -259,7 +293,11 @@ def shared_pages():
 def leads():
     """Where a link to a heading of `calls.md` leads on the site: each heading's page."""
     found = {in_calls.anchor(entry): f"{FOLDER}/{entry.name}.md" for _, _, section in reference.of_scripts() for entry in section}
-    return {**found, **{slug(title): f"{FOLDER}/{slug(title)}.md" for title, _, _ in reference.of_scripts()}, "functions-that-no-script-calls": "calls.md"}
+    return {
+        **found,
+        **{slug(title): f"{FOLDER}/{slug(title)}.md" for title, _, _ in reference.of_scripts()},
+        "functions-that-no-script-calls": "calls.md",
+    }
 
 
 def index_page():

@@ -53,7 +53,13 @@ def listed(words):
 def operand_words(operand, descriptor=False):
     """An operand as its role, its kind, how long it is, its use, and whether it is joined with what stands there."""
     kind = "segments" if descriptor and operand.role == "lengths" else kind_of(operand)
-    found = [f"ROLE_{operand.role}", f"KIND_{kind}", f"EXTENT_{operand.extent or 'none'}", f"USE_{operand.use}", str(int(bool(operand.over)))]
+    found = [
+        f"ROLE_{operand.role}",
+        f"KIND_{kind}",
+        f"EXTENT_{operand.extent or 'none'}",
+        f"USE_{operand.use}",
+        str(int(bool(operand.over))),
+    ]
     return f"{{{', '.join(word.upper() for word in found)}}}"
 
 
@@ -80,7 +86,13 @@ def argument(row, found):
     if found.type == "CvlLengths ":
         return f"lengths_at(g, {k})"
     if operand.role in ("value", "place", "count"):
-        return f"g->number[{k}] != 0" if operand.kind == "flag" else f"({rows.NUMBERS[operand.kind].strip()})g->number[{k}]" if operand.role == "value" else f"g->number[{k}]"
+        return (
+            f"g->number[{k}] != 0"
+            if operand.kind == "flag"
+            else f"({rows.NUMBERS[operand.kind].strip()})g->number[{k}]"
+            if operand.role == "value"
+            else f"g->number[{k}]"
+        )
     return f"g->at[{k}]"
 
 
@@ -131,6 +143,7 @@ def operator_row(found):
 def operators():
     """`tests/c/operator_rows.h`."""
     head = comment(
-        "operator_rows.h: a row for each operator: its letters in the names of calls, its number, and its fault. tests/c/operators.h reads it.", rows.NOTE
+        "operator_rows.h: a row for each operator: its letters in the names of calls, its number, and its fault. tests/c/operators.h reads it.",
+        rows.NOTE,
     )
     return "\n".join([head, *map(operator_row, table.OPERATORS), ""])

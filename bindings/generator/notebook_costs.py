@@ -29,6 +29,7 @@ def microseconds(call):
 # %% [markdown]
 # Each row of the list below is a call of this library, and the same in numpy. Both write results of their own.
 
+
 # %%
 def numbers(n, below):
     return random.integers(0, below, n, dtype=numpy.int32)

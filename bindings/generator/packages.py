@@ -3,6 +3,7 @@
 import rows
 import table
 
+
 def name_of(operand):
     """The name of an operand, where what are `lengths` in C, and what else ends so, are segments."""
     return operand.name.replace("lengths", "segments") if operand.role == "lengths" else operand.name

@@ -79,7 +79,9 @@ class Entry:
         if operand.role == "lengths":
             if self.rows[0].result is None:
                 return "lengths (integers)"
-            whose = {"index_lengths": " of the index", "default_lengths": " of the defaults"}.get(operand.name, " of the source" if len(self._cuts) > 1 else "")
+            whose = {"index_lengths": " of the index", "default_lengths": " of the defaults"}.get(
+                operand.name, " of the source" if len(self._cuts) > 1 else ""
+            )
             return f"{self._cuts[operand.name]} (descriptor{whose})"
         kind = self._kind(operand, operand.kind)
         if operand.role == "reads":
@@ -190,7 +192,11 @@ def of_scripts():
     """The sections with the calls of scripts: each title, what it says, and its entries."""
     named = {row.name: row for row in rows.CALLS}
     return [
-        (section.title, section.said, [Entry(section.title, said, [named[name] for name in said.calls if name in named]) for said in section.entries])
+        (
+            section.title,
+            section.said,
+            [Entry(section.title, said, [named[name] for name in said.calls if name in named]) for said in section.entries],
+        )
         for section in entries.SECTIONS
     ]
 
@@ -202,7 +208,11 @@ def beside():
         plain = re.sub(r"(?:^|_)(ints?|bools?)(?=_|$)", "", row.name)
         found.setdefault(row.section, {}).setdefault(plain, []).append(row)
     return [
-        (f"{section[0].upper()}{section[1:]}", table.OF_FAMILIES.get(section, ()), [Entry(section, None, group) for group in groups.values()])
+        (
+            f"{section[0].upper()}{section[1:]}",
+            table.OF_FAMILIES.get(section, ()),
+            [Entry(section, None, group) for group in groups.values()],
+        )
         for section, groups in found.items()
     ]
 

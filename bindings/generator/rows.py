@@ -14,7 +14,14 @@ NOTE = "Written by the generator of the repository from its table of calls; edit
 # then is that of the extent `size`.
 Argument = collections.namedtuple("Argument", "name type operand size")
 
-ARRAYS = {"ints": "int32_t *", "flags": "bool *", "bytes": "uint8_t *", "text": "char *", "marks": "uint32_t *", "sums": "int64_t *"}
+ARRAYS = {
+    "ints": "int32_t *",
+    "flags": "bool *",
+    "bytes": "uint8_t *",
+    "text": "char *",
+    "marks": "uint32_t *",
+    "sums": "int64_t *",
+}
 NUMBERS = {"int": "int32_t ", "flag": "bool ", "sum": "int64_t ", "size": "size_t "}
 
 # How a number of elements is called where a call's arrays share it.
@@ -184,7 +191,11 @@ def call_differences(calls):
         found = [KINDS[row.result.kind]] if row.result else ["Descriptor"]
         if gives != found and not (gives == ["Descriptor"] and found == ["Integers"]):
             yield f"{name} gives {gives} in the table of calls and {found} in its row"
-        if row.operator is not None and row.operator not in row.family.operators or (row.operator is None) == bool(row.family.operators):
+        if (
+            row.operator is not None
+            and row.operator not in row.family.operators
+            or (row.operator is None) == bool(row.family.operators)
+        ):
             yield f"{name} has the operator {row.operator}, which is none of {row.family.name}"
 
 
@@ -236,11 +247,15 @@ def export_differences(exports):
     for row in [*FAMILIES.values(), *BETWEEN.values()]:
         family = row.family
         named.add(family.exported)
-        yield from _export_differences(family.exported, [(o.name, _types(o)) for o in family.operands], family, exports.get(family.exported, []))
+        yield from _export_differences(
+            family.exported, [(o.name, _types(o)) for o in family.operands], family, exports.get(family.exported, [])
+        )
         for name, rooms in in_place_exports(family):
             named.add(name)
             left = [o for o in family.operands if o.role != "room" and (o.name not in rooms or o.name == rooms[0])]
-            yield from _export_differences(name, [(o.name, _types(o, o.name in rooms)) for o in left], family, exports.get(name, []))
+            yield from _export_differences(
+                name, [(o.name, _types(o, o.name in rooms)) for o in left], family, exports.get(name, [])
+            )
     for name in sorted(named ^ set(exports)):
         yield f"{name} is {'no export' if name in named else 'an export without a row'}"
 
@@ -264,7 +279,12 @@ def extent_differences():
                 yield f"the example of {row.name} does not say what stands in {operand.name} before"
             elif operand.over:
                 lengths[operand.extent].add(len(row.example[table.before(operand.name)].split()))
-        if row.result and row.result.role == "room" and row.result.kind not in ("text", "marks") and row.result.extent in ("n", "m", "segments", "total"):
+        if (
+            row.result
+            and row.result.role == "room"
+            and row.result.kind not in ("text", "marks")
+            and row.result.extent in ("n", "m", "segments", "total")
+        ):
             lengths[row.result.extent].add(len(row.example[row.result.name].split()))
         for extent, found in lengths.items():
             if len(found) > 1:

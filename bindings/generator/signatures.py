@@ -16,7 +16,9 @@ LANGUAGES = ("Script", "C", "C++", "Python", "Rust", "Fortran")
 MARKS = re.compile(r"CVL_CHECKED |CVL_RESTRICT | CVL_NONNULL\(\([^)]*\)\)")
 
 # the functions of Python that have no row
-OF_LENGTHS = {name: (operand, "numpy.ndarray" if gives == "LENGTHS" else "int") for name, operand, _, gives, *_ in in_python.LENGTHS}
+OF_LENGTHS = {
+    name: (operand, "numpy.ndarray" if gives == "LENGTHS" else "int") for name, operand, _, gives, *_ in in_python.LENGTHS
+}
 
 
 def in_script(entry, name):
@@ -42,7 +44,12 @@ def _function_of_python(row):
 
 def of_python(row):
     call = _function_of_python(row)
-    gives = {**{kind: f"array of {name.removeprefix('numpy.')}" for kind, name in in_python.NUMPY.items()}, "int": "int", "flag": "bool", "sum": "int"}
+    gives = {
+        **{kind: f"array of {name.removeprefix('numpy.')}" for kind, name in in_python.NUMPY.items()},
+        "int": "int",
+        "flag": "bool",
+        "sum": "int",
+    }
     direct = {"WRITTEN": "int", "TEXT": "str", "READ_NESTED": "array of int32, Segments"}.get(getattr(call, "gives", None))
     given = direct or ("Segments" if call.gives_segments else gives[call.result.kind])
     return f"cvl.{call.name}({', '.join(in_python._names(call))})  # gives {given}"
@@ -51,7 +58,9 @@ def of_python(row):
 def of_rust(row):
     """The declaration in Rust; of what is written by hand, that of its file."""
     if row.call is None and packages.Call(row).gives_two:
-        code = "\n".join(path.read_text() for path in sorted((rows.pathlib.Path(__file__).resolve().parents[1] / "rust/src").glob("*.rs")))
+        code = "\n".join(
+            path.read_text() for path in sorted((rows.pathlib.Path(__file__).resolve().parents[1] / "rust/src").glob("*.rs"))
+        )
     else:
         code = in_rust._written(packages.Call(row))
     found = re.search(rf"pub fn {row.name}\b.*?(?= \{{)", code, re.S)[0]
@@ -64,7 +73,12 @@ def of_fortran(row):
     lines = procedure.lines()
     first = next(k for k, line in enumerate(lines) if line.strip().startswith("subroutine "))
     words = ", ".join(procedure.words)
-    return "\n".join([f"call {procedure.public}({words})", *(f"{line.strip()}" for line in lines[first + 1 : lines.index("", first)] if "::" in line)])
+    return "\n".join(
+        [
+            f"call {procedure.public}({words})",
+            *(f"{line.strip()}" for line in lines[first + 1 : lines.index("", first)] if "::" in line),
+        ]
+    )
 
 
 def of_row(row):

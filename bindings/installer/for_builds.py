@@ -25,7 +25,9 @@ def write(places, folder, rpath):
     """Writes them into a folder, and answers where each goes."""
     found = {}
     for template, place in (
-        ("cvl.pc.in", "pkgconfig"), ("cvl-config.cmake.in", "cmake/cvl"), ("cvl-config-version.cmake.in", "cmake/cvl"),
+        ("cvl.pc.in", "pkgconfig"),
+        ("cvl-config.cmake.in", "cmake/cvl"),
+        ("cvl-config-version.cmake.in", "cmake/cvl"),
     ):
         name = template[: -len(".in")]
         (folder / name).write_text(filled(proved.TOP / "bindings/c" / template, places, place, rpath))

@@ -15,8 +15,11 @@ def placed(places, source=lambda name: name):
     """Where each file goes, with what `source` answers for its name; and the links."""
     libdir = places.libdir
     found = {
-        f"{libdir}/libcvl_mpi.a": source("libcvl_mpi.a"), f"{libdir}/{archive.MPI_FULL}": source(archive.MPI_FULL),
-        "include/cvl_mpi.h": source("cvl_mpi.h"), "include/cvl_mpi.f90": source("cvl_mpi.f90"), **{f"{libdir}/{place}/{name[:-3]}": source(name) for name, place in TEMPLATES},
+        f"{libdir}/libcvl_mpi.a": source("libcvl_mpi.a"),
+        f"{libdir}/{archive.MPI_FULL}": source(archive.MPI_FULL),
+        "include/cvl_mpi.h": source("cvl_mpi.h"),
+        "include/cvl_mpi.f90": source("cvl_mpi.f90"),
+        **{f"{libdir}/{place}/{name[:-3]}": source(name) for name, place in TEMPLATES},
     }
     return found, {f"{libdir}/{archive.MPI_SONAME}": archive.MPI_FULL, f"{libdir}/{archive.MPI_LINKED}": archive.MPI_SONAME}
 

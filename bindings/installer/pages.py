@@ -44,7 +44,9 @@ def site(folder):
         print("no pages in HTML: Sphinx could not make them", flush=True)
     else:
         made = folder
-    return {f"{DOC}/html/{path.relative_to(folder)}": path for path in sorted(folder.rglob("*")) if path.is_file()} if made else {}
+    return (
+        {f"{DOC}/html/{path.relative_to(folder)}": path for path in sorted(folder.rglob("*")) if path.is_file()} if made else {}
+    )
 
 
 def files():

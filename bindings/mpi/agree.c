@@ -7,8 +7,16 @@
 
 /* The turn of a fault, in the order in which a call looks for them. */
 typedef enum CvlTurn {
-    CVL_TURN_DESCRIPTOR, CVL_TURN_OVERLAP, CVL_TURN_UNKNOWN, CVL_TURN_LENGTHS, CVL_TURN_LONG, CVL_TURN_MISMATCH, CVL_TURN_ROOM, CVL_TURN_MEMORY,
-    CVL_TURN_ELEMENTS, CVL_TURN_NONE
+    CVL_TURN_DESCRIPTOR,
+    CVL_TURN_OVERLAP,
+    CVL_TURN_UNKNOWN,
+    CVL_TURN_LENGTHS,
+    CVL_TURN_LONG,
+    CVL_TURN_MISMATCH,
+    CVL_TURN_ROOM,
+    CVL_TURN_MEMORY,
+    CVL_TURN_ELEMENTS,
+    CVL_TURN_NONE
 } CvlTurn;
 
 /* 48 bits of elements and 16 of the call; 8 of the turn, 8 of the number and 48 of the place, or all of them set if there is none. */
@@ -53,7 +61,8 @@ void cvl_fold_votes(void *in, void *inout, int *count, MPI_Datatype *type) {
     }
 }
 
-CvlStatus cvl_agreed(CvlRanks *ranks, CvlStatus status, uint32_t call, uint64_t number, uint64_t most, bool *short_room, uint64_t *total) {
+CvlStatus cvl_agreed(
+    CvlRanks *ranks, CvlStatus status, uint32_t call, uint64_t number, uint64_t most, bool *short_room, uint64_t *total) {
     const CvlVote mine = vote_of(status, *short_room, call, number);
     CvlVote all;
     MPI_Allreduce(&mine, &all, 1, ranks->vote, ranks->agree, ranks->comm);

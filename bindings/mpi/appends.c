@@ -10,12 +10,12 @@
 typedef struct Side {
     const CvlRankSegments *held;
     const void *elements;
-    int64_t *starts;                /* of each piece, where its segment of the other vector starts; then where the piece begins in the result */
-    int64_t *lengths;               /* and how long that segment is */
+    int64_t *starts;  /* of each piece, where its segment of the other vector starts; then where the piece begins in the result */
+    int64_t *lengths; /* and how long that segment is */
     int32_t *from, *counts;         /* of each run: where it begins in the part of the rank that has it, and its elements */
     int32_t *got_from, *got_counts; /* the same of those that this rank gets */
     size_t runs, got_runs;
-    void *got;                      /* their elements */
+    void *got; /* their elements */
 } Side;
 
 /* ---- where pieces stand in the result ---- */
@@ -106,7 +106,9 @@ static void write_runs(const Side *side, size_t size, char *out) {
     }
 }
 
-static void let_go(Side *side) { free(side->starts), free(side->lengths), free(side->from), free(side->got_from), free(side->got); }
+static void let_go(Side *side) {
+    free(side->starts), free(side->lengths), free(side->from), free(side->got_from), free(side->got);
+}
 
 /* ---- the call ---- */
 

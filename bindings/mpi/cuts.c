@@ -66,7 +66,8 @@ void cvl_find_cuts(CvlSorting *s) {
     count_up_to(s, s->low, 0, s->own);
     for (int r = 0; r < ranks; r++) s->own[r] -= s->cut[r], s->before[r] = 0;
     MPI_Exscan(s->own, s->before, ranks, MPI_UINT64_T, MPI_SUM, s->ranks->comm);
-    for (int r = 0; r < ranks; r++) s->cut[r] += cvl_ties_taken(s->begins[r].before - s->all[r], s->ranks->rank == 0 ? 0 : s->before[r], s->own[r]);
+    for (int r = 0; r < ranks; r++)
+        s->cut[r] += cvl_ties_taken(s->begins[r].before - s->all[r], s->ranks->rank == 0 ? 0 : s->before[r], s->own[r]);
 }
 
 /* The rank in which a segment starts that goes on in others. */

@@ -11,7 +11,8 @@ static CvlStatus look(CvlLengths pieces, size_t *total) {
 
 /* Where this rank's range begins, and how much of its first and last segment stands in other ranks. */
 static void place_among_ranks(CvlRankSegments *s) {
-    const int64_t total = (int64_t)s->total, head = (int64_t)cvl_head_of(s), last = s->pieces > 0 ? (int64_t)s->lengths[s->pieces - 1] : 0;
+    const int64_t total = (int64_t)s->total, head = (int64_t)cvl_head_of(s),
+                  last = s->pieces > 0 ? (int64_t)s->lengths[s->pieces - 1] : 0;
     const bool starts = s->starts > 0;
     const CvlFold counts = cvl_fold(CVL_JOIN_COUNTS, 0, total, (int64_t)s->starts, 0);
     const CvlFold before = cvl_before(s->ranks, counts), all = cvl_all(s->ranks, counts);

@@ -29,7 +29,8 @@ static CvlStatus fill_with_units(const CvlCall *c, void *own, size_t places) {
 
 static CvlStatus combine_own(const CvlCall *c, void *own, size_t places) {
     const CvlStatus status = fill_with_units(c, own, places);
-    return status.number == CVL_DONE ? cvl_combine_plainly(c, c->in[CVL_AS_A], c->in[CVL_AS_INDEX], own, places, cvl_adds_up(c)) : status;
+    return status.number == CVL_DONE ? cvl_combine_plainly(c, c->in[CVL_AS_A], c->in[CVL_AS_INDEX], own, places, cvl_adds_up(c))
+                                     : status;
 }
 
 /* ---- what the ranks have of a place ---- */

@@ -16,7 +16,8 @@ static Sides count_sides(CvlCall *c) {
     int32_t count = 0;
     if (c->status.number == CVL_DONE) cvl_say(c, cvl_count(c->in[CVL_AS_FLAGS].at, n, &count));
     const Sides sides = {(size_t)count, c->status.number == CVL_DONE ? n - (size_t)count : 0, NULL, NULL};
-    const int64_t more = (int64_t)c->in[CVL_AS_A].number - (int64_t)sides.trues, fewer = (int64_t)c->in[CVL_AS_B].number - (int64_t)sides.falses;
+    const int64_t more = (int64_t)c->in[CVL_AS_A].number - (int64_t)sides.trues,
+                  fewer = (int64_t)c->in[CVL_AS_B].number - (int64_t)sides.falses;
     const CvlFold all = cvl_all(c->ranks, cvl_fold(CVL_JOIN_COUNTS, 0, more, fewer, 0));
     if (all.high != 0 || all.low != 0) cvl_say(c, cvl_status(CVL_LENGTH_MISMATCH, -1));
     return sides;
@@ -35,9 +36,17 @@ static void merge(CvlCall *c, const Sides *sides) {
     cvl_send_spread(c->ranks, c->in[CVL_AS_A].at, c->in[CVL_AS_A].number, sides->when_true, sides->trues, size);
     cvl_send_spread(c->ranks, c->in[CVL_AS_B].at, c->in[CVL_AS_B].number, sides->when_false, sides->falses, size);
     if (cvl_has_bools(c)) {
-        cvl_say(c, cvl_merge_by_flags_bool(flags.at, flags.number, sides->when_true, sides->trues, sides->when_false, sides->falses, (bool *)out.at, out.number));
+        cvl_say(
+            c,
+            cvl_merge_by_flags_bool(
+                flags.at, flags.number, sides->when_true, sides->trues, sides->when_false, sides->falses, (bool *)out.at,
+                out.number));
     } else {
-        cvl_say(c, cvl_merge_by_flags_int(flags.at, flags.number, sides->when_true, sides->trues, sides->when_false, sides->falses, (int32_t *)out.at, out.number));
+        cvl_say(
+            c,
+            cvl_merge_by_flags_int(
+                flags.at, flags.number, sides->when_true, sides->trues, sides->when_false, sides->falses, (int32_t *)out.at,
+                out.number));
     }
 }
 
@@ -64,7 +73,8 @@ static void count_trues(CvlCall *c, int64_t *trues) {
 }
 
 /* The first segment that starts in the rank and has other counts than its two sides, or -1. */
-static int64_t first_miscount(const CvlRankSegments *s, const int64_t *trues, const int64_t *when_true, const int64_t *when_false) {
+static int64_t first_miscount(
+    const CvlRankSegments *s, const int64_t *trues, const int64_t *when_true, const int64_t *when_false) {
     const size_t skipped = s->goes_on;
     for (size_t k = 0; k < s->starts; k++) {
         const size_t p = k + skipped;

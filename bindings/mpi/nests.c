@@ -76,7 +76,8 @@ static CvlStatus read_lists(Nested *n, State state, CvlStatus words) {
         const char first = n->text[next_token(n->text, n->text_len, &at)];
         const bool is_word = !is_bracket(first), is_list = state == BETWEEN && first == '[';
         state = after(state, first);
-        if (state == AT_FAULT || (is_word && words.number == CVL_BAD_INPUT && word == words.place)) return cvl_status(CVL_BAD_INPUT, token);
+        if (state == AT_FAULT || (is_word && words.number == CVL_BAD_INPUT && word == words.place))
+            return cvl_status(CVL_BAD_INPUT, token);
         if (is_list) n->lengths[n->pieces++] = 0;
         if (is_word) n->lengths[n->pieces - 1]++, word++;
     }
@@ -98,8 +99,10 @@ static CvlStatus fault_of(CvlRanks *ranks, Nested *n, CvlStatus words) {
 
 /* ---- reading ---- */
 
-static bool do_meet(const char *text, size_t text_len, const int32_t *out, size_t out_len, const int32_t *lengths, size_t lengths_len) {
-    return cvl_meet(text, text_len, 1, out, out_len, sizeof *out) || cvl_meet(text, text_len, 1, lengths, lengths_len, sizeof *lengths) ||
+static bool do_meet(
+    const char *text, size_t text_len, const int32_t *out, size_t out_len, const int32_t *lengths, size_t lengths_len) {
+    return cvl_meet(text, text_len, 1, out, out_len, sizeof *out) ||
+        cvl_meet(text, text_len, 1, lengths, lengths_len, sizeof *lengths) ||
         cvl_meet(out, out_len, sizeof *out, lengths, lengths_len, sizeof *lengths);
 }
 
@@ -107,7 +110,8 @@ static void copy(int32_t *to, const int32_t *from, size_t count) {
     if (count > 0) memcpy(to, from, count * sizeof *to);
 }
 
-CvlStatus cvl_seg_read_ints_mpi(CvlRanks *ranks, const char *text, size_t text_len, int32_t *out, size_t out_len, size_t *count, int32_t *lengths,
+CvlStatus cvl_seg_read_ints_mpi(
+    CvlRanks *ranks, const char *text, size_t text_len, int32_t *out, size_t out_len, size_t *count, int32_t *lengths,
     size_t lengths_len, size_t *pieces, bool *goes_on) {
     Nested n = {.text = text, .text_len = text_len};
     bool short_room = 0;
@@ -144,7 +148,8 @@ static void cut_brackets(const CvlRankSegments *s, CvlWritten *w) {
     if (open && !(s->goes_on && s->pieces == 1 && last == 0)) w->back = 1;
 }
 
-static CvlStatus write_lists(const void *a, size_t a_len, const CvlRankSegments *s, bool are_bools, char *room, size_t room_len, size_t *length) {
+static CvlStatus write_lists(
+    const void *a, size_t a_len, const CvlRankSegments *s, bool are_bools, char *room, size_t room_len, size_t *length) {
     const CvlLengths lengths = {s->lengths, s->pieces};
     if (are_bools) return cvl_seg_write_bools(a, a_len, lengths, room, room_len, length);
     return cvl_seg_write_ints(a, a_len, lengths, room, room_len, length);
@@ -161,7 +166,9 @@ static CvlStatus write_own(const void *a, size_t a_len, const CvlRankSegments *s
     return write_lists(a, a_len, s, are_bools, w->whole, w->length, &w->length);
 }
 
-static CvlStatus write_nest(CvlRanks *ranks, const void *a, size_t a_len, const CvlRankSegments *s, bool are_bools, char *text, size_t text_len, size_t *count) {
+static CvlStatus write_nest(
+    CvlRanks *ranks, const void *a, size_t a_len, const CvlRankSegments *s, bool are_bools, char *text, size_t text_len,
+    size_t *count) {
     CvlWritten w = {.length = 2};
     bool short_room = 0;
     uint64_t none;

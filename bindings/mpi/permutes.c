@@ -26,7 +26,9 @@ bool cvl_has(const CvlCall *c, CvlAs as) {
 }
 
 /* Whether all indices go somewhere, so that the result has as many places; or only those whose flags are true. */
-static bool is_simple(const CvlCall *c) { return cvl_has(c, CVL_AS_A) && !cvl_has(c, CVL_AS_B) && !cvl_has(c, CVL_AS_FLAGS) && !c->combines; }
+static bool is_simple(const CvlCall *c) {
+    return cvl_has(c, CVL_AS_A) && !cvl_has(c, CVL_AS_B) && !cvl_has(c, CVL_AS_FLAGS) && !c->combines;
+}
 static bool is_select(const CvlCall *c) { return cvl_has(c, CVL_AS_A) && cvl_has(c, CVL_AS_FLAGS); }
 
 /* The elements that go somewhere, and those that stand where none goes. */
@@ -99,7 +101,8 @@ static CvlStatus place_received(CvlCall *c, Sending *s) {
     const bool all = !cvl_has(c, CVL_AS_B) && s->received == out.number;
     if (cvl_has_bools(c) && all) return cvl_permute_bool(s->got, s->received, s->got_places, s->received, c->aside, out.number);
     if (cvl_has_bools(c)) {
-        return cvl_default_permute_bool(s->got, s->received, s->got_places, s->received, before, out.number, c->aside, out.number);
+        return cvl_default_permute_bool(
+            s->got, s->received, s->got_places, s->received, before, out.number, c->aside, out.number);
     }
     if (all) return cvl_permute_int(s->got, s->received, s->got_places, s->received, c->aside, out.number);
     return cvl_default_permute_int(s->got, s->received, s->got_places, s->received, before, out.number, c->aside, out.number);
@@ -217,7 +220,9 @@ static CvlStatus send_and_write(CvlCall *c, Sending *s, bool in_order) {
     return own;
 }
 
-static bool is_of_index(CvlStatus status) { return status.number == CVL_INDEX_OUT_OF_RANGE || status.number == CVL_INDEX_REPEATED; }
+static bool is_of_index(CvlStatus status) {
+    return status.number == CVL_INDEX_OUT_OF_RANGE || status.number == CVL_INDEX_REPEATED;
+}
 
 /* None is sent to them. */
 bool cvl_may_grow(CvlCall *c) {

@@ -34,7 +34,8 @@ static inline bool cvl_has_sums(const CvlCall *c) { return cvl_adds_up(c) && cvl
 CVL_HIDDEN bool cvl_may_grow(CvlCall *c);
 
 /* Combines elements with a room of this rank, of sums of 64 bits or of what the family's has; or counts the indices. */
-CVL_HIDDEN CvlStatus cvl_combine_plainly(const CvlCall *c, CvlSlot a, CvlSlot index, void *room, size_t room_len, bool is_of_sums);
+CVL_HIDDEN CvlStatus
+cvl_combine_plainly(const CvlCall *c, CvlSlot a, CvlSlot index, void *room, size_t room_len, bool is_of_sums);
 
 /* ---- indices that go on from one place to the next: in_runs.c ---- */
 
@@ -57,16 +58,17 @@ struct CvlRoute {
     const int32_t *places;        /* of each index, its place in the whole, until the route has settled */
     int32_t *slots;               /* of each index, which of the elements asked for is its own: in the order of bins until then */
     CvlBins bins;
-    int32_t *answered;            /* the places of its part that other ranks ask for */
-    void *sent, *got;             /* elements */
-    CvlStatus permute;            /* what a simple permute by the index answers */
+    int32_t *answered; /* the places of its part that other ranks ask for */
+    void *sent, *got;  /* elements */
+    CvlStatus permute; /* what a simple permute by the index answers */
 };
 
 /*
  * Finds which ranks have the elements at places of a vector of which this rank has `source_len`. All ranks agree whether there is memory,
  * and on 10 at the first bad index.
  */
-CVL_HIDDEN bool cvl_make_route(CvlCall *c, CvlRoute *route, const int32_t *places, size_t places_len, size_t source_len, int64_t bad);
+CVL_HIDDEN bool cvl_make_route(
+    CvlCall *c, CvlRoute *route, const int32_t *places, size_t places_len, size_t source_len, int64_t bad);
 
 /* Fetches elements into route->got, each once. */
 CVL_HIDDEN CvlStatus cvl_fetch(CvlRoute *route, const void *source, size_t size);

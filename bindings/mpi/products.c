@@ -19,7 +19,8 @@ static void multiply(CvlCall *c, const Entries *e) {
     const CvlLengths rows = {e->rows->lengths, e->rows->pieces};
     const bool goes_on = e->rows->goes_on, starts = e->rows->starts > 0;
     int32_t *const out = cvl_room(c);
-    if (c->status.number == CVL_DONE) cvl_say(c, cvl_sparse_product(rows, e->slots, e->count, e->values, e->count, e->x, e->x_len, e->sums, rows.segments));
+    if (c->status.number == CVL_DONE)
+        cvl_say(c, cvl_sparse_product(rows, e->slots, e->count, e->values, e->count, e->x, e->x_len, e->sums, rows.segments));
     const int64_t head = goes_on && c->status.number == CVL_DONE ? e->sums[0] : 0;
     const CvlFold after = cvl_after(c->ranks, cvl_fold(CVL_JOIN_INTS, CVL_ADD, 0, head, starts));
     if (!cvl_agree(c, e->rows->starts) || !starts) return;
@@ -51,7 +52,8 @@ static bool fits(CvlFold sum, int32_t *number) {
 
 /* The rows that start in the rank: all but the last by the plain family, the last joined with what later ranks have of it. */
 static void multiply_starting(CvlCall *c, const Entries *e, CvlFold after) {
-    const size_t starts = e->rows->starts, head = cvl_head_of(e->rows), last = e->count - (size_t)e->rows->lengths[e->rows->pieces - 1];
+    const size_t starts = e->rows->starts, head = cvl_head_of(e->rows),
+                 last = e->count - (size_t)e->rows->lengths[e->rows->pieces - 1];
     const CvlLengths rows = {e->rows->goes_on ? e->rows->lengths + 1 : e->rows->lengths, starts - 1};
     const size_t n = last - head;
     cvl_say(c, cvl_checked_sparse_product(rows, e->slots + head, n, e->values + head, n, e->x, e->x_len, e->sums, starts - 1));
@@ -136,7 +138,8 @@ CvlStatus cvl_rows_over_ranks(CvlCall *c) {
 
 /* ---- by a route for the columns ---- */
 
-static const CvlRankRow route_family = {.call = (CVL_CALL_ROUTE >> 8) + 1}, checked_route_family = {.call = (CVL_CALL_ROUTE >> 8) + 2, .checked = 1};
+static const CvlRankRow route_family = {.call = (CVL_CALL_ROUTE >> 8) + 1},
+                        checked_route_family = {.call = (CVL_CALL_ROUTE >> 8) + 2, .checked = 1};
 
 /* The faults that a plain call reports first. */
 static void look(CvlCall *c, const CvlRoute *route) {
@@ -147,9 +150,11 @@ static void look(CvlCall *c, const CvlRoute *route) {
         cvl_say(c, cvl_status(CVL_NO_DESCRIPTOR, -1));
         return;
     }
-    const bool meets = cvl_meet(out.at, out.number, size, values.at, values.number, size) || cvl_meet(out.at, out.number, size, x.at, x.number, size);
+    const bool meets = cvl_meet(out.at, out.number, size, values.at, values.number, size) ||
+        cvl_meet(out.at, out.number, size, x.at, x.number, size);
     if (meets) cvl_say(c, cvl_overlap());
-    const bool fits = values.number == route->index_len && values.number == rows->total && x.number == route->source_len && out.number == rows->starts;
+    const bool fits = values.number == route->index_len && values.number == rows->total && x.number == route->source_len &&
+        out.number == rows->starts;
     if (!fits) cvl_say(c, cvl_status(CVL_LENGTH_MISMATCH, -1));
 }
 
@@ -167,14 +172,16 @@ static CvlStatus product_by(
     return c.status;
 }
 
-CvlStatus cvl_route_sparse_product(CvlRoute *route, const CvlRankSegments *rows, const int32_t *values, size_t values_len, const int32_t *x,
-    size_t x_len, int32_t *out, size_t out_len) {
+CvlStatus cvl_route_sparse_product(
+    CvlRoute *route, const CvlRankSegments *rows, const int32_t *values, size_t values_len, const int32_t *x, size_t x_len,
+    int32_t *out, size_t out_len) {
     const CvlSlot entries = {values, values_len}, vector = {x, x_len}, room = {out, out_len};
     return product_by(route, &route_family, rows, entries, vector, room);
 }
 
-CvlStatus cvl_route_checked_sparse_product(CvlRoute *route, const CvlRankSegments *rows, const int32_t *values, size_t values_len,
-    const int32_t *x, size_t x_len, int32_t *out, size_t out_len) {
+CvlStatus cvl_route_checked_sparse_product(
+    CvlRoute *route, const CvlRankSegments *rows, const int32_t *values, size_t values_len, const int32_t *x, size_t x_len,
+    int32_t *out, size_t out_len) {
     const CvlSlot entries = {values, values_len}, vector = {x, x_len}, room = {out, out_len};
     return product_by(route, &checked_route_family, rows, entries, vector, room);
 }

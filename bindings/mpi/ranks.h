@@ -41,7 +41,7 @@ struct CvlRanks {
     int rank, size;
     MPI_Datatype fold, vote;
     MPI_Op before, after, agree;
-    uint64_t *offsets; /* where each rank's part of a vector begins, and how long the vector is */
+    uint64_t *offsets;                                /* where each rank's part of a vector begins, and how long the vector is */
     int *sends, *send_from, *receives, *receive_from; /* of an exchange: the elements for and of each rank */
 };
 
@@ -74,11 +74,11 @@ typedef struct CvlCall CvlCall;
 typedef struct CvlRankRow {
     CvlRow row;
     CvlStatus (*way)(CvlCall *call);
-    unsigned char call;  /* the number of the family, by which ranks see that they make the same call */
-    bool asks;           /* whether the plain family asks for memory */
-    bool held;           /* whether lengths come by a descriptor */
-    bool checked;        /* whether sums never wrap */
-    bool named;          /* whether an index or a count of 32 bits names places of the whole, which then is no longer than a vector */
+    unsigned char call; /* the number of the family, by which ranks see that they make the same call */
+    bool asks;          /* whether the plain family asks for memory */
+    bool held;          /* whether lengths come by a descriptor */
+    bool checked;       /* whether sums never wrap */
+    bool named; /* whether an index or a count of 32 bits names places of the whole, which then is no longer than a vector */
 } CvlRankRow;
 
 struct CvlCall {
@@ -131,8 +131,8 @@ CVL_HIDDEN void cvl_clean(CvlCall *c);
 CVL_HIDDEN bool cvl_agree(CvlCall *c, uint64_t number);
 
 /* Agrees on a status of this rank, of `number` elements, with the place in the whole, which has at most `most`. */
-CVL_HIDDEN CvlStatus cvl_agreed(
-    CvlRanks *ranks, CvlStatus status, uint32_t call, uint64_t number, uint64_t most, bool *short_room, uint64_t *total);
+CVL_HIDDEN CvlStatus
+cvl_agreed(CvlRanks *ranks, CvlStatus status, uint32_t call, uint64_t number, uint64_t most, bool *short_room, uint64_t *total);
 
 /* Makes this rank's part by the plain family; and moves what was made aside into the room. */
 CVL_HIDDEN void cvl_make_own(CvlCall *c);
@@ -194,7 +194,7 @@ typedef struct CvlTargets {
     size_t pieces;
     const int32_t *lengths; /* how many indices each piece has, or nothing where it is one */
     int64_t *starts, *places;
-    int64_t first_place;    /* the place of the rank's first index in the whole, or in its segment */
+    int64_t first_place; /* the place of the rank's first index in the whole, or in its segment */
     int32_t own_length;
 } CvlTargets;
 

@@ -152,7 +152,8 @@ void cvl_write_once(CvlRoute *route, void *out, size_t size) {
     const size_t n = route->index_len;
     const bool is_bool = size == sizeof(bool);
     int32_t *const in_bins = route->slots;
-    for (size_t k = 0; k < n; k++) in_bins[k] = is_bool ? ((const bool *)route->got)[in_bins[k]] : ((const int32_t *)route->got)[in_bins[k]];
+    for (size_t k = 0; k < n; k++)
+        in_bins[k] = is_bool ? ((const bool *)route->got)[in_bins[k]] : ((const int32_t *)route->got)[in_bins[k]];
     for (size_t k = 0; k < n; k++) {
         const int32_t element = in_bins[cvl_bin_of(&route->bins, route->places[k])->next++];
         if (is_bool) ((bool *)out)[k] = element != 0;
@@ -208,7 +209,8 @@ CvlStatus cvl_back_over_ranks(CvlCall *c) {
     if (c->status.number == CVL_DONE && c->segments != NULL) places = cvl_take(c, index.number, sizeof *places);
     cvl_take_targets(c, &targets);
     if (cvl_agree(c, index.number) && cvl_find_targets(c, &targets, total, 0)) {
-        const int64_t bad = places == NULL ? cvl_first_outside(index.at, index.number, total) : find_places(index.at, &targets, places);
+        const int64_t bad = places == NULL ? cvl_first_outside(index.at, index.number, total)
+                                           : find_places(index.at, &targets, places);
         const int32_t *const all = places == NULL ? index.at : places;
         size_t runs;
         if (cvl_are_in_runs(c, bad < 0, all, index.number, &runs)) {
@@ -260,7 +262,8 @@ static void look_at_permute(CvlCall *c, CvlRoute *route, const int32_t *index) {
     route->permute = all.low != 0 ? cvl_status(CVL_LENGTH_MISMATCH, -1) : cvl_done();
     if (!cvl_agree(c, 0) || all.low != 0 || all.high == 0) return;
     int32_t *const room = cvl_take(c, route->source_len, sizeof *room);
-    if (cvl_agree(c, 0)) route->permute = cvl_permute_int_mpi(c->ranks, index, route->index_len, index, route->index_len, room, route->source_len);
+    if (cvl_agree(c, 0))
+        route->permute = cvl_permute_int_mpi(c->ranks, index, route->index_len, index, route->index_len, room, route->source_len);
     if (route->permute.number == CVL_NO_RESOURCES) cvl_say(c, route->permute);
     free(room);
 }
@@ -276,7 +279,8 @@ CvlStatus cvl_route_new(CvlRanks *ranks, const int32_t *index, size_t index_len,
     CvlRoute *const route = cvl_take(&c, 1, sizeof *route);
     int32_t *slots = c.status.number == CVL_DONE ? cvl_take(&c, index_len, sizeof *slots) : NULL;
     if (route != NULL) memset(route, 0, sizeof *route);
-    if (cvl_agree(&c, index_len) && cvl_make_route(&c, route, index, index_len, source_len, cvl_first_outside(index, index_len, total))) {
+    if (cvl_agree(&c, index_len) &&
+        cvl_make_route(&c, route, index, index_len, source_len, cvl_first_outside(index, index_len, total))) {
         cvl_settle_route(route, slots);
         slots = NULL;
         look_at_permute(&c, route, index);
@@ -305,7 +309,8 @@ static CvlStatus agree_on_route(CvlRoute *route, uint32_t op, bool apart, bool f
 
 static CvlStatus back_by(CvlRoute *route, const void *source, size_t source_len, void *out, size_t out_len, size_t size) {
     if (route == NULL || !cvl_are_ranks(route->ranks)) return cvl_status(CVL_NO_DESCRIPTOR, -1);
-    const bool apart = !cvl_meet(source, source_len, size, out, out_len, size), fits = source_len == route->source_len && out_len == route->index_len;
+    const bool apart = !cvl_meet(source, source_len, size, out, out_len, size),
+               fits = source_len == route->source_len && out_len == route->index_len;
     CvlStatus status = agree_on_route(route, (uint32_t)size, apart, fits);
     if (status.number != CVL_DONE) return status;
     status = cvl_fetch(route, source, size);
@@ -335,9 +340,11 @@ static void send_elements(CvlRoute *route, const void *source, void *out, size_t
 
 static CvlStatus permute_by(CvlRoute *route, const void *source, size_t source_len, void *out, size_t out_len, size_t size) {
     if (route == NULL || !cvl_are_ranks(route->ranks)) return cvl_status(CVL_NO_DESCRIPTOR, -1);
-    const bool apart = !cvl_meet(source, source_len, size, out, out_len, size), fits = source_len == route->index_len && out_len == route->source_len;
+    const bool apart = !cvl_meet(source, source_len, size, out, out_len, size),
+               fits = source_len == route->index_len && out_len == route->source_len;
     const CvlStatus status = agree_on_route(route, 16 + (uint32_t)size, apart, fits);
-    if (status.number != CVL_DONE || route->permute.number != CVL_DONE) return status.number != CVL_DONE ? status : route->permute;
+    if (status.number != CVL_DONE || route->permute.number != CVL_DONE)
+        return status.number != CVL_DONE ? status : route->permute;
     send_elements(route, source, out, size);
     return status;
 }

@@ -122,7 +122,8 @@ static inline int cvl_is_past(int64_t a, int64_t b) { return b > 0 ? a > INT64_M
     assigns *high;
     ensures a * b == *high * 0x100000000 + \result && 0 <= \result <= 0xffffffff; */
 static inline int64_t cvl_low_of_product(int32_t a, int32_t b, int64_t *high) {
-    const int64_t product = (int64_t)a * b, rest = product % INT64_C(0x100000000), low = rest < 0 ? rest + INT64_C(0x100000000) : rest;
+    const int64_t product = (int64_t)a * b, rest = product % INT64_C(0x100000000),
+                  low = rest < 0 ? rest + INT64_C(0x100000000) : rest;
     *high = (product - low) / INT64_C(0x100000000);
     return low;
 }

@@ -45,7 +45,7 @@ static bool find_slices(CvlCall *c, uint64_t **places, uint64_t source) {
 /* The runs of pieces that other ranks have, and what is asked for and answered. */
 typedef struct Runs {
     const CvlPieces *pieces;
-    int32_t *from, *counts;         /* of each run, in the order of the ranks: where it begins in its owner's part, and its elements */
+    int32_t *from, *counts; /* of each run, in the order of the ranks: where it begins in its owner's part, and its elements */
     int32_t *got_from, *got_counts; /* of each run that others ask for */
     void *sent, *got;               /* elements */
     int *asked;                     /* how many elements each rank is asked for */
@@ -136,7 +136,8 @@ static void write_runs(CvlCall *c, const Runs *s, size_t size) {
     CvlRun run = {0};
     while (cvl_next_run(ranks, s->pieces, &run)) {
         const size_t got = (size_t)ranks->receive_from[run.owner];
-        const char *const from = run.owner == ranks->rank ? (const char *)c->in[CVL_AS_A].at + (size_t)(run.place - own) * size : (const char *)s->got + got * size;
+        const char *const from = run.owner == ranks->rank ? (const char *)c->in[CVL_AS_A].at + (size_t)(run.place - own) * size
+                                                          : (const char *)s->got + got * size;
         memcpy(out, from, run.count * size);
         ranks->receive_from[run.owner] += (int)run.count;
         out += run.count * size;

@@ -24,11 +24,11 @@ typedef struct CvlSorting {
     CvlRanks *ranks;
     CvlPiece piece[2];
     int pieces;
-    size_t open;              /* how many elements the pieces have, */
-    size_t received;          /* and how many the rank has of the sorted segments */
-    int32_t *keys, *order;    /* of the pieces, sorted: the keys, and which element has each */
-    int32_t *got_keys, *got;  /* the same of what the rank is sent */
-    CvlBegin *begins;         /* of each rank, as all that follows */
+    size_t open;             /* how many elements the pieces have, */
+    size_t received;         /* and how many the rank has of the sorted segments */
+    int32_t *keys, *order;   /* of the pieces, sorted: the keys, and which element has each */
+    int32_t *got_keys, *got; /* the same of what the rank is sent */
+    CvlBegin *begins;        /* of each rank, as all that follows */
     int64_t *low, *high, *middle;
     uint64_t *own, *all, *before, *cut; /* how many elements of a piece go before where a rank begins */
 } CvlSorting;

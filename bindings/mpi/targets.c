@@ -7,7 +7,8 @@ void cvl_look_at_targets(CvlCall *c) {
     const bool longer = s->all > CVL_MOST_ELEMENTS || s->segments > CVL_MOST_ELEMENTS || other->all > CVL_MOST_ELEMENTS;
     if (longer) cvl_say(c, cvl_status(CVL_TOO_LONG, -1));
     const bool fewer = c->third != NULL && c->third->segments != c->segments->segments;
-    if (fewer || (c->other != NULL && c->other->segments != c->segments->segments)) cvl_say(c, cvl_status(CVL_LENGTH_MISMATCH, -1));
+    if (fewer || (c->other != NULL && c->other->segments != c->segments->segments))
+        cvl_say(c, cvl_status(CVL_LENGTH_MISMATCH, -1));
 }
 
 /* How many pieces of indices the rank has. */
@@ -28,7 +29,8 @@ void cvl_take_targets(CvlCall *c, CvlTargets *targets) {
 static void own_segments(const CvlRankSegments *s, size_t from, int64_t *starts, int64_t *places) {
     int64_t start = (int64_t)s->offset;
     for (size_t p = 0; p < s->pieces; p++) {
-        const int64_t before = p == 0 && s->goes_on ? (int64_t)s->head_before : 0, after = p + 1 == s->pieces ? (int64_t)s->last_after : 0;
+        const int64_t before = p == 0 && s->goes_on ? (int64_t)s->head_before : 0,
+                      after = p + 1 == s->pieces ? (int64_t)s->last_after : 0;
         if (p >= from) starts[p - from] = start - before, places[p - from] = before + s->lengths[p] + after;
         start += s->lengths[p];
     }
@@ -68,8 +70,8 @@ static void kept_segments(CvlCall *c, int64_t *starts, int64_t *places) {
 
 /* What the rank sends of the segments that start in it, and the numbers of those that it asks for. */
 typedef struct Asked {
-    int64_t *wide;             /* starts and places, one after another */
-    int32_t *starts, *places;  /* the same */
+    int64_t *wide;            /* starts and places, one after another */
+    int32_t *starts, *places; /* the same */
     int32_t *numbers, *slots;
 } Asked;
 
@@ -117,7 +119,8 @@ bool cvl_find_targets(CvlCall *c, CvlTargets *targets, uint64_t places, bool is_
     const CvlRankSegments *const s = c->segments;
     targets->pieces = pieces_of(c);
     if (s == NULL) {
-        const uint64_t before = (uint64_t)cvl_before(c->ranks, cvl_fold(CVL_JOIN_COUNTS, 0, 0, (int64_t)c->in[CVL_AS_INDEX].number, 0)).low;
+        const uint64_t before =
+            (uint64_t)cvl_before(c->ranks, cvl_fold(CVL_JOIN_COUNTS, 0, 0, (int64_t)c->in[CVL_AS_INDEX].number, 0)).low;
         targets->own_length = (int32_t)c->in[CVL_AS_INDEX].number;
         targets->lengths = &targets->own_length;
         targets->starts[0] = 0, targets->places[0] = (int64_t)places;

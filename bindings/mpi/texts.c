@@ -67,16 +67,20 @@ static CvlStatus write_own(const void *a, size_t a_len, bool are_bools, CvlWritt
     if (status.number != CVL_LENGTH_MISMATCH) return status;
     w->whole = malloc(w->length);
     if (w->whole == NULL) return cvl_status(CVL_NO_RESOURCES, -1);
-    return are_bools ? cvl_write_bools(a, a_len, w->whole, w->length, &w->length) : cvl_write_ints(a, a_len, w->whole, w->length, &w->length);
+    return are_bools ? cvl_write_bools(a, a_len, w->whole, w->length, &w->length)
+                     : cvl_write_ints(a, a_len, w->whole, w->length, &w->length);
 }
 
-static CvlStatus write_text(CvlRanks *ranks, const void *a, size_t a_len, bool are_bools, char *text, size_t text_len, size_t *count) {
+static CvlStatus write_text(
+    CvlRanks *ranks, const void *a, size_t a_len, bool are_bools, char *text, size_t text_len, size_t *count) {
     CvlWritten w = {NULL, 2, 0, 0, 0, 0, 0};
     const uint32_t call = are_bools ? WRITE_BOOLS : WRITE_INTS;
     bool short_room = 0;
     if (!cvl_are_ranks(ranks)) return cvl_status(CVL_NO_DESCRIPTOR, -1);
     if (!cvl_is_one_call(ranks, CVL_CALL_TEXT + call)) return cvl_status(CVL_UNKNOWN_CALL, -1);
-    CvlStatus status = cvl_meet(a, a_len, are_bools ? 1 : sizeof(int32_t), text, text_len, 1) ? cvl_overlap() : write_own(a, a_len, are_bools, &w);
+    CvlStatus status = cvl_meet(a, a_len, are_bools ? 1 : sizeof(int32_t), text, text_len, 1)
+        ? cvl_overlap()
+        : write_own(a, a_len, are_bools, &w);
     const int64_t before = cvl_before(ranks, cvl_fold(CVL_JOIN_COUNTS, 0, 0, (int64_t)a_len, 0)).low;
     w.first = ranks->rank == 0, w.last = ranks->rank + 1 == ranks->size, w.follows = before > 0 && a_len > 0;
     if (status.number == CVL_DONE && cvl_length_of(&w) > text_len) {
@@ -165,7 +169,8 @@ void cvl_rank_text_free(char *text) { free(text); }
 static bool write_at(MPI_File file, uint64_t from, const char *bytes, size_t count) {
     for (size_t at = 0; at < count;) {
         const int some = count - at < CVL_MOST_READ ? (int)(count - at) : CVL_MOST_READ;
-        if (MPI_File_write_at(file, (MPI_Offset)(from + at), bytes + at, some, MPI_CHAR, MPI_STATUS_IGNORE) != MPI_SUCCESS) return 0;
+        if (MPI_File_write_at(file, (MPI_Offset)(from + at), bytes + at, some, MPI_CHAR, MPI_STATUS_IGNORE) != MPI_SUCCESS)
+            return 0;
         at += (size_t)some;
     }
     return 1;

@@ -57,18 +57,21 @@ static uint64_t find_rows(const Matrix *m, uint64_t column, uint64_t columns, ui
     return to;
 }
 
-static void put_rows(const Matrix *m, uint64_t column, uint64_t from, uint64_t to, uint64_t at, const void *source, void *sent, size_t size) {
+static void put_rows(
+    const Matrix *m, uint64_t column, uint64_t from, uint64_t to, uint64_t at, const void *source, void *sent, size_t size) {
     for (uint64_t row = from; row < to; row++) put(sent, at++, source, row * m->columns + column - m->from, size);
 }
 
 /* Puts the elements of neighbouring columns into the order of the result: row by row where all have one, so that each line is read once. */
-static void put_columns(const Matrix *m, uint64_t column, uint64_t columns, const Columns *c, const void *source, void *sent, size_t size) {
+static void put_columns(
+    const Matrix *m, uint64_t column, uint64_t columns, const Columns *c, const void *source, void *sent, size_t size) {
     for (uint64_t row = c->least; row < c->most; row++) {
         const uint64_t place = row * m->columns + column - m->from;
         for (uint64_t k = 0; k < columns; k++) put(sent, c->to[k] + row - c->first[k], source, place + k, size);
     }
     for (uint64_t k = 0; k < columns; k++) {
-        const uint64_t first = c->first[k], last = c->last[k], split = c->least < last ? c->least : last, next = split > c->most ? split : c->most;
+        const uint64_t first = c->first[k], last = c->last[k], split = c->least < last ? c->least : last,
+                       next = split > c->most ? split : c->most;
         put_rows(m, column + k, first, split, c->to[k], source, sent, size);
         put_rows(m, column + k, next, last, c->to[k] + next - first, source, sent, size);
     }
@@ -93,7 +96,8 @@ typedef struct Run {
 } Run;
 
 static Run run_at(const CvlRanks *ranks, const Matrix *m, uint64_t place) {
-    const uint64_t column = place / m->rows, row = place % m->rows, left = m->rows - row < m->to - place ? m->rows - row : m->to - place;
+    const uint64_t column = place / m->rows, row = place % m->rows,
+                   left = m->rows - row < m->to - place ? m->rows - row : m->to - place;
     const int owner = cvl_owner(ranks, row * m->columns + column);
     const uint64_t rows = (ranks->offsets[owner + 1] - column + m->columns - 1) / m->columns - row;
     const Run run = {owner, rows < left ? rows : left};

@@ -30,7 +30,16 @@ if not IS_SOURCE:
 
 NAME = "cvl"
 # a name that Python's limited interface has not is an error here, and not one of the loader
-FLAGS = ["-std=c11", "-O2", "-fPIC", "-fvisibility=hidden", "-Wall", "-Wextra", "-Wshadow", "-Werror=implicit-function-declaration"]
+FLAGS = [
+    "-std=c11",
+    "-O2",
+    "-fPIC",
+    "-fvisibility=hidden",
+    "-Wall",
+    "-Wextra",
+    "-Wshadow",
+    "-Werror=implicit-function-declaration",
+]
 LINKED = ["-shared", "-pthread", "-Wl,--exclude-libs,ALL", "-Wl,-z,relro", "-Wl,-z,now", "-Wl,-s"]
 OLDEST_NUMPY = (1, 23)
 # the interface that all Pythons from 3.11 on have
@@ -102,7 +111,13 @@ def compiler():
 def check(every=False):
     """Raises all that is missing, one line each, for this Python or the wheel for every one."""
     lacking = []
-    for needed in (numpy_is_new, python_headers, compiler, *([installed_library] if IS_SOURCE else []), *([every_python] if every else [])):
+    for needed in (
+        numpy_is_new,
+        python_headers,
+        compiler,
+        *([installed_library] if IS_SOURCE else []),
+        *([every_python] if every else []),
+    ):
         try:
             needed()
         except Missing as missing:
@@ -133,7 +148,9 @@ def this_python():
 def every_python():
     """Every Python from 3.9 on: by the limited interface of 3.11, of which 3.9 and 3.10 have each name that the module uses."""
     if sys.version_info[:2] != (3, 11):
-        raise Missing("a wheel for every Python is built with the headers of Python 3.11: later ones ask for names that 3.9 has not")
+        raise Missing(
+            "a wheel for every Python is built with the headers of Python 3.11: later ones ask for names that 3.9 has not"
+        )
     return Target([LIMITED], ".abi3.so", "cp39-abi3", ">=3.9", "numpy>={}.{}".format(*OLDEST_NUMPY), numpy_of_2())
 
 
@@ -177,7 +194,11 @@ def installed_library():
         folders = [pathlib.Path(told.stdout.strip().replace("\\ ", " "))] if told and told.returncode == 0 else []
     found = [folder / "libcvl.a" for folder in folders if (folder / "libcvl.a").exists()]
     if not found:
-        where = f"CVL_PREFIX is {prefix}, and no folder of libraries below it has libcvl.a" if prefix else "pkg-config finds no cvl.pc"
+        where = (
+            f"CVL_PREFIX is {prefix}, and no folder of libraries below it has libcvl.a"
+            if prefix
+            else "pkg-config finds no cvl.pc"
+        )
         raise Missing(f"{where}; this package is built over an installed library of CVL: name its prefix by CVL_PREFIX")
     return found[0]
 

@@ -26,7 +26,9 @@ def file_of(name):
 def _write(folder, name, sources, work, time):
     whole, described = f"{name}-{table.VERSION}", work / f"{name}.toml"
     described.write_text(_outside_workspace(sources["Cargo.toml"].read_text()))
-    packed.tar_gz(folder / file_of(name), {f"{whole}/{path}": source for path, source in {**sources, "Cargo.toml": described}.items()}, time)
+    packed.tar_gz(
+        folder / file_of(name), {f"{whole}/{path}": source for path, source in {**sources, "Cargo.toml": described}.items()}, time
+    )
     return file_of(name)
 
 

@@ -217,7 +217,11 @@ def _put_over_ranks(compiler, library, work, root):
 def check():
     """Stops where a compiler is missing, or `dpkg-deb`."""
     needed = {"dpkg-deb": "dpkg", **{compiler: f"lib{compiler.partition('.')[2]}-dev" for compiler in OVER_RANKS.values()}}
-    missing = [f"{name} is missing, which makes the packages for Debian (Debian: {package})" for name, package in needed.items() if not shutil.which(name)]
+    missing = [
+        f"{name} is missing, which makes the packages for Debian (Debian: {package})"
+        for name, package in needed.items()
+        if not shutil.which(name)
+    ]
     if missing:
         proved.stop("\n".join(missing))
 

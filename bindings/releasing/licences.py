@@ -57,5 +57,8 @@ def document(kit, time):
     for part in parts():
         lines += [*package(part.name, kit, part.licence), f"Relationship: {_identity('cvl')} STATIC_LINK {_identity(part.name)}"]
     # the scripts of the pages in HTML
-    lines += [*package("sphinx", "NOASSERTION", "BSD-2-Clause"), f"Relationship: {_identity('cvl')} CONTAINS {_identity('sphinx')}"]
+    lines += [
+        *package("sphinx", "NOASSERTION", "BSD-2-Clause"),
+        f"Relationship: {_identity('cvl')} CONTAINS {_identity('sphinx')}",
+    ]
     return "\n".join([*lines, ""])

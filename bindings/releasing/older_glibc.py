@@ -16,7 +16,9 @@ import proved
 OLDEST = "2.28"
 LIBC, THREADS = "libc.so.6", "libpthread.so.0"
 # a line of `readelf --dyn-syms`: size, type, name, and its version, which is the one for new programs behind two @
-LINE = re.compile(r"^ *\d+: [0-9a-f]+ +(\w+) (FUNC|IFUNC|OBJECT) +(?:GLOBAL|WEAK) +DEFAULT +(?!UND)\w+ (\w+)@(@?)GLIBC_([\d.]+)$", re.M)
+LINE = re.compile(
+    r"^ *\d+: [0-9a-f]+ +(\w+) (FUNC|IFUNC|OBJECT) +(?:GLOBAL|WEAK) +DEFAULT +(?!UND)\w+ (\w+)@(@?)GLIBC_([\d.]+)$", re.M
+)
 # what the program and a shared object ask of the processor, of which glibc knows since 2.33, and what the program runs before `main`,
 # which glibc does since 2.34
 PROCESSOR, LEVEL, START = (pathlib.Path(__file__).with_name(name) for name in ("processor.c", "level.c", "start.c"))

@@ -22,8 +22,9 @@ static const uint32_t wide[LEAVES][4] = {
     [LEAF_80000001] = {0, 0, 1u << 11 | 1u << 16, 0},
 };
 static const uint32_t wider[LEAVES][4] = {
-    [LEAF_7] = {0, 1u << 16 | 1u << 17 | 1u << 21 | 3u << 26 | 1u << 28 | 3u << 30,
-        1u << 1 | 1u << 6 | 3u << 11 | 1u << 14, 3u << 2 | 1u << 8 | 1u << 23},
+    [LEAF_7] =
+        {0, 1u << 16 | 1u << 17 | 1u << 21 | 3u << 26 | 1u << 28 | 3u << 30, 1u << 1 | 1u << 6 | 3u << 11 | 1u << 14,
+         3u << 2 | 1u << 8 | 1u << 23},
 };
 
 /* The kinds of registers that the system saves. */

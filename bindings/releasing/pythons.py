@@ -12,7 +12,9 @@ PYTHON = "/usr/bin/python3"
 
 def check():
     """Stops where something is missing that the wheel is built with."""
-    told = subprocess.run([PYTHON, "-B", BUILDS, "--every-python", "--check"], capture_output=True, text=True, stdin=subprocess.DEVNULL)
+    told = subprocess.run(
+        [PYTHON, "-B", BUILDS, "--every-python", "--check"], capture_output=True, text=True, stdin=subprocess.DEVNULL
+    )
     if told.returncode != 0:
         proved.stop(told.stderr.strip())
 

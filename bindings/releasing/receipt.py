@@ -71,14 +71,19 @@ def made_of(name):
 
 
 def _table(heads, rows):
-    return "\n".join(["| " + " | ".join(heads) + " |", "|" + "---|" * len(heads), *("| " + " | ".join(row) + " |" for row in rows)])
+    return "\n".join(
+        ["| " + " | ".join(heads) + " |", "|" + "---|" * len(heads), *("| " + " | ".join(row) + " |" for row in rows)]
+    )
 
 
 def _of_objects(builds):
     """What the receipt says of the program and the exports, if they were not built here."""
     if not builds.is_given:
         return []
-    return ["**No theorem covers these files:** the program and the exports are those that CVL_PROGRAM and CVL_ARCHIVE named, and were not built here.", ""]
+    return [
+        "**No theorem covers these files:** the program and the exports are those that CVL_PROGRAM and CVL_ARCHIVE named, and were not built here.",
+        "",
+    ]
 
 
 def text(record, builds, folder, names):

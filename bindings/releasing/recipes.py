@@ -105,7 +105,12 @@ def recipes(tree):
         "sha256": hashlib.sha256(text).hexdigest(), "sha512": hashlib.sha512(text).hexdigest(), "glibc": older_glibc.OLDEST,
         "folders": " ".join(FOLDERS), "quoted": ", ".join(f'"{folder}"' for folder in FOLDERS), "folders_in_python": FOLDERS,
     }  # fmt: skip
-    rows = (("conda/meta.yaml", CONDA), ("vcpkg/portfile.cmake", VCPKG), ("homebrew/cvl.rb", HOMEBREW), ("spack/package.py", SPACK))
+    rows = (
+        ("conda/meta.yaml", CONDA),
+        ("vcpkg/portfile.cmake", VCPKG),
+        ("homebrew/cvl.rb", HOMEBREW),
+        ("spack/package.py", SPACK),
+    )
     return {**{place: template.format(**said) for place, template in rows}, "vcpkg/vcpkg.json": _port(said)}
 
 

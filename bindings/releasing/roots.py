@@ -40,8 +40,19 @@ class Root:
     def run(self, said, user="root", **variables):
         """What a command of the shell prints, run by a user with these variables alone."""
         known = {"PATH": PATH, "HOME": f"/tmp/{user}", "LC_ALL": "C.UTF-8", **variables}
-        words = ["unshare", "--mount", "--pid", "--fork", "--kill-child", "sh", "-c", 'mount -t proc proc "$0/proc" && exec chroot --userspec="$1" "$0" sh -c "$2"']
-        told = subprocess.run([*words, self.folder, f"{user}:", said], capture_output=True, text=True, env=known, stdin=subprocess.DEVNULL)
+        words = [
+            "unshare",
+            "--mount",
+            "--pid",
+            "--fork",
+            "--kill-child",
+            "sh",
+            "-c",
+            'mount -t proc proc "$0/proc" && exec chroot --userspec="$1" "$0" sh -c "$2"',
+        ]
+        told = subprocess.run(
+            [*words, self.folder, f"{user}:", said], capture_output=True, text=True, env=known, stdin=subprocess.DEVNULL
+        )
         if told.returncode != 0:
             raise Failed(f"{said}\nended with {told.returncode}:\n{told.stdout[-2000:]}{told.stderr[-2000:]}")
         return told.stdout

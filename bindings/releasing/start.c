@@ -21,7 +21,8 @@ static void begin_all(int count, char **words, char **environment) {
 __attribute__((visibility("hidden"))) int __libc_start_main(
     Main *main, int count, char **words, Initializer *begin, void (*end)(void), void (*unload)(void), void *stack);
 
-int __libc_start_main(Main *main, int count, char **words, Initializer *begin, void (*end)(void), void (*unload)(void), void *stack) {
+int __libc_start_main(
+    Main *main, int count, char **words, Initializer *begin, void (*end)(void), void (*unload)(void), void *stack) {
     (void)begin, (void)end;
     return start_of_glibc(main, count, words, begin_all, NULL, unload, stack);
 }

@@ -168,9 +168,13 @@ def each_build(release, made):
             variables = {**os.environ, "LD_LIBRARY_PATH": f"{below}/lib", "CVL_SHARED": f"{below}/lib", "CVL_BUILT": work, **more}
             is_build(archive.run(program, env=variables), cpu)
             for words in IN_C_OVER_SHARED:
-                told = subprocess.run([proved.TOP / "tests/c/run", *words], env=variables, capture_output=True, text=True, stdin=subprocess.DEVNULL)
+                told = subprocess.run(
+                    [proved.TOP / "tests/c/run", *words], env=variables, capture_output=True, text=True, stdin=subprocess.DEVNULL
+                )
                 if told.returncode != 0:
-                    raise roots.Failed(f"tests/c/run {' '.join(words)} over the build for {cpu}:\n{told.stdout[-2000:]}{told.stderr[-2000:]}")
+                    raise roots.Failed(
+                        f"tests/c/run {' '.join(words)} over the build for {cpu}:\n{told.stdout[-2000:]}{told.stderr[-2000:]}"
+                    )
 
 
 def by_pkg_config(root, **variables):
@@ -312,7 +316,9 @@ def by_cargo(release, root):
     """A program over the crates, by root and by a user, each with a folder of its own and without a network."""
     root.put(release.one(f"cvl-{table.VERSION}.crate"), release.one(f"cvl-sys-{table.VERSION}.crate"))
     example(root, IN_RUST, "srv/rust")
-    project = f'cd "$(mktemp -d)" && cp /srv/*.crate . && {shown.command("tar -xzf")} && cargo new --vcs none product && cd product'
+    project = (
+        f'cd "$(mktemp -d)" && cp /srv/*.crate . && {shown.command("tar -xzf")} && cargo new --vcs none product && cd product'
+    )
     program = f'{shown.command("cargo add")} && cp /srv/rust/sparse_product.rs src/main.rs && cargo build --offline'
     by_both(root, f"{{ {project} && {program}; }} >&2 && env -i target/debug/product", f"y = [5, 0, 18]\n{OUTSIDE}3\n")
 
@@ -386,7 +392,9 @@ def in_mpi(release, made):
         root.unpack(release.tree())
         root.put(release.one(over_ranks.FILE))
         prefix = f"/opt/{trees.NAME}"
-        root.run(f"cd /srv && {shown.command('make -C').replace('PREFIX=PREFIX', f'PREFIX={prefix}')} && mv {over_ranks.NAME}/examples mpi")
+        root.run(
+            f"cd /srv && {shown.command('make -C').replace('PREFIX=PREFIX', f'PREFIX={prefix}')} && mv {over_ranks.NAME}/examples mpi"
+        )
         moved = "/opt/moved"
         root.run(f"mv {prefix} {moved}")
         walks(root, PKG_CONFIG_PATH=f"{moved}/lib/pkgconfig", LD_LIBRARY_PATH=f"{moved}/lib")

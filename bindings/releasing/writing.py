@@ -70,7 +70,10 @@ def _from_its_sums(folder):
     there = {path.name: receipt.sum_of(path) for path in sorted(folder.iterdir()) if path.name != SUMS}
     found = [f"{name} is not there" for name in summed if name not in there]
     found += [f"{name} has no sum" for name in there if name not in summed]
-    return [*found, *(f"{name} has another sum than {SUMS} says" for name in there if summed.get(name, there[name]) != there[name])]
+    return [
+        *found,
+        *(f"{name} has another sum than {SUMS} says" for name in there if summed.get(name, there[name]) != there[name]),
+    ]
 
 
 def _from_sources(folder):
@@ -85,7 +88,9 @@ def _from_build(folder, jobs):
         made, there = set(write(pathlib.Path(again), jobs, anew=True)), {path.name for path in folder.iterdir()}
         found = [f"{name} is only what this checkout makes" for name in sorted(made - there)]
         found += [f"{name} is not made by this checkout" for name in sorted(there - made)]
-        differ = (name for name in sorted(made & there) if not filecmp.cmp(folder / name, pathlib.Path(again) / name, shallow=False))
+        differ = (
+            name for name in sorted(made & there) if not filecmp.cmp(folder / name, pathlib.Path(again) / name, shallow=False)
+        )
         return [*found, *(f"{name} is not what this checkout makes" for name in differ)]
 
 

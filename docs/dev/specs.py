@@ -9,7 +9,9 @@ TOP = pathlib.Path(__file__).resolve().parents[2]
 CRATES = TOP / "crates"
 
 # the first line of a definition, and of a law
-DEFINITION = re.compile(r"\s*(?:(?:abbrev|unfoldable) (?P<pub>pub )?(?!use )(?P<name>\S+)|(?P<public>pub )?(?:record|data) (?P<type>\S+))")
+DEFINITION = re.compile(
+    r"\s*(?:(?:abbrev|unfoldable) (?P<pub>pub )?(?!use )(?P<name>\S+)|(?P<public>pub )?(?:record|data) (?P<type>\S+))"
+)
 LAW = re.compile(r"pub fn (?P<name>\w+)")
 
 # the name of a law that has a body, since a proof goes step by step

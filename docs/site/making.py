@@ -40,7 +40,11 @@ VERSIONS = "import sphinx, myst_parser; print(f'Sphinx {sphinx.__version__} and 
 def maker():
     """The Python that has Sphinx, and which versions; or nothing. The system's own may have what this one has not."""
     for python in dict.fromkeys((sys.executable, "/usr/bin/python3")):
-        found = subprocess.run([python, "-c", VERSIONS], stdout=subprocess.PIPE, stderr=subprocess.DEVNULL, text=True) if os.path.exists(python) else None
+        found = (
+            subprocess.run([python, "-c", VERSIONS], stdout=subprocess.PIPE, stderr=subprocess.DEVNULL, text=True)
+            if os.path.exists(python)
+            else None
+        )
         if found and found.returncode == 0:
             return python, found.stdout.strip()
     return None
@@ -65,7 +69,11 @@ LINK = re.compile(r"(!?\[[^]]*\]\([^)]*\))")
 def _calls():
     """The name of each call, under which its page is found, as pages have it: in a script, and in C."""
     names = [name for _, _, found in (*reference.of_scripts(), *reference.beside()) for entry in found for name in entry.calls]
-    others = [name.removeprefix("cvl_") for found in (about.OF_VERSIONS, about.OF_FLAGS, about.OF_INDICES, about.OF_THREADS, about.OF_DESCRIPTORS) for name, *_ in found]
+    others = [
+        name.removeprefix("cvl_")
+        for found in (about.OF_VERSIONS, about.OF_FLAGS, about.OF_INDICES, about.OF_THREADS, about.OF_DESCRIPTORS)
+        for name, *_ in found
+    ]
     in_c = {f"cvl_{name}": f"{{call}}`cvl_{name} <{name}>`" for name in (*names, *others)}
     return {**{name: f"{{call}}`{name}`" for name in names if "_" in name}, **in_c}
 
@@ -77,7 +85,9 @@ def _with_calls(text):
         inside ^= line.startswith("```")
         if not inside and not line.startswith(("#", "    ", "```")):
             parts = LINK.split(line)
-            parts[::2] = (re.sub(r"(?<![`}])`(\w+)`(?!`)", lambda found: _calls().get(found[1], found[0]), part) for part in parts[::2])
+            parts[::2] = (
+                re.sub(r"(?<![`}])`(\w+)`(?!`)", lambda found: _calls().get(found[1], found[0]), part) for part in parts[::2]
+            )
             line = "".join(parts)
         lines.append(line)
     return "\n".join(lines)
@@ -97,7 +107,10 @@ def home(names):
     """The first page: what the shelf says of itself, and the list of all pages."""
     others = sorted(set(names) - {name for shelf in SHELVES.values() for name in shelf} - {"README"})
     shelves = {**SHELVES, "Know": (*SHELVES["Know"], *others)}
-    trees = [in_site._toctree([name for name in shelf if name in (*names, "definitions")], caption) for caption, shelf in shelves.items()]
+    trees = [
+        in_site._toctree([name for name in shelf if name in (*names, "definitions")], caption)
+        for caption, shelf in shelves.items()
+    ]
     return "\n\n".join([linked((USER / "README.md").read_text()).rstrip(), *trees]) + "\n"
 
 
@@ -109,7 +122,10 @@ def definitions():
     does = specs.does()
     crates = "\n".join(f"- [`{crate}`](definitions/{crate}.md): {does.get(crate, '')}" for crate in pages)
     tree = in_site._toctree([f"definitions/{crate}" for crate in pages])
-    return {"definitions.md": f"{text}\n## All crates\n\n{crates}\n\n{tree}\n", **{f"definitions/{crate}.md": page for crate, page in pages.items()}}
+    return {
+        "definitions.md": f"{text}\n## All crates\n\n{crates}\n\n{tree}\n",
+        **{f"definitions/{crate}.md": page for crate, page in pages.items()},
+    }
 
 
 def sources(folder):
@@ -136,6 +152,27 @@ def build(folder):
         work = pathlib.Path(work)
         (work / "source").mkdir()
         sources(work / "source")
-        command = [maker()[0], "-m", "sphinx", "-b", "html", "-q", "-W", "--keep-going", "-j", "1", "-d", work / "read", work / "source", folder]
-        variables = {**os.environ, "PYTHONHASHSEED": "0", "PYTHONPATH": str(work / "source"), "PYTHONDONTWRITEBYTECODE": "1", "LC_ALL": "C.UTF-8"}
+        command = [
+            maker()[0],
+            "-m",
+            "sphinx",
+            "-b",
+            "html",
+            "-q",
+            "-W",
+            "--keep-going",
+            "-j",
+            "1",
+            "-d",
+            work / "read",
+            work / "source",
+            folder,
+        ]
+        variables = {
+            **os.environ,
+            "PYTHONHASHSEED": "0",
+            "PYTHONPATH": str(work / "source"),
+            "PYTHONDONTWRITEBYTECODE": "1",
+            "LC_ALL": "C.UTF-8",
+        }
         return subprocess.run(command, env=variables).returncode == 0

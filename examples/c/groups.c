@@ -93,7 +93,8 @@ void sort_groups(const int32_t *keys, const int32_t *values, size_t n, SortedGro
 int main(void) {
     const int32_t keys[] = {2, 0, 2, 1}, values[] = {5, 6, 7, 8}, more_keys[] = {0, 2}, more_values[] = {-1, 4}, wrong[] = {3, 4};
     Groups g = groups_of(4);
-    if (g.many == 0 || add_up(keys, values, 4, &g).number != CVL_DONE || add_up(more_keys, more_values, 2, &g).number != CVL_DONE) return EXIT_FAILURE;
+    if (g.many == 0 || add_up(keys, values, 4, &g).number != CVL_DONE || add_up(more_keys, more_values, 2, &g).number != CVL_DONE)
+        return EXIT_FAILURE;
     for (size_t k = 0; k < g.many; k++) {
         printf("group %zu: count %d", k, (int)g.counts[k]);
         if (g.counts[k] > 0) printf(", sum %d, least %d, greatest %d", (int)g.sums[k], (int)g.least[k], (int)g.greatest[k]);
@@ -108,6 +109,7 @@ int main(void) {
     SortedGroups s = {0, rooms, rooms + 4, rooms + 8, sums};
     sort_groups(years, amounts, 4, &s);
     for (size_t k = 0; k < s.many; k++)
-        printf("key %d: count %d, sum %lld, median %d\n", (int)s.keys[k], (int)s.counts[k], (long long)s.sums[k], (int)s.medians[k]);
+        printf(
+            "key %d: count %d, sum %lld, median %d\n", (int)s.keys[k], (int)s.counts[k], (long long)s.sums[k], (int)s.medians[k]);
     return EXIT_SUCCESS;
 }

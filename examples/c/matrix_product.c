@@ -56,7 +56,8 @@ static Matrix multiplied(Matrix a, Matrix b) {
 static Matrix added_up(Matrix a) {
     const CvlLengths rows = {a.lengths, a.rows};
     const size_t n = a.n;
-    int32_t *order = room(6 * n, sizeof *order), *columns = order + n, *values = columns + n, *row = values + n, *places = row + n;
+    int32_t *order = room(6 * n, sizeof *order), *columns = order + n, *values = columns + n, *row = values + n,
+            *places = row + n;
     int32_t *runs = places + n + 1, *made = room(a.rows + 2 * n, sizeof *made);
     bool *first = room(2 * n, sizeof *first), *other_row = first + n;
     Matrix found = {made, made + a.rows, made + a.rows + n, a.rows, 0};

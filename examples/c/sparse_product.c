@@ -10,10 +10,10 @@
 
 enum { ROWS = 3, COLUMNS = 3, ENTRIES = 4 };
 
-static const int32_t row_lengths[ROWS] = {2, 0, 2};      /* the number of entries of each row */
+static const int32_t row_lengths[ROWS] = {2, 0, 2}; /* the number of entries of each row */
 static const CvlLengths rows = {row_lengths, ROWS};
-static const int32_t columns[ENTRIES] = {0, 2, 1, 2};    /* the column of each entry, row after row */
-static const int32_t entries[ENTRIES] = {2, 1, 3, 4};    /* its value */
+static const int32_t columns[ENTRIES] = {0, 2, 1, 2}; /* the column of each entry, row after row */
+static const int32_t entries[ENTRIES] = {2, 1, 3, 4}; /* its value */
 
 /* The product, or the first fault, and then y is as it was. */
 static CvlStatus sparse_product(const int32_t *x, int32_t *y) {

@@ -19,8 +19,9 @@ static void must(CvlStatus status) {
 
 /* The transpose of a matrix of n entries in rows and so many columns: how many entries each column has, and column after column
  * the row and the value of each. A column outside of the matrix is fault 10 at its entry, and then the rooms are as they were. */
-CvlStatus transpose(CvlLengths rows, const int32_t *columns, const int32_t *values, size_t n, size_t width, int32_t *lengths,
-                    int32_t *row_of_each, int32_t *transposed) {
+CvlStatus transpose(
+    CvlLengths rows, const int32_t *columns, const int32_t *values, size_t n, size_t width, int32_t *lengths,
+    int32_t *row_of_each, int32_t *transposed) {
     CvlSegments segments = CVL_NO_SEGMENTS;
     int32_t *numbers = malloc((2 * n + 1) * sizeof *numbers), *order = numbers + n;
     if (numbers == NULL) exit(EXIT_FAILURE);

@@ -50,7 +50,8 @@ typedef struct Rooms {
 static Rooms rooms_for(size_t n) {
     int32_t *const ints = room(4 * n + 4, sizeof *ints);
     bool *const flags = room(5 * n + 1, sizeof *flags);
-    return (Rooms){ints, ints + n, ints + 2 * n + 1, ints + 3 * n + 3, flags, flags + n, flags + 2 * n, flags + 3 * n + 1, flags + 4 * n + 1};
+    return (Rooms){ints,      ints + n,      ints + 2 * n + 1,  ints + 3 * n + 3, flags,
+                   flags + n, flags + 2 * n, flags + 3 * n + 1, flags + 4 * n + 1};
 }
 
 /* Flags the bytes of a piece outside of comments. What follows the last end of a line is a line, too. */
@@ -72,7 +73,8 @@ static void flag_code(size_t from, size_t n, Rooms *r) {
 static int32_t flag_ends(size_t n, Rooms *r) {
     bool shows[BYTES], goes_on[BYTES], wrong[BYTES];
     int32_t place;
-    for (int k = 0; k < BYTES; k++) shows[k] = class_of(k) != BLANK, goes_on[k] = class_of(k) >= NUMBER, wrong[k] = shows[k] && iscntrl(k);
+    for (int k = 0; k < BYTES; k++)
+        shows[k] = class_of(k) != BLANK, goes_on[k] = class_of(k) >= NUMBER, wrong[k] = shows[k] && iscntrl(k);
     must(bck_pub(wrong, BYTES, r->bytes, r->flags, n));
     must(and_wub(r->flags, r->code, r->flags, n));
     must(cvl_first_true(r->flags, n, &place));

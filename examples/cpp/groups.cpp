@@ -37,7 +37,8 @@ Groups group(cvl::Ints keys, cvl::Ints values) {
 int main() {
     const Groups found = group({1999, -44, 1999, 1999}, {2147483647, 3, 1, 5});
     for (std::size_t k = 0; k < found.keys.size(); k++) {
-        std::printf("key %d: count %d, sum %lld, greatest %d\n", static_cast<int>(found.keys[k]), static_cast<int>(found.counts[k]),
+        std::printf(
+            "key %d: count %d, sum %lld, greatest %d\n", static_cast<int>(found.keys[k]), static_cast<int>(found.counts[k]),
             static_cast<long long>(found.sums[k]), static_cast<int>(found.greatest[k]));
     }
 }

@@ -15,7 +15,5 @@ int main() {
     std::printf("y = %s\n", cvl::write_ints(product(rows, columns, entries, x)).c_str());
     try {
         product(rows, wrong, entries, x);
-    } catch (const cvl::Fault &fault) {
-        std::printf("%s\n", fault.what());
-    }
+    } catch (const cvl::Fault &fault) { std::printf("%s\n", fault.what()); }
 }

@@ -62,7 +62,8 @@ int main(int words, char **word) {
     search_alone(wanted);
     for (size_t v = 0; v < VERTICES; v++) reached += wanted[v] >= 0;
     if (rank == 0) is_right = memcmp(whole, wanted, VERTICES * sizeof *wanted) == 0;
-    if (rank == 0) printf("breadth search: %d of %d vertices reached, %s\n", reached, VERTICES, is_right ? "as by one thread" : "WRONG");
+    if (rank == 0)
+        printf("breadth search: %d of %d vertices reached, %s\n", reached, VERTICES, is_right ? "as by one thread" : "WRONG");
     cvl_rank_segments_free(edges_of);
     free(lengths), free(to), free(level), free(whole), free(wanted);
     return end(is_right);

@@ -30,7 +30,8 @@ int main(int words, char **word) {
     size_t n;
     must(cvl_even_share(ranks, ROWS, &from, &n));
     const size_t entries = n * ENTRIES;
-    int32_t *lengths = memory(n, sizeof *lengths), *columns = memory(entries, sizeof *columns), *values = memory(entries, sizeof *values);
+    int32_t *lengths = memory(n, sizeof *lengths), *columns = memory(entries, sizeof *columns),
+            *values = memory(entries, sizeof *values);
     int32_t *x = memory(n, sizeof *x), *y = memory(n, sizeof *y), *kept = memory(n, sizeof *kept);
     for (size_t k = 0; k < entries; k++) columns[k] = column(from * ENTRIES + k), values[k] = value(from * ENTRIES + k);
     for (size_t k = 0; k < n; k++) lengths[k] = ENTRIES, x[k] = (int32_t)((from + k) & KEPT), kept[k] = KEPT;

@@ -8,6 +8,7 @@ import numpy
 
 import cvl
 
+
 def in_order(columns):
     """The numbers of the rows in ascending order: by the first column, where it ties by the second, and so on."""
     rows = cvl.order(columns[-1])
@@ -53,7 +54,11 @@ def sums_of(numbers, values, many):
 
 
 def main():
-    text, starts, lengths = b"tea coffee tea water coffee tea", cvl.as_ints([0, 4, 11, 15, 21, 28]), cvl.as_ints([3, 6, 3, 5, 6, 3])
+    text, starts, lengths = (
+        b"tea coffee tea water coffee tea",
+        cvl.as_ints([0, 4, 11, 15, 21, 28]),
+        cvl.as_ints([3, 6, 3, 5, 6, 3]),
+    )
     numbers, first = encode(*columns_of(text, starts, lengths))
     sums = sums_of(numbers, cvl.as_ints([5, 1, 2, 7, 3, 4]), len(first))
     for row, total in zip(first, sums):

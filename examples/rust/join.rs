@@ -11,23 +11,14 @@ pub fn join(left: &[i32], right: &[i32]) -> Result<(Vec<i32>, Vec<i32>), Fault> 
     let keys = [left, right].concat();
     let order = cvl::order(&keys)?;
     let numbers = numbered(&keys, &order)?;
-    let many = order
-        .last()
-        .map_or(0, |&row| i64::from(numbers[row as usize]) + 1);
+    let many = order.last().map_or(0, |&row| i64::from(numbers[row as usize]) + 1);
     let n = left.len() as i32;
-    let right_rows: Vec<i32> = order
-        .iter()
-        .filter(|&&row| row >= n)
-        .map(|row| row - n)
-        .collect();
+    let right_rows: Vec<i32> = order.iter().filter(|&&row| row >= n).map(|row| row - n).collect();
     let (left, right) = numbers.split_at(left.len());
     let counts = cvl::counts(right, many)?;
     let pairs = Segments::new(&cvl::bck_puz(&counts, left)?)?;
     let starts = cvl::bck_puz(&cvl::add_suz(&counts)?, left)?;
-    Ok((
-        pairs.numbers()?,
-        cvl::gather_segments_int(&right_rows, &starts, &pairs)?,
-    ))
+    Ok((pairs.numbers()?, cvl::gather_segments_int(&right_rows, &starts, &pairs)?))
 }
 
 /// A number for each key, from 0 on in ascending order, by the order of the keys.
@@ -35,11 +26,7 @@ fn numbered(keys: &[i32], order: &[i32]) -> Result<Vec<i32>, Fault> {
     let ascending = cvl::bck_puz(keys, order)?;
     let mut differs = vec![false; keys.len()];
     if keys.len() > 1 {
-        cvl::neq_wuz_into(
-            &ascending[1..],
-            &ascending[..keys.len() - 1],
-            &mut differs[1..],
-        )?;
+        cvl::neq_wuz_into(&ascending[1..], &ascending[..keys.len() - 1], &mut differs[1..])?;
     }
     let steps = cvl::int_wub(&differs)?;
     cvl::smp_puz(&cvl::add_wuz(&cvl::add_suz(&steps)?, &steps)?, order)

@@ -58,7 +58,9 @@ static inline void measure_segments(const Row *row) {
     }
 }
 
-static inline int32_t *lengths_for(Use use) { return use == USE_TRUE_LENGTHS ? sides[0] : use == USE_FALSE_LENGTHS ? sides[1] : lengths; }
+static inline int32_t *lengths_for(Use use) {
+    return use == USE_TRUE_LENGTHS ? sides[0] : use == USE_FALSE_LENGTHS ? sides[1] : lengths;
+}
 
 /* How many rows a matrix of all elements has. */
 static inline size_t matrix_rows(void) { return n > 0 && n % 500 == 0 ? 500 : n > 0 && n % 2 == 0 ? 2 : 1; }
@@ -78,7 +80,9 @@ static inline int32_t element_at(const Row *row, size_t k, size_t place) {
     case USE_INDEX: return lengths[place] == 0 ? 0 : (int32_t)(place % (size_t)lengths[place]);
     default: break;
     }
-    if (is_of_runs(row)) return (int32_t)(kind_of(row, k) == KIND_FLAGS ? place / 3 % 2 : place / 3 + place / 7); /* sorted keys, or flags in runs */
+    if (is_of_runs(row))
+        return (
+            int32_t)(kind_of(row, k) == KIND_FLAGS ? place / 3 % 2 : place / 3 + place / 7); /* sorted keys, or flags in runs */
     if (kind_of(row, k) == KIND_FLAGS) return extent_of(row, k) == EXTENT_N ? place * (k + 1) % 5 < 2 : place % 4 < 3;
     if (kind_of(row, k) == KIND_BYTES) return (int32_t)(place * 7907 % 256);
     return (int32_t)((place * 7907 + k) % 31 + 1) % (is_product(row) && k == 2 ? 2 : 32);
@@ -93,7 +97,8 @@ static inline size_t put_elements(const Row *row, char *text) {
         const size_t start = nested ? starts[s] : 0, end = nested ? starts[s + 1] : n;
         for (size_t place = start; place < end || (nested && place == start); place++) {
             const char *before = place > start ? " " : !nested ? "" : s == 0 ? "[[" : " [";
-            const int count = place < end ? sprintf(word, "%s%d", before, (int)element_at(row, 1, place)) : sprintf(word, "%s", before);
+            const int count = place < end ? sprintf(word, "%s%d", before, (int)element_at(row, 1, place))
+                                          : sprintf(word, "%s", before);
             if (text != NULL) memcpy(text + length, word, (size_t)count);
             length += (size_t)count;
         }
@@ -111,7 +116,8 @@ static inline size_t elements_of(const Row *row, size_t k) {
     if (role_of(row, k) == ROLE_LENGTHS) return segments;
     if (kind_of(row, k) == KIND_TEXT) return is_room(row, k) ? text_room : put_elements(row, NULL);
     switch (extent_of(row, k)) {
-    case EXTENT_SEGMENTS: case EXTENT_LENGTHS_ROOM: return segments;
+    case EXTENT_SEGMENTS:
+    case EXTENT_LENGTHS_ROOM: return segments;
     case EXTENT_OFFSETS: return segments + 1;
     case EXTENT_BOTH: return 2 * n;
     case EXTENT_TRUES: return trues;
@@ -129,8 +135,10 @@ static inline size_t bytes_of(const Row *row, size_t k) { return elements_of(row
 static inline void fill_indices(const Row *row, int32_t *index, Use use) {
     const bool cut_up = use == USE_INDEX && is_cut_up(row), by_flags = use == USE_INDEX && uses(row, USE_MASK);
     for (size_t s = 0; s < (cut_up ? segments : 1); s++) {
-        const size_t start = cut_up ? starts[s] : 0, end = cut_up ? starts[s + 1] : n, places = by_flags ? trues_in(start, end) : end - start;
-        for (size_t k = start, sent = 0; k < end; k++) index[k] = by_flags && !flag_at(k) ? -1 : (int32_t)((sent++ * 7919 + 3) % places);
+        const size_t start = cut_up ? starts[s] : 0, end = cut_up ? starts[s + 1] : n,
+                     places = by_flags ? trues_in(start, end) : end - start;
+        for (size_t k = start, sent = 0; k < end; k++)
+            index[k] = by_flags && !flag_at(k) ? -1 : (int32_t)((sent++ * 7919 + 3) % places);
     }
 }
 
@@ -161,7 +169,8 @@ static inline void fill(const Row *row, size_t k, void *at, bool odd) {
     } else if ((use == USE_INDEX && !is_filled(row)) || use == USE_COLUMNS) {
         fill_indices(row, ints, use);
     } else if (kind_of(row, k) == KIND_FLAGS) {
-        for (size_t place = 0; place < count; place++) bytes[place] = (unsigned char)(!element_at(row, k, place) ? 0 : odd ? place % 255 + 1 : 1);
+        for (size_t place = 0; place < count; place++)
+            bytes[place] = (unsigned char)(!element_at(row, k, place) ? 0 : odd ? place % 255 + 1 : 1);
     } else if (kind_of(row, k) == KIND_BYTES) {
         for (size_t place = 0; place < count; place++) bytes[place] = (unsigned char)element_at(row, k, place);
     } else {
@@ -254,7 +263,8 @@ static inline void *zeros(size_t count, size_t size) {
 static inline void make_memory(size_t most, size_t most_segments) {
     lengths = (int32_t *)zeros(most_segments, sizeof *lengths), starts = (size_t *)zeros(most_segments, sizeof *starts);
     for (size_t side = 0; side < 2; side++) sides[side] = (int32_t *)zeros(most_segments, sizeof *lengths);
-    for (size_t k = 0; k < MOST_OPERANDS; k++) memory[k] = (unsigned char *)zeros(most, 8), right[k] = (unsigned char *)zeros(most, 8);
+    for (size_t k = 0; k < MOST_OPERANDS; k++)
+        memory[k] = (unsigned char *)zeros(most, 8), right[k] = (unsigned char *)zeros(most, 8);
 }
 
 #endif

@@ -54,25 +54,29 @@ static CvlPool pool;
 static inline CvlLengths lengths_at(const Given *g, size_t k) { return (CvlLengths){(const int32_t *)g->at[k], g->len[k]}; }
 
 /* The functions of descriptors that no row is written for. */
-#define DESCRIPTOR {ROLE_LENGTHS, KIND_SEGMENTS, EXTENT_TOTAL, USE_ELEMENTS, 0}
-#define NEW_DESCRIPTOR {ROLE_ROOM, KIND_SEGMENTS, EXTENT_NONE, USE_ELEMENTS, 0}
-#define OTHER_ARRAY(role, extent, use) {ROLE_##role, KIND_INTS, EXTENT_##extent, USE_##use, 0}
-#define OTHERS(X) \
-    X(cvl_segments_free, OF_NO_ELEMENTS, LIST(NEW_DESCRIPTOR), NONE, NO_OPERATORS, NO_LIMIT, FAMILY, (g->at[0])) \
-    X(cvl_segments_new, OF_NO_ELEMENTS, LIST(OTHER_ARRAY(LENGTHS, TOTAL, ELEMENTS), NEW_DESCRIPTOR), NONE, NO_OPERATORS, NO_LIMIT, FAMILY, \
-      (lengths_at(g, 0), g->at[1])) \
-    X(cvl_segments_total, MAKE_DESCRIPTOR, LIST(DESCRIPTOR, {ROLE_TOLD, KIND_SIZES, EXTENT_NONE, USE_ELEMENTS, 0}), NONE, NO_OPERATORS, NO_LIMIT, FAMILY, \
-      (g->at[0], g->at[1])) \
-    X(cvl_segments_from_offsets, FROM_OFFSETS, \
-      LIST(OTHER_ARRAY(READS, OFFSETS, OFFSETS), OTHER_ARRAY(ROOM, SEGMENTS, LENGTHS), NEW_DESCRIPTOR), NONE, NO_OPERATORS, NO_LIMIT, FAMILY, \
-      (g->at[0], g->len[0], g->at[1], g->len[1], g->at[2])) \
-    X(cvl_segments_offsets, TELL_OFFSETS, LIST(DESCRIPTOR, OTHER_ARRAY(ROOM, OFFSETS, ELEMENTS)), NONE, NO_OPERATORS, NO_LIMIT, FAMILY, \
-      (g->at[0], g->at[1], g->len[1])) \
-    X(cvl_segments_numbers, TELL_NUMBERS, LIST(DESCRIPTOR, OTHER_ARRAY(ROOM, TOTAL, ELEMENTS)), NONE, NO_OPERATORS, NO_LIMIT, FAMILY, \
-      (g->at[0], g->at[1], g->len[1]))
+#define DESCRIPTOR \
+    { ROLE_LENGTHS, KIND_SEGMENTS, EXTENT_TOTAL, USE_ELEMENTS, 0 }
+#define NEW_DESCRIPTOR \
+    { ROLE_ROOM, KIND_SEGMENTS, EXTENT_NONE, USE_ELEMENTS, 0 }
+#define OTHER_ARRAY(role, extent, use) \
+    { ROLE_##role, KIND_INTS, EXTENT_##extent, USE_##use, 0 }
+#define OTHERS(X)                                                                                                               \
+    X(cvl_segments_free, OF_NO_ELEMENTS, LIST(NEW_DESCRIPTOR), NONE, NO_OPERATORS, NO_LIMIT, FAMILY, (g->at[0]))                \
+    X(cvl_segments_new, OF_NO_ELEMENTS, LIST(OTHER_ARRAY(LENGTHS, TOTAL, ELEMENTS), NEW_DESCRIPTOR), NONE, NO_OPERATORS,        \
+      NO_LIMIT, FAMILY, (lengths_at(g, 0), g->at[1]))                                                                           \
+    X(cvl_segments_total, MAKE_DESCRIPTOR, LIST(DESCRIPTOR, {ROLE_TOLD, KIND_SIZES, EXTENT_NONE, USE_ELEMENTS, 0}), NONE,       \
+      NO_OPERATORS, NO_LIMIT, FAMILY, (g->at[0], g->at[1]))                                                                     \
+    X(cvl_segments_from_offsets, FROM_OFFSETS,                                                                                  \
+      LIST(OTHER_ARRAY(READS, OFFSETS, OFFSETS), OTHER_ARRAY(ROOM, SEGMENTS, LENGTHS), NEW_DESCRIPTOR), NONE, NO_OPERATORS,     \
+      NO_LIMIT, FAMILY, (g->at[0], g->len[0], g->at[1], g->len[1], g->at[2]))                                                   \
+    X(cvl_segments_offsets, TELL_OFFSETS, LIST(DESCRIPTOR, OTHER_ARRAY(ROOM, OFFSETS, ELEMENTS)), NONE, NO_OPERATORS, NO_LIMIT, \
+      FAMILY, (g->at[0], g->at[1], g->len[1]))                                                                                  \
+    X(cvl_segments_numbers, TELL_NUMBERS, LIST(DESCRIPTOR, OTHER_ARRAY(ROOM, TOTAL, ELEMENTS)), NONE, NO_OPERATORS, NO_LIMIT,   \
+      FAMILY, (g->at[0], g->at[1], g->len[1]))
 
 /* Several things in one argument of a row. */
-#define LIST(...) {__VA_ARGS__}
+#define LIST(...) \
+    { __VA_ARGS__ }
 
 #define ROW(name, model, operands, in_place, operators, limited, is_call, arguments) \
     static CvlStatus call_##name(const Given *g) { return name arguments; }
@@ -81,8 +85,7 @@ OTHERS(ROW)
 #undef ROW
 #define ROW(name, model, operands, in_place, operators, limited, is_call, arguments) \
     {#name, model, operands, in_place, operators, limited, is_call, call_##name},
-static const Row rows[] = {
-    OTHERS(ROW)
+static const Row rows[] = {OTHERS(ROW)
 #include "call_rows.h"
 };
 #undef ROW
@@ -97,8 +100,12 @@ static inline Kind kind_of(const Row *row, size_t k) { return row->operands[k].k
 static inline Extent extent_of(const Row *row, size_t k) { return row->operands[k].extent; }
 static inline Use use_of(const Row *row, size_t k) { return row->operands[k].use; }
 static inline bool is_room(const Row *row, size_t k) { return role_of(row, k) == ROLE_ROOM; }
-static inline bool is_written(const Row *row, size_t k) { return is_room(row, k) || role_of(row, k) == ROLE_SINGLE || role_of(row, k) == ROLE_TOLD; }
-static inline bool is_array(const Row *row, size_t k) { return role_of(row, k) == ROLE_READS || role_of(row, k) == ROLE_LENGTHS || is_room(row, k); }
+static inline bool is_written(const Row *row, size_t k) {
+    return is_room(row, k) || role_of(row, k) == ROLE_SINGLE || role_of(row, k) == ROLE_TOLD;
+}
+static inline bool is_array(const Row *row, size_t k) {
+    return role_of(row, k) == ROLE_READS || role_of(row, k) == ROLE_LENGTHS || is_room(row, k);
+}
 static inline bool is_in_memory(const Row *row, size_t k) { return is_array(row, k) || is_written(row, k); }
 
 static inline size_t count_of(const Row *row) {
@@ -135,8 +142,11 @@ static inline bool is_cut_up(const Row *row) { return operand(row, ROLE_LENGTHS)
 /* The bytes of an element. */
 static inline size_t size_of(Kind kind) {
     switch (kind) {
-    case KIND_FLAGS: case KIND_BYTES: case KIND_TEXT: return 1;
-    case KIND_INTS: case KIND_MARKS: return sizeof(int32_t);
+    case KIND_FLAGS:
+    case KIND_BYTES:
+    case KIND_TEXT: return 1;
+    case KIND_INTS:
+    case KIND_MARKS: return sizeof(int32_t);
     case KIND_SUMS: return sizeof(int64_t);
     case KIND_SIZES: return sizeof(size_t);
     case KIND_SEGMENTS: return sizeof(CvlSegments);

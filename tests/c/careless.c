@@ -20,7 +20,9 @@ static uint32_t next_random(void) { return (state = state * 1664525u + 101390422
 
 static void report(const Row *row, const char *test, const char *why, CvlStatus status) {
     if (wrong++ < 40) {
-        printf("%s, %s, %zu elements: %s (status %u at %lld)\n", row->name, test, n, why, (unsigned)status.number, (long long)status.place);
+        printf(
+            "%s, %s, %zu elements: %s (status %u at %lld)\n", row->name, test, n, why, (unsigned)status.number,
+            (long long)status.place);
     }
 }
 
@@ -62,7 +64,8 @@ static CvlStatus call_at(const Row *row, unsigned char *const *at) {
     const Given g = given_at(row, at);
     calls++;
     const CvlStatus status = row->call(&g);
-    if (has(row, ROLE_ROOM, KIND_SEGMENTS) && status.number == CVL_DONE) cvl_segments_free(g.at[operand_of(row, ROLE_ROOM, KIND_SEGMENTS)]);
+    if (has(row, ROLE_ROOM, KIND_SEGMENTS) && status.number == CVL_DONE)
+        cvl_segments_free(g.at[operand_of(row, ROLE_ROOM, KIND_SEGMENTS)]);
     return status;
 }
 
@@ -75,7 +78,8 @@ static void set_size(size_t elements) {
     segments = elements == 0 ? 0 : SEGMENTS;
     trues = trues_in(0, n);
     text_room = elements == 0 ? 0 : 512;
-    for (size_t s = 0; s < segments; s++) lengths[s] = (int32_t)(s + 1 == segments ? n - n / SEGMENTS * (segments - 1) : n / SEGMENTS);
+    for (size_t s = 0; s < segments; s++)
+        lengths[s] = (int32_t)(s + 1 == segments ? n - n / SEGMENTS * (segments - 1) : n / SEGMENTS);
 }
 
 /* ---- two arrays that overlap, or that stand beside each other */
@@ -134,8 +138,8 @@ static void overlap_each(const Row *row) {
 /* Whether two operands that are read hold the same. */
 static bool are_alike(const Row *row, size_t i, size_t j) {
     const bool are_read = is_array(row, i) && is_array(row, j) && !is_written(row, i) && !is_written(row, j);
-    return are_read && kind_of(row, i) == kind_of(row, j) && use_of(row, i) == use_of(row, j) && role_of(row, i) == role_of(row, j) &&
-        elements_of(row, i) == elements_of(row, j);
+    return are_read && kind_of(row, i) == kind_of(row, j) && use_of(row, i) == use_of(row, j) &&
+        role_of(row, i) == role_of(row, j) && elements_of(row, i) == elements_of(row, j);
 }
 
 /* Inputs may overlap: two that hold the same are one. */
@@ -177,7 +181,8 @@ static void compare_in_place(const Row *row, unsigned inputs, bool any) {
         if (inputs >> k & 1) at[k] = at[room];
     }
     const CvlStatus status = call_at(row, at);
-    if (status.number != apart_status.number || status.place != apart_status.place) report(row, "in place", "another status than apart", status);
+    if (status.number != apart_status.number || status.place != apart_status.place)
+        report(row, "in place", "another status than apart", status);
     if (!is_as(wanted)) report(row, "in place", "another result than apart", status);
 }
 
@@ -192,7 +197,8 @@ static void refuse_in_place(const Row *row, unsigned inputs) {
     }
     remember(before);
     const CvlStatus status = call_at(row, at);
-    if (status.number != CVL_OVERLAP || status.place != -1) report(row, "several inputs in place", "the overlap is not told", status);
+    if (status.number != CVL_OVERLAP || status.place != -1)
+        report(row, "several inputs in place", "the overlap is not told", status);
     if (!is_as(before)) report(row, "several inputs in place", "something was written", status);
 }
 
@@ -247,7 +253,8 @@ static void compare_bytes(const Row *row, int way, unsigned char byte) {
         memcpy(wanted + (at[j] - arena), odd[j], bytes_of(row, j));
     }
     const CvlStatus status = call_at(row, at);
-    if (status.number != plain.number || status.place != plain.place) report(row, "bytes", "another status than on 0 and 1", status);
+    if (status.number != plain.number || status.place != plain.place)
+        report(row, "bytes", "another status than on 0 and 1", status);
     if (!is_as(wanted)) report(row, "bytes", "another result than on 0 and 1", status);
 }
 
@@ -332,15 +339,21 @@ static void descriptors(void) {
     const Row row = {.name = "a descriptor"};
     CvlSegments made = CVL_NO_SEGMENTS;
     size_t total = 0;
-    if (cvl_segments_total(&made, &total).number != CVL_NO_DESCRIPTOR) report(&row, "before it is made", "there is one", cvl_segments_free(&made));
+    if (cvl_segments_total(&made, &total).number != CVL_NO_DESCRIPTOR)
+        report(&row, "before it is made", "there is one", cvl_segments_free(&made));
     if (cvl_segments_new(of_three, &made).number != CVL_DONE) report(&row, "made", "it is not done", cvl_segments_free(&made));
-    if (cvl_segments_total(&made, &total).number != CVL_DONE || total != 5) report(&row, "made", "another total", cvl_segments_free(&made));
-    if (cvl_segments_new(of_below, &made).number != CVL_NEGATIVE_LENGTH) report(&row, "not made", "no fault", cvl_segments_free(&made));
-    if (cvl_segments_total(&made, &total).number != CVL_NO_DESCRIPTOR) report(&row, "not made", "there is one", cvl_segments_free(&made));
-    if (cvl_segments_new(of_three, &made).number != CVL_DONE) report(&row, "made again", "it is not done", cvl_segments_free(&made));
+    if (cvl_segments_total(&made, &total).number != CVL_DONE || total != 5)
+        report(&row, "made", "another total", cvl_segments_free(&made));
+    if (cvl_segments_new(of_below, &made).number != CVL_NEGATIVE_LENGTH)
+        report(&row, "not made", "no fault", cvl_segments_free(&made));
+    if (cvl_segments_total(&made, &total).number != CVL_NO_DESCRIPTOR)
+        report(&row, "not made", "there is one", cvl_segments_free(&made));
+    if (cvl_segments_new(of_three, &made).number != CVL_DONE)
+        report(&row, "made again", "it is not done", cvl_segments_free(&made));
     if (cvl_segments_free(&made).number != CVL_DONE) report(&row, "let go", "it is not done", cvl_segments_free(&made));
     if (cvl_segments_free(&made).number != CVL_DONE) report(&row, "let go twice", "it is not done", cvl_segments_free(&made));
-    if (cvl_segments_total(&made, &total).number != CVL_NO_DESCRIPTOR) report(&row, "let go", "there is one", cvl_segments_free(&made));
+    if (cvl_segments_total(&made, &total).number != CVL_NO_DESCRIPTOR)
+        report(&row, "let go", "there is one", cvl_segments_free(&made));
 }
 
 int main(void) {

@@ -148,9 +148,21 @@ static CvlStatus from_offsets(const Given *g) {
 
 #define OF_LENGTHS NONE, NO_OPERATORS, NO_LIMIT, FAMILY
 static const Row of_lengths[] = {
-    {"cvl_segments_offsets", TELL_OFFSETS, {OTHER_ARRAY(LENGTHS, TOTAL, ELEMENTS), OTHER_ARRAY(ROOM, OFFSETS, ELEMENTS)}, OF_LENGTHS, tell_offsets},
-    {"cvl_segments_numbers", TELL_NUMBERS, {OTHER_ARRAY(LENGTHS, TOTAL, ELEMENTS), OTHER_ARRAY(ROOM, TOTAL, ELEMENTS)}, OF_LENGTHS, tell_numbers},
-    {"cvl_segments_from_offsets", FROM_OFFSETS, {OTHER_ARRAY(READS, OFFSETS, OFFSETS), OTHER_ARRAY(ROOM, SEGMENTS, LENGTHS)}, OF_LENGTHS, from_offsets},
+    {"cvl_segments_offsets",
+     TELL_OFFSETS,
+     {OTHER_ARRAY(LENGTHS, TOTAL, ELEMENTS), OTHER_ARRAY(ROOM, OFFSETS, ELEMENTS)},
+     OF_LENGTHS,
+     tell_offsets},
+    {"cvl_segments_numbers",
+     TELL_NUMBERS,
+     {OTHER_ARRAY(LENGTHS, TOTAL, ELEMENTS), OTHER_ARRAY(ROOM, TOTAL, ELEMENTS)},
+     OF_LENGTHS,
+     tell_numbers},
+    {"cvl_segments_from_offsets",
+     FROM_OFFSETS,
+     {OTHER_ARRAY(READS, OFFSETS, OFFSETS), OTHER_ARRAY(ROOM, SEGMENTS, LENGTHS)},
+     OF_LENGTHS,
+     from_offsets},
 };
 enum { OTHER_ROWS = sizeof of_lengths / sizeof *of_lengths, ALL_ROWS = OTHER_ROWS + ROWS };
 
@@ -187,7 +199,9 @@ static bool chance(size_t of) { return below(of) == 0; }
 
 static int32_t any_int(void) {
     static const int32_t odd[] = {INT32_MIN, INT32_MAX, -1, 0, 1, 31, 32};
-    return chance(4) ? odd[below(7)] : chance(2) ? (int32_t)below(19) - 9 : (int32_t)(below(1u << 31) * 2 + below(2) - (1u << 31));
+    return chance(4) ? odd[below(7)]
+        : chance(2)  ? (int32_t)below(19) - 9
+                     : (int32_t)(below(1u << 31) * 2 + below(2) - (1u << 31));
 }
 
 static void fill_bytes(void) {
@@ -206,7 +220,8 @@ static void fill_lengths(int32_t *lengths, size_t segments, size_t total) {
         total -= more;
     }
     if (segments > 0 && chance(10)) lengths[below(segments)] += (int32_t)below(3) - 1;
-    if (segments > 0 && chance(20)) lengths[below(segments)] = chance(2) ? -1 - (int32_t)below(9) : chance(2) ? CVL_MOST_OF_TEXT : CVL_MOST_ELEMENTS;
+    if (segments > 0 && chance(20))
+        lengths[below(segments)] = chance(2) ? -1 - (int32_t)below(9) : chance(2) ? CVL_MOST_OF_TEXT : CVL_MOST_ELEMENTS;
 }
 
 /* What an index may be in a segment of a result with so many places: each once, or any. */
@@ -249,7 +264,11 @@ static void fill_indices(const Row *row, Given *g, size_t n, size_t m) {
         fill_index(some, trues, places, !back);
         for (size_t k = 0, j = 0; k < length; k++) index[start + k] = selects && !get(row, g, 2, start + k) ? -7 : some[j++];
     }
-    if (many > 0 && chance(3)) index[below(many)] = chance(2) ? index[below(many)] : chance(2) ? -1 - (int32_t)below(2) : chance(2) ? INT32_MAX : (int32_t)m;
+    if (many > 0 && chance(3))
+        index[below(many)] = chance(2) ? index[below(many)]
+            : chance(2)                ? -1 - (int32_t)below(2)
+            : chance(2)                ? INT32_MAX
+                                       : (int32_t)m;
 }
 
 /* Offsets that begin with 0 and never fall; then sometimes others. */
@@ -276,7 +295,8 @@ static void fill_senders(const Row *row, Given *g) {
     const size_t out = operand(row, ROLE_ROOM), from_place = operand_for(row, USE_INDEX), many = g->len[from_place];
     int32_t *index = (int32_t *)g->at[from_place];
     if (has_negative(g, row)) return;
-    const Cuts from = cuts_of(row, g, 0, many), to = cuts_of(row, g, 1, g->len[out] + (extent_of(row, out) == EXTENT_RANGE ? below(9) : 0));
+    const Cuts from = cuts_of(row, g, 0, many),
+               to = cuts_of(row, g, 1, g->len[out] + (extent_of(row, out) == EXTENT_RANGE ? below(9) : 0));
     for (size_t s = 0; s < from.count && s < to.count; s++) {
         const size_t length = to.start[s + 1] - to.start[s];
         for (size_t k = from.start[s]; k < from.start[s + 1] && k < many; k++) {
@@ -385,12 +405,14 @@ static uint32_t fault_of(uint32_t op) {
 static void fill_seconds(uint32_t fault, int32_t *ints, size_t count) {
     const bool shifts = fault == CVL_SHIFT_OUT_OF_RANGE;
     for (size_t j = 0; j < count; j++) ints[j] = shifts ? (int32_t)below(32) : ints[j] == 0 ? 7 : ints[j];
-    for (size_t bad = chance(3) ? 1 + below(3) : 0; bad > 0 && count > 0; bad--) ints[below(count)] = shifts ? (chance(2) ? 32 : -1) : 0;
+    for (size_t bad = chance(3) ? 1 + below(3) : 0; bad > 0 && count > 0; bad--)
+        ints[below(count)] = shifts ? (chance(2) ? 32 : -1) : 0;
 }
 
 /* Sums that stand in a room before, of which each may grow; then sometimes some at the bounds of those, and beyond. */
 static void fill_sums(unsigned char *at, size_t count, bool small) {
-    static const int64_t bounds[] = {((int64_t)1 << 62) - 1, -((int64_t)1 << 62), (int64_t)1 << 62, -((int64_t)1 << 62) - 1, INT64_MAX, INT64_MIN};
+    static const int64_t bounds[] = {((int64_t)1 << 62) - 1,  -((int64_t)1 << 62), (int64_t)1 << 62,
+                                     -((int64_t)1 << 62) - 1, INT64_MAX,           INT64_MIN};
     int64_t sum;
     for (size_t j = 0; j < count; j++) {
         sum = small ? (int64_t)below(19) - 9 : any_int() * ((int64_t)1 << 30) + any_int();
@@ -407,30 +429,37 @@ static void fill(const Row *row, Given *g, size_t k, size_t n, size_t m) {
     unsigned char *bytes = (unsigned char *)g->at[k];
     const bool small = chance(2), plain = chance(2);
     /* a combining permute of booleans is cut only if those in the room are 0 and 1 */
-    const bool joins = (row->model == COMBINE_PERMUTE || row->model == COMBINE_PERMUTE_RANGE) && role_of(row, k) == ROLE_ROOM && kind_of(row, k) == KIND_FLAGS;
+    const bool joins = (row->model == COMBINE_PERMUTE || row->model == COMBINE_PERMUTE_RANGE) && role_of(row, k) == ROLE_ROOM &&
+        kind_of(row, k) == KIND_FLAGS;
     for (size_t j = 0; j < g->len[k] && joins && plain; j++) bytes[j] = (unsigned char)below(2);
     if (role_of(row, k) == ROLE_ROOM && kind_of(row, k) == KIND_SUMS && adds_up(row)) fill_sums(bytes, g->len[k], small);
-    for (size_t j = 0; j < g->len[k] && row->operands[k].is_over && kind_of(row, k) == KIND_INTS; j++) ints[j] = small ? (int32_t)below(19) - 9 : any_int();
-    if (role_of(row, k) == ROLE_LENGTHS) fill_lengths(ints, g->len[k], extent_of(row, k) == EXTENT_N || extent_of(row, k) == EXTENT_TOTAL ? n : m);
+    for (size_t j = 0; j < g->len[k] && row->operands[k].is_over && kind_of(row, k) == KIND_INTS; j++)
+        ints[j] = small ? (int32_t)below(19) - 9 : any_int();
+    if (role_of(row, k) == ROLE_LENGTHS)
+        fill_lengths(ints, g->len[k], extent_of(row, k) == EXTENT_N || extent_of(row, k) == EXTENT_TOTAL ? n : m);
     if (role_of(row, k) != ROLE_READS) return;
     for (size_t j = 0; j < g->len[k] && kind_of(row, k) == KIND_INTS; j++) ints[j] = small ? (int32_t)below(19) - 9 : any_int();
     /* neighbours that are equal */
     const bool has_runs = row->model >= RUN_LENGTHS && row->model <= SEG_RUN_COUNTS && plain;
     for (size_t j = 0; j < g->len[k] && has_runs && kind_of(row, k) == KIND_INTS; j++) ints[j] = (int32_t)below(2);
-    for (size_t j = 0; j < g->len[k] && kind_of(row, k) == KIND_FLAGS; j++) bytes[j] = chance(2) ? 0 : plain || chance(2) ? 1 : (unsigned char)below(256);
+    for (size_t j = 0; j < g->len[k] && kind_of(row, k) == KIND_FLAGS; j++)
+        bytes[j] = chance(2) ? 0 : plain || chance(2) ? 1 : (unsigned char)below(256);
     for (size_t j = 0; j < g->len[k] && kind_of(row, k) == KIND_BYTES; j++) bytes[j] = (unsigned char)below(256);
     for (size_t j = 0; j < g->len[k] && row->model == BYTES_FROM_INTS; j++) ints[j] = (int32_t)below(256);
-    for (size_t bad = row->model == BYTES_FROM_INTS && chance(3) ? 1 + below(3) : 0; bad > 0 && g->len[k] > 0; bad--) ints[below(g->len[k])] = any_int();
+    for (size_t bad = row->model == BYTES_FROM_INTS && chance(3) ? 1 + below(3) : 0; bad > 0 && g->len[k] > 0; bad--)
+        ints[below(g->len[k])] = any_int();
     if (kind_of(row, k) == KIND_TEXT) fill_text(row, (char *)g->at[k], g->len[k]);
     if (row->model == FROM_OFFSETS) fill_offsets(ints, g->len[k]);
     if (extent_of(row, k) == EXTENT_OFFSETS && is_by_offsets(row)) fill_row_offsets(ints, g->len[k], n);
-    if (row->model == BINARY && k == 1 && kind_of(row, k) == KIND_INTS && fault_of(g->op) != CVL_DONE) fill_seconds(fault_of(g->op), ints, g->len[k]);
+    if (row->model == BINARY && k == 1 && kind_of(row, k) == KIND_INTS && fault_of(g->op) != CVL_DONE)
+        fill_seconds(fault_of(g->op), ints, g->len[k]);
 }
 
 /* How many elements an array of an extent has. */
 static size_t long_as(Extent extent, size_t n, size_t m, size_t segments, int64_t count, size_t room) {
     switch (extent) {
-    case EXTENT_N: case EXTENT_TOTAL: return n;
+    case EXTENT_N:
+    case EXTENT_TOTAL: return n;
     case EXTENT_M: return m;
     case EXTENT_BOTH: return n + m;
     case EXTENT_SEGMENTS: return segments;
@@ -441,12 +470,18 @@ static size_t long_as(Extent extent, size_t n, size_t m, size_t segments, int64_
 }
 
 static void fill_numbers(const Row *row, Given *g, size_t n) {
-    static const int64_t far[] = {-1, (int64_t)1 << 32, ((int64_t)1 << 32) + 1, INT64_MIN, INT64_MAX, (int64_t)CVL_MOST_ELEMENTS + 1, (int64_t)1 << 31};
+    static const int64_t far[] = {
+        -1, (int64_t)1 << 32, ((int64_t)1 << 32) + 1, INT64_MIN, INT64_MAX, (int64_t)CVL_MOST_ELEMENTS + 1, (int64_t)1 << 31};
     for (size_t k = 0; k < count_of(row); k++) {
         const Role role = role_of(row, k);
         const Kind kind = kind_of(row, k);
-        if (role == ROLE_VALUE) g->number[k] = kind == KIND_FLAGS ? (int64_t)below(2) : kind == KIND_SUMS ? any_int() * (chance(3) ? (int64_t)5 : 1) : kind == KIND_SIZES ? (int64_t)below(n + 2) : any_int();
-        if (role == ROLE_VALUE && kind == KIND_SIZES && chance(20)) g->number[k] = chance(2) ? INT64_MAX : CVL_MOST_ELEMENTS + (int64_t)below(2);
+        if (role == ROLE_VALUE)
+            g->number[k] = kind == KIND_FLAGS ? (int64_t)below(2)
+                : kind == KIND_SUMS           ? any_int() * (chance(3) ? (int64_t)5 : 1)
+                : kind == KIND_SIZES          ? (int64_t)below(n + 2)
+                                              : any_int();
+        if (role == ROLE_VALUE && kind == KIND_SIZES && chance(20))
+            g->number[k] = chance(2) ? INT64_MAX : CVL_MOST_ELEMENTS + (int64_t)below(2);
         if (role == ROLE_PLACE) g->number[k] = chance(4) ? (chance(2) ? (int64_t)n : far[below(7)]) : (int64_t)below(n);
         if (role == ROLE_COUNT) g->number[k] = chance(6) ? far[below(7)] : (int64_t)n;
     }
@@ -475,7 +510,8 @@ static void make(const Row *row, Given *g) {
     const bool few_places = (combines(row) || row->model == COUNTS) && chance(2);
     const size_t n = few_places || chance(9) ? below(MOST_PLACES / 4) : below(14);
     const size_t m = few_places ? 1 + below(n / 8) : chance(3) ? below(14) : n + below(5);
-    const size_t segments = chance(9) ? 0 : 1 + below(chance(4) ? 40 : 5), count = count_of(row), marks = operand_of(row, ROLE_ROOM, KIND_MARKS);
+    const size_t segments = chance(9) ? 0 : 1 + below(chance(4) ? 40 : 5), count = count_of(row),
+                 marks = operand_of(row, ROLE_ROOM, KIND_MARKS);
     memset(g, 0, sizeof *g);
     fill_bytes();
     g->op = chance(30) && !row->is_call ? (uint32_t)below(24) : operator_from(row, (uint32_t)below(32));
@@ -484,7 +520,9 @@ static void make(const Row *row, Given *g) {
     for (size_t k = 0; k < count; k++) {
         const bool text = kind_of(row, k) == KIND_TEXT;
         const size_t room = chance(3) ? below(n + 2) : text ? 40 + 14 * n : n + below(3);
-        g->len[k] = role_of(row, k) == ROLE_LENGTHS ? segments : text && role_of(row, k) == ROLE_READS ? below(160) : long_as(extent_of(row, k), n, m, segments, times, room);
+        g->len[k] = role_of(row, k) == ROLE_LENGTHS ? segments
+            : text && role_of(row, k) == ROLE_READS ? below(160)
+                                                    : long_as(extent_of(row, k), n, m, segments, times, room);
         g->at[k] = memory + k * SLOT + SLOT / 4 + 8 * below(16);
         if (!row->is_call && is_array(row, k) && chance(25)) g->len[k] += below(2) == 0 && g->len[k] > 0 ? (size_t)-1 : 1;
     }
@@ -492,7 +530,8 @@ static void make(const Row *row, Given *g) {
     for (size_t k = 0; k < count; k++) fill(row, g, k, n, m);
     for (size_t k = 0; k < count; k++) {
         const size_t by = operand_for(row, USE_MASK);
-        if (role_of(row, k) == ROLE_LENGTHS || (extent_of(row, k) != EXTENT_TRUES && extent_of(row, k) != EXTENT_FALSES)) continue;
+        if (role_of(row, k) == ROLE_LENGTHS || (extent_of(row, k) != EXTENT_TRUES && extent_of(row, k) != EXTENT_FALSES))
+            continue;
         const size_t of_trues = trues_of(row, g, by, 0, g->len[by]);
         g->len[k] = (extent_of(row, k) == EXTENT_TRUES ? of_trues : g->len[by] - of_trues) + (chance(12) ? 1 : 0);
     }
@@ -512,8 +551,10 @@ static void make(const Row *row, Given *g) {
 
 static void fail(const Row *row, const char *what, CvlStatus status, CvlStatus expected) {
     if (failed++ >= 40) return;
-    printf("%s, %s: %u at %lld, and %u at %lld by the reading%s\n", row->name, what, (unsigned)status.number, (long long)status.place,
-           (unsigned)expected.number, (long long)expected.place, memcmp(memory, wanted, MEMORY) == 0 ? "" : "; other memory");
+    printf(
+        "%s, %s: %u at %lld, and %u at %lld by the reading%s\n", row->name, what, (unsigned)status.number,
+        (long long)status.place, (unsigned)expected.number, (long long)expected.place,
+        memcmp(memory, wanted, MEMORY) == 0 ? "" : "; other memory");
 }
 
 static CvlStatus call(const Row *row, const Given *g, long refusing) {
@@ -537,7 +578,8 @@ static bool is_refused(CvlStatus status) {
 static bool may_be_behind(const Row *row, CvlStatus expected) {
     const bool reads = row->model == READ || row->model == READ_AFTER || row->model == SEG_READ;
     return expected.number == CVL_DONE || (expected.number >= CVL_DIVIDE_BY_ZERO && expected.number <= CVL_INDEX_REPEATED) ||
-        expected.number == CVL_OVERFLOW || expected.number == CVL_BAD_INPUT || (expected.number == CVL_LENGTH_MISMATCH && (reads || expected.place >= 0));
+        expected.number == CVL_OVERFLOW || expected.number == CVL_BAD_INPUT ||
+        (expected.number == CVL_LENGTH_MISMATCH && (reads || expected.place >= 0));
 }
 
 static void choose_pool(void) {
@@ -556,7 +598,8 @@ static void refuse_each(const Row *row, const Given *g, CvlStatus expected) {
         memcpy(memory, before, MEMORY);
         const CvlStatus status = call(row, g, j);
         refused++;
-        if (!is_as(status, expected) && !(is_refused(status) && may_be_behind(row, expected))) fail(row, "without memory", status, expected);
+        if (!is_as(status, expected) && !(is_refused(status) && may_be_behind(row, expected)))
+            fail(row, "without memory", status, expected);
     }
 }
 
@@ -570,7 +613,8 @@ static void by_other_pools(const Row *row, const Given *g, CvlStatus expected) {
         runs = skipped = 0;
         const CvlStatus status = call(row, g, -1);
         const bool may = which[k % 3] == later && k < 3 && is_refused(status);
-        if (skipped > 0 ? !is_refused(status) : !is_as(status, expected) && !may) fail(row, k < 3 ? which[k] : "parts run twice", status, expected);
+        if (skipped > 0 ? !is_refused(status) : !is_as(status, expected) && !may)
+            fail(row, k < 3 ? which[k] : "parts run twice", status, expected);
     }
 }
 
@@ -638,10 +682,12 @@ static void too_long(const Row *row) {
         do make_without_fault(row, &g);
         while (expect(row, &g).number != CVL_DONE);
         for (size_t k = 0; k < count; k++) {
-            if (extent_of(row, k) == EXTENT_SEGMENTS && role_of(row, k) == ROLE_READS) g.at[k] = far_memory[k], g.len[k] = most_of(row) + 1;
+            if (extent_of(row, k) == EXTENT_SEGMENTS && role_of(row, k) == ROLE_READS)
+                g.at[k] = far_memory[k], g.len[k] = most_of(row) + 1;
         }
         g.at[lengths] = far_memory[lengths], g.len[lengths] = most_of(row) + 1;
-        if (role_of(row, count - 1) == ROLE_ROOM && extent_of(row, count - 1) == EXTENT_SEGMENTS) g.at[count - 1] = far_memory[count - 1], g.len[count - 1] = most_of(row) + 1;
+        if (role_of(row, count - 1) == ROLE_ROOM && extent_of(row, count - 1) == EXTENT_SEGMENTS)
+            g.at[count - 1] = far_memory[count - 1], g.len[count - 1] = most_of(row) + 1;
         is_too_long(row, &g, "too many lengths");
     }
     if ((row->in_place & FIRST) != 0 && (row->in_place & ONE_ALONE) == 0 && lengths == count) {
@@ -672,7 +718,8 @@ int main(int words, char **word) {
         for (int c = 0; c < 4; c++) too_long(row);
     }
     cvl_threads_stop(threads);
-    printf("%ld functions, %ld calls, %ld of them with memory refused, %ld arguments with a fault, %ld not as the reading\n", tried, calls, refused,
-           faults, failed);
+    printf(
+        "%ld functions, %ld calls, %ld of them with memory refused, %ld arguments with a fault, %ld not as the reading\n", tried,
+        calls, refused, faults, failed);
     return failed == 0 ? EXIT_SUCCESS : EXIT_FAILURE;
 }

@@ -12,10 +12,10 @@
 
 const CvlPool *__real_cvl_take_threads(void);
 const CvlPool *__wrap_cvl_take_threads(void);
-CvlStatus __real_cvl_proved_int2(uint32_t op, const int32_t *x, size_t x_len, const int32_t *y, size_t y_len, int32_t *out,
-    size_t out_len);
-CvlStatus __wrap_cvl_proved_int2(uint32_t op, const int32_t *x, size_t x_len, const int32_t *y, size_t y_len, int32_t *out,
-    size_t out_len);
+CvlStatus __real_cvl_proved_int2(
+    uint32_t op, const int32_t *x, size_t x_len, const int32_t *y, size_t y_len, int32_t *out, size_t out_len);
+CvlStatus __wrap_cvl_proved_int2(
+    uint32_t op, const int32_t *x, size_t x_len, const int32_t *y, size_t y_len, int32_t *out, size_t out_len);
 int __real_pthread_create(pthread_t *thread, const pthread_attr_t *how, void *(*work)(void *), void *with);
 int __wrap_pthread_create(pthread_t *thread, const pthread_attr_t *how, void *(*work)(void *), void *with);
 int __real_nanosleep(const struct timespec *time, struct timespec *left);
@@ -45,8 +45,8 @@ static void nap_while_held(void) {
     }
 }
 
-CvlStatus __wrap_cvl_proved_int2(uint32_t op, const int32_t *x, size_t x_len, const int32_t *y, size_t y_len, int32_t *out,
-    size_t out_len) {
+CvlStatus __wrap_cvl_proved_int2(
+    uint32_t op, const int32_t *x, size_t x_len, const int32_t *y, size_t y_len, int32_t *out, size_t out_len) {
     if (op == CVL_ADD) {
         parts_at_work++;
         nap_while_held();

@@ -56,7 +56,7 @@ static void cut(size_t shape) {
 /* ---- calls ---- */
 
 #define LENGTHS ((CvlLengths){lengths, segments})
-#define CALL(name, ...)                                                                                                        \
+#define CALL(name, ...) \
     static CvlStatus name(void) { return __VA_ARGS__; }
 
 CALL(add, cvl_int2(CVL_ADD, a, N, b, N, out, N))
@@ -160,7 +160,11 @@ static const Call by_segments[] = {
     {"sort", seg_sort},
 };
 
-enum { FLAT = sizeof flat / sizeof *flat, BY_SEGMENTS = sizeof by_segments / sizeof *by_segments, ALL = FLAT + BY_SEGMENTS * SHAPES };
+enum {
+    FLAT = sizeof flat / sizeof *flat,
+    BY_SEGMENTS = sizeof by_segments / sizeof *by_segments,
+    ALL = FLAT + BY_SEGMENTS * SHAPES
+};
 
 /* The places of each segment, from its last to its first. */
 static void number_places(void) {

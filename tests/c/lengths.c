@@ -69,7 +69,10 @@ static bool spoil(const Row *row, int way) {
     if (index < count_of(row) && !is_filled(row) && !uses(row, USE_LOWEST)) return spoil_index(row, index, way);
     if (way == 1) return false;
     switch (row->model) {
-    case CHECKED_SCAN: case SEG_CHECKED_SCAN: case CHECKED_REDUCE: case SEG_CHECKED_REDUCE: return spoil_sum();
+    case CHECKED_SCAN:
+    case SEG_CHECKED_SCAN:
+    case CHECKED_REDUCE:
+    case SEG_CHECKED_REDUCE: return spoil_sum();
     case BINARY: break;
     default: return false;
     }
@@ -169,7 +172,8 @@ static void most_booleans(bool *flags, size_t most) {
     check("a count", is(cvl_cnt_lub(flags, most, &count), CVL_DONE, -1) && (size_t)count == right);
     check("a reduce", is(cvl_xor_rub(flags, most, &found), CVL_DONE, -1) && found == odd);
     check("a reduce that is false", is(cvl_and_rub(flags, most, &found), CVL_DONE, -1) && !found);
-    check("the last element", is(cvl_ext_vub(flags, most, (int64_t)most - 1, &found), CVL_DONE, -1) && found == flag_at(most - 1));
+    check(
+        "the last element", is(cvl_ext_vub(flags, most, (int64_t)most - 1, &found), CVL_DONE, -1) && found == flag_at(most - 1));
     check("an index behind it", is(cvl_ext_vub(flags, most, (int64_t)most, &found), CVL_INDEX_OUT_OF_RANGE, 0));
     check("a scan in place", scans_in_place(flags, most));
 }
@@ -179,7 +183,10 @@ static void one_more(const bool *far, size_t count) {
     int32_t *ints = (int32_t *)(void *)(uintptr_t)far;
     size_t length = 7;
     bool found;
-    check("a count of too many", is(cvl_cnt_lub(far, count, ints), CVL_OVERLAP, -1) && is(cvl_cnt_lub(far, count, (int32_t *)memory[0]), CVL_TOO_LONG, -1));
+    check(
+        "a count of too many",
+        is(cvl_cnt_lub(far, count, ints), CVL_OVERLAP, -1) &&
+            is(cvl_cnt_lub(far, count, (int32_t *)memory[0]), CVL_TOO_LONG, -1));
     check("a reduce of too many", is(cvl_xor_rub(far, count, &found), CVL_TOO_LONG, -1));
     check("a scan of too many", is(cvl_xor_sub(far, (bool *)(uintptr_t)far, count), CVL_TOO_LONG, -1));
     check("a text of too many", is(cvl_write_bools(far, count, (char *)memory[0], 9, &length), CVL_TOO_LONG, -1) && length == 7);
@@ -214,7 +221,8 @@ static void last_faults(int32_t *a, int32_t *room, size_t most) {
     a[last] = 0, a[last - 1] = INT32_MAX, a[last - 2] = 1;
     check("a sum that no longer fits at the last place", is(cvl_tot_suz(a, a, most), CVL_OVERFLOW, last));
     check("a sum of all that no longer fits", is(cvl_tot_ruz(a, most, room), CVL_OVERFLOW, 0));
-    check("a room after a fault", room[0] == 0 && room[last] == 0 && a[last] == 0 && a[last - 1] == INT32_MAX && a[last - 2] == 1);
+    check(
+        "a room after a fault", room[0] == 0 && room[last] == 0 && a[last] == 0 && a[last - 1] == INT32_MAX && a[last - 2] == 1);
     a[last - 1] = a[last - 2] = 0;
 }
 
@@ -257,7 +265,8 @@ static void most_words(size_t least_threads) {
 
 int main(int words, char **word) {
     static const size_t all[] = {4194304, 4194305, 8388613, 67108864};
-    const size_t named = words > 1 ? (size_t)atol(word[1]) : 0, longest_one = named > 0 && named < CVL_MOST_ELEMENTS ? named : all[3];
+    const size_t named = words > 1 ? (size_t)atol(word[1]) : 0,
+                 longest_one = named > 0 && named < CVL_MOST_ELEMENTS ? named : all[3];
     pool = cvl_pool_alone(1);
     setvbuf(stdout, NULL, _IONBF, 0);
     make_memory(longest_one, longest_one / SEGMENT + 10);

@@ -194,7 +194,8 @@ static void last_words(void) {
         const CvlStatus status = calls_of[k](MANY);
         const long long place = k == 2 ? MOST + 3 : MOST;
         calls++;
-        if (status.number != CVL_BAD_INPUT || status.place != place) fail("the last word", "another place", (long long)status.place, place);
+        if (status.number != CVL_BAD_INPUT || status.place != place)
+            fail("the last word", "another place", (long long)status.place, place);
         if (!are_untouched()) fail("the last word", "something was written", 1, 0);
     }
 }
@@ -267,13 +268,15 @@ static void vectors(void) {
             cvl_gather_segments_int(a, 1, a, n, (CvlLengths){room, n}, NULL, 0),
         };
         const uint32_t of_elements[] = {
-            CVL_DIVIDE_BY_ZERO, CVL_INDEX_OUT_OF_RANGE, CVL_INDEX_OUT_OF_RANGE, CVL_INDEX_OUT_OF_RANGE, CVL_INDEX_OUT_OF_RANGE, CVL_INDEX_OUT_OF_RANGE,
-            CVL_INDEX_OUT_OF_RANGE, CVL_LENGTH_MISMATCH, CVL_LENGTH_MISMATCH, CVL_LENGTH_MISMATCH, CVL_INDEX_OUT_OF_RANGE,
+            CVL_DIVIDE_BY_ZERO,     CVL_INDEX_OUT_OF_RANGE, CVL_INDEX_OUT_OF_RANGE, CVL_INDEX_OUT_OF_RANGE,
+            CVL_INDEX_OUT_OF_RANGE, CVL_INDEX_OUT_OF_RANGE, CVL_INDEX_OUT_OF_RANGE, CVL_LENGTH_MISMATCH,
+            CVL_LENGTH_MISMATCH,    CVL_LENGTH_MISMATCH,    CVL_INDEX_OUT_OF_RANGE,
         };
         for (size_t k = 0; k < sizeof status / sizeof *status; k++, calls++) {
             const uint32_t right = n == most ? of_elements[k] : CVL_TOO_LONG;
             if (status[k].number != right) fail("a long vector", "another status", status[k].number, right);
-            if (status[k].place != (right == CVL_TOO_LONG || right == CVL_LENGTH_MISMATCH ? -1 : 0)) fail("a long vector", "another place", (long long)status[k].place, 0);
+            if (status[k].place != (right == CVL_TOO_LONG || right == CVL_LENGTH_MISMATCH ? -1 : 0))
+                fail("a long vector", "another place", (long long)status[k].place, 0);
         }
     }
     munmap(a, bytes);

@@ -41,14 +41,20 @@ static void run_parts(void *state, CvlPart part, void *work, size_t parts) {
 /* Whether elements of a call go to places that indices name: by a permute, or by one of its parts. */
 static bool permutes(const Row *row) {
     switch (row->model) {
-    case PERMUTE: case SELECT_PERMUTE: case DEFAULT_PERMUTE: case SEG_PERMUTE: case SEG_SELECT_PERMUTE: case SEG_DEFAULT_PERMUTE: return true;
+    case PERMUTE:
+    case SELECT_PERMUTE:
+    case DEFAULT_PERMUTE:
+    case SEG_PERMUTE:
+    case SEG_SELECT_PERMUTE:
+    case SEG_DEFAULT_PERMUTE: return true;
     default: return false;
     }
 }
 
 /* The starts and the lengths of the segments of each descriptor that a call makes: a distribute, an index, and a permute that is not simple. */
 static size_t descriptors_of(const Row *row) {
-    const bool makes = row->model == SEG_DISTRIBUTE || row->model == SEG_INDEX || row->model == SEG_SELECT_PERMUTE || row->model == SEG_DEFAULT_PERMUTE;
+    const bool makes = row->model == SEG_DISTRIBUTE || row->model == SEG_INDEX || row->model == SEG_SELECT_PERMUTE ||
+        row->model == SEG_DEFAULT_PERMUTE;
     size_t count = 0;
     for (size_t k = 0; k < count_of(row) && makes; k++) count += role_of(row, k) == ROLE_LENGTHS;
     return count * segments * 2 * sizeof(int32_t);
@@ -61,14 +67,16 @@ static bool moves(const Row *row) { return row->model >= SORT_BY_KEY && row->mod
 
 /* Whether a call orders keys, which it does as a whole. */
 static bool orders(const Row *row) {
-    return sorts(row) || moves(row) || row->model == ORDER || row->model == RANK || row->model == SEG_ORDER || row->model == SEG_RANK;
+    return sorts(row) || moves(row) || row->model == ORDER || row->model == RANK || row->model == SEG_ORDER ||
+        row->model == SEG_RANK;
 }
 
 /* How many bytes such a call asks for: few keys are sorted where they are, and others in as much room and in counts of digits. Places stand
  * beside the keys of one segment, and values beside all keys. */
 static size_t memory_of_keys(const Row *row) {
     const size_t keys = is_cut_up(row) ? longest : n, counts = keys <= 1535 ? 256 : 2048;
-    const size_t each = sorts(row) ? sizeof(int32_t) : 2 * sizeof(int32_t), room = keys <= 48 ? 0 : each * keys + sizeof(uint32_t) * counts;
+    const size_t each = sorts(row) ? sizeof(int32_t) : 2 * sizeof(int32_t),
+                 room = keys <= 48 ? 0 : each * keys + sizeof(uint32_t) * counts;
     return room + (sorts(row) ? 0 : each * (moves(row) ? n : keys));
 }
 
@@ -80,14 +88,23 @@ static size_t memory_of(const Row *row) {
     if (uses(row, USE_LOWEST)) return 0; /* a part of a permute has the caller's marks */
     if (orders(row)) return memory_of_keys(row);
     switch (row->model) {
-    case COMBINE_CHECKED_INT: case SEG_COMBINE_CHECKED_INT: return sizeof(int64_t) * n; /* the sums, before they are known to fit */
-    case PERMUTE: case SEG_PERMUTE: return cut_up ? longest : marks;
-    case SELECT_PERMUTE: case SEG_SELECT_PERMUTE: return descriptors_of(row) + sizeof(uint32_t) * trues;
-    case DEFAULT_PERMUTE: case SEG_DEFAULT_PERMUTE: return descriptors_of(row) + (cut_up ? sizeof(uint32_t) * n : marks);
-    case REPLACE: case SEG_REPLACE: return !cut_up && item == 1 ? 0 : item * n;
+    case COMBINE_CHECKED_INT:
+    case SEG_COMBINE_CHECKED_INT: return sizeof(int64_t) * n; /* the sums, before they are known to fit */
+    case PERMUTE:
+    case SEG_PERMUTE: return cut_up ? longest : marks;
+    case SELECT_PERMUTE:
+    case SEG_SELECT_PERMUTE: return descriptors_of(row) + sizeof(uint32_t) * trues;
+    case DEFAULT_PERMUTE:
+    case SEG_DEFAULT_PERMUTE: return descriptors_of(row) + (cut_up ? sizeof(uint32_t) * n : marks);
+    case REPLACE:
+    case SEG_REPLACE: return !cut_up && item == 1 ? 0 : item * n;
     case TELL_NUMBERS: return 3 * segments * sizeof(int32_t); /* numbers, and the descriptor by which they are distributed */
-    case SPARSE_PRODUCT_BY_OFFSETS: case CHECKED_SPARSE_PRODUCT_BY_OFFSETS: return 2 * item * segments; /* the rows' lengths, too */
-    case SEG_EXTRACT: case SEG_CHECKED_REDUCE: case SPARSE_PRODUCT: case CHECKED_SPARSE_PRODUCT: return item * segments;
+    case SPARSE_PRODUCT_BY_OFFSETS:
+    case CHECKED_SPARSE_PRODUCT_BY_OFFSETS: return 2 * item * segments; /* the rows' lengths, too */
+    case SEG_EXTRACT:
+    case SEG_CHECKED_REDUCE:
+    case SPARSE_PRODUCT:
+    case CHECKED_SPARSE_PRODUCT: return item * segments;
     default: return descriptors_of(row);
     }
 }
@@ -100,9 +117,20 @@ static size_t memory_of_keys_in_parts(const Row *row) {
 /* Whether a call in parts keeps what stood in its room. */
 static bool keeps_room(const Row *row) {
     switch (row->model) {
-    case COMBINE_CHECKED_INT: case SEG_EXACT_SUMS: case FIRST_SENDERS: case SELECT_FIRST_SENDERS: return true;
-    case SEG_EXTRACT: case SEG_REPLACE: case SEG_BACK_PERMUTE: case SEG_FIRST_SENDERS: case SEG_SELECT_FIRST_SENDERS: case SEG_COUNTS: return true;
-    case SEG_MERGE_BY_FLAGS: case GATHER_SEGMENTS: case APPEND_SEGMENTS: case SEG_FIRST_TRUE: return true;
+    case COMBINE_CHECKED_INT:
+    case SEG_EXACT_SUMS:
+    case FIRST_SENDERS:
+    case SELECT_FIRST_SENDERS: return true;
+    case SEG_EXTRACT:
+    case SEG_REPLACE:
+    case SEG_BACK_PERMUTE:
+    case SEG_FIRST_SENDERS:
+    case SEG_SELECT_FIRST_SENDERS:
+    case SEG_COUNTS: return true;
+    case SEG_MERGE_BY_FLAGS:
+    case GATHER_SEGMENTS:
+    case APPEND_SEGMENTS:
+    case SEG_FIRST_TRUE: return true;
     default: return permutes(row) || (is_cut_up(row) && (orders(row) || is_product(row) || combines(row)));
     }
 }
@@ -113,11 +141,12 @@ static bool keeps_room(const Row *row) {
  */
 static size_t memory_in_parts(const Row *row) {
     const size_t room = operand(row, ROLE_ROOM), in_brackets = is_cut_up(row) ? segments : 0;
-    if (row->model == WRITE || row->model == SEG_WRITE) return (kind_of(row, 0) == KIND_FLAGS ? 2 : 12) * n + 3 * in_brackets + 2 * PARTS;
+    if (row->model == WRITE || row->model == SEG_WRITE)
+        return (kind_of(row, 0) == KIND_FLAGS ? 2 : 12) * n + 3 * in_brackets + 2 * PARTS;
     if (row->model == READ) return (elements_of(row, 0) + PARTS) / 2 * sizeof(int32_t);
     if (orders(row) && !is_cut_up(row)) return memory_of_keys_in_parts(row);
     if (!keeps_room(row)) return 0;
-    if (row->model == COMBINE_CHECKED_INT) return sizeof(int64_t) * n; /* the sums of all ranges */
+    if (row->model == COMBINE_CHECKED_INT) return sizeof(int64_t) * n;                   /* the sums of all ranges */
     if (uses(row, USE_OFFSETS)) return bytes_of(row, room) + sizeof(int32_t) * segments; /* the rows' lengths, too */
     if (is_cut_up(row) || !permutes(row)) return bytes_of(row, room) * (moves(row) ? 2 : 1);
     return (bytes_of(row, room) + 3) / 4 * 4 + sizeof(uint32_t) * (elements_of(row, room) / 32 + PARTS);

@@ -42,13 +42,16 @@ static inline uint32_t operated(uint32_t op, int64_t a, int64_t b, int64_t *valu
     case CVL_LEQ: *value = a <= b; return CVL_DONE;
     case CVL_EQL: *value = a == b; return CVL_DONE;
     case CVL_NEQ: *value = a != b; return CVL_DONE;
-    case CVL_DIV: case CVL_MOD:
+    case CVL_DIV:
+    case CVL_MOD:
         if (b == 0) return CVL_DIVIDE_BY_ZERO;
         *value = wrapped(op == CVL_DIV ? a / b : a % b);
         return CVL_DONE;
-    case CVL_LSH: case CVL_RSH:
+    case CVL_LSH:
+    case CVL_RSH:
         if (b < 0 || b > 31) return CVL_SHIFT_OUT_OF_RANGE;
-        *value = op == CVL_LSH ? wrapped(a * ((int64_t)1 << b)) : (a - (((a % ((int64_t)1 << b)) + ((int64_t)1 << b)) % ((int64_t)1 << b))) / ((int64_t)1 << b);
+        *value = op == CVL_LSH ? wrapped(a * ((int64_t)1 << b))
+                               : (a - (((a % ((int64_t)1 << b)) + ((int64_t)1 << b)) % ((int64_t)1 << b))) / ((int64_t)1 << b);
         return CVL_DONE;
     default: abort(); /* an operator that this reading lacks */
     }
@@ -57,7 +60,9 @@ static inline uint32_t operated(uint32_t op, int64_t a, int64_t b, int64_t *valu
 /* What no elements join to. */
 static inline int64_t unit(uint32_t op, bool of_booleans) {
     switch (op) {
-    case CVL_ADD: case CVL_IOR: case CVL_XOR: return 0;
+    case CVL_ADD:
+    case CVL_IOR:
+    case CVL_XOR: return 0;
     case CVL_MUL: return 1;
     case CVL_MIN: return INT32_MAX;
     case CVL_MAX: return INT32_MIN;

@@ -26,7 +26,8 @@ enum { MOST_THREADS = 4, MOST_PARTS = 9 };
 static struct {
     size_t n, m, k, few, segments, full_segments, trues, room, text_room, text_length, number_count, rows;
     int32_t *a, *b, *small, *divisors, *shifts, *index, *select_index, *default_index, *back_index, *few_index, *defaults;
-    int32_t *lengths, *full, *wide, *back_lengths, *bad_lengths, *seg_index, *seg_select_index, *seg_default_index, *seg_back_index;
+    int32_t *lengths, *full, *wide, *back_lengths, *bad_lengths, *seg_index, *seg_select_index, *seg_default_index,
+        *seg_back_index;
     int32_t *values, *strides, *seg_places, place;
     bool *p, *q, *flags, *seg_flags, *bool_defaults;
     char *text, *nested;
@@ -57,6 +58,7 @@ static bool is_white(char byte) { return byte == ' ' || byte == '\t' || byte == 
 #define BY(lengths, segments) ((CvlLengths){lengths, segments})
 
 /* A row for each call: a name of its own, the function, and its arguments, of which those after the pool are the plain call's. */
+/* clang-format off */
 #define INT2(X, op, second)                                                                                                    \
     X(op##_wuz, op##_wuz, in.a, second, r->ints, in.n)                                                                         \
     X(op##_first, op##_wuz, r->ints, second, r->ints, in.n)                                                                    \
@@ -199,15 +201,17 @@ static bool is_white(char byte) { return byte == ' ' || byte == '\t' || byte == 
     X(no_seg_reduce, cvl_seg_bool_reduce, CVL_ADD, in.p, in.n, BY(in.lengths, in.segments), r->bools, in.segments)                 \
     X(few_values, cvl_seg_distribute_int, in.values, in.segments / 2, BY(in.lengths, in.segments), r->ints, in.n)                  \
     X(copies_below_none, cvl_distribute_int, 7, -1, r->ints, in.n)
+/* clang-format on */
 
 /* A text that is read in pieces of any lengths, cut at white space, each after the words of those before it. */
 static CvlStatus read_pieces(const char *text, size_t text_len, int32_t *out, size_t out_len, size_t *count) {
     return cvl_read_ints(text, text_len, out, out_len, count);
 }
-static CvlStatus read_pieces_on(const CvlPool *pieces, const char *text, size_t text_len, int32_t *out, size_t out_len, size_t *count);
+static CvlStatus read_pieces_on(
+    const CvlPool *pieces, const char *text, size_t text_len, int32_t *out, size_t out_len, size_t *count);
 
-#define DEFINED(name, function, ...)                                                                                           \
-    static CvlStatus plain_##name(Room *r) { return (void)r, function(__VA_ARGS__); }                                         \
+#define DEFINED(name, function, ...)                                                  \
+    static CvlStatus plain_##name(Room *r) { return (void)r, function(__VA_ARGS__); } \
     static CvlStatus parts_##name(Room *r) { return (void)r, function##_on(&pool, __VA_ARGS__); }
 TABLE(DEFINED)
 OTHERS(DEFINED)
@@ -234,7 +238,8 @@ static void *room_for(size_t count, size_t size) {
     return room;
 }
 
-static CvlStatus read_pieces_on(const CvlPool *pieces, const char *text, size_t text_len, int32_t *out, size_t out_len, size_t *count) {
+static CvlStatus read_pieces_on(
+    const CvlPool *pieces, const char *text, size_t text_len, int32_t *out, size_t out_len, size_t *count) {
     int32_t *read = (int32_t *)room_for(text_len, sizeof *read);
     CvlStatus status = status_of(CVL_DONE, -1);
     size_t words = 0, more = 0;
@@ -255,7 +260,8 @@ static CvlStatus read_pieces_on(const CvlPool *pieces, const char *text, size_t 
 
 static int32_t *random_ints(size_t count, uint32_t spread) {
     int32_t *ints = (int32_t *)room_for(count, sizeof *ints);
-    for (size_t k = 0; k < count; k++) ints[k] = spread == 0 ? (int32_t)(below(65536) << 16 | below(65536)) : (int32_t)below(spread) - (int32_t)(spread / 2);
+    for (size_t k = 0; k < count; k++)
+        ints[k] = spread == 0 ? (int32_t)(below(65536) << 16 | below(65536)) : (int32_t)below(spread) - (int32_t)(spread / 2);
     return ints;
 }
 
@@ -315,7 +321,8 @@ static void make_segments(void) {
     in.back_lengths = widened(&in.k, false);
     in.bad_lengths = (int32_t *)room_for(in.segments, sizeof(int32_t));
     memcpy(in.bad_lengths, in.lengths, in.segments * sizeof(int32_t));
-    for (size_t k = 1 + below(3); k > 0 && in.segments > 0; k--) in.bad_lengths[below((uint32_t)in.segments)] = -1 - (int32_t)below(3);
+    for (size_t k = 1 + below(3); k > 0 && in.segments > 0; k--)
+        in.bad_lengths[below((uint32_t)in.segments)] = -1 - (int32_t)below(3);
     in.seg_index = random_ints(n, 9);
     in.seg_select_index = random_ints(n, 9);
     in.seg_default_index = random_ints(n, 9);
@@ -348,10 +355,13 @@ static void make_texts(void) {
     in.text = (char *)room_for(in.n * 14 + 4, 1);
     in.text_length = 0;
     for (size_t k = 0; k < in.n; k++) {
-        for (size_t blanks = below(k == 0 ? 2 : 4) + (k > 0); blanks > 0; blanks--) in.text[in.text_length++] = " \t\n\r"[below(4)];
+        for (size_t blanks = below(k == 0 ? 2 : 4) + (k > 0); blanks > 0; blanks--)
+            in.text[in.text_length++] = " \t\n\r"[below(4)];
         in.text_length += (size_t)sprintf(in.text + in.text_length, "%d", below(9) == 0 ? (int)in.small[k] : (int)in.b[k] % 1000);
     }
-    if (cvl_seg_write_ints(in.a, in.n, BY(in.lengths, in.segments), nested, in.n * 12 + in.segments * 3 + 2, &count).number != CVL_DONE) abort();
+    if (cvl_seg_write_ints(in.a, in.n, BY(in.lengths, in.segments), nested, in.n * 12 + in.segments * 3 + 2, &count).number !=
+        CVL_DONE)
+        abort();
     in.nested = nested, in.nested_length = count;
 }
 
@@ -412,10 +422,37 @@ static void make(size_t n, int fault_count) {
 }
 
 static void let_go(void) {
-    void *all[] = {in.a, in.b, in.small, in.divisors, in.shifts, in.index, in.select_index, in.default_index, in.back_index, in.few_index,
-                   in.defaults, in.lengths, in.full, in.wide, in.back_lengths, in.bad_lengths, in.seg_index, in.seg_select_index,
-                   in.seg_default_index, in.seg_back_index, in.values, in.strides, in.seg_places, in.p, in.q, in.flags, in.seg_flags,
-                   in.bool_defaults, in.text, in.nested};
+    void *all[] = {
+        in.a,
+        in.b,
+        in.small,
+        in.divisors,
+        in.shifts,
+        in.index,
+        in.select_index,
+        in.default_index,
+        in.back_index,
+        in.few_index,
+        in.defaults,
+        in.lengths,
+        in.full,
+        in.wide,
+        in.back_lengths,
+        in.bad_lengths,
+        in.seg_index,
+        in.seg_select_index,
+        in.seg_default_index,
+        in.seg_back_index,
+        in.values,
+        in.strides,
+        in.seg_places,
+        in.p,
+        in.q,
+        in.flags,
+        in.seg_flags,
+        in.bool_defaults,
+        in.text,
+        in.nested};
     for (size_t k = 0; k < sizeof all / sizeof *all; k++) free(all[k]);
 }
 
@@ -440,16 +477,18 @@ static void compare(const Row *row, Room *plain, Room *parts, const int32_t *int
     const CvlStatus wanted = row->plain(plain), status = row->parts(parts);
     calls++;
     faults += wanted.number != CVL_DONE;
-    if (status.number == wanted.number && status.place == wanted.place && memcmp(plain->ints, parts->ints, most * sizeof *ints) == 0 &&
+    if (status.number == wanted.number && status.place == wanted.place &&
+        memcmp(plain->ints, parts->ints, most * sizeof *ints) == 0 &&
         memcmp(plain->bools, parts->bools, most * sizeof *bools) == 0 && memcmp(plain->text, parts->text, text) == 0 &&
         memcmp(plain->lengths, parts->lengths, in.segments * sizeof *ints) == 0 && plain->one == parts->one &&
         plain->flag == parts->flag && plain->count == parts->count && plain->segments == parts->segments) {
         return;
     }
     failed++;
-    printf("%s: %u at %lld in %zu parts of %zu elements, %u at %lld as a whole%s\n", row->name, (unsigned)status.number,
-           (long long)status.place, pool.parts, in.n, (unsigned)wanted.number, (long long)wanted.place,
-           status.number == wanted.number && status.place == wanted.place ? ", and other results" : "");
+    printf(
+        "%s: %u at %lld in %zu parts of %zu elements, %u at %lld as a whole%s\n", row->name, (unsigned)status.number,
+        (long long)status.place, pool.parts, in.n, (unsigned)wanted.number, (long long)wanted.place,
+        status.number == wanted.number && status.place == wanted.place ? ", and other results" : "");
 }
 
 /* Calls every function on the data that there are, each on a pool of its own kind. */
@@ -459,7 +498,8 @@ static void call_all(CvlThreads *const *threads) {
     bool *bools = random_bools(most);
     Room rooms[2];
     for (int k = 0; k < 2; k++) {
-        rooms[k].ints = (int32_t *)room_for(most, sizeof *ints), rooms[k].lengths = (int32_t *)room_for(in.segments, sizeof *ints);
+        rooms[k].ints = (int32_t *)room_for(most, sizeof *ints),
+        rooms[k].lengths = (int32_t *)room_for(in.segments, sizeof *ints);
         rooms[k].bools = (bool *)room_for(most, sizeof *bools), rooms[k].text = (char *)room_for(text, 1);
     }
     for (size_t k = 0; k < ROWS; k++) {
@@ -513,6 +553,7 @@ int main(int words, char **word) {
         }
     }
     for (size_t k = 0; k < MOST_THREADS; k++) cvl_threads_stop(threads[k]);
-    printf("%d rows, %ld calls in parts, %ld of them with a fault, %ld not as the plain call\n", (int)ROWS, calls, faults, failed);
+    printf(
+        "%d rows, %ld calls in parts, %ld of them with a fault, %ld not as the plain call\n", (int)ROWS, calls, faults, failed);
     return failed == 0 ? EXIT_SUCCESS : EXIT_FAILURE;
 }

@@ -126,7 +126,8 @@ static Pairs join_plainly(const int32_t *left, size_t n, const int32_t *right, s
             if (right[j] != left[k]) continue;
             if (found.n == most) {
                 most *= 2;
-                found.left = realloc(found.left, most * sizeof(int32_t)), found.right = realloc(found.right, most * sizeof(int32_t));
+                found.left = realloc(found.left, most * sizeof(int32_t)),
+                found.right = realloc(found.right, most * sizeof(int32_t));
             }
             if (found.left == NULL || found.right == NULL) abort();
             found.left[found.n] = (int32_t)k, found.right[found.n++] = j;
@@ -138,8 +139,9 @@ static Pairs join_plainly(const int32_t *left, size_t n, const int32_t *right, s
 
 /* ---- sparse matrices ---- */
 
-static void transpose_plainly(const int32_t *row_lengths, size_t rows, const int32_t *columns, const int32_t *values, size_t n,
-                              size_t width, int32_t *lengths, int32_t *row_of_each, int32_t *transposed) {
+static void transpose_plainly(
+    const int32_t *row_lengths, size_t rows, const int32_t *columns, const int32_t *values, size_t n, size_t width,
+    int32_t *lengths, int32_t *row_of_each, int32_t *transposed) {
     size_t *next = plain_room(width, sizeof *next), k = 0;
     memset(lengths, 0, width * sizeof *lengths);
     for (k = 0; k < n; k++) lengths[columns[k]]++;

@@ -85,9 +85,11 @@ typedef enum Step { NO_MORE, READS, WRITES } Step;
 enum { MOST_STEPS = 7 };
 
 /* Several steps in one argument of a row. */
-#define LIST(...) {__VA_ARGS__}
+#define LIST(...) \
+    { __VA_ARGS__ }
 
 /* A call of each kind, with its steps. */
+/* clang-format off */
 #define KINDS(X)                                                                                                               \
     X(add_wuz, LIST(READS, WRITES), a, a, rooms.out, MOST)                                                                     \
     X(div_wuz, LIST(READS, READS, WRITES), a, ones, rooms.out, MOST)                                                           \
@@ -120,9 +122,10 @@ enum { MOST_STEPS = 7 };
     X(read_ints, LIST(READS, WRITES, WRITES), spoken, sizeof spoken, rooms.out, MOST, &rooms.count)                            \
     X(write_ints, LIST(READS, WRITES, WRITES), a, MOST, rooms.text, sizeof rooms.text, &rooms.count)                           \
     X(seg_write_ints, LIST(READS, READS, WRITES, WRITES), a, MOST, cut, rooms.text, sizeof rooms.text, &rooms.count)
+/* clang-format on */
 
-#define KIND(name, steps, ...)                                                                                                 \
-    static CvlStatus plain_##name(void) { return cvl_##name(__VA_ARGS__); }                                                    \
+#define KIND(name, steps, ...)                                              \
+    static CvlStatus plain_##name(void) { return cvl_##name(__VA_ARGS__); } \
     static CvlStatus parts_##name(const CvlPool *pool) { return cvl_##name##_on(pool, __VA_ARGS__); }
 KINDS(KIND)
 #undef KIND
@@ -169,7 +172,9 @@ static void leave_out(const Kind *kind) {
     memcpy(right, &rooms, sizeof rooms);
     size_t steps = 0;
     while (kind->steps[steps] != NO_MORE) steps++;
-    check(kind->name, call_with_gap(kind, steps, 0).number == CVL_DONE && steps_run == steps && memcmp(&rooms, right, sizeof rooms) == 0);
+    check(
+        kind->name,
+        call_with_gap(kind, steps, 0).number == CVL_DONE && steps_run == steps && memcmp(&rooms, right, sizeof rooms) == 0);
     for (size_t k = 0; k < steps * PARTS; k++) {
         const CvlStatus status = call_with_gap(kind, k / PARTS, k % PARTS);
         const bool told = status.number == CVL_NO_RESOURCES && status.place == -1 && is_untouched();
@@ -320,7 +325,9 @@ static void in_a_child(void) {
         cvl_threads_stop(threads);
         _exit(right ? 0 : 1);
     }
-    check("a child did not call and stop", child > 0 && waitpid(child, &status, 0) == child && WIFEXITED(status) && WEXITSTATUS(status) == 0);
+    check(
+        "a child did not call and stop",
+        child > 0 && waitpid(child, &status, 0) == child && WIFEXITED(status) && WEXITSTATUS(status) == 0);
 }
 
 /* Whether threads of the pool find that their time is up whenever they wait. */

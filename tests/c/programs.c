@@ -20,8 +20,9 @@ CvlStatus add_up(const int32_t *keys, const int32_t *values, size_t n, Groups *g
 void sort_groups(const int32_t *keys, const int32_t *values, size_t n, SortedGroups *g);
 size_t number_keys(const int32_t *keys, size_t n, int32_t *order, int32_t *numbers);
 Pairs join(const int32_t *left, size_t n, const int32_t *right, size_t m);
-CvlStatus transpose(CvlLengths rows, const int32_t *columns, const int32_t *values, size_t n, size_t width, int32_t *lengths,
-                    int32_t *row_of_each, int32_t *transposed);
+CvlStatus transpose(
+    CvlLengths rows, const int32_t *columns, const int32_t *values, size_t n, size_t width, int32_t *lengths,
+    int32_t *row_of_each, int32_t *transposed);
 Matrix matrix_product(Matrix a, Matrix b);
 Tokens tokens_of(const char *text, size_t n, int32_t *wrong);
 
@@ -88,7 +89,8 @@ static void groups_at_random(size_t n, size_t many) {
     for (size_t k = 0; k < 2; k++) {
         int32_t *const room = rooms[k];
         g[k] = (Groups){many, room, room + many, room + 2 * many, room + 3 * many, room + 4 * many};
-        for (size_t j = 0; j < many; j++) g[k].counts[j] = g[k].sums[j] = 0, g[k].least[j] = INT32_MAX, g[k].greatest[j] = INT32_MIN;
+        for (size_t j = 0; j < many; j++)
+            g[k].counts[j] = g[k].sums[j] = 0, g[k].least[j] = INT32_MAX, g[k].greatest[j] = INT32_MIN;
         s[k] = (SortedGroups){0, sorted[k], sorted[k] + n, sorted[k] + 2 * n, sums[k]};
     }
     for (int batch = 0; batch < 2; batch++) {
@@ -127,7 +129,9 @@ static void text_at_random(size_t n) {
     for (size_t k = 0; k < n; k++) text[k] = bytes[below(kinds)];
     const Tokens found = tokens_of(text, n, &wrong[0]), wanted = tokens_plainly(text, n, &wrong[1]);
     check("a wrong byte", n, wrong[0] == wrong[1]);
-    check("tokens", n, found.n == wanted.n && same(found.starts, wanted.starts, found.n) && same(found.lengths, wanted.lengths, found.n));
+    check(
+        "tokens", n,
+        found.n == wanted.n && same(found.starts, wanted.starts, found.n) && same(found.lengths, wanted.lengths, found.n));
     check("their classes", n, found.n == wanted.n && same(found.classes, wanted.classes, found.n));
     free(found.starts), free(wanted.starts), free(wanted.lengths), free(wanted.classes), free(text);
 }
@@ -149,7 +153,9 @@ static void product_at_random(size_t rows, size_t inner, size_t width) {
     const Matrix b = entries_at_random(inner, width, lengths[1], columns[1], values[1]);
     const Matrix found = matrix_product(a, b), wanted = product_plainly(a, b, width);
     check("entries of a product", a.n, found.n == wanted.n && same(found.lengths, wanted.lengths, rows));
-    check("a product", a.n, found.n == wanted.n && same(found.columns, wanted.columns, found.n) && same(found.values, wanted.values, found.n));
+    check(
+        "a product", a.n,
+        found.n == wanted.n && same(found.columns, wanted.columns, found.n) && same(found.values, wanted.values, found.n));
     free(found.lengths), free(wanted.lengths), free(wanted.columns), free(wanted.values);
 }
 
@@ -197,7 +203,9 @@ static void by_quicksort(void) { take(), quicksort(room[0], KEYS, 256, NULL); }
 static void by_qsort(void) { take(), qsort(room[0], KEYS, sizeof *keys, ascending); }
 static void by_distinct(void) { distinct(keys, KEYS, room[0]); }
 static void by_table(void) { distinct_plainly(keys, KEYS, room[0]); }
-static void by_groups(void) { if (add_up(numbers, values, ENTRIES, &groups).number != CVL_DONE) abort(); }
+static void by_groups(void) {
+    if (add_up(numbers, values, ENTRIES, &groups).number != CVL_DONE) abort();
+}
 static void by_loop_over_groups(void) { add_up_plainly(numbers, values, ENTRIES, &groups); }
 static void by_sorted_groups(void) { sort_groups(keys, values, KEYS, &sorted_groups); }
 static void by_qsort_of_groups(void) { sort_groups_plainly(keys, values, KEYS, &sorted_groups); }
@@ -267,7 +275,8 @@ static int32_t *numbers_below(size_t n, size_t limit) {
 
 /* Lines of words, numbers, signs and comments. */
 static void make_text(void) {
-    static const char *const words[] = {"add ", "x ", "y1 ", "sum_of ", "= ", "(", ", ", ")\n", " 40 ", "# a comment\n", "write ", "\n"};
+    static const char *const words[] = {"add ", "x ",  "y1 ",  "sum_of ",       "= ",     "(",
+                                        ", ",   ")\n", " 40 ", "# a comment\n", "write ", "\n"};
     text = plain_room(TEXT, 1);
     for (size_t k = 0; k < TEXT; k++) {
         for (const char *word = words[below(12)]; *word != 0 && k < TEXT; word++) text[k++] = *word;
@@ -279,11 +288,13 @@ static void make_all(void) {
     keys = numbers_below(KEYS, KEYS), values = numbers_below(ENTRIES, KEYS), few = numbers_below(KEYS, 1000);
     spread = numbers_below(2 * KEYS, KEYS);
     for (size_t k = 0; k < 2 * KEYS; k++) spread[k] = (int32_t)((uint32_t)spread[k] * 2654435761u);
-    numbers = numbers_below(ENTRIES, GROUPS), columns = numbers_below(ENTRIES, LINES), row_lengths = plain_room(LINES, sizeof *row_lengths);
+    numbers = numbers_below(ENTRIES, GROUPS), columns = numbers_below(ENTRIES, LINES),
+    row_lengths = plain_room(LINES, sizeof *row_lengths);
     for (size_t k = 0; k < 3; k++) room[k] = plain_room(ENTRIES, sizeof *room[k]);
     for (size_t k = 0; k < LINES; k++) row_lengths[k] = ENTRIES / LINES;
     int32_t *const of_groups = plain_room(5 * GROUPS, sizeof *of_groups);
-    groups = (Groups){GROUPS, of_groups, of_groups + GROUPS, of_groups + 2 * GROUPS, of_groups + 3 * GROUPS, of_groups + 4 * GROUPS};
+    groups = (Groups){
+        GROUPS, of_groups, of_groups + GROUPS, of_groups + 2 * GROUPS, of_groups + 3 * GROUPS, of_groups + 4 * GROUPS};
     sums = plain_room(KEYS, sizeof *sums);
     sorted_groups = (SortedGroups){0, room[0], room[1], room[2], sums};
     int32_t *const lengths = plain_room(FACTORS / 8, sizeof *lengths);

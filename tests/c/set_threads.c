@@ -90,14 +90,18 @@ static int number_by_call(const char *text) {
 static const struct {
     const char *text, *said;
 } warnings[] = {
-    {"4", ""}, {"064", ""}, {"", ""},
+    {"4", ""},
+    {"064", ""},
+    {"", ""},
     {"65", "cvl: CVL_NUM_THREADS is \"65\", and has to be a number from 1 to 64; calls have 64 threads\n"},
     {" 4", "cvl: CVL_NUM_THREADS is \" 4\", and has to be a number from 1 to 64; calls have 4 threads\n"},
     {"abc", "cvl: CVL_NUM_THREADS is \"abc\", and has to be a number from 1 to 64; calls have 1 thread\n"},
     {"0", "cvl: CVL_NUM_THREADS is \"0\", and has to be a number from 1 to 64; calls have 1 thread\n"},
     {"\033[7m\n\377", "cvl: CVL_NUM_THREADS is \"?[7m??\", and has to be a number from 1 to 64; calls have 1 thread\n"},
-    {"100000000000000000000000", "cvl: CVL_NUM_THREADS is \"100000000000000000000000\", and has to be a number from 1 to 64; calls have 64 threads\n"},
-    {"1000000000000000000000001", "cvl: CVL_NUM_THREADS is \"100000000000000000000000..\", and has to be a number from 1 to 64; calls have 64 threads\n"},
+    {"100000000000000000000000",
+     "cvl: CVL_NUM_THREADS is \"100000000000000000000000\", and has to be a number from 1 to 64; calls have 64 threads\n"},
+    {"1000000000000000000000001",
+     "cvl: CVL_NUM_THREADS is \"100000000000000000000000..\", and has to be a number from 1 to 64; calls have 64 threads\n"},
 };
 
 /* Whether a word has what stands in the table said, and no more, while something asks for the number several times. */
@@ -160,14 +164,18 @@ static void variable(void) {
     static const struct {
         const char *text;
         int count;
-    } words[] = {{NULL, 1}, {"", 1}, {"1", 1}, {"4", 4}, {"004", 4}, {"64", 64}, {"65", 64}, {"0", 1}, {"-1", 1}, {"-4", 1}, {"+4", 4}, {" 4", 4},
-                 {"4\t ", 4}, {"4x", 1}, {"4 4", 1}, {" ", 1}, {"+", 1}, {"four", 1}, {"4294967300", 64}, {"18446744073709551620", 64}};
+    } words[] = {{NULL, 1},  {"", 1},    {"1", 1},    {"4", 4},           {"004", 4},
+                 {"64", 64}, {"65", 64}, {"0", 1},    {"-1", 1},          {"-4", 1},
+                 {"+4", 4},  {" 4", 4},  {"4\t ", 4}, {"4x", 1},          {"4 4", 1},
+                 {" ", 1},   {"+", 1},   {"four", 1}, {"4294967300", 64}, {"18446744073709551620", 64}};
     for (size_t k = 0; k < sizeof words / sizeof *words; k++) {
         check(words[k].text == NULL ? "no variable" : words[k].text, in_a_child(number_by, words[k].text) == words[k].count);
         check("a call reads another variable", in_a_child(number_by_call, words[k].text) == words[k].count);
     }
     for (size_t k = 0; k < sizeof warnings / sizeof *warnings; k++) {
-        check(warnings[k].text, in_a_child(warned_once, warnings[k].text) == 1 && in_a_child(warned_by_call, warnings[k].text) == 1);
+        check(
+            warnings[k].text,
+            in_a_child(warned_once, warnings[k].text) == 1 && in_a_child(warned_by_call, warnings[k].text) == 1);
     }
     check("the variable is read after a number was set", in_a_child(set_before, "4") == 2);
     check("a thread that can't be started changes the number, or a result", in_a_child(none_starts, "4") == 4);
@@ -184,9 +192,18 @@ static void variable(void) {
  */
 static bool is_cut(const char *name) {
     static const char *const whole[] = {
-        "cvl_ext_vuz", "cvl_ext_vub", "cvl_extract_int", "cvl_extract_bool", "cvl_seg_read_ints", "cvl_segments_free",
-        "cvl_segments_run_lengths_int", "cvl_segments_run_lengths_bool", "cvl_segments_run_starts_int", "cvl_segments_run_starts_bool",
-        "cvl_segments_run_counts_int", "cvl_segments_run_counts_bool",
+        "cvl_ext_vuz",
+        "cvl_ext_vub",
+        "cvl_extract_int",
+        "cvl_extract_bool",
+        "cvl_seg_read_ints",
+        "cvl_segments_free",
+        "cvl_segments_run_lengths_int",
+        "cvl_segments_run_lengths_bool",
+        "cvl_segments_run_starts_int",
+        "cvl_segments_run_starts_bool",
+        "cvl_segments_run_counts_int",
+        "cvl_segments_run_counts_bool",
     };
     char parts[64];
     for (size_t k = 0; k < sizeof whole / sizeof *whole; k++) {
@@ -202,7 +219,8 @@ static bool is_cut(const char *name) {
 /* How many calls a function makes that each take the threads. */
 static int takes_of(const char *name) {
     if (strcmp(name, "cvl_segments_offsets") == 0) return 2; /* it looks at the lengths, and scans them */
-    if (strcmp(name, "cvl_segments_numbers") == 0) return 3; /* it looks at them, numbers the segments, and distributes the numbers */
+    if (strcmp(name, "cvl_segments_numbers") == 0)
+        return 3; /* it looks at them, numbers the segments, and distributes the numbers */
     return is_cut(name);
 }
 

@@ -22,15 +22,18 @@ static void note(size_t gathered) {
     if (gathered > most_gathered) most_gathered = gathered;
 }
 
-#define GATHER(name, type)                                                                                                     \
-    CvlStatus __real_cvl_proved_gather_##name(const type *elements, size_t elements_len, const uint32_t *ends, size_t ends_len,  \
-        size_t blocks, size_t from, size_t count, type *out, size_t out_len);                                                  \
-    CvlStatus __wrap_cvl_proved_gather_##name(const type *elements, size_t elements_len, const uint32_t *ends, size_t ends_len,  \
-        size_t blocks, size_t from, size_t count, type *out, size_t out_len);                                                  \
-    CvlStatus __wrap_cvl_proved_gather_##name(const type *elements, size_t elements_len, const uint32_t *ends, size_t ends_len,  \
-        size_t blocks, size_t from, size_t count, type *out, size_t out_len) {                                                 \
-        note(out_len);                                                                                                         \
-        return __real_cvl_proved_gather_##name(elements, elements_len, ends, ends_len, blocks, from, count, out, out_len);      \
+#define GATHER(name, type)                                                                                                 \
+    CvlStatus __real_cvl_proved_gather_##name(                                                                             \
+        const type *elements, size_t elements_len, const uint32_t *ends, size_t ends_len, size_t blocks, size_t from,      \
+        size_t count, type *out, size_t out_len);                                                                          \
+    CvlStatus __wrap_cvl_proved_gather_##name(                                                                             \
+        const type *elements, size_t elements_len, const uint32_t *ends, size_t ends_len, size_t blocks, size_t from,      \
+        size_t count, type *out, size_t out_len);                                                                          \
+    CvlStatus __wrap_cvl_proved_gather_##name(                                                                             \
+        const type *elements, size_t elements_len, const uint32_t *ends, size_t ends_len, size_t blocks, size_t from,      \
+        size_t count, type *out, size_t out_len) {                                                                         \
+        note(out_len);                                                                                                     \
+        return __real_cvl_proved_gather_##name(elements, elements_len, ends, ends_len, blocks, from, count, out, out_len); \
     }
 GATHER(keys, int32_t)
 GATHER(placed, CvlPlaced)
@@ -82,7 +85,10 @@ static const struct {
     const char *name;
     CvlStatus (*call)(const CvlPool *pool);
 } calls[] = {
-    {"cvl_sort_on", sort}, {"cvl_order_on", order}, {"cvl_rank_on", rank}, {"cvl_sort_by_key_on", by_key},
+    {"cvl_sort_on", sort},
+    {"cvl_order_on", order},
+    {"cvl_rank_on", rank},
+    {"cvl_sort_by_key_on", by_key},
     {"cvl_sort_by_key_descending_on", descending},
 };
 

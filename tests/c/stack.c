@@ -146,7 +146,8 @@ int main(void) {
     /* segments of some five elements are scanned and reduced many at once, with a byte of stack for each element */
     of_length(3000, 500, 9, threads);
     cvl_threads_stop(threads);
-    printf("%d functions, bytes of stack: %zu alone (%s), %zu with others (%s), %zu of a thread of the library (%s)\n", (int)ROWS,
-           alone.bytes, alone.name, together.bytes, together.name, beside.bytes, beside.name);
+    printf(
+        "%d functions, bytes of stack: %zu alone (%s), %zu with others (%s), %zu of a thread of the library (%s)\n", (int)ROWS,
+        alone.bytes, alone.name, together.bytes, together.name, beside.bytes, beside.name);
     return failed ? EXIT_FAILURE : EXIT_SUCCESS;
 }

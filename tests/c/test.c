@@ -69,8 +69,9 @@ static void reset(void) {
 /* The status is this one. */
 static void tells(const char *call, CvlStatus status, uint32_t number, int64_t place) {
     if (status.number != number || status.place != place) {
-        printf("%s: %u at %lld, not %u at %lld\n", call, (unsigned)status.number, (long long)status.place, (unsigned)number,
-               (long long)place);
+        printf(
+            "%s: %u at %lld, not %u at %lld\n", call, (unsigned)status.number, (long long)status.place, (unsigned)number,
+            (long long)place);
         failed = 1;
     }
 }
@@ -109,116 +110,116 @@ static void holds_bools(const char *call, const bool *wanted, size_t count) {
 }
 
 /* The call is done, and the room holds these integers or booleans. */
-#define INTS(call, ...)                                                                                                         \
-    do {                                                                                                                        \
-        const int32_t wanted[] = {__VA_ARGS__};                                                                                 \
-        reset();                                                                                                                \
-        tells(#call, call, CVL_DONE, -1);                                                                                       \
-        holds_ints(#call, wanted, sizeof wanted / sizeof *wanted);                                                              \
-        NO_MEMORY(call);                                                                                                        \
+#define INTS(call, ...)                                            \
+    do {                                                           \
+        const int32_t wanted[] = {__VA_ARGS__};                    \
+        reset();                                                   \
+        tells(#call, call, CVL_DONE, -1);                          \
+        holds_ints(#call, wanted, sizeof wanted / sizeof *wanted); \
+        NO_MEMORY(call);                                           \
     } while (0)
-#define BOOLS(call, ...)                                                                                                        \
-    do {                                                                                                                        \
-        const bool wanted[] = {__VA_ARGS__};                                                                                    \
-        reset();                                                                                                                \
-        tells(#call, call, CVL_DONE, -1);                                                                                       \
-        holds_bools(#call, wanted, sizeof wanted / sizeof *wanted);                                                             \
-        NO_MEMORY(call);                                                                                                        \
+#define BOOLS(call, ...)                                            \
+    do {                                                            \
+        const bool wanted[] = {__VA_ARGS__};                        \
+        reset();                                                    \
+        tells(#call, call, CVL_DONE, -1);                           \
+        holds_bools(#call, wanted, sizeof wanted / sizeof *wanted); \
+        NO_MEMORY(call);                                            \
     } while (0)
 
 /* The call is done, the front of the room holds these integers or this text, and the count is their number. */
-#define FRONT_INTS(call, ...)                                                                                                   \
-    do {                                                                                                                        \
-        const int32_t wanted[] = {__VA_ARGS__};                                                                                 \
-        INTS(call, __VA_ARGS__);                                                                                                \
-        if (total != UNTOUCHED) fail(#call, "the count was written without memory");                                            \
-        reset();                                                                                                                \
-        tells(#call, call, CVL_DONE, -1);                                                                                       \
-        if (total != sizeof wanted / sizeof *wanted) fail(#call, "another count");                                              \
+#define FRONT_INTS(call, ...)                                                        \
+    do {                                                                             \
+        const int32_t wanted[] = {__VA_ARGS__};                                      \
+        INTS(call, __VA_ARGS__);                                                     \
+        if (total != UNTOUCHED) fail(#call, "the count was written without memory"); \
+        reset();                                                                     \
+        tells(#call, call, CVL_DONE, -1);                                            \
+        if (total != sizeof wanted / sizeof *wanted) fail(#call, "another count");   \
     } while (0)
-#define TEXT(call, wanted)                                                                                                      \
-    do {                                                                                                                        \
-        reset();                                                                                                                \
-        tells(#call, call, CVL_DONE, -1);                                                                                       \
-        if (total != strlen(wanted)) fail(#call, "another count");                                                              \
-        if (memcmp(bytes, wanted, strlen(wanted)) != 0) fail(#call, "another text");                                            \
-        leaves_bytes(#call, strlen(wanted));                                                                                    \
-        NO_MEMORY(call);                                                                                                        \
-        leaves_bytes(#call, 0);                                                                                                 \
-        if (total != UNTOUCHED) fail(#call, "the count was written");                                                           \
+#define TEXT(call, wanted)                                                           \
+    do {                                                                             \
+        reset();                                                                     \
+        tells(#call, call, CVL_DONE, -1);                                            \
+        if (total != strlen(wanted)) fail(#call, "another count");                   \
+        if (memcmp(bytes, wanted, strlen(wanted)) != 0) fail(#call, "another text"); \
+        leaves_bytes(#call, strlen(wanted));                                         \
+        NO_MEMORY(call);                                                             \
+        leaves_bytes(#call, 0);                                                      \
+        if (total != UNTOUCHED) fail(#call, "the count was written");                \
     } while (0)
 
 /* The room is too short and as before, and the count is the length that is needed. */
-#define TOO_SHORT(call, needed)                                                                                                 \
-    do {                                                                                                                        \
-        reset();                                                                                                                \
-        tells(#call, call, CVL_LENGTH_MISMATCH, -1);                                                                            \
-        leaves(#call, 0, 0);                                                                                                    \
-        leaves_bytes(#call, 0);                                                                                                 \
-        if (total != (needed)) fail(#call, "another length is needed");                                                         \
+#define TOO_SHORT(call, needed)                                         \
+    do {                                                                \
+        reset();                                                        \
+        tells(#call, call, CVL_LENGTH_MISMATCH, -1);                    \
+        leaves(#call, 0, 0);                                            \
+        leaves_bytes(#call, 0);                                         \
+        if (total != (needed)) fail(#call, "another length is needed"); \
     } while (0)
 
 /* Without memory the call says so, or it takes none and is done. */
-#define NO_MEMORY(call)                                                                                                         \
-    do {                                                                                                                        \
-        CvlStatus status;                                                                                                       \
-        reset();                                                                                                                \
-        refusing = 1;                                                                                                           \
-        status = call;                                                                                                          \
-        refusing = 0;                                                                                                           \
-        if (status.number != CVL_DONE) {                                                                                        \
-            tells(#call, status, CVL_NO_RESOURCES, -1);                                                                         \
-            leaves(#call, 0, 0);                                                                                                \
-            if (total != UNTOUCHED) fail(#call, "the total was written");                                                       \
-        }                                                                                                                       \
+#define NO_MEMORY(call)                                                   \
+    do {                                                                  \
+        CvlStatus status;                                                 \
+        reset();                                                          \
+        refusing = 1;                                                     \
+        status = call;                                                    \
+        refusing = 0;                                                     \
+        if (status.number != CVL_DONE) {                                  \
+            tells(#call, status, CVL_NO_RESOURCES, -1);                   \
+            leaves(#call, 0, 0);                                          \
+            if (total != UNTOUCHED) fail(#call, "the total was written"); \
+        }                                                                 \
     } while (0)
 
 /* The call has this fault, and the rooms are as before. */
-#define FAULT(call, number, place)                                                                                              \
-    do {                                                                                                                        \
-        reset();                                                                                                                \
-        tells(#call, call, number, place);                                                                                      \
-        leaves(#call, 0, 0);                                                                                                    \
-        if (total != UNTOUCHED) fail(#call, "the total was written");                                                           \
+#define FAULT(call, number, place)                                    \
+    do {                                                              \
+        reset();                                                      \
+        tells(#call, call, number, place);                            \
+        leaves(#call, 0, 0);                                          \
+        if (total != UNTOUCHED) fail(#call, "the total was written"); \
     } while (0)
 
 /* The call is done, and the front of the room holds these integers or booleans, whose number is told as the total. */
-#define COUNTED_INTS(call, ...)                                                                                                 \
-    do {                                                                                                                        \
-        INTS(call, __VA_ARGS__);                                                                                                \
-        counts(#call, call, CVL_DONE, sizeof((const int32_t[]){__VA_ARGS__}) / sizeof(int32_t));                                \
+#define COUNTED_INTS(call, ...)                                                                  \
+    do {                                                                                         \
+        INTS(call, __VA_ARGS__);                                                                 \
+        counts(#call, call, CVL_DONE, sizeof((const int32_t[]){__VA_ARGS__}) / sizeof(int32_t)); \
     } while (0)
-#define COUNTED_BOOLS(call, ...)                                                                                                \
-    do {                                                                                                                        \
-        BOOLS(call, __VA_ARGS__);                                                                                               \
-        counts(#call, call, CVL_DONE, sizeof((const bool[]){__VA_ARGS__}) / sizeof(bool));                                      \
+#define COUNTED_BOOLS(call, ...)                                                           \
+    do {                                                                                   \
+        BOOLS(call, __VA_ARGS__);                                                          \
+        counts(#call, call, CVL_DONE, sizeof((const bool[]){__VA_ARGS__}) / sizeof(bool)); \
     } while (0)
 
 /* The call takes so many copies of booleans that are neither 0 nor 1, and where one is refused it says so. */
-#define COPIES(call, copies)                                                                                                    \
-    do {                                                                                                                        \
-        for (int granted = 0; granted < (copies); granted++) {                                                                  \
-            CvlStatus status;                                                                                                   \
-            reset();                                                                                                            \
-            spared = granted;                                                                                                   \
-            refusing = 1;                                                                                                       \
-            status = call;                                                                                                      \
-            refusing = spared = 0;                                                                                              \
-            tells(#call, status, CVL_NO_RESOURCES, -1);                                                                         \
-            leaves(#call, 0, 0);                                                                                                \
-            leaves_bytes(#call, 0);                                                                                             \
-            if (total != UNTOUCHED) fail(#call, "the total was written");                                                       \
-        }                                                                                                                       \
+#define COPIES(call, copies)                                              \
+    do {                                                                  \
+        for (int granted = 0; granted < (copies); granted++) {            \
+            CvlStatus status;                                             \
+            reset();                                                      \
+            spared = granted;                                             \
+            refusing = 1;                                                 \
+            status = call;                                                \
+            refusing = spared = 0;                                        \
+            tells(#call, status, CVL_NO_RESOURCES, -1);                   \
+            leaves(#call, 0, 0);                                          \
+            leaves_bytes(#call, 0);                                       \
+            if (total != UNTOUCHED) fail(#call, "the total was written"); \
+        }                                                                 \
     } while (0)
-#define INTS_OF_COPIES(copies, call, ...)                                                                                       \
-    do {                                                                                                                        \
-        INTS(call, __VA_ARGS__);                                                                                                \
-        COPIES(call, copies);                                                                                                   \
+#define INTS_OF_COPIES(copies, call, ...) \
+    do {                                  \
+        INTS(call, __VA_ARGS__);          \
+        COPIES(call, copies);             \
     } while (0)
-#define BOOLS_OF_COPIES(copies, call, ...)                                                                                      \
-    do {                                                                                                                        \
-        BOOLS(call, __VA_ARGS__);                                                                                               \
-        COPIES(call, copies);                                                                                                   \
+#define BOOLS_OF_COPIES(copies, call, ...) \
+    do {                                   \
+        BOOLS(call, __VA_ARGS__);          \
+        COPIES(call, copies);              \
     } while (0)
 
 #define I(...) ((const int32_t[]){__VA_ARGS__})
@@ -395,7 +396,9 @@ static void marked(const char *call, uint32_t wanted, size_t written) {
 static void marks_of_two_words(void) {
     static int32_t room[40];
     marks[0] = marks[1] = UINT32_MAX;
-    tells("cvl_permute_int_range", cvl_permute_int_range(I(1, 2, 3, 4, 5), 5, I(10, 41, 42, 49, 50), 5, 10, room, 40, marks, 2, &total), CVL_DONE, -1);
+    tells(
+        "cvl_permute_int_range",
+        cvl_permute_int_range(I(1, 2, 3, 4, 5), 5, I(10, 41, 42, 49, 50), 5, 10, room, 40, marks, 2, &total), CVL_DONE, -1);
     marked("cvl_permute_int_range", 0x80000001, 4);
     if (marks[1] != 0x81) fail("cvl_permute_int_range", "other marks");
     if (room[0] != 1 || room[31] != 2 || room[32] != 3 || room[39] != 4) fail("cvl_permute_int_range", "other elements");
@@ -424,8 +427,10 @@ static void ranges_of_permutes(void) {
     COUNTED_INTS(cvl_select_permute_int_range(source, 3, some, 3, f, 3, 1, ints, 1, marks, 1, &total), 5);
     INTS_OF_COPIES(1, cvl_select_permute_int_range(source, 3, some, 3, O(2, 0, 9), 3, 0, ints, 1, marks, 1, &total), 7);
     COUNTED_BOOLS(cvl_select_permute_bool_range(p, 3, some, 3, f, 3, 0, bools, 2, marks, 1, &total), true, true);
-    BOOLS_OF_COPIES(2, cvl_select_permute_bool_range(O(7, 0, 0), 3, some, 3, O(2, 0, 9), 3, 0, bools, 2, marks, 1, &total), false, true);
-    FAULT(cvl_permute_int_range(too_many_ints, most + 1, too_many_ints, most + 1, 0, ints, 3, marks, 1, &total), CVL_TOO_LONG, -1);
+    BOOLS_OF_COPIES(
+        2, cvl_select_permute_bool_range(O(7, 0, 0), 3, some, 3, O(2, 0, 9), 3, 0, bools, 2, marks, 1, &total), false, true);
+    FAULT(
+        cvl_permute_int_range(too_many_ints, most + 1, too_many_ints, most + 1, 0, ints, 3, marks, 1, &total), CVL_TOO_LONG, -1);
     FAULT(cvl_permute_int_range(source, 2, index, 3, most, ints, 1, marks, 1, &total), CVL_TOO_LONG, -1);
     FAULT(cvl_permute_int_range(source, 3, index, 3, SIZE_MAX, ints, 1, marks, 1, &total), CVL_TOO_LONG, -1);
     FAULT(cvl_permute_int_range(source, 2, index, 3, 0, ints, 3, marks, 1, &total), CVL_LENGTH_MISMATCH, -1);
@@ -492,14 +497,19 @@ static void sparse_products(void) {
     INTS(cvl_sparse_product(S(I(2), 1), I(0, 0), 2, I(2147483647, 1), 2, I(1), 1, ints, 1), INT32_MIN);
     FAULT(cvl_checked_sparse_product(S(I(2), 1), I(0, 0), 2, I(2147483647, 1), 2, I(1), 1, ints, 1), CVL_OVERFLOW, 0);
     /* what adds up to more than 64 bits on the way, and to less than 32 in the end */
-    INTS(cvl_checked_sparse_product(S(I(6), 1), I(0, 0, 1, 1, 0, 2), 6, I(INT32_MIN, INT32_MIN, INT32_MIN, INT32_MIN, 2, 7), 6,
-                                    I(INT32_MIN, INT32_MAX, 1), 3, ints, 1), 7);
+    INTS(
+        cvl_checked_sparse_product(
+            S(I(6), 1), I(0, 0, 1, 1, 0, 2), 6, I(INT32_MIN, INT32_MIN, INT32_MIN, INT32_MIN, 2, 7), 6,
+            I(INT32_MIN, INT32_MAX, 1), 3, ints, 1),
+        7);
     FAULT(cvl_sparse_product(S(I(2), 1), I(0, 3), 2, I(1, 1), 2, x, 3, ints, 1), CVL_INDEX_OUT_OF_RANGE, 1);
     FAULT(cvl_sparse_product(S(I(-1), 1), columns, 0, values, 0, x, 3, ints, 1), CVL_NEGATIVE_LENGTH, 0);
     FAULT(cvl_sparse_product(S(lengths, 3), columns, 4, values, 3, x, 3, ints, 3), CVL_LENGTH_MISMATCH, -1);
     FAULT(cvl_sparse_product(S(lengths, 3), columns, 3, values, 3, x, 3, ints, 3), CVL_LENGTH_MISMATCH, -1);
     FAULT(cvl_sparse_product(S(lengths, 3), columns, 4, values, 4, x, 3, ints, 2), CVL_LENGTH_MISMATCH, -1);
-    FAULT(cvl_sparse_product(S(lengths, 3), too_many_ints, (size_t)CVL_MOST_ELEMENTS + 1, values, 4, x, 3, ints, 3), CVL_TOO_LONG, -1);
+    FAULT(
+        cvl_sparse_product(S(lengths, 3), too_many_ints, (size_t)CVL_MOST_ELEMENTS + 1, values, 4, x, 3, ints, 3), CVL_TOO_LONG,
+        -1);
 }
 
 static void sparse_products_by_offsets(void) {
@@ -507,7 +517,8 @@ static void sparse_products_by_offsets(void) {
     INTS(cvl_sparse_product_by_offsets(offsets, 4, columns, 4, values, 4, x, 3, ints, 3), 5, 0, 18);
     INTS(cvl_checked_sparse_product_by_offsets(offsets, 4, columns, 4, values, 4, x, 3, ints, 3), 5, 0, 18);
     INTS(cvl_sparse_product_by_offsets(I(0, 2), 2, I(0, 0), 2, I(2147483647, 1), 2, I(1), 1, ints, 1), INT32_MIN);
-    FAULT(cvl_checked_sparse_product_by_offsets(I(0, 0, 2), 3, I(0, 0), 2, I(2147483647, 1), 2, I(1), 1, ints, 2), CVL_OVERFLOW, 1);
+    FAULT(
+        cvl_checked_sparse_product_by_offsets(I(0, 0, 2), 3, I(0, 0), 2, I(2147483647, 1), 2, I(1), 1, ints, 2), CVL_OVERFLOW, 1);
     FAULT(cvl_sparse_product_by_offsets(I(0), 1, columns, 0, values, 0, x, 3, ints, 0), CVL_DONE, -1);
     FAULT(cvl_sparse_product_by_offsets(offsets, 0, columns, 0, values, 0, x, 3, ints, 0), CVL_LENGTH_MISMATCH, -1);
     FAULT(cvl_sparse_product_by_offsets(I(1, 0, 4), 3, columns, 4, values, 4, x, 3, ints, 2), CVL_LENGTH_MISMATCH, -1);
@@ -517,8 +528,12 @@ static void sparse_products_by_offsets(void) {
     FAULT(cvl_sparse_product_by_offsets(I(0, 2, 3), 3, I(0, 9, 1, 2), 4, values, 4, x, 3, ints, 2), CVL_LENGTH_MISMATCH, -1);
     FAULT(cvl_sparse_product_by_offsets(offsets, 4, columns, 4, values, 4, x, 3, ints, 4), CVL_LENGTH_MISMATCH, -1);
     FAULT(cvl_sparse_product_by_offsets(offsets, 4, columns, 4, values, 4, x, 2, ints, 3), CVL_INDEX_OUT_OF_RANGE, 1);
-    FAULT(cvl_sparse_product_by_offsets(too_many_ints, (size_t)CVL_MOST_ELEMENTS + 2, columns, 4, values, 4, x, 3, ints, 3), CVL_TOO_LONG, -1);
-    FAULT(cvl_sparse_product_by_offsets(offsets, 4, too_many_ints, (size_t)CVL_MOST_ELEMENTS + 1, values, 4, x, 3, ints, 3), CVL_TOO_LONG, -1);
+    FAULT(
+        cvl_sparse_product_by_offsets(too_many_ints, (size_t)CVL_MOST_ELEMENTS + 2, columns, 4, values, 4, x, 3, ints, 3),
+        CVL_TOO_LONG, -1);
+    FAULT(
+        cvl_sparse_product_by_offsets(offsets, 4, too_many_ints, (size_t)CVL_MOST_ELEMENTS + 1, values, 4, x, 3, ints, 3),
+        CVL_TOO_LONG, -1);
 }
 
 static void elements(void) {
@@ -773,10 +788,13 @@ static void permutes_of_segments(void) {
     INTS(sel_pez(five, some, flags, 5, S(lengths, 3), ints, 3), 2, 5, 3);
     BOOLS(sel_peb(B(true, false, true, true, false), some, flags, 5, S(lengths, 3), bools, 3), false, false, true);
     INTS(def_pez(five, to, 5, defaults, S(lengths, 3), S(widths, 3), ints, 7), 2, 0, 1, 9, 3, 4, 5);
-    BOOLS(def_peb(B(true, false), I(1, 0), 2, B(false, false, true, true), S(I(1, 1), 2), S(I(2, 2), 2), bools, 4), false, true, false,
-          true);
+    BOOLS(
+        def_peb(B(true, false), I(1, 0), 2, B(false, false, true, true), S(I(1, 1), 2), S(I(2, 2), 2), bools, 4), false, true,
+        false, true);
     INTS(bck_pez(five, 5, from, S(lengths, 3), S(I(3, 0, 1), 3), ints, 4), 2, 2, 2, 5);
-    BOOLS(bck_peb(B(true, false, false, false, true), 5, from, S(lengths, 3), S(I(3, 0, 1), 3), bools, 4), false, false, false, true);
+    BOOLS(
+        bck_peb(B(true, false, false, false, true), 5, from, S(lengths, 3), S(I(3, 0, 1), 3), bools, 4), false, false, false,
+        true);
     FAULT(smp_pez(five, I(1, 2, 2, 0, 1), S(lengths, 3), ints, 5), CVL_INDEX_OUT_OF_RANGE, 1);
     FAULT(smp_pez(five, I(1, 0, 2, 2, 3), S(lengths, 3), ints, 5), CVL_INDEX_REPEATED, 3);
     FAULT(smp_peb(flags, I(0, 0, 2, 2, 3), S(lengths, 3), bools, 5), CVL_INDEX_REPEATED, 1);
@@ -829,7 +847,9 @@ static void first_senders_of_segments(void) {
     const bool *f = B(false, true, false, true, true);
     INTS(cvl_seg_first_senders(index, 5, S(lengths, 3), S(widths, 3), ints, 7), -1, 0, -1, 0, -1, -1, 1);
     INTS(cvl_seg_select_first_senders(some, 5, f, 5, S(lengths, 3), S(widths, 3), ints, 7), -1, 1, -1, 2, -1, -1, 1);
-    INTS_OF_COPIES(1, cvl_seg_select_first_senders(some, 5, O(0, 9, 0, 2, 1), 5, S(lengths, 3), S(widths, 3), ints, 7), -1, 1, -1, 2, -1, -1, 1);
+    INTS_OF_COPIES(
+        1, cvl_seg_select_first_senders(some, 5, O(0, 9, 0, 2, 1), 5, S(lengths, 3), S(widths, 3), ints, 7), -1, 1, -1, 2, -1, -1,
+        1);
     FAULT(cvl_seg_first_senders(index, 5, S(lengths, 3), S(I(2, 1, 3), 3), ints, 6), CVL_INDEX_OUT_OF_RANGE, 3);
     FAULT(cvl_seg_first_senders(I(1, 2, 0, 9, 0), 5, S(lengths, 3), S(widths, 3), ints, 7), CVL_INDEX_OUT_OF_RANGE, 1);
     FAULT(cvl_seg_first_senders(I(1, 2, 0, 9, 0), 5, S(lengths, 3), S(widths, 3), ints, 6), CVL_LENGTH_MISMATCH, -1);
@@ -896,23 +916,48 @@ static void combining_permutes_over_odd_booleans(void) {
 static void combining_permutes_of_segments(void) {
     const int32_t *source = I(5, 6, 7, 8, 9), *index = I(1, 1, 0, 3, 0), *lengths = I(2, 0, 3), *widths = I(2, 1, 4);
     const bool *f = B(true, false, true, true, true);
-    INTS(cvl_seg_combine_permute_int(CVL_ADD, source, 5, index, 5, S(lengths, 3), S(widths, 3), ints, 7), 77, 88, 77, 93, 77, 77, 85);
-    INTS(cvl_seg_combine_permute_int(CVL_MIN, source, 5, index, 5, S(lengths, 3), S(widths, 3), ints, 7), 77, 5, 77, 7, 77, 77, 8);
-    BOOLS(cvl_seg_combine_permute_bool(CVL_XOR, f, 5, index, 5, S(lengths, 3), S(widths, 3), bools, 7), true, true, true, false, true, false, false);
-    BOOLS_OF_COPIES(1, cvl_seg_combine_permute_bool(CVL_XOR, O(3, 0, 1, 9, 1), 5, index, 5, S(lengths, 3), S(widths, 3), bools, 7), true, true, true,
-        false, true, false, false);
+    INTS(
+        cvl_seg_combine_permute_int(CVL_ADD, source, 5, index, 5, S(lengths, 3), S(widths, 3), ints, 7), 77, 88, 77, 93, 77, 77,
+        85);
+    INTS(
+        cvl_seg_combine_permute_int(CVL_MIN, source, 5, index, 5, S(lengths, 3), S(widths, 3), ints, 7), 77, 5, 77, 7, 77, 77, 8);
+    BOOLS(
+        cvl_seg_combine_permute_bool(CVL_XOR, f, 5, index, 5, S(lengths, 3), S(widths, 3), bools, 7), true, true, true, false,
+        true, false, false);
+    BOOLS_OF_COPIES(
+        1, cvl_seg_combine_permute_bool(CVL_XOR, O(3, 0, 1, 9, 1), 5, index, 5, S(lengths, 3), S(widths, 3), bools, 7), true,
+        true, true, false, true, false, false);
     INTS(cvl_seg_counts(index, 5, S(lengths, 3), S(widths, 3), ints, 7), 0, 2, 0, 2, 0, 0, 1);
     INTS(cvl_seg_counts(NULL, 0, S(I(0, 0), 2), S(I(1, 2), 2), ints, 3), 0, 0, 0);
-    FAULT(cvl_seg_combine_permute_int(CVL_ADD, source, 5, index, 5, S(lengths, 3), S(I(2, 2, 3), 3), ints, 7), CVL_INDEX_OUT_OF_RANGE, 3);
-    FAULT(cvl_seg_combine_permute_int(CVL_ADD, source, 5, I(1, -1, 0, 9, 0), 5, S(lengths, 3), S(widths, 3), ints, 7), CVL_INDEX_OUT_OF_RANGE, 1);
-    FAULT(cvl_seg_combine_permute_int(CVL_ADD, source, 5, I(1, 2, 0, 9, 0), 5, S(lengths, 3), S(widths, 3), ints, 6), CVL_LENGTH_MISMATCH, -1);
-    FAULT(cvl_seg_combine_permute_int(CVL_ADD, source, 4, index, 5, S(lengths, 3), S(widths, 3), ints, 7), CVL_LENGTH_MISMATCH, -1);
-    FAULT(cvl_seg_combine_permute_int(CVL_ADD, source, 5, index, 5, S(I(2, 0, 2), 3), S(widths, 3), ints, 7), CVL_LENGTH_MISMATCH, -1);
-    FAULT(cvl_seg_combine_permute_int(CVL_ADD, source, 5, index, 5, S(lengths, 3), S(I(2, 5), 2), ints, 7), CVL_LENGTH_MISMATCH, -1);
-    FAULT(cvl_seg_combine_permute_int(CVL_DIV, source, 5, index, 5, S(I(2, -1, 4), 3), S(widths, 3), ints, 7), CVL_UNKNOWN_CALL, -1);
-    FAULT(cvl_seg_combine_permute_int(CVL_ADD, source, 5, index, 5, S(I(2, -1, 4), 3), S(I(-1, 4, 4), 3), ints, 7), CVL_NEGATIVE_LENGTH, 1);
-    FAULT(cvl_seg_combine_permute_int(CVL_ADD, source, 5, index, 5, S(lengths, 3), S(I(2, 6, -1), 3), ints, 7), CVL_NEGATIVE_LENGTH, 2);
-    FAULT(cvl_seg_combine_permute_bool(CVL_AND, f, 5, index, 5, S(lengths, 3), S(I(1, 2, 4), 3), bools, 7), CVL_INDEX_OUT_OF_RANGE, 0);
+    FAULT(
+        cvl_seg_combine_permute_int(CVL_ADD, source, 5, index, 5, S(lengths, 3), S(I(2, 2, 3), 3), ints, 7),
+        CVL_INDEX_OUT_OF_RANGE, 3);
+    FAULT(
+        cvl_seg_combine_permute_int(CVL_ADD, source, 5, I(1, -1, 0, 9, 0), 5, S(lengths, 3), S(widths, 3), ints, 7),
+        CVL_INDEX_OUT_OF_RANGE, 1);
+    FAULT(
+        cvl_seg_combine_permute_int(CVL_ADD, source, 5, I(1, 2, 0, 9, 0), 5, S(lengths, 3), S(widths, 3), ints, 6),
+        CVL_LENGTH_MISMATCH, -1);
+    FAULT(
+        cvl_seg_combine_permute_int(CVL_ADD, source, 4, index, 5, S(lengths, 3), S(widths, 3), ints, 7), CVL_LENGTH_MISMATCH, -1);
+    FAULT(
+        cvl_seg_combine_permute_int(CVL_ADD, source, 5, index, 5, S(I(2, 0, 2), 3), S(widths, 3), ints, 7), CVL_LENGTH_MISMATCH,
+        -1);
+    FAULT(
+        cvl_seg_combine_permute_int(CVL_ADD, source, 5, index, 5, S(lengths, 3), S(I(2, 5), 2), ints, 7), CVL_LENGTH_MISMATCH,
+        -1);
+    FAULT(
+        cvl_seg_combine_permute_int(CVL_DIV, source, 5, index, 5, S(I(2, -1, 4), 3), S(widths, 3), ints, 7), CVL_UNKNOWN_CALL,
+        -1);
+    FAULT(
+        cvl_seg_combine_permute_int(CVL_ADD, source, 5, index, 5, S(I(2, -1, 4), 3), S(I(-1, 4, 4), 3), ints, 7),
+        CVL_NEGATIVE_LENGTH, 1);
+    FAULT(
+        cvl_seg_combine_permute_int(CVL_ADD, source, 5, index, 5, S(lengths, 3), S(I(2, 6, -1), 3), ints, 7), CVL_NEGATIVE_LENGTH,
+        2);
+    FAULT(
+        cvl_seg_combine_permute_bool(CVL_AND, f, 5, index, 5, S(lengths, 3), S(I(1, 2, 4), 3), bools, 7), CVL_INDEX_OUT_OF_RANGE,
+        0);
     FAULT(cvl_seg_counts(index, 5, S(lengths, 3), S(I(2, 2, 3), 3), ints, 7), CVL_INDEX_OUT_OF_RANGE, 3);
     FAULT(cvl_seg_counts(index, 5, S(lengths, 3), S(widths, 3), ints, 6), CVL_LENGTH_MISMATCH, -1);
 }
@@ -931,14 +976,20 @@ static void combining_permutes_of_checked_sums(void) {
     FAULT(cvl_combine_checked_int(source, 4, I(0, 9, 0), 3, ints, 2), CVL_LENGTH_MISMATCH, -1);
     FAULT(cvl_combine_checked_int(source, 4, index, 3, too_many_ints, many), CVL_TOO_LONG, -1);
     FAULT(cvl_combine_checked_int(source, 4, index, 4, (int32_t *)(uintptr_t)(source + 1), 3), CVL_OVERLAP, -1);
-    INTS_OF_COPIES(1, cvl_seg_combine_checked_int(I(0, 6, 7, -INT32_MAX), 4, I(1, 0, 2, 2), 4, S(lengths, 3), S(widths, 3), ints, 5), 83, 77, 77, 77, -INT32_MAX + 84);
-    FAULT(cvl_seg_combine_checked_int(source, 4, I(1, 0, 2, 3), 4, S(lengths, 3), S(widths, 3), ints, 5), CVL_INDEX_OUT_OF_RANGE, 3);
-    FAULT(cvl_seg_combine_checked_int(source, 4, I(1, 0, 2, 2), 4, S(lengths, 3), S(widths, 3), ints, 4), CVL_LENGTH_MISMATCH, -1);
+    INTS_OF_COPIES(
+        1, cvl_seg_combine_checked_int(I(0, 6, 7, -INT32_MAX), 4, I(1, 0, 2, 2), 4, S(lengths, 3), S(widths, 3), ints, 5), 83, 77,
+        77, 77, -INT32_MAX + 84);
+    FAULT(
+        cvl_seg_combine_checked_int(source, 4, I(1, 0, 2, 3), 4, S(lengths, 3), S(widths, 3), ints, 5), CVL_INDEX_OUT_OF_RANGE,
+        3);
+    FAULT(
+        cvl_seg_combine_checked_int(source, 4, I(1, 0, 2, 2), 4, S(lengths, 3), S(widths, 3), ints, 4), CVL_LENGTH_MISMATCH, -1);
 }
 
 static void combining_permutes_into_sums(void) {
     static const char call[] = "cvl_combine_exact_sums";
-    const int64_t half = INT64_C(1) << 62, before[] = {half - 1, -half, 77}, wanted[] = {half + INT32_MAX - 1, -half + INT32_MIN, 77};
+    const int64_t half = INT64_C(1) << 62, before[] = {half - 1, -half, 77},
+                  wanted[] = {half + INT32_MAX - 1, -half + INT32_MIN, 77};
     const int32_t *source = I(INT32_MAX, INT32_MIN), *index = I(0, 1), *lengths = I(1, 1), *widths = I(2, 1);
     int64_t sums[3];
     memcpy(sums, before, sizeof sums);
@@ -956,9 +1007,14 @@ static void combining_permutes_into_sums(void) {
     tells(call, status, CVL_DONE, -1);
     if (memcmp(sums, wanted, sizeof sums) != 0) fail(call, "other sums");
     memcpy(sums, before, sizeof sums);
-    tells("cvl_seg_combine_exact_sums", cvl_seg_combine_exact_sums(source, 2, I(1, 0), 2, S(lengths, 2), S(widths, 2), sums, 3), CVL_DONE, -1);
-    if (sums[0] != half - 1 || sums[1] != INT32_MAX - half || sums[2] != 77 + (int64_t)INT32_MIN) fail("cvl_seg_combine_exact_sums", "other sums");
-    tells("cvl_seg_combine_exact_sums", cvl_seg_combine_exact_sums(source, 2, I(1, 1), 2, S(lengths, 2), S(widths, 2), sums, 3), CVL_INDEX_OUT_OF_RANGE, 1);
+    tells(
+        "cvl_seg_combine_exact_sums", cvl_seg_combine_exact_sums(source, 2, I(1, 0), 2, S(lengths, 2), S(widths, 2), sums, 3),
+        CVL_DONE, -1);
+    if (sums[0] != half - 1 || sums[1] != INT32_MAX - half || sums[2] != 77 + (int64_t)INT32_MIN)
+        fail("cvl_seg_combine_exact_sums", "other sums");
+    tells(
+        "cvl_seg_combine_exact_sums", cvl_seg_combine_exact_sums(source, 2, I(1, 1), 2, S(lengths, 2), S(widths, 2), sums, 3),
+        CVL_INDEX_OUT_OF_RANGE, 1);
 }
 
 static void orders_ranks_and_sorts(void) {
@@ -1010,7 +1066,9 @@ static void orders_ranks_and_sorts_of_segments(void) {
 }
 
 /* Keys and values are as these, and no integer behind them was written. */
-static void are_sorted(const char *call, const int32_t *keys, const int32_t *values, const int32_t *wanted_keys, const int32_t *wanted_values, size_t n) {
+static void are_sorted(
+    const char *call, const int32_t *keys, const int32_t *values, const int32_t *wanted_keys, const int32_t *wanted_values,
+    size_t n) {
     if (memcmp(keys, wanted_keys, n * sizeof *keys) != 0) fail(call, "other keys");
     if (memcmp(values, wanted_values, n * sizeof *values) != 0) fail(call, "other values");
 }
@@ -1056,14 +1114,19 @@ static void sorts_without_memory(void) {
             memcpy(out, kept, sizeof kept);
             spared = granted;
             refusing = 1;
-            const CvlStatus status = which == 0 ? cvl_order(keys, MANY, out, MANY) : which == 1 ? cvl_rank(keys, MANY, out, MANY)
-                : which == 2 || which == 6 ? cvl_sort(keys, MANY, out, MANY) : which == 3 ? cvl_seg_order(keys, MANY, S(cut_up, LENGTHS), out, MANY)
-                : which == 4 ? cvl_seg_rank(keys, MANY, S(cut_up, LENGTHS), out, MANY) : cvl_seg_sort(keys, MANY, S(cut_up, LENGTHS), out, MANY);
+            const CvlStatus status = which == 0 ? cvl_order(keys, MANY, out, MANY)
+                : which == 1                    ? cvl_rank(keys, MANY, out, MANY)
+                : which == 2 || which == 6      ? cvl_sort(keys, MANY, out, MANY)
+                : which == 3                    ? cvl_seg_order(keys, MANY, S(cut_up, LENGTHS), out, MANY)
+                : which == 4                    ? cvl_seg_rank(keys, MANY, S(cut_up, LENGTHS), out, MANY)
+                                                : cvl_seg_sort(keys, MANY, S(cut_up, LENGTHS), out, MANY);
             refusing = spared = 0;
             const bool sorts = which == 2 || which >= 5;
             tells("an order, a rank or a sort", status, granted < (sorts ? 2 : 3) ? CVL_NO_RESOURCES : CVL_DONE, -1);
-            if (status.number != CVL_DONE && memcmp(out, kept, sizeof kept) != 0) fail("a sort without memory", "the room was written");
-            if (status.number == CVL_DONE && (which == 2 || which == 6) && memcmp(out, sorted, sizeof sorted) != 0) fail("cvl_sort", "other keys");
+            if (status.number != CVL_DONE && memcmp(out, kept, sizeof kept) != 0)
+                fail("a sort without memory", "the room was written");
+            if (status.number == CVL_DONE && (which == 2 || which == 6) && memcmp(out, sorted, sizeof sorted) != 0)
+                fail("cvl_sort", "other keys");
         }
         for (int32_t k = 0; k < MANY; k++) keys[k] = k * 7 % MANY;
     }
@@ -1078,7 +1141,8 @@ static void sorts_by_key_without_memory(void) {
         for (int granted = 0; granted <= REQUESTS; granted++) {
             spared = granted;
             refusing = 1;
-            const CvlStatus status = cut_up ? cvl_seg_sort_by_key(S(I(MANY), 1), keys, MANY, values, MANY) : cvl_sort_by_key(keys, MANY, values, MANY);
+            const CvlStatus status = cut_up ? cvl_seg_sort_by_key(S(I(MANY), 1), keys, MANY, values, MANY)
+                                            : cvl_sort_by_key(keys, MANY, values, MANY);
             refusing = spared = 0;
             tells("a sort by key", status, granted < REQUESTS ? CVL_NO_RESOURCES : CVL_DONE, -1);
             if (status.number != CVL_DONE) are_sorted("a sort by key without memory", keys, values, kept_keys, kept_values, MANY);
@@ -1099,7 +1163,8 @@ static void slices(void) {
     FAULT(cvl_gather_segments_int(NULL, 0, NULL, 0, S(NULL, 0), NULL, 0), CVL_DONE, -1);
     FAULT(cvl_gather_segments_int(NULL, 0, I(0, 0), 2, S(I(0, 0), 2), NULL, 0), CVL_DONE, -1);
     BOOLS(cvl_gather_segments_bool(f, 4, starts, 3, S(lengths, 3), bools, 5), false, true, false, false, true);
-    BOOLS_OF_COPIES(1, cvl_gather_segments_bool(O(9, 0, 0, 1), 4, starts, 3, S(lengths, 3), bools, 5), false, true, false, false, true);
+    BOOLS_OF_COPIES(
+        1, cvl_gather_segments_bool(O(9, 0, 0, 1), 4, starts, 3, S(lengths, 3), bools, 5), false, true, false, false, true);
     FAULT(cvl_gather_segments_int(source, 4, I(2, 4, 2), 3, S(lengths, 3), ints, 5), CVL_INDEX_OUT_OF_RANGE, 2);
     FAULT(cvl_gather_segments_int(source, 4, I(2, 5, 2), 3, S(lengths, 3), ints, 5), CVL_INDEX_OUT_OF_RANGE, 1);
     FAULT(cvl_gather_segments_int(source, 4, I(-1, 5, 2), 3, S(lengths, 3), ints, 5), CVL_INDEX_OUT_OF_RANGE, 0);
@@ -1121,8 +1186,9 @@ static void appends(void) {
     INTS(cvl_append_segments_int(NULL, 0, b, 3, S(I(0, 0, 0), 3), S(others, 3), ints, 3), 7, 8, 9);
     FAULT(cvl_append_segments_int(NULL, 0, NULL, 0, S(NULL, 0), S(NULL, 0), NULL, 0), CVL_DONE, -1);
     BOOLS(cvl_append_segments_bool(f, 3, g, 3, S(lengths, 3), S(others, 3), bools, 6), true, false, false, true, false, true);
-    BOOLS_OF_COPIES(2, cvl_append_segments_bool(O(2, 0, 1), 3, O(0, 9, 0), 3, S(lengths, 3), S(others, 3), bools, 6), true, false, false, true,
-        false, true);
+    BOOLS_OF_COPIES(
+        2, cvl_append_segments_bool(O(2, 0, 1), 3, O(0, 9, 0), 3, S(lengths, 3), S(others, 3), bools, 6), true, false, false,
+        true, false, true);
     FAULT(cvl_append_segments_int(a, 2, b, 3, S(lengths, 3), S(others, 3), ints, 5), CVL_LENGTH_MISMATCH, -1);
     FAULT(cvl_append_segments_int(a, 3, b, 2, S(lengths, 3), S(others, 3), ints, 5), CVL_LENGTH_MISMATCH, -1);
     FAULT(cvl_append_segments_int(a, 3, b, 3, S(lengths, 3), S(I(1, 2), 2), ints, 6), CVL_LENGTH_MISMATCH, -1);
@@ -1143,7 +1209,8 @@ static void merges(void) {
     INTS_OF_COPIES(1, cvl_merge_by_flags_int(O(2, 0, 0, 1, 0), 5, a, 2, b, 3, ints, 5), 1, 7, 8, 2, 9);
     FAULT(cvl_merge_by_flags_int(NULL, 0, NULL, 0, NULL, 0, NULL, 0), CVL_DONE, -1);
     BOOLS(cvl_merge_by_flags_bool(f, 5, g, 2, h, 3, bools, 5), true, true, true, false, false);
-    BOOLS_OF_COPIES(3, cvl_merge_by_flags_bool(O(2, 0, 0, 1, 0), 5, O(5, 0), 2, O(1, 9, 0), 3, bools, 5), true, true, true, false, false);
+    BOOLS_OF_COPIES(
+        3, cvl_merge_by_flags_bool(O(2, 0, 0, 1, 0), 5, O(5, 0), 2, O(1, 9, 0), 3, bools, 5), true, true, true, false, false);
     FAULT(cvl_merge_by_flags_int(f, 5, a, 1, b, 3, ints, 5), CVL_LENGTH_MISMATCH, -1);
     FAULT(cvl_merge_by_flags_int(f, 5, a, 2, b, 2, ints, 5), CVL_LENGTH_MISMATCH, -1);
     FAULT(cvl_merge_by_flags_int(f, 5, b, 3, a, 2, ints, 5), CVL_LENGTH_MISMATCH, -1);
@@ -1168,27 +1235,53 @@ static void exact_sums(void) {
 
 static void merges_of_segments(void) {
     const bool *f = B(true, false, false, true, true), *g = B(true, false, true), *h = B(true, false);
-    const int32_t *a = I(1, 2, 3), *b = I(7, 8), *lengths = I(2, 0, 3), *of_a = I(1, 0, 2), *of_b = I(1, 0, 1), *negative = I(3, -1, 3);
+    const int32_t *a = I(1, 2, 3), *b = I(7, 8), *lengths = I(2, 0, 3), *of_a = I(1, 0, 2), *of_b = I(1, 0, 1),
+                  *negative = I(3, -1, 3);
     INTS(cvl_seg_merge_by_flags_int(f, 5, a, 3, b, 2, S(lengths, 3), S(of_a, 3), S(of_b, 3), ints, 5), 1, 7, 8, 2, 3);
     INTS(cvl_seg_merge_by_flags_int(B(false, true), 2, a, 1, b, 1, S(I(1, 1), 2), S(I(0, 1), 2), S(I(1, 0), 2), ints, 2), 7, 1);
-    INTS_OF_COPIES(1, cvl_seg_merge_by_flags_int(O(2, 0, 0, 9, 1), 5, a, 3, b, 2, S(lengths, 3), S(of_a, 3), S(of_b, 3), ints, 5), 1, 7, 8, 2, 3);
+    INTS_OF_COPIES(
+        1, cvl_seg_merge_by_flags_int(O(2, 0, 0, 9, 1), 5, a, 3, b, 2, S(lengths, 3), S(of_a, 3), S(of_b, 3), ints, 5), 1, 7, 8,
+        2, 3);
     FAULT(cvl_seg_merge_by_flags_int(NULL, 0, NULL, 0, NULL, 0, S(NULL, 0), S(NULL, 0), S(NULL, 0), NULL, 0), CVL_DONE, -1);
-    BOOLS(cvl_seg_merge_by_flags_bool(f, 5, g, 3, h, 2, S(lengths, 3), S(of_a, 3), S(of_b, 3), bools, 5), true, true, false, false, true);
-    BOOLS_OF_COPIES(3, cvl_seg_merge_by_flags_bool(O(2, 0, 0, 9, 1), 5, O(5, 0, 1), 3, O(7, 0), 2, S(lengths, 3), S(of_a, 3), S(of_b, 3), bools, 5),
+    BOOLS(
+        cvl_seg_merge_by_flags_bool(f, 5, g, 3, h, 2, S(lengths, 3), S(of_a, 3), S(of_b, 3), bools, 5), true, true, false, false,
+        true);
+    BOOLS_OF_COPIES(
+        3,
+        cvl_seg_merge_by_flags_bool(
+            O(2, 0, 0, 9, 1), 5, O(5, 0, 1), 3, O(7, 0), 2, S(lengths, 3), S(of_a, 3), S(of_b, 3), bools, 5),
         true, true, false, false, true);
-    FAULT(cvl_seg_merge_by_flags_int(f, 5, a, 3, b, 2, S(lengths, 3), S(I(2, 0, 1), 3), S(I(0, 0, 2), 3), ints, 5), CVL_LENGTH_MISMATCH, 0);
-    FAULT(cvl_seg_merge_by_flags_int(f, 5, a, 3, b, 2, S(lengths, 3), S(I(1, 1, 1), 3), S(of_b, 3), ints, 5), CVL_LENGTH_MISMATCH, 1);
-    FAULT(cvl_seg_merge_by_flags_int(f, 5, a, 3, b, 3, S(lengths, 3), S(of_a, 3), S(I(1, 0, 2), 3), ints, 5), CVL_LENGTH_MISMATCH, 2);
-    FAULT(cvl_seg_merge_by_flags_int(f, 5, a, 3, b, 2, S(lengths, 3), S(I(2, 0, 1), 3), S(I(0, 0, 2), 3), ints, 4), CVL_LENGTH_MISMATCH, -1);
+    FAULT(
+        cvl_seg_merge_by_flags_int(f, 5, a, 3, b, 2, S(lengths, 3), S(I(2, 0, 1), 3), S(I(0, 0, 2), 3), ints, 5),
+        CVL_LENGTH_MISMATCH, 0);
+    FAULT(
+        cvl_seg_merge_by_flags_int(f, 5, a, 3, b, 2, S(lengths, 3), S(I(1, 1, 1), 3), S(of_b, 3), ints, 5), CVL_LENGTH_MISMATCH,
+        1);
+    FAULT(
+        cvl_seg_merge_by_flags_int(f, 5, a, 3, b, 3, S(lengths, 3), S(of_a, 3), S(I(1, 0, 2), 3), ints, 5), CVL_LENGTH_MISMATCH,
+        2);
+    FAULT(
+        cvl_seg_merge_by_flags_int(f, 5, a, 3, b, 2, S(lengths, 3), S(I(2, 0, 1), 3), S(I(0, 0, 2), 3), ints, 4),
+        CVL_LENGTH_MISMATCH, -1);
     FAULT(cvl_seg_merge_by_flags_int(f, 4, a, 3, b, 2, S(lengths, 3), S(of_a, 3), S(of_b, 3), ints, 4), CVL_LENGTH_MISMATCH, -1);
     FAULT(cvl_seg_merge_by_flags_int(f, 5, a, 2, b, 2, S(lengths, 3), S(of_a, 3), S(of_b, 3), ints, 5), CVL_LENGTH_MISMATCH, -1);
     FAULT(cvl_seg_merge_by_flags_int(f, 5, a, 3, b, 1, S(lengths, 3), S(of_a, 3), S(of_b, 3), ints, 5), CVL_LENGTH_MISMATCH, -1);
-    FAULT(cvl_seg_merge_by_flags_int(f, 5, a, 3, b, 2, S(lengths, 3), S(I(1, 2), 2), S(of_b, 3), ints, 5), CVL_LENGTH_MISMATCH, -1);
-    FAULT(cvl_seg_merge_by_flags_int(f, 5, a, 3, b, 2, S(lengths, 3), S(of_a, 3), S(I(1, 1), 2), ints, 5), CVL_LENGTH_MISMATCH, -1);
-    FAULT(cvl_seg_merge_by_flags_int(f, 5, a, 3, b, 2, S(negative, 3), S(I(-1, 0, 0), 3), S(of_b, 3), ints, 5), CVL_NEGATIVE_LENGTH, 1);
-    FAULT(cvl_seg_merge_by_flags_int(f, 5, a, 3, b, 2, S(lengths, 3), S(I(4, 0, -1), 3), S(I(-1, 0, 0), 3), ints, 5), CVL_NEGATIVE_LENGTH, 2);
-    FAULT(cvl_seg_merge_by_flags_int(f, 5, a, 3, b, 2, S(lengths, 3), S(of_a, 3), S(I(INT32_MAX, 1, 0), 3), ints, 5), CVL_TOO_LONG, -1);
-    FAULT(cvl_seg_merge_by_flags_bool(O(2, 0, 0, 9, 1), 5, g, 3, h, 2, S(lengths, 3), S(I(2, 0, 1), 3), S(I(0, 0, 2), 3), bools, 5), CVL_LENGTH_MISMATCH, 0);
+    FAULT(
+        cvl_seg_merge_by_flags_int(f, 5, a, 3, b, 2, S(lengths, 3), S(I(1, 2), 2), S(of_b, 3), ints, 5), CVL_LENGTH_MISMATCH, -1);
+    FAULT(
+        cvl_seg_merge_by_flags_int(f, 5, a, 3, b, 2, S(lengths, 3), S(of_a, 3), S(I(1, 1), 2), ints, 5), CVL_LENGTH_MISMATCH, -1);
+    FAULT(
+        cvl_seg_merge_by_flags_int(f, 5, a, 3, b, 2, S(negative, 3), S(I(-1, 0, 0), 3), S(of_b, 3), ints, 5), CVL_NEGATIVE_LENGTH,
+        1);
+    FAULT(
+        cvl_seg_merge_by_flags_int(f, 5, a, 3, b, 2, S(lengths, 3), S(I(4, 0, -1), 3), S(I(-1, 0, 0), 3), ints, 5),
+        CVL_NEGATIVE_LENGTH, 2);
+    FAULT(
+        cvl_seg_merge_by_flags_int(f, 5, a, 3, b, 2, S(lengths, 3), S(of_a, 3), S(I(INT32_MAX, 1, 0), 3), ints, 5), CVL_TOO_LONG,
+        -1);
+    FAULT(
+        cvl_seg_merge_by_flags_bool(O(2, 0, 0, 9, 1), 5, g, 3, h, 2, S(lengths, 3), S(I(2, 0, 1), 3), S(I(0, 0, 2), 3), bools, 5),
+        CVL_LENGTH_MISMATCH, 0);
 }
 
 static void transposes(void) {
@@ -1355,10 +1448,15 @@ static void permutes_of_wrong_segments(void) {
     FAULT(def_peb(flags, turn, 5, flags, S(negative, 3), S(I(-1, 0, 0), 3), bools, 5), CVL_NEGATIVE_LENGTH, 2);
     FAULT(cvl_seg_default_permute_int(five, 5, turn, 5, five, 5, S(lengths, 3), S(I(2, 3), 2), ints, 5), CVL_LENGTH_MISMATCH, -1);
     FAULT(cvl_seg_default_permute_int(five, 5, turn, 5, five, 4, S(lengths, 3), S(lengths, 3), ints, 4), CVL_LENGTH_MISMATCH, -1);
-    FAULT(cvl_seg_default_permute_bool(flags, 5, turn, 5, flags, 5, S(lengths, 3), S(lengths, 3), bools, 4), CVL_LENGTH_MISMATCH, -1);
-    FAULT(cvl_seg_default_permute_int(five, 5, too_many_ints, many, five, 5, S(lengths, 3), S(lengths, 3), ints, 5), CVL_TOO_LONG, -1);
-    FAULT(cvl_seg_default_permute_bool(flags, 5, too_many_ints, many, flags, 5, S(lengths, 3), S(lengths, 3), bools, 5), CVL_TOO_LONG,
-          -1);
+    FAULT(
+        cvl_seg_default_permute_bool(flags, 5, turn, 5, flags, 5, S(lengths, 3), S(lengths, 3), bools, 4), CVL_LENGTH_MISMATCH,
+        -1);
+    FAULT(
+        cvl_seg_default_permute_int(five, 5, too_many_ints, many, five, 5, S(lengths, 3), S(lengths, 3), ints, 5), CVL_TOO_LONG,
+        -1);
+    FAULT(
+        cvl_seg_default_permute_bool(flags, 5, too_many_ints, many, flags, 5, S(lengths, 3), S(lengths, 3), bools, 5),
+        CVL_TOO_LONG, -1);
     FAULT(bck_pez(five, 5, turn, S(lengths, 3), S(negative, 3), ints, 5), CVL_NEGATIVE_LENGTH, 2);
     FAULT(bck_peb(flags, 5, turn, S(lengths, 3), S(I(2, 1, 3), 3), bools, 5), CVL_LENGTH_MISMATCH, -1);
     FAULT(cvl_seg_back_permute_int(five, 5, turn, 5, S(lengths, 3), S(I(2, 3), 2), ints, 5), CVL_LENGTH_MISMATCH, -1);
@@ -1504,12 +1602,16 @@ static void with_a_descriptor(const CvlSegments *d, const CvlSegments *wide, con
     BOOLS(cvl_segments_permute_bool(f, 5, I(1, 0, 2, 0, 1), 5, d, bools, 5), false, true, false, true, true);
     INTS(cvl_segments_select_permute_int(up, 5, I(9, 0, 1, 9, 0), 5, flags, 5, d, ints, 3), 2, 5, 3);
     BOOLS(cvl_segments_select_permute_bool(f, 5, I(9, 0, 1, 9, 0), 5, flags, 5, d, bools, 3), false, true, true);
-    INTS(cvl_segments_default_permute_int(up, 5, I(2, 0, 0, 1, 2), 5, I(0, 0, 0, 9, 0, 0, 0), 7, d, wide, ints, 7), 2, 0, 1, 9, 3, 4, 5);
-    BOOLS(cvl_segments_default_permute_bool(f, 5, I(2, 0, 0, 1, 2), 5, B(0, 0, 0, 1, 0, 0, 0), 7, d, wide, bools, 7), false, false, true,
-          true, true, false, true);
+    INTS(
+        cvl_segments_default_permute_int(up, 5, I(2, 0, 0, 1, 2), 5, I(0, 0, 0, 9, 0, 0, 0), 7, d, wide, ints, 7), 2, 0, 1, 9, 3,
+        4, 5);
+    BOOLS(
+        cvl_segments_default_permute_bool(f, 5, I(2, 0, 0, 1, 2), 5, B(0, 0, 0, 1, 0, 0, 0), 7, d, wide, bools, 7), false, false,
+        true, true, true, false, true);
     INTS(cvl_segments_back_permute_int(up, 5, I(0, 1, 1, 2, 1, 0, 2), 7, narrow, narrow + 1, ints, 7), 1, 2, 2, 5, 4, 3, 5);
-    BOOLS(cvl_segments_back_permute_bool(f, 5, I(0, 1, 1, 2, 1, 0, 2), 7, narrow, narrow + 1, bools, 7), true, false, false, true, false,
-          true, true);
+    BOOLS(
+        cvl_segments_back_permute_bool(f, 5, I(0, 1, 1, 2, 1, 0, 2), 7, narrow, narrow + 1, bools, 7), true, false, false, true,
+        false, true, true);
     TEXT(cvl_segments_write_ints(a, 5, d, bytes, TEXT_ROOM, &total), "[[3 1] [] [4 1 5]]");
     TEXT(cvl_segments_write_bools(f, 5, d, bytes, TEXT_ROOM, &total), "[[T F] [] [T F T]]");
     FAULT(cvl_segments_int_scan(CVL_SUB, a, 5, d, ints, 5), CVL_UNKNOWN_CALL, -1);
@@ -1678,7 +1780,8 @@ static void nested_texts(void) {
     FAULT(cvl_seg_write_ints(a, 3, S(I(4, -1), 2), bytes, TEXT_ROOM, &total), CVL_NEGATIVE_LENGTH, 1);
     FAULT(cvl_seg_write_ints(a, 3, S(too_many_ints, too_many), bytes, TEXT_ROOM, &total), CVL_TOO_LONG, -1);
     FAULT(cvl_seg_write_bools(f, 2, S(I(2, -2), 2), bytes, TEXT_ROOM, &total), CVL_NEGATIVE_LENGTH, 1);
-    FAULT(cvl_seg_write_bools(too_many_bools, too_many, S(I(CVL_MOST_ELEMENTS, 1), 2), bytes, TEXT_ROOM, &total), CVL_TOO_LONG, -1);
+    FAULT(
+        cvl_seg_write_bools(too_many_bools, too_many, S(I(CVL_MOST_ELEMENTS, 1), 2), bytes, TEXT_ROOM, &total), CVL_TOO_LONG, -1);
     TOO_SHORT(cvl_seg_write_bools(too_many_bools, many, S(I(CVL_MOST_OF_TEXT, 1), 2), bytes, TEXT_ROOM, &total), 2 * many + 5);
 }
 
@@ -1718,17 +1821,17 @@ static void make_long_vectors(void) {
 }
 
 /* The call is done, and the room has so many elements, each from where it should be. */
-#define LONG_ROW(call, vector, others, room, count)                                                                             \
-    do {                                                                                                                        \
-        memset(room, 0, sizeof room);                                                                                           \
-        calls++;                                                                                                                \
-        tells(#call, call, CVL_DONE, -1);                                                                                       \
-        for (size_t k = 0; k < (count); k++) {                                                                                  \
-            if (room[k] != (from[k] >= 0 ? vector[from[k]] : others[-1 - from[k]])) {                                           \
-                fail(#call, "another element in a long row");                                                                   \
-                break;                                                                                                          \
-            }                                                                                                                   \
-        }                                                                                                                       \
+#define LONG_ROW(call, vector, others, room, count)                                   \
+    do {                                                                              \
+        memset(room, 0, sizeof room);                                                 \
+        calls++;                                                                      \
+        tells(#call, call, CVL_DONE, -1);                                             \
+        for (size_t k = 0; k < (count); k++) {                                        \
+            if (room[k] != (from[k] >= 0 ? vector[from[k]] : others[-1 - from[k]])) { \
+                fail(#call, "another element in a long row");                         \
+                break;                                                                \
+            }                                                                         \
+        }                                                                             \
     } while (0)
 #define LONG_INTS(call, count) LONG_ROW(call, long_ints, other_ints, int_room, count)
 #define LONG_BOOLS(call, count) LONG_ROW(call, long_bools, other_bools, bool_room, count)
@@ -1891,11 +1994,11 @@ static void put_nest(int are_ints) {
 }
 
 /* The call writes the long text. */
-#define LONG_WRITE(call)                                                                                                        \
-    do {                                                                                                                        \
-        reset();                                                                                                                \
-        tells(#call, call, CVL_DONE, -1);                                                                                       \
-        if (total != text_length || memcmp(text_room, long_text, text_length) != 0) fail(#call, "another long text");           \
+#define LONG_WRITE(call)                                                                                              \
+    do {                                                                                                              \
+        reset();                                                                                                      \
+        tells(#call, call, CVL_DONE, -1);                                                                             \
+        if (total != text_length || memcmp(text_room, long_text, text_length) != 0) fail(#call, "another long text"); \
     } while (0)
 
 static void long_texts(void) {
@@ -1948,31 +2051,36 @@ static void odd_booleans(void) {
     BOOLS(ior_reb(flags, 5, S(lengths, 3), bools), true, false, true);
     INTS(cnt_leb(flags, 5, S(lengths, 3), ints), 1, 0, 2);
     INTS(pck_fov(flags, 5, S(lengths, 3), ints), 1, 0, 2);
-    if (!cvl_are_flags(B(true, false), 2) || !cvl_are_flags(NULL, 0) || cvl_are_flags(O(1, 0, 2), 3)) fail("cvl_are_flags", "another answer");
+    if (!cvl_are_flags(B(true, false), 2) || !cvl_are_flags(NULL, 0) || cvl_are_flags(O(1, 0, 2), 3))
+        fail("cvl_are_flags", "another answer");
     cvl_make_flags((bool *)made, 4);
     if (memcmp(made, B(false, true, true, true), 4) != 0) fail("cvl_make_flags", "other booleans");
 }
 
 /* Indices of 64 bits: those outside 32 bits become -1, and the rest stay. */
 static void narrow_indices(void) {
-    const int64_t index[] = {3, 0, -1, INT32_MAX, INT32_MIN, (int64_t)INT32_MAX + 1, (int64_t)INT32_MIN - 1, (int64_t)1 << 32, INT64_MAX, INT64_MIN};
+    const int64_t index[] = {
+        3, 0, -1, INT32_MAX, INT32_MIN, (int64_t)INT32_MAX + 1, (int64_t)INT32_MIN - 1, (int64_t)1 << 32, INT64_MAX, INT64_MIN};
     enum { COUNT = sizeof index / sizeof *index };
     const int32_t wanted[COUNT] = {3, 0, -1, INT32_MAX, INT32_MIN, -1, -1, -1, -1, -1};
     int64_t both[COUNT];
     int32_t found[COUNT + 1] = {[COUNT] = 7}, before[COUNT + 1];
     CvlStatus status = cvl_narrow_index(index, COUNT, found, COUNT);
-    if (status.number != CVL_DONE || memcmp(found, wanted, sizeof wanted) != 0 || found[COUNT] != 7) fail("cvl_narrow_index", "other indices");
+    if (status.number != CVL_DONE || memcmp(found, wanted, sizeof wanted) != 0 || found[COUNT] != 7)
+        fail("cvl_narrow_index", "other indices");
     memcpy(before, found, sizeof found);
     for (size_t count = 0; count <= COUNT + 1; count++) {
         status = cvl_narrow_index(index, COUNT, found, count);
-        if (count != COUNT && (status.number != CVL_LENGTH_MISMATCH || status.place != -1)) fail("cvl_narrow_index", "a room of another length");
+        if (count != COUNT && (status.number != CVL_LENGTH_MISMATCH || status.place != -1))
+            fail("cvl_narrow_index", "a room of another length");
     }
     status = cvl_narrow_index(NULL, 0, NULL, 0);
     if (status.number != CVL_DONE || memcmp(before, found, sizeof found) != 0) fail("cvl_narrow_index", "no indices");
     memcpy(both, index, sizeof index);
     for (size_t from = 0; from < COUNT; from++) {
         status = cvl_narrow_index(both, COUNT, (int32_t *)both + from, COUNT);
-        if (status.number != CVL_OVERLAP || memcmp(both, index, sizeof index) != 0) fail("cvl_narrow_index", "a room in the same memory");
+        if (status.number != CVL_OVERLAP || memcmp(both, index, sizeof index) != 0)
+            fail("cvl_narrow_index", "a room in the same memory");
     }
     /* as a call takes them, with the fault where it stands */
     if (cvl_bck_puz(wanted, COUNT, found, before, 2).number != CVL_DONE) fail("cvl_narrow_index", "places in range");
@@ -1989,7 +2097,8 @@ static void explains(CvlStatus status, const char *wanted) {
         memset(shorter, 7, sizeof shorter);
         const size_t written = size > length ? length + 1 : size;
         if (cvl_explain(status, size == 0 ? NULL : shorter, size) != length) fail(wanted, "another length");
-        if (size != 0 && (memcmp(shorter, text, written - 1) != 0 || shorter[written - 1] != 0)) fail(wanted, "another text in a shorter room");
+        if (size != 0 && (memcmp(shorter, text, written - 1) != 0 || shorter[written - 1] != 0))
+            fail(wanted, "another text in a shorter room");
         if (shorter[written] != 7) fail(wanted, "more is written than there is room for");
     }
 }
@@ -2007,14 +2116,18 @@ static void explained(void) {
     CvlStatus status = cvl_div_wuz(I(7, 7), I(2, 0), six, 2);
     pthread_t other;
     explains(status, "fault 8 DivideByZero at 1: b[1] is 0");
-    if (pthread_create(&other, NULL, explains_elsewhere, &status) != 0 || pthread_join(other, NULL) != 0) fail("cvl_explain", "no thread");
+    if (pthread_create(&other, NULL, explains_elsewhere, &status) != 0 || pthread_join(other, NULL) != 0)
+        fail("cvl_explain", "no thread");
     explains(cvl_lsh_wuz(I(1, 1), I(0, 32), six, 2), "fault 9 ShiftOutOfRange at 1: b[1] is 32");
     explains(cvl_bck_puz(I(7, 8), 2, index, six, 3), "fault 10 IndexOutOfRange at 1: index[1] is 2, and source has 2 elements");
     explains(cvl_smp_puz(I(7, 8, 9), index, six, 3), "fault 11 IndexRepeated at 2: index[2] is 2");
     explains(cvl_smp_pez(I(7, 8, 9), index, S(I(1, 2), 2), six, 3), "fault 10 IndexOutOfRange at 1: index[1] is 2");
     explains(cvl_counts(index, 3, six, 2), "fault 10 IndexOutOfRange at 1: index[1] is 2, and out has 2 elements");
-    explains(cvl_ext_vuz(I(7, 8), 2, (int64_t)1 << 40, six), "fault 10 IndexOutOfRange at 0: index is 1099511627776, and vector has 2 elements");
-    explains(cvl_gather_segments_int(I(7, 8), 2, I(0, 1), 2, S(I(1, 2), 2), six, 3), "fault 10 IndexOutOfRange at 1: starts[1] is 1");
+    explains(
+        cvl_ext_vuz(I(7, 8), 2, (int64_t)1 << 40, six),
+        "fault 10 IndexOutOfRange at 0: index is 1099511627776, and vector has 2 elements");
+    explains(
+        cvl_gather_segments_int(I(7, 8), 2, I(0, 1), 2, S(I(1, 2), 2), six, 3), "fault 10 IndexOutOfRange at 1: starts[1] is 1");
     explains(cvl_bytes_from_ints(I(1, 256), 2, (uint8_t *)six, 2), "fault 18 Overflow at 1: a[1] is 256");
     explains(cvl_tot_suz(I(INT32_MAX, 1, 1), six, 3), "fault 18 Overflow at 2");
     explains(cvl_add_rez(I(1, 2), 2, S(lengths, 2), six), "fault 12 NegativeLength at 1: lengths[1] is -1");
@@ -2022,8 +2135,12 @@ static void explained(void) {
     explains(cvl_int2(CVL_ADD, I(1, 2), 2, I(1), 1, six, 2), "fault 7 LengthMismatch: b has 1 elements, and a has 2");
     explains(cvl_int_scan(CVL_ADD, I(1, 2), 2, six, 1), "fault 7 LengthMismatch: out has 1 elements, and a has 2");
     explains(cvl_add_rez(I(1, 2), 2, S(I(1, 2), 2), six), "fault 7 LengthMismatch: lengths add up to 3, and a has 2 elements");
-    explains(cvl_append_segments_int(I(1), 1, I(2), 1, S(I(1), 1), S(I(1), 1), six, 3), "fault 7 LengthMismatch: out has 3 elements, and has to have 2");
-    explains(cvl_pack_int(I(1, 2), 2, B(true, true), 2, six, 1, &count), "fault 7 LengthMismatch: out has 1 elements, and has to have 2");
+    explains(
+        cvl_append_segments_int(I(1), 1, I(2), 1, S(I(1), 1), S(I(1), 1), six, 3),
+        "fault 7 LengthMismatch: out has 3 elements, and has to have 2");
+    explains(
+        cvl_pack_int(I(1, 2), 2, B(true, true), 2, six, 1, &count),
+        "fault 7 LengthMismatch: out has 1 elements, and has to have 2");
     explains(cvl_distribute_int(1, 3, six, 2), "fault 7 LengthMismatch: out has 2 elements, and has to have 3");
     explains(cvl_smp_puz(I(7, 8, 9), index, same, 3), "fault 102 Overlap: out and index share memory");
     explains(cvl_int2(99, I(1), 1, I(1), 1, six, 1), "fault 2 UnknownCall");
@@ -2083,7 +2200,8 @@ static void copied_booleans(void) {
     BOOLS_OF_COPIES(1, smp_peb(values, each, S(lengths, 3), bools, 5), false, true, false, false, true);
     INTS_OF_COPIES(1, sel_pez(a, I(9, 0, 1, 9, 0), f, 5, S(lengths, 3), ints, 3), 2, 5, 3);
     BOOLS_OF_COPIES(2, sel_peb(values, I(9, 0, 1, 9, 0), f, 5, S(lengths, 3), bools, 3), false, false, true);
-    BOOLS_OF_COPIES(2, def_peb(O(2, 0), I(1, 0), 2, O(0, 0, 3, 3), S(I(1, 1), 2), S(I(2, 2), 2), bools, 4), false, true, false, true);
+    BOOLS_OF_COPIES(
+        2, def_peb(O(2, 0), I(1, 0), 2, O(0, 0, 3, 3), S(I(1, 1), 2), S(I(2, 2), 2), bools, 4), false, true, false, true);
     BOOLS_OF_COPIES(1, bck_peb(values, 5, I(1, 0, 0), S(lengths, 3), S(I(2, 0, 1), 3), bools, 3), false, true, true);
     TEXT(cvl_write_bools(O(2, 0), 2, bytes, TEXT_ROOM, &total), "[T F]");
     COPIES(cvl_write_bools(O(2, 0), 2, bytes, TEXT_ROOM, &total), 1);

@@ -105,7 +105,8 @@ static int pager(const char *with) {
 
 static void own_pages(void) {
     check("a program that guards its pages is killed, or gets another result", in_a_child(barrier, "") == 0);
-    for (int k = 0; k < 5; k++) check("a program that makes its pages late is killed, or gets another result", in_a_child(pager, "") == 0);
+    for (int k = 0; k < 5; k++)
+        check("a program that makes its pages late is killed, or gets another result", in_a_child(pager, "") == 0);
 }
 
 /* ---- each signal ---- */

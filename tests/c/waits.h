@@ -12,7 +12,7 @@
 enum { SLEEP = 200, NAPS = 60000 };
 
 /* Waits until it is so, but not for ever. */
-#define BECOMES(so)                                                                                                            \
+#define BECOMES(so) \
     for (int naps = 0; !(so) && naps < NAPS; naps++) usleep(SLEEP)
 
 /* How many threads the process has, as the system counts them. */

@@ -148,7 +148,8 @@ static void changes(const char *what, uint64_t (*call)(size_t length), size_t fi
     }
     const int64_t apart = other > greatest ? other - greatest : least - other;
     if (apart <= 100 + (greatest - least)) {
-        printf("ways: %s: behind %zu the number of instructions grows by %lld, and else by %lld to %lld\n", what, last,
+        printf(
+            "ways: %s: behind %zu the number of instructions grows by %lld, and else by %lld to %lld\n", what, last,
             (long long)other, (long long)least, (long long)greatest);
         failed = 1;
     }
@@ -162,7 +163,8 @@ static void walks(const char *what, uint64_t (*call)(size_t from, size_t to)) {
     (void)call(0, 0);
     const uint64_t first = call(0, 128), middle = call(128, MANY_SEGMENTS - 128), last = call(MANY_SEGMENTS - 128, MANY_SEGMENTS);
     if (first > middle + MANY_SEGMENTS && last > middle + MANY_SEGMENTS) return;
-    printf("ways: %s: %llu instructions where the first vary, %llu where the last do, and %llu where others do\n", what,
+    printf(
+        "ways: %s: %llu instructions where the first vary, %llu where the last do, and %llu where others do\n", what,
         (unsigned long long)first, (unsigned long long)last, (unsigned long long)middle);
     failed = 1;
 }
@@ -192,7 +194,8 @@ int main(void) {
     /* all indices are 0, but for one that is no place of the shortest segment of the source */
     const uint64_t at_once = back_permute(LONGEST);
     index[0] = 1;
-    check("no segment is looked at alone where each index is a place of the shortest",
+    check(
+        "no segment is looked at alone where each index is a place of the shortest",
         at_once + SEGMENTS * 10 < back_permute(LONGEST));
     index[0] = 0;
     walks("segments that vary are scanned many at once, and others one by one", scan);

@@ -5,8 +5,7 @@
 namespace {
 
 // a fault of lengths that names an argument, told by both forms
-template <class Wrong>
-void tell_lengths(const char *name, Wrong wrong, const char *argument) {
+template <class Wrong> void tell_lengths(const char *name, Wrong wrong, const char *argument) {
     cvl::Status status;
     const auto found = wrong(status);
     const cvl::Fault fault = fault_of([&] { static_cast<void>(wrong()); });
@@ -17,8 +16,7 @@ void tell_lengths(const char *name, Wrong wrong, const char *argument) {
 }
 
 // a status with a fault: no call with it is made
-template <class Make>
-void keep_fault(Make make) {
+template <class Make> void keep_fault(Make make) {
     cvl::Status status;
     static_cast<void>(cvl::div_wuz({1}, {0}, status));
     const std::string said = status.what();
@@ -29,8 +27,7 @@ void keep_fault(Make make) {
     LOOK(status.ok() && *status.what() == '\0');
 }
 
-template <class Wanted, class Make>
-void fresh(const char *, const Wanted &wanted, Make make) {
+template <class Wanted, class Make> void fresh(const char *, const Wanted &wanted, Make make) {
     cvl::Status status;
     LOOK(make() == wanted);
     LOOK(make(status) == wanted && status.ok());
@@ -43,17 +40,13 @@ void fresh(const char *name, const Wanted &wanted, Make make, Wrong wrong, const
     tell_lengths(name, wrong, argument);
 }
 
-template <class Wanted, class Make>
-void single(const char *name, const Wanted &wanted, Make make) {
-    fresh(name, wanted, make);
-}
+template <class Wanted, class Make> void single(const char *name, const Wanted &wanted, Make make) { fresh(name, wanted, make); }
 template <class Wanted, class Make, class Wrong>
 void single(const char *name, const Wanted &wanted, Make make, Wrong wrong, const char *argument) {
     fresh(name, wanted, make, wrong, argument);
 }
 
-template <class Make>
-void segments(const char *, const std::vector<std::int32_t> &wanted, Make make) {
+template <class Make> void segments(const char *, const std::vector<std::int32_t> &wanted, Make make) {
     cvl::Status status;
     const cvl::Segments found = make();
     LOOK(std::vector<std::int32_t>(found.lengths().begin(), found.lengths().end()) == wanted);
@@ -68,8 +61,7 @@ void segments(const char *name, const std::vector<std::int32_t> &wanted, Make ma
 // how long a room may be: as the result, longer, or of any length, which then is that of the result
 enum Room { EXACT, COUNTED, ANY };
 
-template <class Wanted, class Make>
-void room(const char *, const Wanted &wanted, Room length, Make make) {
+template <class Wanted, class Make> void room(const char *, const Wanted &wanted, Room length, Make make) {
     cvl::Status status;
     for (const bool has_status : {false, true}) {
         Wanted out = another(wanted);
@@ -96,8 +88,7 @@ void room(const char *, const Wanted &wanted, Room length, Make make) {
     }
 }
 
-template <class Before, class Wanted, class Make>
-void in_place(const char *, Before out, const Wanted &wanted, Make make) {
+template <class Before, class Wanted, class Make> void in_place(const char *, Before out, const Wanted &wanted, Make make) {
     make(out);
     LOOK(out == wanted);
 }
@@ -107,13 +98,15 @@ void over(const char *, Before before, const Wanted &wanted, std::size_t told, M
     cvl::Status status;
     Before out = before;
     const auto made = [&](auto &...more) {
-        std::apply([&](auto &...rooms) {
-            if constexpr (std::is_void_v<decltype(make(rooms..., more...))>) {
-                make(rooms..., more...);
-            } else {
-                LOOK(make(rooms..., more...) == told);
-            }
-        }, out);
+        std::apply(
+            [&](auto &...rooms) {
+                if constexpr (std::is_void_v<decltype(make(rooms..., more...))>) {
+                    make(rooms..., more...);
+                } else {
+                    LOOK(make(rooms..., more...) == told);
+                }
+            },
+            out);
         LOOK(out == wanted);
         out = before;
     };
@@ -130,7 +123,9 @@ void try_calls() {
 
 int main() {
     try_calls();
-    keep_fault([](auto &&...more) noexcept(noexcept(cvl::add_suz(cvl::Ints(), more...))) { return cvl::add_suz(ints({1, 2}), more...); });
+    keep_fault([](auto &&...more) noexcept(noexcept(cvl::add_suz(cvl::Ints(), more...))) {
+        return cvl::add_suz(ints({1, 2}), more...);
+    });
     static_assert(noexcept(cvl::add_suz(cvl::Ints(), std::declval<cvl::Status &>())) && !noexcept(cvl::add_suz(cvl::Ints())));
     static_assert(std::is_nothrow_copy_constructible_v<cvl::Fault> && std::is_base_of_v<std::exception, cvl::Fault>);
     std::printf("%d facts of the functions in C++\n", looked_at);

@@ -19,7 +19,9 @@ void *operator new(std::size_t size) {
     return found;
 }
 void *operator new[](std::size_t size) { return operator new(size); }
-void *operator new[](std::size_t size, const std::nothrow_t &) noexcept { return is_refused() ? nullptr : std::malloc(size == 0 ? 1 : size); }
+void *operator new[](std::size_t size, const std::nothrow_t &) noexcept {
+    return is_refused() ? nullptr : std::malloc(size == 0 ? 1 : size);
+}
 void operator delete[](void *at) noexcept { std::free(at); }
 void operator delete[](void *at, std::size_t) noexcept { std::free(at); }
 void operator delete(void *at) noexcept { std::free(at); }
@@ -28,8 +30,7 @@ void operator delete(void *at, std::size_t) noexcept { std::free(at); }
 namespace {
 
 // makes a call with each request refused in turn, till none is
-template <class Make>
-void refuse(const char *name, Make make) {
+template <class Make> void refuse(const char *name, Make make) {
     for (long k = 0;; k++) {
         bool is_thrown = false;
         granted = k;

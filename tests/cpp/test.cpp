@@ -15,37 +15,83 @@ namespace {
 using Vector = std::vector<std::int32_t>;
 
 void tell_faults() {
-    LOOK(is_fault(fault_of([] { (void)cvl::div_wuz({7, 7}, {2, 0}); }), 8, 1, "cvl::div_wuz: fault 8 DivideByZero at 1: b[1] is 0"));
-    LOOK(is_fault(fault_of([] { (void)cvl::lsh_wuz({1}, {32}); }), 9, 0, "cvl::lsh_wuz: fault 9 ShiftOutOfRange at 0: b[0] is 32"));
-    LOOK(is_fault(fault_of([] { (void)cvl::bck_puz({5, 6}, {0, 1, 2}); }), 10, 2,
-        "cvl::bck_puz: fault 10 IndexOutOfRange at 2: index[2] is 2, and source has 2 elements"));
-    LOOK(is_fault(fault_of([] { (void)cvl::ext_vuz({5, 6}, 4294967296); }), 10, 0,
-        "cvl::ext_vuz: fault 10 IndexOutOfRange at 0: index is 4294967296, and vector has 2 elements"));
-    LOOK(is_fault(fault_of([] { (void)cvl::counts({0, 3}, 3); }), 10, 1,
-        "cvl::counts: fault 10 IndexOutOfRange at 1: index[1] is 3, and the result has 3 elements"));
-    LOOK(is_fault(fault_of([] { (void)cvl::smp_puz({5, 6}, {1, 1}); }), 11, 1, "cvl::smp_puz: fault 11 IndexRepeated at 1: index[1] is 1"));
-    LOOK(is_fault(fault_of([] { (void)cvl::smp_puz({5, 6}, {2, 1}); }), 10, 0,
-        "cvl::smp_puz: fault 10 IndexOutOfRange at 0: index[0] is 2, and the result has 2 elements"));
-    LOOK(is_fault(fault_of([] { (void)cvl::smp_pez({5, 6}, {1, 0}, cvl::Segments{1, 1}); }), 10, 0,
-        "cvl::smp_pez: fault 10 IndexOutOfRange at 0: index[0] is 1"));
-    LOOK(is_fault(fault_of([] { cvl::Segments{2, -1, 3}; }), 12, 1, "cvl::Segments: fault 12 NegativeLength at 1: lengths[1] is -1"));
+    LOOK(is_fault(
+        fault_of([] {
+            (void)cvl::div_wuz({7, 7}, {2, 0});
+        }),
+        8, 1, "cvl::div_wuz: fault 8 DivideByZero at 1: b[1] is 0"));
+    LOOK(is_fault(
+        fault_of([] { (void)cvl::lsh_wuz({1}, {32}); }), 9, 0, "cvl::lsh_wuz: fault 9 ShiftOutOfRange at 0: b[0] is 32"));
+    LOOK(is_fault(
+        fault_of([] {
+            (void)cvl::bck_puz({5, 6}, {0, 1, 2});
+        }),
+        10, 2, "cvl::bck_puz: fault 10 IndexOutOfRange at 2: index[2] is 2, and source has 2 elements"));
+    LOOK(is_fault(
+        fault_of([] {
+            (void)cvl::ext_vuz({5, 6}, 4294967296);
+        }),
+        10, 0, "cvl::ext_vuz: fault 10 IndexOutOfRange at 0: index is 4294967296, and vector has 2 elements"));
+    LOOK(is_fault(
+        fault_of([] {
+            (void)cvl::counts({0, 3}, 3);
+        }),
+        10, 1, "cvl::counts: fault 10 IndexOutOfRange at 1: index[1] is 3, and the result has 3 elements"));
+    LOOK(is_fault(
+        fault_of([] {
+            (void)cvl::smp_puz({5, 6}, {1, 1});
+        }),
+        11, 1, "cvl::smp_puz: fault 11 IndexRepeated at 1: index[1] is 1"));
+    LOOK(is_fault(
+        fault_of([] {
+            (void)cvl::smp_puz({5, 6}, {2, 1});
+        }),
+        10, 0, "cvl::smp_puz: fault 10 IndexOutOfRange at 0: index[0] is 2, and the result has 2 elements"));
+    LOOK(is_fault(
+        fault_of([] {
+            (void)cvl::smp_pez({5, 6}, {1, 0}, cvl::Segments{1, 1});
+        }),
+        10, 0, "cvl::smp_pez: fault 10 IndexOutOfRange at 0: index[0] is 1"));
+    LOOK(is_fault(
+        fault_of([] {
+            cvl::Segments{2, -1, 3};
+        }),
+        12, 1, "cvl::Segments: fault 12 NegativeLength at 1: lengths[1] is -1"));
     LOOK(is_fault(fault_of([] { cvl::Segments{INT32_MAX, 1}; }), 13, -1, "cvl::Segments: fault 13 TooLong"));
     LOOK(is_fault(fault_of([] { (void)cvl::dis_vuz(5, -1); }), 12, -1, "cvl::dis_vuz: fault 12 NegativeLength: count is -1"));
     LOOK(is_fault(fault_of([] { (void)cvl::counts({0}, -1); }), 12, -1, "cvl::counts: fault 12 NegativeLength: count is -1"));
-    LOOK(is_fault(fault_of([] { (void)cvl::counts({0}, 2147483648); }), 13, -1, "cvl::counts: fault 13 TooLong: count is 2147483648"));
-    LOOK(is_fault(fault_of([] { (void)cvl::ind_luz(0, 1, INT64_MAX); }), 13, -1, "cvl::ind_luz: fault 13 TooLong: count is 9223372036854775807"));
+    LOOK(is_fault(
+        fault_of([] { (void)cvl::counts({0}, 2147483648); }), 13, -1, "cvl::counts: fault 13 TooLong: count is 2147483648"));
+    LOOK(is_fault(
+        fault_of([] { (void)cvl::ind_luz(0, 1, INT64_MAX); }), 13, -1,
+        "cvl::ind_luz: fault 13 TooLong: count is 9223372036854775807"));
     LOOK(is_fault(fault_of([] { (void)cvl::read_ints("5 x"); }), 15, 1, "cvl::read_ints: fault 15 BadInput at 1"));
     LOOK(is_fault(fault_of([] { (void)cvl::seg_read_ints("[[1] 2]"); }), 15, 4, "cvl::seg_read_ints: fault 15 BadInput at 4"));
     LOOK(is_fault(fault_of([] { (void)cvl::tot_ruz({INT32_MAX, 1}); }), 18, 0, "cvl::tot_ruz: fault 18 Overflow at 0"));
-    LOOK(is_fault(fault_of([] { (void)cvl::bytes_from_ints({7, 256}); }), 18, 1, "cvl::bytes_from_ints: fault 18 Overflow at 1: a[1] is 256"));
-    LOOK(is_fault(fault_of([] { (void)cvl::add_wuz({1, 2}, {1}); }), 7, -1, "cvl::add_wuz: fault 7 LengthMismatch: b has 1 elements, and a has 2"));
-    LOOK(is_fault(fault_of([] { (void)cvl::add_rez({1, 2}, cvl::Segments{1}); }), 7, -1,
-        "cvl::add_rez: fault 7 LengthMismatch: segments have 1 elements in all, and a has 2"));
-    LOOK(is_fault(fault_of([] { (void)cvl::dis_vez({1, 2}, cvl::Segments{1}); }), 7, -1,
-        "cvl::dis_vez: fault 7 LengthMismatch: values has 2 elements, and segments has 1 segments"));
+    LOOK(is_fault(
+        fault_of([] {
+            (void)cvl::bytes_from_ints({7, 256});
+        }),
+        18, 1, "cvl::bytes_from_ints: fault 18 Overflow at 1: a[1] is 256"));
+    LOOK(is_fault(
+        fault_of([] {
+            (void)cvl::add_wuz({1, 2}, {1});
+        }),
+        7, -1, "cvl::add_wuz: fault 7 LengthMismatch: b has 1 elements, and a has 2"));
+    LOOK(is_fault(
+        fault_of([] {
+            (void)cvl::add_rez({1, 2}, cvl::Segments{1});
+        }),
+        7, -1, "cvl::add_rez: fault 7 LengthMismatch: segments have 1 elements in all, and a has 2"));
+    LOOK(is_fault(
+        fault_of([] {
+            (void)cvl::dis_vez({1, 2}, cvl::Segments{1});
+        }),
+        7, -1, "cvl::dis_vez: fault 7 LengthMismatch: values has 2 elements, and segments has 1 segments"));
     // an operator that is none of the family's
     Vector room(1);
-    LOOK(is_fault(fault_of([&] { cvl::combine_permute_int(static_cast<cvl::Operator>(CVL_LES), {1}, {0}, room); }), 2, -1,
+    LOOK(is_fault(
+        fault_of([&] { cvl::combine_permute_int(static_cast<cvl::Operator>(CVL_LES), {1}, {0}, room); }), 2, -1,
         "cvl::combine_permute_int: fault 2 UnknownCall"));
 }
 
@@ -69,9 +115,13 @@ void take_arguments() {
     Vector out(3);
     std::array<std::int32_t, 3> out_array = {};
     std::int32_t out_plain[3] = {};
-    LOOK(cvl::add_suz(vector) == wanted && cvl::add_suz(array) == wanted && cvl::add_suz(plain) == wanted && cvl::add_suz({3, 1, 4}) == wanted);
+    LOOK(
+        cvl::add_suz(vector) == wanted && cvl::add_suz(array) == wanted && cvl::add_suz(plain) == wanted &&
+        cvl::add_suz({3, 1, 4}) == wanted);
     LOOK(cvl::add_suz({vector.data(), vector.size()}) == wanted && cvl::add_suz(cvl::Ints(plain, 3)) == wanted);
-    LOOK(cvl::add_suz(cvl::Ints(vector).subspan(1)) == Vector({0, 1}) && cvl::add_suz(cvl::Ints(vector).subspan(0, 1)) == Vector({0}));
+    LOOK(
+        cvl::add_suz(cvl::Ints(vector).subspan(1)) == Vector({0, 1}) &&
+        cvl::add_suz(cvl::Ints(vector).subspan(0, 1)) == Vector({0}));
     LOOK(cvl::add_suz(Vector(vector)) == wanted);
     cvl::add_suz(vector, out_array);
     cvl::add_suz(vector, out_plain);
@@ -82,7 +132,9 @@ void take_arguments() {
     const bool truths[] = {false, true, true};
     std::vector<unsigned char> inverse(3);
     cvl::not_wub(truths, inverse);
-    LOOK(cvl::cnt_lub(marks) == 2 && cvl::cnt_lub(truths) == 2 && cvl::cnt_lub({true, false}) == 1 && inverse == std::vector<unsigned char>({1, 0, 0}));
+    LOOK(
+        cvl::cnt_lub(marks) == 2 && cvl::cnt_lub(truths) == 2 && cvl::cnt_lub({true, false}) == 1 &&
+        inverse == std::vector<unsigned char>({1, 0, 0}));
 #if __cplusplus >= 202002L
     const std::span<const std::int32_t> view = vector;
     cvl::add_suz(view, std::span<std::int32_t>(out));
@@ -97,12 +149,16 @@ void take_nothing() {
     Vector room;
     cvl::add_suz(none, room);
     cvl::add_suz(cvl::Ints(nullptr, 0), cvl::IntRoom(nullptr, 0));
-    LOOK(cvl::add_suz({}).empty() && cvl::add_ruz(none) == 0 && cvl::pck_luz({}, cvl::Flags()).empty() && cvl::write_ints({}) == "[]");
+    LOOK(
+        cvl::add_suz({}).empty() && cvl::add_ruz(none) == 0 && cvl::pck_luz({}, cvl::Flags()).empty() &&
+        cvl::write_ints({}) == "[]");
     LOOK(cvl::Segments().total() == 0 && cvl::add_rez({}, cvl::Segments()).empty() && cvl::Segments{0, 0}.size() == 2);
     LOOK(cvl::read_ints("").empty() && cvl::order({}).empty());
     // vectors from which was moved
     Vector moved = {1, 2, 3}, kept = std::move(moved);
-    LOOK(is_fault(fault_of([&] { (void)cvl::add_wuz(kept, moved); }), 7, -1, "cvl::add_wuz: fault 7 LengthMismatch: b has 0 elements, and a has 3")); // NOLINT
+    LOOK(is_fault(
+        fault_of([&] { (void)cvl::add_wuz(kept, moved); }), 7, -1,
+        "cvl::add_wuz: fault 7 LengthMismatch: b has 0 elements, and a has 3")); // NOLINT
     cvl::Segments rows = {1, 2}, others = std::move(rows);
     LOOK(rows.size() == 0 && rows.total() == 0 && others.total() == 3 && cvl::add_rez({}, rows).empty()); // NOLINT
     cvl::Flags some = {true}, more = std::move(some);
@@ -113,8 +169,14 @@ void share_rooms() {
     Vector all = {1, 2, 3, 4};
     const Vector before = all;
     const cvl::Ints front(all.data(), 3);
-    LOOK(is_fault(fault_of([&] { cvl::add_suz(front, cvl::IntRoom(all.data() + 1, 3)); }), 102, -1, "cvl::add_suz: fault 102 Overlap: out and a share memory"));
-    LOOK(is_fault(fault_of([&] { cvl::bck_puz({0, 1, 2, 3}, all, all); }), 102, -1, "cvl::bck_puz: fault 102 Overlap: out and index share memory"));
+    LOOK(is_fault(
+        fault_of([&] { cvl::add_suz(front, cvl::IntRoom(all.data() + 1, 3)); }), 102, -1,
+        "cvl::add_suz: fault 102 Overlap: out and a share memory"));
+    LOOK(is_fault(
+        fault_of([&] {
+            cvl::bck_puz({0, 1, 2, 3}, all, all);
+        }),
+        102, -1, "cvl::bck_puz: fault 102 Overlap: out and index share memory"));
     LOOK(all == before);
     cvl::add_suz(all, all);
     LOOK(all == Vector({0, 1, 3, 6}));
@@ -125,14 +187,22 @@ void keep_segments() {
     const cvl::Segments copied(lengths), borrowed = cvl::Segments::borrow(lengths), moved(Vector{2, 0, 3});
     const cvl::Segments copy_of_borrowed = borrowed;
     for (const cvl::Segments &rows : {copied, borrowed, moved, copy_of_borrowed, cvl::Segments::from_offsets({0, 2, 2, 5})}) {
-        LOOK(rows.size() == 3 && rows.total() == 5 && rows.offsets() == Vector({0, 2, 2, 5}) && rows.numbers() == Vector({0, 0, 2, 2, 2}));
+        LOOK(
+            rows.size() == 3 && rows.total() == 5 && rows.offsets() == Vector({0, 2, 2, 5}) &&
+            rows.numbers() == Vector({0, 0, 2, 2, 2}));
     }
     LOOK(borrowed.lengths().data() == lengths.data() && copied.lengths().data() != lengths.data());
     // borrowed lengths that change are looked at again by each call
     lengths[1] = -1;
     LOOK(fault_of([&] { (void)cvl::add_rez({1, 2, 3, 4, 5}, borrowed); }).number() == cvl::faults::negative_length);
-    LOOK(is_fault(fault_of([] { cvl::Segments::from_offsets({0, 3, 2}); }), 12, 1, "cvl::Segments: fault 12 NegativeLength at 1: offsets[1] is 3"));
-    LOOK(fault_of([] { cvl::Segments::from_offsets({}); }).number() == 7 && fault_of([] { cvl::Segments::from_offsets({1}); }).number() == 7);
+    LOOK(is_fault(
+        fault_of([] {
+            cvl::Segments::from_offsets({0, 3, 2});
+        }),
+        12, 1, "cvl::Segments: fault 12 NegativeLength at 1: offsets[1] is 3"));
+    LOOK(fault_of([] { cvl::Segments::from_offsets({}); }).number() == 7 && fault_of([] {
+                                                                                cvl::Segments::from_offsets({1});
+                                                                            }).number() == 7);
     LOOK(cvl::Segments::from_offsets({0}).empty());
     cvl::Status status;
     LOOK(cvl::Segments({1, -1}, status).empty() && status.place() == 1 && cvl::Segments({1}, status).empty());
@@ -140,7 +210,9 @@ void keep_segments() {
     LOOK(numbers == Vector({1, 2, 3}) && lists.total() == 3 && lists.size() == 3);
     Vector out(2), of_lists(3);
     const cvl::Fault fault = fault_of([&] { cvl::seg_read_ints("[[1 2] [] [3]]", out, of_lists); });
-    LOOK(fault.number() == 7 && fault.needed() == 3 && std::strstr(fault.what(), "out has 2 elements, and has to have 3") != nullptr);
+    LOOK(
+        fault.number() == 7 && fault.needed() == 3 &&
+        std::strstr(fault.what(), "out has 2 elements, and has to have 3") != nullptr);
 }
 
 void keep_flags() {
@@ -206,9 +278,7 @@ void throw_from_pools() {
         bool is_thrown = false;
         try {
             (void)cvl::add_suz(a);
-        } catch (const std::logic_error &error) {
-            is_thrown = std::strcmp(error.what(), "no part") == 0;
-        }
+        } catch (const std::logic_error &error) { is_thrown = std::strcmp(error.what(), "no part") == 0; }
         LOOK(is_thrown);
         cvl::Status status;
         LOOK(cvl::add_suz(a, status).empty() ? status.number() == CVL_NO_RESOURCES : status.ok());
@@ -221,9 +291,7 @@ void throw_from_pools() {
     bool is_thrown = false;
     try {
         cvl::add_suz(a, out);
-    } catch (int thrown) {
-        is_thrown = thrown == 7;
-    }
+    } catch (int thrown) { is_thrown = thrown == 7; }
     LOOK(is_thrown && (out == before || out == wanted));
 }
 
@@ -239,9 +307,7 @@ void start_threads() {
     bool is_thrown = false;
     try {
         cvl::Threads(0);
-    } catch (const std::system_error &thrown) {
-        is_thrown = thrown.code() == std::errc::invalid_argument;
-    }
+    } catch (const std::system_error &thrown) { is_thrown = thrown.code() == std::errc::invalid_argument; }
     LOOK(is_thrown);
     cvl::set_threads(2);
     LOOK(cvl::threads() == 2);
@@ -261,7 +327,8 @@ void call_at_once() {
         threads.emplace_back([&, k] {
             for (int time = 0; time < 3; time++) {
                 const cvl::Fault fault = fault_of([&] { (void)cvl::ext_vuz(a, -1 - k); });
-                right += cvl::add_rez(a, rows) == wanted && std::strstr(fault.what(), ("index is " + std::to_string(-1 - k)).c_str()) != nullptr;
+                right += cvl::add_rez(a, rows) == wanted &&
+                    std::strstr(fault.what(), ("index is " + std::to_string(-1 - k)).c_str()) != nullptr;
             }
         });
     }

@@ -27,15 +27,13 @@ inline std::vector<std::uint32_t> marks(std::vector<std::uint32_t> found) { retu
 inline cvl::Flags flags(cvl::Flags found) { return found; }
 
 // as many elements of which each differs
-template <class Elements>
-Elements another(Elements found) {
+template <class Elements> Elements another(Elements found) {
     for (auto &element : found) element = static_cast<std::decay_t<decltype(element)>>(!element);
     return found;
 }
 
 // with so many elements more, or less
-template <class Elements>
-Elements of_length(const Elements &found, std::size_t size) {
+template <class Elements> Elements of_length(const Elements &found, std::size_t size) {
     Elements made;
     if constexpr (std::is_same_v<Elements, cvl::Flags>) {
         LOOK(made.renew(size));
@@ -48,20 +46,19 @@ Elements of_length(const Elements &found, std::size_t size) {
 
 #ifdef __cpp_exceptions
 // the fault of a call that has one
-template <class Make>
-cvl::Fault fault_of(Make make) {
+template <class Make> cvl::Fault fault_of(Make make) {
     try {
         make();
-    } catch (const cvl::Fault &fault) {
-        return fault;
-    }
+    } catch (const cvl::Fault &fault) { return fault; }
     look(false, "a fault", __FILE__, __LINE__);
     std::exit(1);
 }
 
 inline bool is_fault(const cvl::Fault &fault, std::uint32_t number, std::int64_t place, const char *said) {
     if (fault.number() == number && fault.place() == place && std::strcmp(fault.what(), said) == 0) return true;
-    std::fprintf(stderr, "the fault is %u at %lld, %s\n", static_cast<unsigned>(fault.number()), static_cast<long long>(fault.place()), fault.what());
+    std::fprintf(
+        stderr, "the fault is %u at %lld, %s\n", static_cast<unsigned>(fault.number()), static_cast<long long>(fault.place()),
+        fault.what());
     return false;
 }
 #endif

@@ -232,9 +232,12 @@ class ForACpu(Tree):
         (self.top / "c").mkdir()
         makes = {"nm": "", "objcopy": ': > "$word"', "ar": ': > "$2"', **dict.fromkeys(("cc", "ld"), ': > "$made"')}
         for name, make in makes.items():
-            self.program(f"programs/{name}", f"""echo "{name}|$*" >> '{self.log}'
+            self.program(
+                f"programs/{name}",
+                f"""echo "{name}|$*" >> '{self.log}'
                 for word in "$@"; do [ "$before" != -o ] || made=$word; before=$word; done
-                {make}""")
+                {make}""",
+            )
         sources = [*generated.files_of(generated.below(self.top / "written"), "bindings/c", "*.c")]
         given = {name: "" for name in ("CC", "CPPFLAGS", "CFLAGS", "LDFLAGS", "LD", "OBJCOPY", "NM", "AR")}
         given.update(CVL_ARCHIVE=str(self.write("libcvl_c.a")), CVL_PROGRAM=str(self.write("program")))

@@ -18,14 +18,17 @@ class Built(Used):
 
     def test_cmake(self):
         self.install(self.root, "--no-python")
-        self.write("CMakeLists.txt", """cmake_minimum_required(VERSION 3.13)
+        self.write(
+            "CMakeLists.txt",
+            """cmake_minimum_required(VERSION 3.13)
 project(program C)
 find_package(cvl 1.0 REQUIRED)
 foreach(target cvl cvl_static)
   add_executable(of_${target} program.c)
   target_link_libraries(of_${target} PRIVATE cvl::${target})
 endforeach()
-""")
+""",
+        )
         self.run_in_shell('cmake -S . -B build -DCMAKE_PREFIX_PATH="$ROOT" && cmake --build build', ROOT=str(self.root))
         for target in ("cvl", "cvl_static"):
             self.run_in_shell(f"build/of_{target}", status=7)
@@ -33,7 +36,9 @@ endforeach()
     def test_components_of_cmake(self):
         with mock.patch.object(Used, "build", Whole.build):
             self.install(self.root, "--no-python")
-        self.write("CMakeLists.txt", """cmake_minimum_required(VERSION 3.13)
+        self.write(
+            "CMakeLists.txt",
+            """cmake_minimum_required(VERSION 3.13)
 project(asked NONE)
 find_package(cvl QUIET COMPONENTS nonsense)
 message(STATUS "one: ${cvl_FOUND}, ${cvl_NOT_FOUND_MESSAGE}, ${cvl_nonsense_FOUND}")
@@ -44,7 +49,8 @@ message(STATUS "one at will: ${cvl_FOUND}, ${cvl_nonsense_FOUND}")
 find_package(cvl REQUIRED)
 get_target_property(linked cvl::cvl_static INTERFACE_LINK_LIBRARIES)
 message(STATUS "none: ${cvl_FOUND}, ${linked}")
-""")
+""",
+        )
         told = self.run_in_shell('cmake -S . -B build -DCMAKE_PREFIX_PATH="$ROOT" 2>&1', ROOT=str(self.root))
         why = "the package cvl has no component {} here"
         wanted = [f"-- one: 0, {why.format('nonsense')}, FALSE", f"-- and another at will: 0, {why.format('cvl')}"]
@@ -55,7 +61,9 @@ message(STATUS "none: ${cvl_FOUND}, ${linked}")
         # an MPI that has nothing but its target
         target = "if(NOT TARGET MPI::MPI_C)\n  add_library(MPI::MPI_C INTERFACE IMPORTED)\nendif()\n"
         self.write("modules/FindMPI.cmake", f"set(MPI_FOUND TRUE)\n{target}")
-        self.write("CMakeLists.txt", """cmake_minimum_required(VERSION 3.13)
+        self.write(
+            "CMakeLists.txt",
+            """cmake_minimum_required(VERSION 3.13)
 project(asked NONE)
 find_package(cvl QUIET COMPONENTS mpi)
 message(STATUS "asked for: ${cvl_FOUND}, ${cvl_NOT_FOUND_MESSAGE}, ${cvl_mpi_FOUND}")
@@ -66,10 +74,13 @@ if(TARGET cvl::mpi)
   file(READ "${library}" text)
   message(STATUS "a library: ${text}")
 endif()
-""")
+""",
+        )
         library = self.root / "lib/libcvl_mpi.so.1.0.0"
         found = ["-- asked for: 1, , TRUE", "-- at will: 1, TRUE", f"-- a library: {library.name}"]
-        self.find_ranks("not_installed", ["-- asked for: 0, the package cvl has no component mpi here, FALSE", "-- at will: 1, FALSE"])
+        self.find_ranks(
+            "not_installed", ["-- asked for: 0, the package cvl has no component mpi here, FALSE", "-- at will: 1, FALSE"]
+        )
         self.find_ranks("installed", found, "--mpi")
         library.unlink()
         why = f"{library} is not there, which was installed with this package"

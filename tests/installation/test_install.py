@@ -43,7 +43,14 @@ class Installs(Whole):
             self.assertEqual({path.name for path in there.iterdir()} - {self.module}, wanted)
             self.assertTrue({"calls.py", "calls.rs"} & wanted)
         self.assertTrue((site / self.module).is_file() and (site.parent / "cvl-1.0.0.dist-info/METADATA").is_file())
-        for name in ("bin/cvl", "include/cvl.h", "include/cvl.f90", "share/man/man3/cvl_add_rez.3", "share/doc/cvl/html/index.html", "share/doc/cvl/LICENSE"):
+        for name in (
+            "bin/cvl",
+            "include/cvl.h",
+            "include/cvl.f90",
+            "share/man/man3/cvl_add_rez.3",
+            "share/doc/cvl/html/index.html",
+            "share/doc/cvl/LICENSE",
+        ):
             self.assertIn(name, self.found())
         install.main([str(self.root), "--uninstall"])
         self.assertEqual(self.found(), [])
@@ -386,7 +393,9 @@ class Checked(Stopped):
         tells = '{"version": [3, %d], "tag": "cpython-3", "folders": [], "bits": %d}'
         self.assertIn("3.8 is needed", self.told(self.root, "--python", self.python(tells % (7, 64))))
         self.assertIn("of 32 bits", self.told(self.root, "--python", self.python(tells % (9, 32))))
-        lacks = f'for word in "$@"; do [ "$word" != --check ] || {{ echo no headers >&2; exit 1; }}; done; echo \'{tells % (9, 64)}\''
+        lacks = (
+            f'for word in "$@"; do [ "$word" != --check ] || {{ echo no headers >&2; exit 1; }}; done; echo \'{tells % (9, 64)}\''
+        )
         self.assertIn("no headers", self.told(self.root, "--python", self.program("lacking", lacks)))
 
 
@@ -419,7 +428,11 @@ class Installed:
         what it says to be in the repository, and a page may say that of all."""
         targets = [target.split("#")[0] for target in LINK.findall(text) if not target.startswith(("#", "http"))]
         whole = OF_THE_REPOSITORY in text.lower()
-        said = [part for part in re.split(r"\n\n(?!    |\|)", text) if not whole and not re.search(r"\b(?:repository|checkout)\b", part)]
+        said = [
+            part
+            for part in re.split(r"\n\n(?!    |\|)", text)
+            if not whole and not re.search(r"\b(?:repository|checkout)\b", part)
+        ]
         found = [name for name in targets if name] + NAMED.findall(LINK.sub("", "\n\n".join(said)))
         return [name for name in found if not self.has(name) and name not in OF_RELEASES]
 
@@ -432,10 +445,17 @@ class Pages(Tree):
         self.files = pages.files()
         headers = {f"include/{path.name}": path for path in (TOP / "include").glob("*.h*")}
         # the last two are there if --mpi puts them
-        drawn = {"include/cvl.f90": "bindings/fortran/cvl.f90", "include/cvl_mpi.h": "bindings/mpi/cvl_mpi.h", "include/cvl_mpi.f90": "bindings/fortran/cvl_mpi.f90"}
+        drawn = {
+            "include/cvl.f90": "bindings/fortran/cvl.f90",
+            "include/cvl_mpi.h": "bindings/mpi/cvl_mpi.h",
+            "include/cvl_mpi.f90": "bindings/fortran/cvl_mpi.f90",
+        }
         self.headers = {**headers, **{name: written() / path for name, path in drawn.items()}}
         self.crates = {str(path): path for path in (TOP / "bindings/rust").glob("**/README.md")}
-        self.manual = {"share/man/man1/cvl.1": TOP / "docs/man/cvl.1", **{f"share/man/man3/{path.name}": path for path in (written() / "docs/man").glob("*.3")}}
+        self.manual = {
+            "share/man/man1/cvl.1": TOP / "docs/man/cvl.1",
+            **{f"share/man/man3/{path.name}": path for path in (written() / "docs/man").glob("*.3")},
+        }
         self.installed = Installed({*self.files, *self.headers})
 
     def test_each_name_is_there(self):
@@ -446,10 +466,29 @@ class Pages(Tree):
                 self.assertEqual(self.installed.without(text), [], name)
 
     def test_a_name_that_is_not_there_is_reported(self):
-        wrong = ("see `crates/cvl_c`", "[page](no_page.md)", "run ./install", "(docs/user/no_page.md)", "* examples/c/run does", "[dev](../dev/DECISIONS.md)")
-        for text in (*wrong, "    pip install ./bindings/python", "In a checkout\n\nRun ./install", "In a checkout [a page](../dev/look-back.md)"):
+        wrong = (
+            "see `crates/cvl_c`",
+            "[page](no_page.md)",
+            "run ./install",
+            "(docs/user/no_page.md)",
+            "* examples/c/run does",
+            "[dev](../dev/DECISIONS.md)",
+        )
+        for text in (
+            *wrong,
+            "    pip install ./bindings/python",
+            "In a checkout\n\nRun ./install",
+            "In a checkout [a page](../dev/look-back.md)",
+        ):
             self.assertTrue(self.installed.without(text), text)
-        right = ("`docs/user/calls.md`", "[calls](calls.md#index)", "examples/c/quicksort.c", "[above](#above)", "include/cvl.h", "[it](../../examples/c/quicksort.c)")
+        right = (
+            "`docs/user/calls.md`",
+            "[calls](calls.md#index)",
+            "examples/c/quicksort.c",
+            "[above](#above)",
+            "include/cvl.h",
+            "[it](../../examples/c/quicksort.c)",
+        )
         for text in (*right, "In a checkout run ./install", "In a checkout\n\n    ./install"):
             self.assertEqual(self.installed.without(text), [], text)
 
@@ -467,7 +506,9 @@ class Pages(Tree):
                 (folder / name).write_text("page")
             return makes
 
-        with mock.patch.object(pages.making, "maker", lambda: maker), mock.patch.object(pages.making, "build", build), mock.patch("builtins.print") as said:
+        with mock.patch.object(pages.making, "maker", lambda: maker), mock.patch.object(pages.making, "build", build), mock.patch(
+            "builtins.print"
+        ) as said:
             return pages.site(self.top / "html"), " ".join(str(word) for call in said.call_args_list for word in call.args)
 
     def test_the_site_is_installed_where_it_can_be_made(self):
@@ -487,7 +528,10 @@ class Pages(Tree):
         sources = {name: path.read_text() for name, path in self.files.items() if name.endswith((".c", ".cpp", ".h"))}
         for name, text in sources.items():
             for included in re.findall(r'^#include "(.*)"$', text, re.M):
-                self.assertTrue(f"{os.path.dirname(name)}/{included}" in sources or f"include/{included}" in self.headers, f"{name}: {included}")
+                self.assertTrue(
+                    f"{os.path.dirname(name)}/{included}" in sources or f"include/{included}" in self.headers,
+                    f"{name}: {included}",
+                )
 
     def test_what_help_names_is_there(self):
         told = (TOP / "crates/test_runs/src/programs.rt").read_text()

@@ -25,7 +25,23 @@ from installer import files
 from installer import over_ranks as installed_over_ranks
 from installer.words import Places
 import table
-from releasing import built, crates, debian, found_right, licences, older_glibc, over_ranks, packed, receipt, recipes, shown, texts, trees, trying, writing
+from releasing import (
+    built,
+    crates,
+    debian,
+    found_right,
+    licences,
+    older_glibc,
+    over_ranks,
+    packed,
+    receipt,
+    recipes,
+    shown,
+    texts,
+    trees,
+    trying,
+    writing,
+)
 from trees import Tree
 from whole import Whole, command, written
 
@@ -112,7 +128,15 @@ class Packed(Tree):
             self.assertEqual(one.with_suffix(end).read_bytes(), other.with_suffix(end).read_bytes(), end)
         with tarfile.open(one.with_suffix(".gz")) as whole:
             found = [(entry.name, entry.mode, entry.mtime, entry.uid, entry.linkname) for entry in whole]
-        self.assertEqual(found, [("a", 0o644, 1000, 0, ""), ("b", 0o755, 1000, 0, ""), ("b/program", 0o755, 1000, 0, ""), ("link", 0o777, 1000, 0, "a")])
+        self.assertEqual(
+            found,
+            [
+                ("a", 0o644, 1000, 0, ""),
+                ("b", 0o755, 1000, 0, ""),
+                ("b/program", 0o755, 1000, 0, ""),
+                ("link", 0o777, 1000, 0, "a"),
+            ],
+        )
 
 
 class Packages(unittest.TestCase):
@@ -120,7 +144,9 @@ class Packages(unittest.TestCase):
 
     def test_each_file_has_a_package(self):
         places = Places("/usr", debian.LIBDIR)
-        given, links = files.base(places, pathlib.Path("/work"), pathlib.Path("/written"), built.OWN, {"share/doc/cvl/README.md": None})
+        given, links = files.base(
+            places, pathlib.Path("/work"), pathlib.Path("/written"), built.OWN, {"share/doc/cvl/README.md": None}
+        )
         of = {name: debian._package_of(name) for name in (*given, *links)}
         self.assertEqual([name for name, package in of.items() if package is None], [])
         for name, package in (
@@ -135,7 +161,9 @@ class Packages(unittest.TestCase):
         with mock.patch.dict(os.environ, SOURCE_DATE_EPOCH="1795392000"):
             said = texts.debian_changes("1.0.0-1")
         self.assertEqual(re.findall(r"^cimorelua \((.*)\)", said, re.M), ["1.0.0-1", "1.0.0~0-1"])
-        self.assertEqual(re.findall(r"  (\w+, .*)$", said, re.M), ["Mon, 23 Nov 2026 00:00:00 -0000", "Sun, 22 Nov 2026 00:00:00 -0000"])
+        self.assertEqual(
+            re.findall(r"  (\w+, .*)$", said, re.M), ["Mon, 23 Nov 2026 00:00:00 -0000", "Sun, 22 Nov 2026 00:00:00 -0000"]
+        )
 
     def test_symbols_have_the_version_that_they_came_with(self):
         lines = texts.scripts("libcvl1")["symbols"].splitlines()
@@ -160,7 +188,7 @@ class Debian(Whole):
         return subprocess.run([str(word) for word in words], check=True, capture_output=True, text=True, cwd=self.top).stdout
 
     def build(self, work):
-        self.write("program.c", "#include <stdio.h>\nint main(void) { return puts(\"\") < 0; }\n")
+        self.write("program.c", '#include <stdio.h>\nint main(void) { return puts("") < 0; }\n')
         self.run_it("cc", "-o", work / "cvl", "program.c")
         self.run_it("cc", "-shared", "-fPIC", "-Wl,-soname,libcvl.so.1", "-o", work / archive.FULL, "program.c")
         self.run_it("cc", "-c", "-o", "program.o", "program.c")
@@ -227,14 +255,19 @@ class Debian(Whole):
 
     def check_over_ranks(self, name, package, of_package, others):
         """A package over an MPI has the files of that part of `./install`, stands over the library, and excludes the other one."""
-        fields = {field: self.run_it("dpkg-deb", "-f", package, field).strip() for field in ("Depends", "Conflicts", "Provides", "Replaces")}
+        fields = {
+            field: self.run_it("dpkg-deb", "-f", package, field).strip()
+            for field in ("Depends", "Conflicts", "Provides", "Replaces")
+        }
         self.assertEqual({fields.pop(field) for field in ("Conflicts", "Provides", "Replaces")}, {"libcvl-mpi"})
         of_mpi = {"libcvl-openmpi": "libopenmpi3, libopenmpi-dev", "libcvl-mpich": "libmpich12, libmpich-dev"}[name]
         libraries, glibc = self.needed(of_package.values())
         self.assertEqual(libraries, {"libc.so.6", "libcvl.so.1"})
         self.assertEqual(fields["Depends"], f"libc6 (>= {glibc}), libcvl-dev (= {debian.REVISION}), {of_mpi}")
         placed, links = installed_over_ranks.placed(Places("/usr", debian.LIBDIR))
-        own = {f"share/doc/{name}/{file}" for file in ("copyright", "changelog.gz", "changelog.Debian.gz")} | {f"share/lintian/overrides/{name}"}
+        own = {f"share/doc/{name}/{file}" for file in ("copyright", "changelog.gz", "changelog.Debian.gz")} | {
+            f"share/lintian/overrides/{name}"
+        }
         self.assertEqual(set(of_package), {f"usr/{place}" for place in {*placed, *links, *own}})
         self.assertEqual(set(of_package) & {place for other in others.values() for place in other}, set())
         self.assertEqual(os.readlink(of_package[f"usr/{debian.LIBDIR}/{archive.MPI_LINKED}"]), archive.MPI_SONAME)
@@ -256,7 +289,13 @@ class Debian(Whole):
                     owner = places[os.path.normpath(os.path.join(os.path.dirname(place), os.readlink(path)))]
                     self.assertIn(f"{owner} (= {debian.REVISION})", [*own, *depends[name]], place)
         major, minor = map(int, self.run_it(debian.PYTHON, "-c", "import sys; print(*sys.version_info[:2])").split())
-        own = [f"libcvl1 (= {debian.REVISION})", f"python3 (>= {major}.{minor}~)", f"python3 (<< {major}.{minor + 1})", "python3-numpy", "python3-numpy-abi9"]
+        own = [
+            f"libcvl1 (= {debian.REVISION})",
+            f"python3 (>= {major}.{minor}~)",
+            f"python3 (<< {major}.{minor + 1})",
+            "python3-numpy",
+            "python3-numpy-abi9",
+        ]
         self.assertEqual([word for word in depends["python3-cvl"] if not word.startswith("libc6")], own)
 
     def check_places(self, unpacked):
@@ -286,7 +325,12 @@ class Environment(unittest.TestCase):
         self.assertLess({"CC", "CFLAGS", "CPPFLAGS", "LDFLAGS", "DESTDIR"}, asked)
         imports = "import json, os, sys; sys.path.insert(0, 'bindings'); from releasing.built import Built"
         with tempfile.TemporaryDirectory() as folder:
-            words = [sys.executable, "-c", f"{imports}; Built(sys.argv[1], 1000, 1, False); print(json.dumps(dict(os.environ)))", folder]
+            words = [
+                sys.executable,
+                "-c",
+                f"{imports}; Built(sys.argv[1], 1000, 1, False); print(json.dumps(dict(os.environ)))",
+                folder,
+            ]
             given = {**os.environ, **dict.fromkeys(asked, "x"), "PYTHONPATH": "x"}
             said = json.loads(subprocess.run(words, cwd=TOP, env=given, capture_output=True, text=True, check=True).stdout)
             self.assertEqual(said.pop("LDFLAGS"), f"-L{folder}/glibc -Wl,-z,x86-64-v2 {folder}/glibc/level.o")
@@ -335,7 +379,9 @@ class Older(Tree):
         self.assertEqual(self.run_it("./main").returncode, 7)
 
     def test_what_an_older_glibc_has_not_is_reported(self):
-        told = self.linked("#define _GNU_SOURCE\n#include <unistd.h>\nint closes(void) { return close_range(3, 4, 0); }", "libcloses.so")
+        told = self.linked(
+            "#define _GNU_SOURCE\n#include <unistd.h>\nint closes(void) { return close_range(3, 4, 0); }", "libcloses.so"
+        )
         self.assertNotEqual(told.returncode, 0)
         self.assertIn("undefined reference to `close_range'", told.stderr)
 
@@ -346,16 +392,22 @@ class Older(Tree):
             ("pthread_create@@GLIBC_2.34", "FUNC"), ("__libc_start_main@GLIBC_2.2.5", "FUNC"), ("__libc_start_main@@GLIBC_2.34", "FUNC"),
             ("dlopen@GLIBC_2.2.5", "FUNC"), ("dlopen@@GLIBC_2.34", "FUNC"), ("old@GLIBC_2.2.5", "FUNC"), ("mine@@GLIBC_PRIVATE", "FUNC"),
         )  # fmt: skip
-        lines = "".join(f"{k:>6}: 0000000000001000     8 {kind:<7} GLOBAL DEFAULT   15 {name}\n" for k, (name, kind) in enumerate(rows))
+        lines = "".join(
+            f"{k:>6}: 0000000000001000     8 {kind:<7} GLOBAL DEFAULT   15 {name}\n" for k, (name, kind) in enumerate(rows)
+        )
         asked = "     9: 0000000000000000     0 FUNC    GLOBAL DEFAULT  UND calloc@GLIBC_2.2.5 (2)\n"
-        found = {file: {name.name: name.version for name in of_file} for file, of_file in older_glibc.names(lines + asked).items()}
+        found = {
+            file: {name.name: name.version for name in of_file} for file, of_file in older_glibc.names(lines + asked).items()
+        }
         self.assertEqual(found, {
             "libc.so.6": {"close": "2.2.5", "environ": "2.2.5", "memcpy": "2.14", "statx": "2.28", "__libc_start_main": "2.2.5"},
             "libpthread.so.0": {"pthread_create": "2.2.5"},
         })  # fmt: skip
 
     def test_what_the_program_asks_of_the_processor(self):
-        self.write("asks.c", """#include <stdint.h>
+        self.write(
+            "asks.c",
+            """#include <stdint.h>
             #include <stdio.h>
             struct feature { uint32_t has[4], may[4]; };
             const struct feature *__x86_get_cpuid_feature_leaf(unsigned leaf);
@@ -365,21 +417,29 @@ class Older(Tree):
                     for (int k = 1; k < 4; k++) printf("%x ", (leaf == 0 && k == 1) ? 0 : found->may[k]);
                 }
                 return 0;
-            }""")
+            }""",
+        )
         # the bits that the levels v2, v3 and v4 of x86-64 are about, in ebx, ecx and edx
         told = []
         for more in ((), (older_glibc.PROCESSOR,)):
             self.assertEqual(self.run_it("cc", "-Wall", "-Wextra", "-o", "asks", "asks.c", *more).stderr, "")
             told.append([int(word, 16) for word in self.run_it("./asks").stdout.split()])
-        levels = [0, 0x38983201, 0, 0xd0030128, 0, 0, 0, 0x21, 0]
+        levels = [0, 0x38983201, 0, 0xD0030128, 0, 0, 0, 0x21, 0]
         self.assertEqual(*[[word & bits for word, bits in zip(found, levels)] for found in told])
         self.assertEqual(told[1][1] & 0x982201, 0x982201, "x86-64-v2")
 
     def test_what_a_shared_object_asks_of_the_processor(self):
         # each bit of the registers ecx that x86-64-v2 is about, one of them missing
         first, second = (0, 9, 13, 19, 20, 23), (0,)
-        rows = [(-1, -1, 0), *((~(1 << bit), -1, 127) for bit in first), *((-1, ~(1 << bit), 127) for bit in second), (0x982201, 1, 0)]
-        self.write("asks.c", f"""#include <cpuid.h>
+        rows = [
+            (-1, -1, 0),
+            *((~(1 << bit), -1, 127) for bit in first),
+            *((-1, ~(1 << bit), 127) for bit in second),
+            (0x982201, 1, 0),
+        ]
+        self.write(
+            "asks.c",
+            f"""#include <cpuid.h>
             static unsigned registers[2];
             static int answered(unsigned leaf, unsigned *a, unsigned *b, unsigned *c, unsigned *d) {{
                 *a = *b = *d = 0, *c = registers[leaf != 1];
@@ -393,18 +453,26 @@ class Older(Tree):
                 for (int k = 0; k < count - 1; k++) registers[k] = (unsigned)atoi(words[k + 1]);
                 ask();
                 return 0;
-            }}""")
+            }}""",
+        )
         self.assertEqual(self.run_it("cc", "-Wall", "-Wextra", "-o", "asks", "asks.c").stderr, "")
         for one, other, status in rows:
             told = self.run_it("./asks", one, other)
-            self.assertEqual((told.returncode, told.stderr), (status, "libcvl: the processor lacks a feature of x86-64-v2\n" if status else ""), one)
+            self.assertEqual(
+                (told.returncode, told.stderr),
+                (status, "libcvl: the processor lacks a feature of x86-64-v2\n" if status else ""),
+                one,
+            )
 
     def test_what_the_program_runs_before_main(self):
-        self.write("runs.c", """#include <stdio.h>
+        self.write(
+            "runs.c",
+            """#include <stdio.h>
             static int begun;
             static void begin(int count, char **words) { begun += count == 2 && words[1][0] == 'w'; }
             __attribute__((section(".init_array"), used)) static void (*const first)(int, char **) = begin;
-            int main(int count, char **words) { return printf("%d %d %s", begun, count, words[1]) < 0; }""")
+            int main(int count, char **words) { return printf("%d %d %s", begun, count, words[1]) < 0; }""",
+        )
         self.assertEqual(self.run_it("cc", "-Wall", "-Wextra", "-o", "runs", "runs.c", older_glibc.START).stderr, "")
         self.assertEqual(self.run_it("./runs", "word").stdout, "1 2 word")
 
@@ -439,9 +507,13 @@ class Parts(unittest.TestCase):
         with mock.patch.object(licences, "parts", lambda: parts):
             text = licences.document("a kit", "2026-01-01T00:00:00Z")
         found = re.findall(r"^SPDXID: (.*)$", text, re.M)
-        self.assertEqual(found, ["SPDXRef-DOCUMENT", "SPDXRef-cvl", "SPDXRef-rattle-atomic-table", "SPDXRef-rattle-std", "SPDXRef-sphinx"])
+        self.assertEqual(
+            found, ["SPDXRef-DOCUMENT", "SPDXRef-cvl", "SPDXRef-rattle-atomic-table", "SPDXRef-rattle-std", "SPDXRef-sphinx"]
+        )
         related = re.findall(r"^Relationship: (.*)$", text, re.M)
-        self.assertEqual(related[:2], ["SPDXRef-DOCUMENT DESCRIBES SPDXRef-cvl", "SPDXRef-cvl STATIC_LINK SPDXRef-rattle-atomic-table"])
+        self.assertEqual(
+            related[:2], ["SPDXRef-DOCUMENT DESCRIBES SPDXRef-cvl", "SPDXRef-cvl STATIC_LINK SPDXRef-rattle-atomic-table"]
+        )
 
 
 class Recipes(Tree):
@@ -478,7 +550,10 @@ class Recipes(Tree):
         return sorted(str(path.relative_to(self.made)) for path in self.made.rglob("*") if path.is_file())
 
     def test_each_takes_the_tree_by_its_sum_and_reads_as_its_language(self):
-        self.assertEqual(sorted(self.recipes), ["conda/meta.yaml", "homebrew/cvl.rb", "spack/package.py", "vcpkg/portfile.cmake", "vcpkg/vcpkg.json"])
+        self.assertEqual(
+            sorted(self.recipes),
+            ["conda/meta.yaml", "homebrew/cvl.rb", "spack/package.py", "vcpkg/portfile.cmake", "vcpkg/vcpkg.json"],
+        )
         for place, text in self.recipes.items():
             if place.endswith((".yaml", ".rb", "package.py")):
                 self.assertIn(receipt.sum_of(self.tree), text, place)
@@ -499,15 +574,21 @@ class Recipes(Tree):
         portfile = self.write("portfile.cmake", self.recipes["vcpkg/portfile.cmake"])
         script = self.write("script.cmake", self.OF_VCPKG)
         given = {"TREE": self.top / "tree", "PORTFILE": portfile, "CURRENT_PACKAGES_DIR": self.made}
-        told = subprocess.run(["cmake", *(f"-D{name}={value}" for name, value in given.items()), "-P", script], capture_output=True, text=True)
+        told = subprocess.run(
+            ["cmake", *(f"-D{name}={value}" for name, value in given.items()), "-P", script], capture_output=True, text=True
+        )
         self.assertEqual(told.returncode, 0, told.stderr)
         self.assertEqual(self.placed(), sorted(["include/cvl.h", "lib/libcvl.a", "lib/pkgconfig/cvl.pc", "share/cvl/copyright"]))
 
     def test_what_spack_runs(self):
         said = []
-        words = {name: lambda *given, **named: said.append((given, named)) for name in ("license", "version", "conflicts", "requires")}
+        words = {
+            name: lambda *given, **named: said.append((given, named)) for name in ("license", "version", "conflicts", "requires")
+        }
         module = types.ModuleType("spack.package")
-        module.__dict__.update(words, Package=object, join_path=os.path.join, install_tree=lambda source, made: shutil.copytree(source, made))
+        module.__dict__.update(
+            words, Package=object, join_path=os.path.join, install_tree=lambda source, made: shutil.copytree(source, made)
+        )
         found = {}
         with mock.patch.dict(sys.modules, {"spack": types.ModuleType("spack"), "spack.package": module}):
             exec(compile(self.recipes["spack/package.py"], "package.py", "exec"), found)
@@ -539,7 +620,11 @@ class Receipt(Tree):
         self.assertEqual(dict(writing.SOURCE.findall(text)), {"crates/sums": "0" * 64, "docs": "1" * 64})
         self.assertIn(f"| program | the usual processors | `{receipt.sum_of(self.top / 'cvl')}` |", text)
         self.assertIn(f"| exports | x86-64-v3 | `{receipt.sum_of(self.top / 'libcvl_c.a')}` |", text)
-        for said in ("revision `a revision` by the kit `a kit`", "`5 passed, 0 failed`, and everything was tried.", "`shell::program`"):
+        for said in (
+            "revision `a revision` by the kit `a kit`",
+            "`5 passed, 0 failed`, and everything was tried.",
+            "`shell::program`",
+        ):
             self.assertIn(said, text)
 
     def test_what_was_not_tried_or_not_built_is_named(self):
@@ -580,8 +665,14 @@ class Check(Tree):
         self.write("release/cvl.tar.xz", "a Tree")
         self.assertEqual(self.differences(), ["cvl.tar.xz has another sum than SHA256SUMS says"])
         sums = self.top / "release" / writing.SUMS
-        sums.write_text(sums.read_text().replace(receipt.sum_of(self.write("right", "a tree")), receipt.sum_of(self.top / "release/cvl.tar.xz")))
-        self.assertEqual(self.differences(), [f"{writing.SUMS} is not what this checkout makes", "cvl.tar.xz is not what this checkout makes"])
+        sums.write_text(
+            sums.read_text().replace(
+                receipt.sum_of(self.write("right", "a tree")), receipt.sum_of(self.top / "release/cvl.tar.xz")
+            )
+        )
+        self.assertEqual(
+            self.differences(), [f"{writing.SUMS} is not what this checkout makes", "cvl.tar.xz is not what this checkout makes"]
+        )
 
     def test_a_changed_source_is_found(self):
         self.assertEqual(self.differences({**self.sources, "docs": "2" * 64}), ["docs is not as the receipt says"])
@@ -633,7 +724,13 @@ class Shown(unittest.TestCase):
     FILE = re.compile(r"[\w.-]+\.(?:tar\.xz|deb|crate|tar\.gz|spdx)\b")
 
     def test_the_pages_name_the_files_of_a_release(self):
-        made = {trees.FILE, over_ranks.FILE, recipes.FILE, *map(debian.file_of, debian.PACKAGES), *map(crates.file_of, ("cvl", "cvl-sys"))}
+        made = {
+            trees.FILE,
+            over_ranks.FILE,
+            recipes.FILE,
+            *map(debian.file_of, debian.PACKAGES),
+            *map(crates.file_of, ("cvl", "cvl-sys")),
+        }
         made |= {writing.PARTS, f"cvl-{table.VERSION}.tar.gz"}
         self.assertEqual(set(self.FILE.findall((TOP / shown.INSTALLING).read_text())), made)
         self.assertLess(set(self.FILE.findall((TOP / shown.FIRST).read_text())), made)

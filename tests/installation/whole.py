@@ -98,9 +98,11 @@ class Used(Whole):
 
     def build(self, work):
         source = self.write("version.c", 'const char *cvl_version(void) { return "7"; }\n')
-        self.run_in_shell(f"""cd '{work}'
+        self.run_in_shell(
+            f"""cd '{work}'
             cc -c -fPIC -o version.o '{source}' && ar rcs libcvl.a version.o
-            cc -shared -Wl,-soname,libcvl.so.1 -o libcvl.so.1.0.0 version.o""")
+            cc -shared -Wl,-soname,libcvl.so.1 -o libcvl.so.1.0.0 version.o"""
+        )
         (work / "cvl").write_text("cvl")
 
     def setUp(self):

@@ -16,11 +16,22 @@ import foreign
 PAGES = sorted((*TOP.glob("*.md"), *TOP.glob("docs/*/*.md"), *TOP.glob("bindings/**/*.md")))
 
 # what names stand behind on a page, and where they are found
-BASES = {"numpy": "numpy", "np": "numpy", "ndarray": "numpy.ndarray", "pandas": "pandas", "DataFrame": "pandas.DataFrame", "Series": "pandas.Series", "scipy": "scipy"}
+BASES = {
+    "numpy": "numpy",
+    "np": "numpy",
+    "ndarray": "numpy.ndarray",
+    "pandas": "pandas",
+    "DataFrame": "pandas.DataFrame",
+    "Series": "pandas.Series",
+    "scipy": "scipy",
+}
 NAMED = re.compile(rf"(?<![\w./])({'|'.join(BASES)})((?:\.[A-Za-z_]\w*)+)")
 
 # where the names of a library stand that have nothing before them
-PLACES = {"numpy": ("numpy", "numpy.ndarray"), "pandas": ("pandas.DataFrame", "pandas.Series", "pandas.core.groupby.SeriesGroupBy")}
+PLACES = {
+    "numpy": ("numpy", "numpy.ndarray"),
+    "pandas": ("pandas.DataFrame", "pandas.Series", "pandas.core.groupby.SeriesGroupBy"),
+}
 
 # Python's own, among the words of numpy
 OWN = {"len"}
@@ -52,7 +63,9 @@ def names_in(word):
 
 def missing(library, words):
     """The names in words of a library that it does not have."""
-    return [name for word in words for name in names_in(word) if all(found(f"{place}.{name}") is None for place in PLACES[library])]
+    return [
+        name for word in words for name in names_in(word) if all(found(f"{place}.{name}") is None for place in PLACES[library])
+    ]
 
 
 def words_of(library):
@@ -92,10 +105,19 @@ class Foreign(unittest.TestCase):
 
     def test_a_name_that_is_not_there_is_reported(self):
         self.needs("numpy")
-        self.assertEqual(named("`numpy.add.att(a)`, in numpy. Or ndarray.itim"), {"numpy.add.att": "numpy.add.att", "ndarray.itim": "numpy.ndarray.itim"})
+        self.assertEqual(
+            named("`numpy.add.att(a)`, in numpy. Or ndarray.itim"),
+            {"numpy.add.att": "numpy.add.att", "ndarray.itim": "numpy.ndarray.itim"},
+        )
         self.assertIsNone(found("numpy.add.att"))
         self.assertIsNotNone(found("numpy.add.at"))
-        self.assertEqual(missing("numpy", ["cumsum  add.accumulate", "add.gather", "trunc(a / b)", "trunk(a / b)", "astype(int33)", "d[i] = s", "a.T"]), ["add.gather", "trunk"])
+        self.assertEqual(
+            missing(
+                "numpy",
+                ["cumsum  add.accumulate", "add.gather", "trunc(a / b)", "trunk(a / b)", "astype(int33)", "d[i] = s", "a.T"],
+            ),
+            ["add.gather", "trunk"],
+        )
 
 
 if __name__ == "__main__":

@@ -70,7 +70,9 @@ class Held(unittest.TestCase):
         for k in range(MOST_OPERANDS):
             for by in (1, 2):
                 takes = {name: said[0] for name, said in self.calls.items() if k < len(said[0])}
-                self.calls_told({name: (replaced(kinds, k, other_kind(kinds[k], by)), self.calls[name][1]) for name, kinds in takes.items()})
+                self.calls_told(
+                    {name: (replaced(kinds, k, other_kind(kinds[k], by)), self.calls[name][1]) for name, kinds in takes.items()}
+                )
         for by in (1, 2, 3, 4):
             self.calls_told({name: (takes, [other_kind(gives[0], by)]) for name, (takes, gives) in self.calls.items()})
 
@@ -128,7 +130,9 @@ class Held(unittest.TestCase):
         ):
             with self.assertRaisesRegex(SystemExit, f"^new in bindings/table.py: {words}"):
                 table.family("new", "place by place", operands, "What it does.", **said)
-        self.assertEqual(table.family("new", "place by place", (a, room), "What it does.", cut=("places", "n")).over_ranks, table.OWN_PLACES)
+        self.assertEqual(
+            table.family("new", "place by place", (a, room), "What it does.", cut=("places", "n")).over_ranks, table.OWN_PLACES
+        )
 
 
 class Versions(unittest.TestCase):
@@ -249,7 +253,12 @@ class Places(Folder):
 
     def test_the_cheat_sheet_has_a_cure_for_each_fault_and_fits_a_page(self):
         self.assertEqual(list(in_sheet.differences()), [])
-        for change, wanted in ({17: None}, "[17]"), ({40: "wait"}, "[40]"), ({12: "`min_wux` of it"}, "min_wux"), ({1: "again and " * 400}, "longer"):
+        for change, wanted in (
+            ({17: None}, "[17]"),
+            ({40: "wait"}, "[40]"),
+            ({12: "`min_wux` of it"}, "min_wux"),
+            ({1: "again and " * 400}, "longer"),
+        ):
             with mock.patch.object(in_sheet.cures, "CURES", {n: said for n, said in {**cures.CURES, **change}.items() if said}):
                 [told] = in_sheet.differences()
             self.assertIn(wanted, told)
@@ -289,7 +298,10 @@ class Packages(Folder):
 
     def test_both_are_found(self):
         found = generated.files_of(self.written, "bindings/rust", "src/*.rs", "cvl-sys/src/*.rs")
-        self.assertEqual((found["src/lib.rs"], found["src/calls.rs"]), (TOP / "bindings/rust/src/lib.rs", self.written / "bindings/rust/src/calls.rs"))
+        self.assertEqual(
+            (found["src/lib.rs"], found["src/calls.rs"]),
+            (TOP / "bindings/rust/src/lib.rs", self.written / "bindings/rust/src/calls.rs"),
+        )
         self.assertEqual(list(found), sorted(found))
         self.assertIn("cvl-sys/src/functions.rs", found)
 
@@ -301,8 +313,18 @@ class Packages(Folder):
     def test_the_crates_for_rust(self):
         for words in ((), ("--links",), ()):
             subprocess.run([TOP / "bindings/rust/package", *words, self.top / "crates"], check=True)
-            paths = {str(path.relative_to(self.top / "crates")): path for path in (self.top / "crates").rglob("*") if path.is_file()}
-            for name in ("Cargo.toml", "LICENSE", "src/lib.rs", "src/calls.rs", "tests/calls.rs", "cvl-sys/LICENSE", "cvl-sys/src/functions.rs"):
+            paths = {
+                str(path.relative_to(self.top / "crates")): path for path in (self.top / "crates").rglob("*") if path.is_file()
+            }
+            for name in (
+                "Cargo.toml",
+                "LICENSE",
+                "src/lib.rs",
+                "src/calls.rs",
+                "tests/calls.rs",
+                "cvl-sys/LICENSE",
+                "cvl-sys/src/functions.rs",
+            ):
                 by_hand = (TOP / "bindings/rust" / name).exists()
                 self.assertEqual(paths[name].is_symlink(), by_hand and bool(words), name)
                 source = TOP if by_hand else self.written

@@ -16,7 +16,14 @@ static void try_overflow(int in_rank, size_t at) {
     const int64_t place = (int64_t)in_rank * EACH + (int64_t)at;
     for (size_t k = 0; k < EACH; k++) a[k] = 1, out[k] = 9;
     if (rank == in_rank) a[at] = (int32_t)(INT32_MAX - place);
-    check("sums up to 32 bits", is(cvl_tot_suz_mpi(ranks, a, out, rank < in_rank ? EACH : rank == in_rank ? at + 2 : 0), CVL_DONE, -1));
+    check(
+        "sums up to 32 bits",
+        is(cvl_tot_suz_mpi(
+               ranks, a, out,
+               rank < in_rank        ? EACH
+                   : rank == in_rank ? at + 2
+                                     : 0),
+           CVL_DONE, -1));
     check("the last of them", rank != in_rank || (out[at] == (int32_t)place && out[at + 1] == INT32_MAX));
     memset(out, 0, EACH * sizeof *out);
     /* a place of a scan has the sum of what stands before it */
@@ -44,12 +51,16 @@ static void try_far_places(void) {
     if (any_rank(a == NULL || flags == NULL)) return;
     for (int32_t k = 0; k < EACH; k++) a[k] = rank * EACH + k, ((unsigned char *)flags)[k] = k % 3 == 0 ? 4 : 0;
     for (int64_t k = 0; k < FEW; k++) index[k] = far_place(k / 2 + rank, (int64_t)size * EACH);
-    check("far elements", is(cvl_bck_puz_mpi(ranks, a, EACH, index, out, FEW), CVL_DONE, -1) && memcmp(index, out, sizeof out) == 0);
+    check(
+        "far elements",
+        is(cvl_bck_puz_mpi(ranks, a, EACH, index, out, FEW), CVL_DONE, -1) && memcmp(index, out, sizeof out) == 0);
     check("far flags", is(cvl_bck_pub_mpi(ranks, flags, EACH, index, flags_out, FEW), CVL_DONE, -1));
     for (int k = 0; k < FEW; k++) check("the flag of its place", ((unsigned char *)flags_out)[k] == (index[k] % EACH % 3 == 0));
     check("a far route", is(cvl_route_new(ranks, index, FEW, EACH, &route), CVL_DONE, -1));
     memset(out, 0, sizeof out);
-    check("far elements by it", is(cvl_route_back_int(route, a, EACH, out, FEW), CVL_DONE, -1) && memcmp(index, out, sizeof out) == 0);
+    check(
+        "far elements by it",
+        is(cvl_route_back_int(route, a, EACH, out, FEW), CVL_DONE, -1) && memcmp(index, out, sizeof out) == 0);
     cvl_route_free(route);
     free(a), free(flags);
 }

@@ -32,8 +32,10 @@ typedef struct Over {
     CvlStatus (*call)(CvlRanks *ranks, const Given *g, CvlRankSegments *const *segments);
 } Over;
 
-#define OVER(name, spreads, arguments) \
-    static CvlStatus over_##name(CvlRanks *ranks, const Given *g, CvlRankSegments *const *segments) { return (void)segments, cvl_##name##_mpi arguments; }
+#define OVER(name, spreads, arguments)                                                                \
+    static CvlStatus over_##name(CvlRanks *ranks, const Given *g, CvlRankSegments *const *segments) { \
+        return (void)segments, cvl_##name##_mpi arguments;                                            \
+    }
 #include "rank_rows.h"
 #undef OVER
 #define OVER(name, spreads, arguments) {"cvl_" #name, spreads, over_##name},
@@ -91,7 +93,9 @@ typedef struct Case {
 static int reads(const Row *row, size_t k) { return role_of(row, k) == ROLE_READS; }
 static int is_over(const Row *row, size_t k) { return row->operands[k].is_over; }
 static int is_cut_by(const Row *row, size_t k) { return role_of(row, k) == ROLE_LENGTHS && row->model != MAKE_DESCRIPTOR; }
-static size_t extent_in(const Case *c, size_t k) { return c->over->spreads && is_room(c->row, k) ? SPREAD : extent_of(c->row, k); }
+static size_t extent_in(const Case *c, size_t k) {
+    return c->over->spreads && is_room(c->row, k) ? SPREAD : extent_of(c->row, k);
+}
 
 /* The first lengths that add up to an extent, or how many operands there are. */
 static size_t lengths_for(const Row *row, Extent extent) {
@@ -138,7 +142,8 @@ static void make_lengths(Case *c, size_t k, size_t segments) {
 
 static void add_piece(Pieces *p, int32_t length, int goes_on) {
     /* room for twice as many, where there is none for one more */
-    if ((p->count & (p->count - 1)) == 0) p->lengths = realloc(p->lengths, (p->count == 0 ? 1 : 2 * p->count) * sizeof *p->lengths);
+    if ((p->count & (p->count - 1)) == 0)
+        p->lengths = realloc(p->lengths, (p->count == 0 ? 1 : 2 * p->count) * sizeof *p->lengths);
     p->lengths[p->count++] = length;
     if (goes_on) p->goes_on = 1;
     else p->starts++;
@@ -248,7 +253,8 @@ static void fill_index(Case *c, size_t k) {
         return;
     }
     for (size_t s = 0; s < c->whole.len[own]; s++) {
-        const size_t count = extent == EXTENT_SEGMENTS ? 1 : (size_t)((int32_t *)c->whole.at[own])[s], places = (size_t)((int32_t *)c->whole.at[other])[s];
+        const size_t count = extent == EXTENT_SEGMENTS ? 1 : (size_t)((int32_t *)c->whole.at[own])[s],
+                     places = (size_t)((int32_t *)c->whole.at[other])[s];
         if (select) only_true(index, flags, at, at + count, once);
         else make_indices(index + at, count, places, once);
         if (one_in(6)) plant_faults(index + at, count, select ? trues_of(flags, at, at + count) : places);
@@ -297,7 +303,8 @@ static void fill(Case *c, size_t k) {
     const int style = (int)below(c->style == SHORT ? 3 : 4), unclean = one_in(4), narrows = c->row->model == BYTES_FROM_INTS;
     for (size_t j = 0; j < c->whole.len[k]; j++) {
         if (kind == KIND_INTS) ((int32_t *)c->whole.at[k])[j] = narrows && !one_in(9) ? (int32_t)below(256) : number(style);
-        else if (kind == KIND_SUMS) ((int64_t *)c->whole.at[k])[j] = below(200) == 0 ? INT64_MAX : number(style) * (style == 2 ? INT64_C(1) << 31 : 1);
+        else if (kind == KIND_SUMS)
+            ((int64_t *)c->whole.at[k])[j] = below(200) == 0 ? INT64_MAX : number(style) * (style == 2 ? INT64_C(1) << 31 : 1);
         else if (kind == KIND_BYTES) ((uint8_t *)c->whole.at[k])[j] = (uint8_t)below(256);
         else ((uint8_t *)c->whole.at[k])[j] = (uint8_t)(one_in(2) ? 0 : unclean ? 1 + below(255) : 1);
     }
@@ -404,7 +411,8 @@ static void spoil(Case *c) {
     if (row->operators != 0 && !row->is_call && one_in(12)) c->whole.op = (uint32_t)below(40);
     if (!one_in(6)) return;
     const size_t k = below(count_of(row)), extent = extent_in(c, k);
-    const int is_counted = (reads(row, k) || is_room(row, k)) && extent != EXTENT_OFFSETS && (!row->is_call || extent == EXTENT_ROOM);
+    const int is_counted = (reads(row, k) || is_room(row, k)) && extent != EXTENT_OFFSETS &&
+        (!row->is_call || extent == EXTENT_ROOM);
     if (!is_counted || c->whole.len[k] == 0) return;
     for (int r = 0; r < c->ranks; r++) {
         if (c->cut[extent][r] < c->cut[extent][r + 1]) c->shorter_rank = r;
@@ -438,7 +446,8 @@ static Case make_case(const Over *over, int ranks) {
     spoil(&c);
     for (size_t k = 0; k < count_of(row); k++) {
         if (is_cut_by(row, k)) spoil_lengths(&c, k);
-        if (row->model == MAKE_DESCRIPTOR && k == 0 && c.whole.len[k] > 0 && one_in(3)) ((int32_t *)c.whole.at[k])[below(c.whole.len[k])] = -1;
+        if (row->model == MAKE_DESCRIPTOR && k == 0 && c.whole.len[k] > 0 && one_in(3))
+            ((int32_t *)c.whole.at[k])[below(c.whole.len[k])] = -1;
     }
     return c;
 }
@@ -481,7 +490,8 @@ static Own take(const Case *c, int rank) {
     own.g.op = c->whole.op;
     for (size_t k = 0; k < count_of(row); k++) {
         const int is_counted = role_of(row, k) == ROLE_COUNT;
-        own.g.number[k] = is_counted ? (int64_t)(c->cut[EXTENT_COUNT][rank + 1] - c->cut[EXTENT_COUNT][rank]) : c->whole.number[k];
+        own.g.number[k] = is_counted ? (int64_t)(c->cut[EXTENT_COUNT][rank + 1] - c->cut[EXTENT_COUNT][rank])
+                                     : c->whole.number[k];
         if (is_array(row, k) && !is_cut_by(row, k)) take_array(c, k, rank, &own);
         if (is_written(row, k) && !is_room(row, k)) own.g.at[k] = memset(malloc(8), 0x5a, 8);
     }
@@ -519,7 +529,8 @@ static int is_cut_of(const Case *c, const Own *own, size_t k, int rank) {
         return *(size_t *)own->g.at[k] == c->cut[EXTENT_ROOM][rank + 1] - c->cut[EXTENT_ROOM][rank];
     }
     if (!is_room(c->row, k)) return memcmp(own->g.at[k], c->whole.at[k], size) == 0;
-    return own->g.len[k] == 0 || memcmp(own->g.at[k], (const char *)c->whole.at[k] + own->from[k] * size, own->g.len[k] * size) == 0;
+    return own->g.len[k] == 0 ||
+        memcmp(own->g.at[k], (const char *)c->whole.at[k] + own->from[k] * size, own->g.len[k] * size) == 0;
 }
 
 static int is_right(const Case *c, const Own *own, CvlStatus expected, CvlStatus status, int rank) {
@@ -551,15 +562,18 @@ static void print_case(const Case *c) {
         for (int r = 0; r <= c->ranks; r++) fprintf(stderr, " %zu", c->cut[extent_in(c, k)][r]);
         for (int r = 0; r < c->ranks && role_of(c->row, k) == ROLE_LENGTHS; r++) {
             fprintf(stderr, " |%s", c->pieces[k][r].goes_on ? " .." : "");
-            for (size_t p = 0; p < c->pieces[k][r].count && p < MOST_PRINTED; p++) fprintf(stderr, " %d", c->pieces[k][r].lengths[p]);
+            for (size_t p = 0; p < c->pieces[k][r].count && p < MOST_PRINTED; p++)
+                fprintf(stderr, " %d", c->pieces[k][r].lengths[p]);
         }
         fprintf(stderr, "\n");
     }
 }
 
 static void fail(const Case *c, const Own *own, CvlStatus expected, CvlStatus status, uint64_t seed) {
-    fprintf(stderr, "rank %d of %d: %s with operator %u answers %u at %lld, not %u at %lld (seed %llu), or has another room:\n", my_rank, c->ranks, c->row->name,
-        c->whole.op, status.number, (long long)status.place, expected.number, (long long)expected.place, (unsigned long long)seed);
+    fprintf(
+        stderr, "rank %d of %d: %s with operator %u answers %u at %lld, not %u at %lld (seed %llu), or has another room:\n",
+        my_rank, c->ranks, c->row->name, c->whole.op, status.number, (long long)status.place, expected.number,
+        (long long)expected.place, (unsigned long long)seed);
     print_case(c);
     for (size_t k = 0; k < count_of(c->row); k++) {
         if (!is_written(c->row, k)) continue;
@@ -596,7 +610,9 @@ static CvlStatus make_call(CvlRanks *ranks, const Case *c, const Own *own) {
     const long before = blocks;
     const CvlStatus status = c->over->call(ranks, &own->g, own->segments);
     if (blocks != before) {
-        fprintf(stderr, "rank %d of %d: %s with operator %u keeps %ld blocks of memory\n", my_rank, c->ranks, c->row->name, c->whole.op, blocks - before);
+        fprintf(
+            stderr, "rank %d of %d: %s with operator %u keeps %ld blocks of memory\n", my_rank, c->ranks, c->row->name,
+            c->whole.op, blocks - before);
         MPI_Abort(MPI_COMM_WORLD, 1);
     }
     return status;
@@ -669,8 +685,9 @@ int main(int words, char **word) {
         MPI_Bcast(&more, 1, MPI_INT, 0, MPI_COMM_WORLD);
     }
     if (my_rank == 0) {
-        printf("%d ranks: %ld cases of %zu calls, %ld of them long, %ld done, %ld at fault, %ld refusals;", size, cases, (size_t)OVERS, long_cases, done,
-            at_fault, refusals);
+        printf(
+            "%d ranks: %ld cases of %zu calls, %ld of them long, %ld done, %ld at fault, %ld refusals;", size, cases,
+            (size_t)OVERS, long_cases, done, at_fault, refusals);
         for (int k = 1; k < 128; k++) {
             if (by_number[k]) printf(" %d: %ld", k, by_number[k]);
         }

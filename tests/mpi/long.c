@@ -48,7 +48,10 @@ static void try_flags(void) {
     if (rank == 0) flags[n - 1] = 1;
     if (rank == size - 1) flags[n - 1] = flags[n - 2] = 1;
     check("a reduce", is(cvl_xor_rub_mpi(ranks, flags, n, &one), CVL_DONE, -1) && one);
-    check("a pack", is(cvl_pck_lub_mpi(ranks, flags, flags, n, kept, 4, &count), CVL_DONE, -1) && count == (rank == 0 ? 1 : 2) && kept[count - 1]);
+    check(
+        "a pack",
+        is(cvl_pck_lub_mpi(ranks, flags, flags, n, kept, 4, &count), CVL_DONE, -1) && count == (rank == 0 ? 1 : 2) &&
+            kept[count - 1]);
     check("a share", is(cvl_share(ranks, n, &first, &total), CVL_DONE, -1) && first == from && total == TOTAL);
     munmap(flags, n);
 }
@@ -61,7 +64,9 @@ static CvlRankSegments *segments_of(void) {
     const uint64_t to = from + n;
     if (from < SEGMENT) lengths[pieces++] = (int32_t)((to < SEGMENT ? to : SEGMENT) - from);
     if (to > SEGMENT) lengths[pieces++] = (int32_t)(to - (from > SEGMENT ? from : SEGMENT));
-    check("a descriptor", is(cvl_rank_segments_new(ranks, (CvlLengths){lengths, pieces}, from > 0 && from != SEGMENT, &segments), CVL_DONE, -1));
+    check(
+        "a descriptor",
+        is(cvl_rank_segments_new(ranks, (CvlLengths){lengths, pieces}, from > 0 && from != SEGMENT, &segments), CVL_DONE, -1));
     return segments;
 }
 
@@ -82,7 +87,9 @@ static void try_segments(void) {
 static void try_far_fault(void) {
     int32_t *const a = zeros(sizeof *a), *const out = zeros(sizeof *out);
     if (rank == 1) a[n - 30] = INT32_MAX, a[n - 20] = 1;
-    check("a place of more than 32 bits", is(cvl_tot_suz_mpi(ranks, a, out, n), CVL_OVERFLOW, (int64_t)TOTAL - 19) && out[n - 1] == 0);
+    check(
+        "a place of more than 32 bits",
+        is(cvl_tot_suz_mpi(ranks, a, out, n), CVL_OVERFLOW, (int64_t)TOTAL - 19) && out[n - 1] == 0);
     munmap(a, n * sizeof *a), munmap(out, n * sizeof *out);
 }
 
@@ -114,21 +121,42 @@ static CvlStatus a_route(void) {
 /* One rank's own part is too long: no element of it is read. */
 static const size_t past = (size_t)INT32_MAX + 1;
 static CvlStatus a_spread(void) { return cvl_spread_ints(ranks, rank == 1 ? NULL : few, rank == 1 ? past : 2, room, 2); }
-static CvlStatus a_spread_into_it(void) { return cvl_spread_bools(ranks, flags, 2, rank == 1 ? NULL : flags_room, rank == 1 ? past : 2); }
-static CvlStatus a_scan(void) { return cvl_add_suz_mpi(ranks, rank == 1 ? NULL : few, rank == 1 ? NULL : room, rank == 1 ? past : 2); }
+static CvlStatus a_spread_into_it(void) {
+    return cvl_spread_bools(ranks, flags, 2, rank == 1 ? NULL : flags_room, rank == 1 ? past : 2);
+}
+static CvlStatus a_scan(void) {
+    return cvl_add_suz_mpi(ranks, rank == 1 ? NULL : few, rank == 1 ? NULL : room, rank == 1 ? past : 2);
+}
 
 static const struct Long {
     const char *name;
     CvlStatus (*call)(void);
-} long_ones[] = {{"a count", a_count}, {"a first place", a_first_place}, {"an order", an_order}, {"a rank", a_rank}, {"lengths", lengths_told},
-    {"copies", copies}, {"a back permute", a_back_permute}, {"back from it", back_from_it}, {"a permute", a_permute},
-    {"a permute into it", a_permute_into_it}, {"first senders", senders}, {"joins", joins}, {"counts", counts}, {"a route", a_route},
-    {"a spread", a_spread}, {"a spread into it", a_spread_into_it}, {"a scan", a_scan}};
+} long_ones[] = {
+    {"a count", a_count},
+    {"a first place", a_first_place},
+    {"an order", an_order},
+    {"a rank", a_rank},
+    {"lengths", lengths_told},
+    {"copies", copies},
+    {"a back permute", a_back_permute},
+    {"back from it", back_from_it},
+    {"a permute", a_permute},
+    {"a permute into it", a_permute_into_it},
+    {"first senders", senders},
+    {"joins", joins},
+    {"counts", counts},
+    {"a route", a_route},
+    {"a spread", a_spread},
+    {"a spread into it", a_spread_into_it},
+    {"a scan", a_scan}};
 
 static void try_too_long(void) {
     ints = zeros(sizeof *ints), room = zeros(sizeof *room), flags = zeros(1), flags_room = zeros(1);
-    for (size_t k = 0; k < sizeof long_ones / sizeof *long_ones; k++) check(long_ones[k].name, is(long_ones[k].call(), CVL_TOO_LONG, -1));
-    check("where they are too long nothing is written", one_int == 0 && few[0] == 0 && room[0] == 0 && !flags_room[0] && !one_flag && told == 0);
+    for (size_t k = 0; k < sizeof long_ones / sizeof *long_ones; k++)
+        check(long_ones[k].name, is(long_ones[k].call(), CVL_TOO_LONG, -1));
+    check(
+        "where they are too long nothing is written",
+        one_int == 0 && few[0] == 0 && room[0] == 0 && !flags_room[0] && !one_flag && told == 0);
     munmap(ints, n * sizeof *ints), munmap(room, n * sizeof *room), munmap(flags, n), munmap(flags_room, n);
 }
 
@@ -167,7 +195,9 @@ static void try_pack(bool *a) {
     check("a long pack", is(cvl_pck_lub_mpi(ranks, a, a, n, out, trues, &kept), CVL_DONE, -1) && kept == trues);
     for (size_t k = 0; k < trues; k++) wrong += !out[k];
     check("each place of a pack", wrong == 0);
-    check("its share", is(cvl_share(ranks, kept, &first, &total), CVL_DONE, -1) && first == trues_before(from) && total == trues_before(TOTAL));
+    check(
+        "its share",
+        is(cvl_share(ranks, kept, &first, &total), CVL_DONE, -1) && first == trues_before(from) && total == trues_before(TOTAL));
     free(out);
 }
 

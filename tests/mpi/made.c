@@ -31,14 +31,20 @@ void try_no_place(void) {
     CvlRoute *route = NULL;
     char *text = (char *)a;
     size_t text_len;
-    check("no place for ranks", is(cvl_ranks_new(MPI_COMM_WORLD, last ? NULL : &made), CVL_NO_DESCRIPTOR, -1) && (last || made == NULL));
+    check(
+        "no place for ranks",
+        is(cvl_ranks_new(MPI_COMM_WORLD, last ? NULL : &made), CVL_NO_DESCRIPTOR, -1) && (last || made == NULL));
     const MPI_Fint world = MPI_Comm_c2f(MPI_COMM_WORLD);
     check("nor for Fortran's", is(cvl_ranks_of_fortran(world, last ? NULL : &made), CVL_NO_DESCRIPTOR, -1));
     check("a descriptor", is(cvl_rank_segments_new(ranks, good, 0, &segments), CVL_DONE, -1));
     stood = segments;
-    check("no place for one", is(cvl_rank_segments_new(ranks, good, 0, last ? NULL : &segments), CVL_NO_DESCRIPTOR, -1) && (last || segments == NULL));
+    check(
+        "no place for one",
+        is(cvl_rank_segments_new(ranks, good, 0, last ? NULL : &segments), CVL_NO_DESCRIPTOR, -1) && (last || segments == NULL));
     segments = stood;
-    check("one at fault", is(cvl_rank_segments_new(ranks, bad, 0, &segments), CVL_NEGATIVE_LENGTH, 2 * size - 1) && segments == NULL);
+    check(
+        "one at fault",
+        is(cvl_rank_segments_new(ranks, bad, 0, &segments), CVL_NEGATIVE_LENGTH, 2 * size - 1) && segments == NULL);
     check("no place for a route", is(cvl_route_new(ranks, index, 2, 1, last ? NULL : &route), CVL_NO_DESCRIPTOR, -1));
     check("no memory is lost", is(cvl_route_new(ranks, index, 2, 1, &route), CVL_DONE, -1));
     cvl_route_free(route);
@@ -57,11 +63,17 @@ void try_other_descriptors(void) {
     check("other ranks", is(cvl_ranks_new(MPI_COMM_WORLD, &others), CVL_DONE, -1));
     check("a descriptor", is(cvl_rank_segments_new(ranks, lengths, 0, &segments), CVL_DONE, -1));
     check("another", is(cvl_rank_segments_new(others, lengths, 0, &other), CVL_DONE, -1));
-    check("one rank without a descriptor", is(cvl_add_sez_mpi(ranks, a, rank == size - 1 ? NULL : segments, out, 3), CVL_NO_DESCRIPTOR, -1));
+    check(
+        "one rank without a descriptor",
+        is(cvl_add_sez_mpi(ranks, a, rank == size - 1 ? NULL : segments, out, 3), CVL_NO_DESCRIPTOR, -1));
     check("one with that of others", is(cvl_add_sez_mpi(ranks, a, rank == 0 ? other : segments, out, 3), CVL_NO_DESCRIPTOR, -1));
     check("nothing is written without", is_filled(out, 3, 9));
-    check("with its own", is(cvl_add_sez_mpi(ranks, a, segments, out, 3), CVL_DONE, -1) && out[0] == 0 && out[1] == 1 && out[2] == 3);
-    check("as many as ranks", cvl_rank_segments_all(segments) == (uint64_t)size && cvl_rank_segments_first(segments) == (uint64_t)rank);
+    check(
+        "with its own",
+        is(cvl_add_sez_mpi(ranks, a, segments, out, 3), CVL_DONE, -1) && out[0] == 0 && out[1] == 1 && out[2] == 3);
+    check(
+        "as many as ranks",
+        cvl_rank_segments_all(segments) == (uint64_t)size && cvl_rank_segments_first(segments) == (uint64_t)rank);
     cvl_rank_segments_free(segments), cvl_rank_segments_free(other), cvl_ranks_free(others);
 }
 
@@ -86,12 +98,18 @@ void try_changed_pieces(void) {
     lengths[0] = 3000000, lengths[1] = -7, lengths[2] = INT32_MAX;
     for (int32_t k = 0; k < 6; k++) a[k] = 10 * rank + k, index[k] = turned[k];
     check("a permute", is(cvl_smp_pez_mpi(ranks, a, index, segments, out, 6), CVL_DONE, -1));
-    check("of the pieces as they were", out[2] == a[4] && out[3] == a[3] && out[4] == a[2] && (rank == 0 ? out[0] == a[1] : out[0] == a[0] && out[1] == a[0] - 5));
+    check(
+        "of the pieces as they were",
+        out[2] == a[4] && out[3] == a[3] && out[4] == a[2] &&
+            (rank == 0 ? out[0] == a[1] : out[0] == a[0] && out[1] == a[0] - 5));
     check("back", is(cvl_bck_pez_mpi(ranks, a, 6, index, segments, segments, out, 6), CVL_DONE, -1) && out[2] == a[4]);
     check("a sort", is(cvl_seg_sort_mpi(ranks, a, 6, segments, out, 6), CVL_DONE, -1) && memcmp(a, out, sizeof a) == 0);
     check("sums", is(cvl_add_rez_mpi(ranks, a, 6, segments, sums), CVL_DONE, -1) && sums[rank > 0 ? 0 : 1] == a[2] + a[3] + a[4]);
     check("the same sums where the lengths stood", is(cvl_add_rez_mpi(ranks, a, 6, segments, lengths), CVL_DONE, -1));
-    check("as many as start here", memcmp(sums, lengths, (size_t)(3 - before) * sizeof *sums) == 0 && sums[2 - before] == a[5] + (behind > 0 ? 2 * a[5] + 11 : 0));
+    check(
+        "as many as start here",
+        memcmp(sums, lengths, (size_t)(3 - before) * sizeof *sums) == 0 &&
+            sums[2 - before] == a[5] + (behind > 0 ? 2 * a[5] + 11 : 0));
     cvl_rank_segments_free(segments);
 }
 

@@ -56,8 +56,9 @@ int MPI_Alltoall(const void *from, int number, MPI_Datatype type, void *to, int 
     return PMPI_Alltoall(from, number, type, to, to_number, to_type, comm);
 }
 
-int MPI_Alltoallv(const void *from, const int *numbers, const int *starts, MPI_Datatype type, void *to, const int *to_numbers, const int *to_starts,
-    MPI_Datatype to_type, MPI_Comm comm) {
+int MPI_Alltoallv(
+    const void *from, const int *numbers, const int *starts, MPI_Datatype type, void *to, const int *to_numbers,
+    const int *to_starts, MPI_Datatype to_type, MPI_Comm comm) {
     int size, all = 0;
     PMPI_Comm_size(comm, &size);
     for (int r = 0; r < size; r++) all += numbers[r];
@@ -125,7 +126,9 @@ static void tell_by_segments(void) {
     tell("bck_pez", cvl_bck_pez_mpi(ranks, a, N, in_segment, segments, segments, out, N));
     tell("def_pez", cvl_def_pez_mpi(ranks, a, in_segment, N, b, segments, segments, out, N));
     tell("seg_first_senders", cvl_seg_first_senders_mpi(ranks, in_segment, N, segments, segments, out, N));
-    tell("seg_combine_permute_int", cvl_seg_combine_permute_int_mpi(ranks, CVL_ADD, a, N, in_segment, N, segments, segments, out, N));
+    tell(
+        "seg_combine_permute_int",
+        cvl_seg_combine_permute_int_mpi(ranks, CVL_ADD, a, N, in_segment, N, segments, segments, out, N));
     tell("seg_counts", cvl_seg_counts_mpi(ranks, in_segment, N, segments, segments, out, N));
     tell("seg_order", cvl_seg_order_mpi(ranks, in_segment, N, segments, out, N));
     tell("seg_rank", cvl_seg_rank_mpi(ranks, in_segment, N, segments, out, N));
@@ -140,7 +143,9 @@ static void tell_merge_by_segments(const int32_t *lengths) {
     for (size_t p = 0; p < 3; p++) halves[p] = lengths[p] / 2;
     if (cvl_rank_segments_new(ranks, (CvlLengths){halves, 3}, rank > 0, &sides).number != CVL_DONE) MPI_Abort(MPI_COMM_WORLD, 1);
     begin();
-    tell("seg_merge_by_flags_int", cvl_seg_merge_by_flags_int_mpi(ranks, half, N, a, N / 2, b, N / 2, segments, sides, sides, out, N));
+    tell(
+        "seg_merge_by_flags_int",
+        cvl_seg_merge_by_flags_int_mpi(ranks, half, N, a, N / 2, b, N / 2, segments, sides, sides, out, N));
     cvl_rank_segments_free(sides);
 }
 

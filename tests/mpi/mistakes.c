@@ -34,9 +34,12 @@ void try_differences(void) {
     if (size < 2) return;
     const int odd = rank == 1;
     check("other operators", is(cvl_int_scan_mpi(ranks, odd ? CVL_MAX : CVL_ADD, a, n, out, n), CVL_UNKNOWN_CALL, -1));
-    check("other families", is(odd ? cvl_add_suz_mpi(ranks, a, out, n) : cvl_tot_ruz_mpi(ranks, a, n, &one), CVL_UNKNOWN_CALL, -1));
+    check(
+        "other families", is(odd ? cvl_add_suz_mpi(ranks, a, out, n) : cvl_tot_ruz_mpi(ranks, a, n, &one), CVL_UNKNOWN_CALL, -1));
 #ifdef CVL_COMPARE_CALLS
-    check("other families from the first word on", is(odd ? cvl_tot_suz_mpi(ranks, a, out, n) : cvl_smp_puz_mpi(ranks, a, a, out, n), CVL_UNKNOWN_CALL, -1));
+    check(
+        "other families from the first word on",
+        is(odd ? cvl_tot_suz_mpi(ranks, a, out, n) : cvl_smp_puz_mpi(ranks, a, a, out, n), CVL_UNKNOWN_CALL, -1));
 #endif
     check("other values", is(cvl_dis_vuz_mpi(ranks, odd ? 4 : 5, (int64_t)n, out, n), CVL_UNKNOWN_CALL, -1));
     check("other strides", is(cvl_ind_luz_mpi(ranks, 0, odd ? 2 : 1, (int64_t)n, out, n), CVL_UNKNOWN_CALL, -1));
@@ -103,8 +106,8 @@ static CvlStatus a_checked_sum(void) { return cvl_tot_ruz_mpi(ranks, some_ints, 
 static CvlStatus a_sort(void) { return cvl_sort_mpi(ranks, some_ints, 2, some_room, 2); }
 
 void try_other_calls(void) {
-    static CvlStatus (*const calls[])(void) = {a_share, a_descriptor, a_route, a_file_read, a_file_written, ints_read, ints_written, bools_written,
-        a_nest_read, a_spread, a_checked_sum, a_sort};
+    static CvlStatus (*const calls[])(void) = {a_share,      a_descriptor,  a_route,     a_file_read, a_file_written, ints_read,
+                                               ints_written, bools_written, a_nest_read, a_spread,    a_checked_sum,  a_sort};
     const size_t count = sizeof calls / sizeof *calls;
     for (size_t k = 0; k < count && size > 1; k++) {
         check("another call", is(calls[rank == 1 ? k : (k + 1) % count](), CVL_UNKNOWN_CALL, -1));

@@ -87,8 +87,9 @@ static void cut_text(size_t *cut) {
 /* ---- what is compared ---- */
 
 static void fail(const char *what, CvlStatus status, CvlStatus expected) {
-    fprintf(stderr, "rank %d of %d: %s: %u at %lld, not %u at %lld: %.*s\n", rank, size, what, status.number, (long long)status.place, expected.number,
-        (long long)expected.place, (int)text_len, text);
+    fprintf(
+        stderr, "rank %d of %d: %s: %u at %lld, not %u at %lld: %.*s\n", rank, size, what, status.number, (long long)status.place,
+        expected.number, (long long)expected.place, (int)text_len, text);
     MPI_Abort(MPI_COMM_WORLD, 1);
 }
 
@@ -162,8 +163,10 @@ static void try_read(void) {
         if (!is_untouched(&got) || got.count != 77 || got.pieces != 77) fail("a room after a fault", got.status, expected);
     } else {
         read_done++;
-        if (gathered(got.numbers, got.count, sizeof *all, all) != count || memcmp(all, numbers, count * sizeof *all) != 0) fail("numbers", got.status, expected);
-        if (joined_lengths(&got, found) != lists || memcmp(found, lengths, lists * sizeof *found) != 0) fail("lengths", got.status, expected);
+        if (gathered(got.numbers, got.count, sizeof *all, all) != count || memcmp(all, numbers, count * sizeof *all) != 0)
+            fail("numbers", got.status, expected);
+        if (joined_lengths(&got, found) != lists || memcmp(found, lengths, lists * sizeof *found) != 0)
+            fail("lengths", got.status, expected);
         const int unlucky = (int)below((size_t)size), of_lengths = one_in(2);
         const Read kept = got;
         const size_t needed = of_lengths ? kept.pieces : kept.count;
@@ -171,7 +174,8 @@ static void try_read(void) {
         MPI_Allreduce(&can_be_short, &any_short, 1, MPI_INT, MPI_MAX, MPI_COMM_WORLD);
         read_own(cut, can_be_short && !of_lengths ? needed - 1 : MOST, can_be_short && of_lengths ? needed - 1 : MOST, &got);
         const CvlStatus too_short = {any_short ? CVL_LENGTH_MISMATCH : CVL_DONE, -1};
-        if (!is(got.status, too_short) || (any_short && !is_untouched(&got)) || got.count != kept.count || got.pieces != kept.pieces) {
+        if (!is(got.status, too_short) || (any_short && !is_untouched(&got)) || got.count != kept.count ||
+            got.pieces != kept.pieces) {
             fail("a room that is too short", got.status, too_short);
         }
     }
@@ -227,7 +231,9 @@ static void make_pieces(const int32_t *lengths, size_t segments, const size_t *c
     *own = all[rank];
 }
 
-static CvlStatus write_own(const Pieces *own, const int32_t *a, const bool *flags, const CvlRankSegments *segments, char *room, size_t room_len, size_t *count) {
+static CvlStatus write_own(
+    const Pieces *own, const int32_t *a, const bool *flags, const CvlRankSegments *segments, char *room, size_t room_len,
+    size_t *count) {
     asked = 0, refused = 0;
     const long before = blocks;
     const CvlStatus status = flags != NULL
@@ -262,7 +268,8 @@ static void try_write(void) {
     if (!is(status, done)) fail("a descriptor", status, done);
     /* which has its own lengths */
     for (size_t p = 0; p < own.count; p++) own.lengths[p] = 3000000;
-    status = flags ? cvl_seg_write_bools(marks, total, of_whole, whole, MOST, &count) : cvl_seg_write_ints(a, total, of_whole, whole, MOST, &count);
+    status = flags ? cvl_seg_write_bools(marks, total, of_whole, whole, MOST, &count)
+                   : cvl_seg_write_ints(a, total, of_whole, whole, MOST, &count);
     if (!is(status, done)) fail("the whole", status, done);
     status = write_own(&own, a, flags, held, own_text, MOST, &own_count);
     if (!is(status, done)) fail("write", status, done);
@@ -276,7 +283,8 @@ static void try_write(void) {
     MPI_Bcast(&can_be_short, 1, MPI_INT, size - 1, MPI_COMM_WORLD);
     const CvlStatus too_short = {can_be_short ? CVL_LENGTH_MISMATCH : CVL_DONE, -1};
     status = write_own(&own, a, flags, held, own_text, rank == size - 1 && can_be_short ? needed - 1 : MOST, &own_count);
-    if (!is(status, too_short) || own_count != needed || (can_be_short && own_text[0] != 0x5a)) fail("a room that is too short", status, too_short);
+    if (!is(status, too_short) || own_count != needed || (can_be_short && own_text[0] != 0x5a))
+        fail("a room that is too short", status, too_short);
     const int unlucky = (int)below((size_t)size);
     for (long k = 0, more = one_in(6); more && k < 20; k++) {
         const CvlStatus none = {CVL_NO_RESOURCES, -1};
@@ -312,7 +320,10 @@ int main(int words, char **word) {
         more = MPI_Wtime() - from < seconds;
         MPI_Bcast(&more, 1, MPI_INT, 0, MPI_COMM_WORLD);
     }
-    if (rank == 0) printf("%d ranks: %ld nested texts read, %ld at fault, %ld written, %ld refusals\n", size, read_done, read_at_fault, written, refusals);
+    if (rank == 0)
+        printf(
+            "%d ranks: %ld nested texts read, %ld at fault, %ld written, %ld refusals\n", size, read_done, read_at_fault, written,
+            refusals);
     cvl_ranks_free(ranks);
     MPI_Finalize();
     return 0;

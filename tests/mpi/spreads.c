@@ -8,8 +8,14 @@ void try_spreads(void) {
     size_t count = 99;
     const size_t n = own_count(rank);
     fill(a);
-    check("a share", is(cvl_share(ranks, n, &first, &total), CVL_DONE, -1) && first == (uint64_t)own_from(rank) && total == (uint64_t)own_from(size));
-    check("an even share", is(cvl_even_share(ranks, total, &from, &count), CVL_DONE, -1) && (count == total / (uint64_t)size || count == total / (uint64_t)size + 1));
+    check(
+        "a share",
+        is(cvl_share(ranks, n, &first, &total), CVL_DONE, -1) && first == (uint64_t)own_from(rank) &&
+            total == (uint64_t)own_from(size));
+    check(
+        "an even share",
+        is(cvl_even_share(ranks, total, &from, &count), CVL_DONE, -1) &&
+            (count == total / (uint64_t)size || count == total / (uint64_t)size + 1));
     check("spread evenly", is(cvl_spread_ints(ranks, a, n, even, count), CVL_DONE, -1));
     for (size_t k = 0; k < count; k++) check("the element of its place", even[k] == of_place((int64_t)(from + k)));
     check("and back", is(cvl_spread_ints(ranks, even, count, back, n), CVL_DONE, -1) && memcmp(a, back, n * sizeof *a) == 0);
@@ -39,11 +45,15 @@ static void try_few_elements(int few) {
     check("a permute of few", is(cvl_smp_puz_mpi(ranks, own, to, out, n), CVL_DONE, -1) && (!has || first == last));
     check("a sort of few", is(cvl_sort_mpi(ranks, to, n, out, n), CVL_DONE, -1) && (!has || first == rank));
     check("an order of few", is(cvl_order_mpi(ranks, to, n, out, n), CVL_DONE, -1) && (!has || first == last));
-    check("a transpose of few", is(cvl_transpose_int_mpi(ranks, own, n, (size_t)few, 1, out, n), CVL_DONE, -1) && (!has || first == rank));
+    check(
+        "a transpose of few",
+        is(cvl_transpose_int_mpi(ranks, own, n, (size_t)few, 1, out, n), CVL_DONE, -1) && (!has || first == rank));
     check("a spread of few", is(cvl_spread_ints(ranks, own, n, out, n), CVL_DONE, -1) && (!has || first == rank));
     check("a route of few", is(cvl_route_new(ranks, to, n, n, &route), CVL_DONE, -1));
     check("back by it", is(cvl_route_back_int(route, own, n, out, n), CVL_DONE, -1) && (!has || first == last));
-    check("segments of few", is(cvl_rank_segments_new(ranks, pieces, 0, &segments), CVL_DONE, -1) && cvl_rank_segments_all(segments) == (uint64_t)few);
+    check(
+        "segments of few",
+        is(cvl_rank_segments_new(ranks, pieces, 0, &segments), CVL_DONE, -1) && cvl_rank_segments_all(segments) == (uint64_t)few);
     check("their sums", is(cvl_add_rez_mpi(ranks, own, n, segments, out), CVL_DONE, -1) && (!has || first == rank));
     cvl_route_free(route), cvl_rank_segments_free(segments);
 }
@@ -53,11 +63,16 @@ static void try_text_of_few(int few) {
     char text[64] = "";
     int32_t a = rank, back[MOST];
     size_t length = 0, count = 9;
-    check("a text of few", is(cvl_write_ints_mpi(ranks, rank < few ? &a : NULL, rank < few, text, sizeof text, &length), CVL_DONE, -1));
+    check(
+        "a text of few",
+        is(cvl_write_ints_mpi(ranks, rank < few ? &a : NULL, rank < few, text, sizeof text, &length), CVL_DONE, -1));
     check("brackets alone", few > 0 || length == (size_t)(rank == 0) + (size_t)(rank == size - 1));
     length = 0;
     for (int k = 0; k < few && rank == size - 1; k++) length += (size_t)sprintf(text + length, "%d ", k);
-    check("read by one", is(cvl_read_ints_mpi(ranks, length > 0 ? text : NULL, length, length > 0 ? back : NULL, length > 0 ? MOST : 0, &count), CVL_DONE, -1));
+    check(
+        "read by one",
+        is(cvl_read_ints_mpi(ranks, length > 0 ? text : NULL, length, length > 0 ? back : NULL, length > 0 ? MOST : 0, &count),
+           CVL_DONE, -1));
     check("as many as there are", count == (rank == size - 1 ? (size_t)few : 0));
     for (size_t k = 0; k < count; k++) check("each of them", back[k] == (int32_t)k);
 }

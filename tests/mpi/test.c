@@ -94,7 +94,10 @@ static void try_after_the_end(CvlRankSegments *segments, CvlRoute *route) {
     check("no permute", is(cvl_route_permute_int(route, a, 1, out, 1), CVL_NO_DESCRIPTOR, -1));
     check("no product", is(cvl_route_sparse_product(route, segments, a, 1, a, 1, out, 1), CVL_NO_DESCRIPTOR, -1));
     check("no spread", is(cvl_spread_ints(ranks, a, 1, out, 1), CVL_NO_DESCRIPTOR, -1));
-    check("no share", is(cvl_share(ranks, 1, &from, &total), CVL_NO_DESCRIPTOR, -1) && is(cvl_even_share(ranks, 1, &from, &n), CVL_NO_DESCRIPTOR, -1));
+    check(
+        "no share",
+        is(cvl_share(ranks, 1, &from, &total), CVL_NO_DESCRIPTOR, -1) &&
+            is(cvl_even_share(ranks, 1, &from, &n), CVL_NO_DESCRIPTOR, -1));
     check("no integers of a text", is(cvl_read_ints_mpi(ranks, text, 1, out, 1, &count), CVL_NO_DESCRIPTOR, -1));
     check("no text", is(cvl_write_ints_mpi(ranks, a, 1, text, 4, &count), CVL_NO_DESCRIPTOR, -1) && text[0] == '1');
     check("no lists", is(cvl_seg_read_ints_mpi(ranks, text, 1, out, 1, &count, a, 1, &n, &goes_on), CVL_NO_DESCRIPTOR, -1));

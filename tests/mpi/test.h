@@ -21,7 +21,9 @@ void check(const char *what, int is_so);
 /* Whether any rank says so; all of them ask. */
 int any_rank(int mine);
 
-static inline int is(CvlStatus status, uint32_t number, int64_t place) { return status.number == number && status.place == place; }
+static inline int is(CvlStatus status, uint32_t number, int64_t place) {
+    return status.number == number && status.place == place;
+}
 
 /* Place p has p * 7 % 23 - 5; rank r has r % 3 + 1 elements, from a place on. */
 static inline int32_t of_place(int64_t p) { return (int32_t)(p * 7 % 23) - 5; }

@@ -10,8 +10,13 @@ void try_texts(void) {
     const size_t n = rank == 1 ? 0 : own_count(rank);
     fill(a);
     for (size_t k = 0; k < n; k++) a[k] = rank * 1000000 - (int32_t)k;
-    check("no room", is(cvl_write_ints_mpi(ranks, a, n, text, rank == size - 1 ? 0 : sizeof text, &count), CVL_LENGTH_MISMATCH, -1) && count < sizeof text);
-    check("written", is(cvl_write_ints_mpi(ranks, a, n, text, count, &count), CVL_DONE, -1) && (rank > 0 || memcmp(text, "[0", 2) == 0));
+    check(
+        "no room",
+        is(cvl_write_ints_mpi(ranks, a, n, text, rank == size - 1 ? 0 : sizeof text, &count), CVL_LENGTH_MISMATCH, -1) &&
+            count < sizeof text);
+    check(
+        "written",
+        is(cvl_write_ints_mpi(ranks, a, n, text, count, &count), CVL_DONE, -1) && (rank > 0 || memcmp(text, "[0", 2) == 0));
     check("the last bracket", rank < size - 1 || text[count - 1] == ']');
     /* the integers alone, with other white space and an end of line */
     for (size_t k = 0; k < count; k++) text[k] = text[k] == '[' || text[k] == ']' ? '\n' : text[k];
@@ -22,7 +27,9 @@ void try_texts(void) {
     check("from a file", is(cvl_rank_text_read(ranks, path, &read, &read_len), CVL_DONE, -1));
     memset(back, 0, sizeof back);
     count = 99;
-    check("no room for integers", is(cvl_read_ints_mpi(ranks, read, read_len, back, 0, &count), CVL_LENGTH_MISMATCH, -1) && is_filled(back, MOST, 0));
+    check(
+        "no room for integers",
+        is(cvl_read_ints_mpi(ranks, read, read_len, back, 0, &count), CVL_LENGTH_MISMATCH, -1) && is_filled(back, MOST, 0));
     check("integers", is(cvl_read_ints_mpi(ranks, read, read_len, back, MOST, &count), CVL_DONE, -1));
     int32_t same[MOST];
     check("as they were", is(cvl_spread_ints(ranks, back, count, same, n), CVL_DONE, -1) && memcmp(same, a, n * sizeof *a) == 0);
@@ -31,7 +38,8 @@ void try_texts(void) {
     check("words", is(cvl_share(ranks, count, &from, &total), CVL_DONE, -1));
     int has_bad = rank == size - 1 && read_len > 1;
     has_bad = any_rank(has_bad);
-    if (has_bad) check("a bad word", is(cvl_read_ints_mpi(ranks, read, read_len, back, MOST, &count), CVL_BAD_INPUT, (int64_t)total - 1));
+    if (has_bad)
+        check("a bad word", is(cvl_read_ints_mpi(ranks, read, read_len, back, MOST, &count), CVL_BAD_INPUT, (int64_t)total - 1));
     cvl_rank_text_free(read);
     for (size_t k = 0; k < n; k++) flags[k] = k % 2 == 0;
     check("booleans", is(cvl_write_bools_mpi(ranks, flags, n, text, sizeof text, &count), CVL_DONE, -1));
@@ -50,10 +58,15 @@ void try_long_texts(void) {
     check("memory for long texts", a != NULL && back != NULL && text != NULL);
     if (any_rank(a == NULL || back == NULL || text == NULL)) return;
     for (size_t k = 0; k < n; k++) a[k] = (int32_t)((k + (size_t)rank) % 10);
-    check("a long text", is(cvl_write_ints_mpi(ranks, a, n, text, 2 * n + 1, &length), CVL_DONE, -1) && length == 2 * n + (rank == size - 1));
+    check(
+        "a long text",
+        is(cvl_write_ints_mpi(ranks, a, n, text, 2 * n + 1, &length), CVL_DONE, -1) && length == 2 * n + (rank == size - 1));
     if (rank == 0) text[0] = ' ';
     if (rank == size - 1) text[length - 1] = ' ';
-    check("read back", is(cvl_read_ints_mpi(ranks, text, length, back, n, &count), CVL_DONE, -1) && count == n && memcmp(a, back, n * sizeof *a) == 0);
+    check(
+        "read back",
+        is(cvl_read_ints_mpi(ranks, text, length, back, n, &count), CVL_DONE, -1) && count == n &&
+            memcmp(a, back, n * sizeof *a) == 0);
     if (rank == size - 1) text[length - 2] = 'x';
     const CvlStatus status = cvl_read_ints_mpi(ranks, text, length, back, n, &count);
     check("a bad last word", is(status, CVL_BAD_INPUT, (int64_t)n * size - 1) && memcmp(a, back, n * sizeof *a) == 0);

@@ -52,8 +52,7 @@ __attribute__((constructor)) static void open_counts(void) {
 
 static void raise_to(_Atomic uint64_t *most, uint64_t number) {
     uint64_t before = atomic_load(most);
-    while (before < number && !atomic_compare_exchange_weak(most, &before, number)) {
-    }
+    while (before < number && !atomic_compare_exchange_weak(most, &before, number)) {}
 }
 
 /* Finds the function of the C library that has this name. */
@@ -128,8 +127,7 @@ static _Atomic(Work *) newest;
 static void *counted(void *argument) {
     Work *work = argument;
     void *answer = work->run(work->argument);
-    while (sem_wait(&work->waited_for) != 0) {
-    }
+    while (sem_wait(&work->waited_for) != 0) {}
     atomic_fetch_sub(&running, 1);
     return answer;
 }
@@ -151,8 +149,7 @@ int pthread_create(pthread_t *thread, const pthread_attr_t *attributes, void *(*
     }
     work->thread = *thread;
     work->before = atomic_load(&newest);
-    while (!atomic_compare_exchange_weak(&newest, &work->before, work)) {
-    }
+    while (!atomic_compare_exchange_weak(&newest, &work->before, work)) {}
     return 0;
 }
 

@@ -97,7 +97,9 @@ for (const e of document.querySelectorAll("main h1, main h2, main h3, main h4, m
 return found;
 """
 
-NOT_SHOWN = "return [...document.images].filter((image) => !image.complete || image.naturalWidth === 0).map((image) => image.src);"
+NOT_SHOWN = (
+    "return [...document.images].filter((image) => !image.complete || image.naturalWidth === 0).map((image) => image.src);"
+)
 
 
 class Page(html.parser.HTMLParser):
@@ -188,7 +190,12 @@ class Files(unittest.TestCase):
 
     def test_what_a_page_declares_in_cpp_stands_in_the_header(self):
         header = re.sub(r"\s+", " ", (TOP / "include/cvl.hpp").read_text())
-        declared = [signatures.of_cpp(row) for _, _, entries in [*reference.of_scripts(), *reference.beside()] for entry in entries for row in entry.rows]
+        declared = [
+            signatures.of_cpp(row)
+            for _, _, entries in [*reference.of_scripts(), *reference.beside()]
+            for entry in entries
+            for row in entry.rows
+        ]
         self.assertGreater(len(declared), 100)
         self.assertEqual([line for line in declared if f" {line.replace(' cvl::', ' ', 1)} {{" not in header], [])
 
@@ -223,13 +230,17 @@ class Browser(unittest.TestCase):
 
     def open(self, page, width=1280, scheme="light"):
         narrow = width < 600
-        self.browser.execute_cdp_cmd("Emulation.setDeviceMetricsOverride", {"width": width, "height": 800, "deviceScaleFactor": 1, "mobile": narrow})
+        self.browser.execute_cdp_cmd(
+            "Emulation.setDeviceMetricsOverride", {"width": width, "height": 800, "deviceScaleFactor": 1, "mobile": narrow}
+        )
         self.light(scheme)
         self.browser.get(f"{SITE.as_uri()}/{page}")
 
     def light(self, scheme):
         """By day or by night."""
-        self.browser.execute_cdp_cmd("Emulation.setEmulatedMedia", {"features": [{"name": "prefers-color-scheme", "value": scheme}]})
+        self.browser.execute_cdp_cmd(
+            "Emulation.setEmulatedMedia", {"features": [{"name": "prefers-color-scheme", "value": scheme}]}
+        )
 
     def asked(self):
         """The addresses that were asked for since the last time."""
@@ -271,7 +282,9 @@ class Browser(unittest.TestCase):
             webdriver.ActionChains(self.browser).send_keys(Keys.TAB).perform()
             focused = self.browser.switch_to.active_element
             seen.append(focused.get_attribute("class") or focused.get_attribute("name") or focused.tag_name)
-            self.assertNotEqual(self.browser.execute_script("return getComputedStyle(document.activeElement).outlineStyle"), "none", seen)
+            self.assertNotEqual(
+                self.browser.execute_script("return getComputedStyle(document.activeElement).outlineStyle"), "none", seen
+            )
         self.assertEqual(seen, ["skip", "home", "q", "button"])
         self.browser.find_element(By.CSS_SELECTOR, "a.skip").send_keys(Keys.ENTER)
         self.assertEqual(self.browser.switch_to.active_element.tag_name, "main")
@@ -283,14 +296,19 @@ class Browser(unittest.TestCase):
         links = self.browser.find_elements(By.CSS_SELECTOR, "nav.here a")
         [link] = [link for link in links if link.text == "Transpose"]
         link.click()
-        self.assertLess(self.browser.execute_script("return document.querySelector('#transpose').getBoundingClientRect().top"), 100)
+        self.assertLess(
+            self.browser.execute_script("return document.querySelector('#transpose').getBoundingClientRect().top"), 100
+        )
         self.open("calls/cpy_wuz.html", 700)
         self.assertFalse(any(link.is_displayed() for link in self.browser.find_elements(By.CSS_SELECTOR, "nav.here a")))
 
     def test_a_button_copies_what_one_types(self):
         self.open("tasks.html")
         self.browser.execute_script("navigator.clipboard.writeText = async (text) => { window.copied = text; };")
-        for words, wanted in (("add_rez(v, rows)", "cvl.add_rez(v, rows).tolist()\n"), ("must(cvl_add_rez", "must(cvl_add_rez(v, 5, rows, sums));\n")):
+        for words, wanted in (
+            ("add_rez(v, rows)", "cvl.add_rez(v, rows).tolist()\n"),
+            ("must(cvl_add_rez", "must(cvl_add_rez(v, 5, rows, sums));\n"),
+        ):
             block = next(block for block in self.browser.find_elements(By.CSS_SELECTOR, "div.highlight") if words in block.text)
             button = block.find_element(By.CSS_SELECTOR, "button.copy")
             self.browser.execute_script("arguments[0].focus()", button)
@@ -341,7 +359,9 @@ class Browser(unittest.TestCase):
 
     def test_what_a_search_finds_is_opened(self):
         self.found("max_seb ior_seb")
-        self.browser.find_element(By.CSS_SELECTOR, "ul.search li a").click() if self.found("ior_seb") else self.fail("nothing was found")
+        self.browser.find_element(By.CSS_SELECTOR, "ul.search li a").click() if self.found("ior_seb") else self.fail(
+            "nothing was found"
+        )
         self.assertIn("Exclusive scan of each segment", self.browser.find_element(By.TAG_NAME, "h1").text)
 
     def test_the_list_of_pages_is_closed_on_a_narrow_screen_and_opens(self):

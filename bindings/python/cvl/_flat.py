@@ -10,7 +10,18 @@ from cvl import _building, operators
 from cvl._elementwise import flags, ints, is_bool
 from cvl._rows import from_end, refuse_below_0
 from cvl._whole import grouped, taken
-from cvl.calls import add_suz, add_wuz, combine_permute_bool, combine_permute_int, counts, max_ruz, min_ruz, order, pck_lub, pck_luz
+from cvl.calls import (
+    add_suz,
+    add_wuz,
+    combine_permute_bool,
+    combine_permute_int,
+    counts,
+    max_ruz,
+    min_ruz,
+    order,
+    pck_lub,
+    pck_luz,
+)
 from cvl.fault import Fault
 from cvl.ragged import Ragged, is_number
 

@@ -9,6 +9,7 @@ import numpy
 
 from cvl import calls, faults, operators
 from cvl._elementwise import flags, ints, is_bool, refuse_frozen
+
 from cvl.calls import (
     add_rez, add_sez, add_wuz, and_reb, and_wub, append_segments_bool, append_segments_int, bck_peb, bck_pez, bck_pub, bck_puz,
     boo_wuz, dis_veb, dis_vez, dis_vub, dis_vuz, eql_wuz, ext_veb, ext_vez, gather_segments_bool, gather_segments_int, ind_lez,

@@ -27,7 +27,9 @@ class Fault(ValueError):
     fault 7 LengthMismatch: len(b) is 1, and len(a) is 2
     """
 
-    def __init__(self, number: int, name: str, place: Union[int, Tuple[int, ...], None] = None, said: Optional[str] = None) -> None:
+    def __init__(
+        self, number: int, name: str, place: Union[int, Tuple[int, ...], None] = None, said: Optional[str] = None
+    ) -> None:
         super().__init__(number, name, place, said)
         self.number = number
         self.name = name

@@ -11,7 +11,18 @@ from cvl import _arrow, _building, _shown, faults
 from cvl._elementwise import Operation, changed, is_bool, two
 from cvl._methods import OPERATIONS, UNARY, Methods, joined_at
 from cvl._rows import from_end
-from cvl.calls import bck_puz, dis_veb, dis_vez, dis_vub, dis_vuz, gather_segments_bool, gather_segments_int, ind_lez, ind_luz, pck_luz
+from cvl.calls import (
+    bck_puz,
+    dis_veb,
+    dis_vez,
+    dis_vub,
+    dis_vuz,
+    gather_segments_bool,
+    gather_segments_int,
+    ind_lez,
+    ind_luz,
+    pck_luz,
+)
 from cvl.conversions import INT, as_ints
 from cvl.fault import Fault
 from cvl.segments import Segments, cut
@@ -264,7 +275,12 @@ class Ragged(Methods):
 
     def _has_for_rows(self, other: Any) -> bool:
         """Whether it is an array of one integer a row, as the calls take it."""
-        return type(other) is numpy.ndarray and other.dtype.char == "i" and other.shape == (len(self._segments),) and other.flags.carray
+        return (
+            type(other) is numpy.ndarray
+            and other.dtype.char == "i"
+            and other.shape == (len(self._segments),)
+            and other.flags.carray
+        )
 
     def _as_operand(self, other: Any) -> Any:
         """Lists and other arrays as rows, or as an array of one number a row."""

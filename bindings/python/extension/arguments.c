@@ -56,8 +56,11 @@ static int take_text(PyObject *object, const Operand *operand, const Row *row, G
 /* The whole number that an object is. One beyond 64 bits is the least or the greatest of these, and sets `beyond`. */
 static int whole_number(PyObject *object, const char *name, int64_t *number, int *beyond) {
     if (!PyIndex_Check(object)) {
-        return refuse_type(object, PyFloat_Check(object) ? "%s is no whole number but a %U; int(%s) would cut its fraction"
-                : "%s is no whole number but a %U; write int(%s)", name);
+        return refuse_type(
+            object,
+            PyFloat_Check(object) ? "%s is no whole number but a %U; int(%s) would cut its fraction"
+                                  : "%s is no whole number but a %U; write int(%s)",
+            name);
     }
     PyObject *found = PyNumber_Index(object);
     if (found == NULL) return -1;
@@ -78,9 +81,7 @@ static int take_number(PyObject *object, const char *name, int64_t least, int64_
 static int is_flag(PyObject *object) { return PyBool_Check(object) || PyArray_IsScalar(object, Bool); }
 
 static int take_flag(PyObject *object, const char *name, Given *given) {
-    if (!is_flag(object)) {
-        return refuse_type(object, "%s is no boolean but a %U; write bool(%s)", name);
-    }
+    if (!is_flag(object)) { return refuse_type(object, "%s is no boolean but a %U; write bool(%s)", name); }
     given->number = PyObject_IsTrue(object);
     return given->number < 0 ? -1 : 0;
 }

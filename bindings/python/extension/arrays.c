@@ -10,16 +10,11 @@ Element cvl_sums = {NPY_INT64, "int64", "numpy.int64", NULL};
 enum { TO_READ = NPY_ARRAY_C_CONTIGUOUS | NPY_ARRAY_ALIGNED, TO_WRITE = TO_READ | NPY_ARRAY_WRITEABLE };
 
 const Need cvl_needs[] = {
-    [KIND_INTS] = {&cvl_ints, TO_READ},
-    [KIND_INDEX] = {&cvl_ints, TO_READ},
-    [KIND_FLAGS] = {&cvl_flags, TO_READ},
-    [KIND_BYTES] = {&cvl_bytes, TO_READ},
-    [KIND_LENGTHS] = {&cvl_ints, TO_READ},
-    [KIND_TEXT] = {NULL, NPY_ARRAY_C_CONTIGUOUS},
-    [KIND_ROOM_INTS] = {&cvl_ints, TO_WRITE},
-    [KIND_ROOM_FLAGS] = {&cvl_flags, TO_WRITE},
-    [KIND_ROOM_BYTES] = {&cvl_bytes, TO_WRITE},
-    [KIND_ROOM_MARKS] = {&cvl_marks, TO_WRITE},
+    [KIND_INTS] = {&cvl_ints, TO_READ},         [KIND_INDEX] = {&cvl_ints, TO_READ},
+    [KIND_FLAGS] = {&cvl_flags, TO_READ},       [KIND_BYTES] = {&cvl_bytes, TO_READ},
+    [KIND_LENGTHS] = {&cvl_ints, TO_READ},      [KIND_TEXT] = {NULL, NPY_ARRAY_C_CONTIGUOUS},
+    [KIND_ROOM_INTS] = {&cvl_ints, TO_WRITE},   [KIND_ROOM_FLAGS] = {&cvl_flags, TO_WRITE},
+    [KIND_ROOM_BYTES] = {&cvl_bytes, TO_WRITE}, [KIND_ROOM_MARKS] = {&cvl_marks, TO_WRITE},
     [KIND_ROOM_SUMS] = {&cvl_sums, TO_WRITE},
 };
 
@@ -44,12 +39,14 @@ static int is_room(const Operand *operand) { return cvl_needs[operand->kind].fla
 
 int cvl_is_array(const Operand *operand) {
     if (operand->kind == KIND_ROOM_INTS) return operand->extent != EXTENT_NONE;
-    return operand->kind == KIND_INTS || operand->kind == KIND_INDEX || operand->kind == KIND_FLAGS || operand->kind == KIND_BYTES;
+    return operand->kind == KIND_INTS || operand->kind == KIND_INDEX || operand->kind == KIND_FLAGS ||
+        operand->kind == KIND_BYTES;
 }
 
 /* How a room is made. A copy of one would be another room, so the message suggests none. */
 static PyObject *room_advice(const Operand *operand) {
-    const char *const form = operand->extent == EXTENT_NONE ? "a room is made by numpy.empty(n, dtype=%s)"
+    const char *const form = operand->extent == EXTENT_NONE
+        ? "a room is made by numpy.empty(n, dtype=%s)"
         : "a room that holds what stands before is made by, for instance, numpy.zeros(n, dtype=%s)";
     return PyUnicode_FromFormat(form, cvl_needs[operand->kind].element->written);
 }
@@ -58,8 +55,8 @@ static PyObject *room_advice(const Operand *operand) {
 static int refuse_mask(PyObject *object, const char *name) {
     const int masked = PyObject_IsInstance(object, masked_array);
     if (masked > 0) {
-        PyErr_Format(PyExc_TypeError, "%s has a mask, which no call looks at; write %s.filled(0) or %s.compressed()", name, name,
-            name);
+        PyErr_Format(
+            PyExc_TypeError, "%s has a mask, which no call looks at; write %s.filled(0) or %s.compressed()", name, name, name);
     }
     return masked == 0 ? 0 : -1;
 }
@@ -138,8 +135,8 @@ static int has_flags(PyArrayObject *array, int flags) { return (PyArray_FLAGS(ar
 
 static void refuse_room(PyArrayObject *array, const char *name, const Element *element, PyObject *advice) {
     if (!has_elements(array, element)) {
-        PyErr_Format(PyExc_TypeError, "%s has elements of %S, and has to have %s; %U", name, PyArray_DESCR(array), element->name,
-            advice);
+        PyErr_Format(
+            PyExc_TypeError, "%s has elements of %S, and has to have %s; %U", name, PyArray_DESCR(array), element->name, advice);
     } else if (PyArray_NDIM(array) != 1) {
         PyErr_Format(PyExc_TypeError, "%s has %d dimensions, and has to have one; %U", name, PyArray_NDIM(array), advice);
     } else if (!has_flags(array, TO_READ)) {
@@ -155,7 +152,8 @@ static int refuse(PyArrayObject *array, const Operand *operand, const Row *row) 
     const Element *element = cvl_needs[operand->kind].element;
     if (element == NULL) {
         PyObject *type = cvl_type_name((PyObject *)array);
-        if (type != NULL) PyErr_Format(PyExc_TypeError, "%s is no text, a str or bytes side by side, but a %U", operand->name, type);
+        if (type != NULL)
+            PyErr_Format(PyExc_TypeError, "%s is no text, a str or bytes side by side, but a %U", operand->name, type);
         Py_XDECREF(type);
     } else if (is_room(operand)) {
         PyObject *advice = room_advice(operand);
@@ -183,7 +181,8 @@ static int look_at(Given *given, const Operand *operand, const Row *row) {
     if (need->element == NULL) return look_at_text(given, operand, row);
     const int is_other = !has_elements(array, need->element);
     given->wide = is_other && operand->kind == KIND_INDEX && has_elements(array, &cvl_sums);
-    if (PyArray_NDIM(array) != 1 || !has_flags(array, need->flags) || (is_other && !given->wide)) return refuse(array, operand, row);
+    if (PyArray_NDIM(array) != 1 || !has_flags(array, need->flags) || (is_other && !given->wide))
+        return refuse(array, operand, row);
     given->at = PyArray_DATA(array);
     given->count = (size_t)PyArray_DIM(array, 0);
     return 0;

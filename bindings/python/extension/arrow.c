@@ -68,7 +68,8 @@ static PyObject *describe_children(const ArrowSchema *schema, const ArrowArray *
 
 /* An array as Python reads it: its format, length, number of nulls and offset, where its buffers lie, and its children. */
 static PyObject *describe(const ArrowSchema *schema, const ArrowArray *array, int depth) {
-    const int is_there = schema != NULL && array != NULL && schema->format != NULL && schema->release != NULL && array->release != NULL;
+    const int is_there = schema != NULL && array != NULL && schema->format != NULL && schema->release != NULL &&
+        array->release != NULL;
     const int agrees = is_there && schema->n_children == array->n_children && array->n_children >= 0 &&
         array->n_children <= INT32_MAX && (array->n_children == 0 || (schema->children != NULL && array->children != NULL)) &&
         array->length >= 0 && array->offset >= 0 && array->n_buffers >= 0 && array->n_buffers <= DEEPEST && depth < DEEPEST;
@@ -85,8 +86,9 @@ static PyObject *describe(const ArrowSchema *schema, const ArrowArray *array, in
         Py_XDECREF(buffers);
         return NULL;
     }
-    return Py_BuildValue("(sLLLNN)", schema->format, (long long)array->length, (long long)array->null_count,
-        (long long)array->offset, buffers, children);
+    return Py_BuildValue(
+        "(sLLLNN)", schema->format, (long long)array->length, (long long)array->null_count, (long long)array->offset, buffers,
+        children);
 }
 
 /* Moves an array out of its capsules, as the interface says: what they had is released by us alone. */

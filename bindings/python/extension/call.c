@@ -5,10 +5,11 @@
 
 static PyObject *out_keyword;
 
-static const Operand out_ints = {"out", KIND_ROOM_INTS, EXTENT_NONE, NULL}, out_flags = {"out", KIND_ROOM_FLAGS, EXTENT_NONE, NULL},
-    out_bytes = {"out", KIND_ROOM_BYTES, EXTENT_NONE, NULL}, out_sums = {"out", KIND_ROOM_SUMS, EXTENT_NONE, NULL},
-    over_ints = {"out", KIND_ROOM_INTS, EXTENT_M, NULL}, over_flags = {"out", KIND_ROOM_FLAGS, EXTENT_M, NULL},
-    over_sums = {"out", KIND_ROOM_SUMS, EXTENT_M, NULL};
+static const Operand out_ints = {"out", KIND_ROOM_INTS, EXTENT_NONE, NULL},
+                     out_flags = {"out", KIND_ROOM_FLAGS, EXTENT_NONE, NULL},
+                     out_bytes = {"out", KIND_ROOM_BYTES, EXTENT_NONE, NULL},
+                     out_sums = {"out", KIND_ROOM_SUMS, EXTENT_NONE, NULL}, over_ints = {"out", KIND_ROOM_INTS, EXTENT_M, NULL},
+                     over_flags = {"out", KIND_ROOM_FLAGS, EXTENT_M, NULL}, over_sums = {"out", KIND_ROOM_SUMS, EXTENT_M, NULL};
 
 int cvl_keywords_ready(void) {
     out_keyword = PyUnicode_InternFromString("out");
@@ -74,7 +75,8 @@ static int bind(const Row *row, PyObject *const *arguments, Py_ssize_t count, Py
     }
     for (int k = 0; k < required; k++) {
         if (bound[k] != NULL) continue;
-        PyErr_Format(PyExc_TypeError, "%s() missing 1 required argument: '%s'", row->name,
+        PyErr_Format(
+            PyExc_TypeError, "%s() missing 1 required argument: '%s'", row->name,
             k < family->count ? family->operands[k].name : "out");
         return -1;
     }
@@ -89,8 +91,11 @@ static int spread(Frame *frame) {
     if (numbers == 0) return 0;
     while (first < family->count && frame->given[first].spread) first++;
     if (first == family->count) {
-        PyErr_Format(PyExc_TypeError, "%s takes a number in the place of an array beside an array, and there is none; write "
-            "numpy.array([%s], dtype=%s)", frame->row->name, family->operands[0].name,
+        PyErr_Format(
+            PyExc_TypeError,
+            "%s takes a number in the place of an array beside an array, and there is none; write "
+            "numpy.array([%s], dtype=%s)",
+            frame->row->name, family->operands[0].name,
             family->operands[0].kind == KIND_INTS ? cvl_ints.written : cvl_flags.written);
         return -1;
     }

@@ -114,10 +114,10 @@ typedef struct Family {
     int count;
     Operand operands[MOST_OPERANDS];
     Gives gives;
-    Extent extent; /* of the room */
-    int by;        /* the operand that says how long the room is */
-    int spreads;   /* whether a number may stand for an array of it */
-    size_t most;   /* how long the room may be at most */
+    Extent extent;         /* of the room */
+    int by;                /* the operand that says how long the room is */
+    int spreads;           /* whether a number may stand for an array of it */
+    size_t most;           /* how long the room may be at most */
     const char *operators; /* the names of those that it takes, or nothing */
     CvlStatus (*make)(Frame *frame);
 } Family;

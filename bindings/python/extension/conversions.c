@@ -25,7 +25,9 @@ static size_t narrow(const int64_t *numbers, int32_t *found, size_t count) {
 /* The room for numbers of 64 bits in 32; no object and no exception of what is no such array, side by side in one dimension. */
 static PyArrayObject *room_for(PyObject *numbers) {
     if (!PyArray_CheckExact(numbers) || PyArray_NDIM((PyArrayObject *)numbers) != 1) return NULL;
-    if (!PyArray_EquivTypes(PyArray_DESCR((PyArrayObject *)numbers), cvl_sums.descr) || !PyArray_ISCARRAY_RO((PyArrayObject *)numbers)) return NULL;
+    if (!PyArray_EquivTypes(PyArray_DESCR((PyArrayObject *)numbers), cvl_sums.descr) ||
+        !PyArray_ISCARRAY_RO((PyArrayObject *)numbers))
+        return NULL;
     npy_intp count = PyArray_DIM((PyArrayObject *)numbers, 0);
     Py_INCREF((PyObject *)cvl_ints.descr);
     return (PyArrayObject *)PyArray_NewFromDescr(&PyArray_Type, cvl_ints.descr, 1, &count, NULL, NULL, 0, NULL);
@@ -45,7 +47,8 @@ static PyObject *fitting(PyObject *self, PyObject *numbers) {
     return PyLong_FromSize_t(done);
 }
 
-PyDoc_STRVAR(doc_fitting,
+PyDoc_STRVAR(
+    doc_fitting,
     "fitting(numbers, /)\n"
     "\n"
     "The numbers of an array of int64 in one of int32, or the place of the first that does not fit; None of another object.");

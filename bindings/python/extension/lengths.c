@@ -4,10 +4,9 @@
 
 /* Calls read the lengths here, since a program may change the shape, the kind and the memory of an array. */
 typedef struct Lengths {
-    PyObject_HEAD
-    PyObject *bytes;    /* whose memory has the lengths */
-    CvlLengths lengths; /* in that memory */
-    PyObject *offsets;  /* bytes where each starts and where the last one ends, once somebody asks for them, or nothing */
+    PyObject_HEAD PyObject *bytes; /* whose memory has the lengths */
+    CvlLengths lengths;            /* in that memory */
+    PyObject *offsets; /* bytes where each starts and where the last one ends, once somebody asks for them, or nothing */
     Py_ssize_t total;
 } Lengths;
 
@@ -108,7 +107,8 @@ static Py_ssize_t lengths_length(PyObject *self) { return (Py_ssize_t)cvl_cut_le
 
 /* Whether two have the same lengths. */
 static PyObject *lengths_compare(PyObject *self, PyObject *other, int op) {
-    if (!PyObject_TypeCheck(self, cvl_lengths_type) || !PyObject_TypeCheck(other, cvl_lengths_type) || (op != Py_EQ && op != Py_NE)) {
+    if (!PyObject_TypeCheck(self, cvl_lengths_type) || !PyObject_TypeCheck(other, cvl_lengths_type) ||
+        (op != Py_EQ && op != Py_NE)) {
         Py_RETURN_NOTIMPLEMENTED;
     }
     const CvlLengths a = cvl_cut_lengths(self), b = cvl_cut_lengths(other);
@@ -120,7 +120,8 @@ static Py_hash_t lengths_hash(PyObject *self) { return PyObject_Hash(((Lengths *
 
 static PyGetSetDef computed[] = {
     {"lengths", as_array, NULL, "How long each segment is, a new array each time, which nobody can write.", NULL},
-    {"offsets", offsets_array, NULL, "Where each segment starts, and where the last one ends: one more than there are segments.", NULL},
+    {"offsets", offsets_array, NULL, "Where each segment starts, and where the last one ends: one more than there are segments.",
+     NULL},
     {NULL, NULL, NULL, NULL, NULL},
 };
 

@@ -13,18 +13,16 @@
 #endif
 
 static struct PyModuleDef definition = {
-    PyModuleDef_HEAD_INIT,
-    .m_name = "cvl._calls",
-    .m_doc = "The calls of `cvl`, compiled.",
-    .m_size = -1,
-    .m_methods = cvl_methods,
+    PyModuleDef_HEAD_INIT, .m_name = "cvl._calls",   .m_doc = "The calls of `cvl`, compiled.",
+    .m_size = -1,          .m_methods = cvl_methods,
 };
 
 /* Says which numpy is needed, if the one that is there is older; else what numpy said stays. */
 static PyObject *refuse_numpy(void) {
     PyObject *kind, *said, *trace;
     PyErr_Fetch(&kind, &said, &trace);
-    PyObject *numpy = PyImport_ImportModule("numpy"), *version = numpy == NULL ? NULL : PyObject_GetAttrString(numpy, "__version__");
+    PyObject *numpy = PyImport_ImportModule("numpy"),
+             *version = numpy == NULL ? NULL : PyObject_GetAttrString(numpy, "__version__");
     Py_XDECREF(numpy);
     PyErr_Clear();
     if (version != NULL && PyArray_API != NULL && PyArray_GetNDArrayCFeatureVersion() < NPY_FEATURE_VERSION) {

@@ -10,20 +10,37 @@ typedef struct Word {
 } Word;
 
 static const Word kinds[] = {
-    {"ints", KIND_INTS}, {"index", KIND_INDEX}, {"flags", KIND_FLAGS}, {"bytes", KIND_BYTES}, {"segments", KIND_RANK_SEGMENTS}, {"int", KIND_INT},
-    {"flag", KIND_FLAG}, {"operator", KIND_OPERATOR}, {"wide", KIND_WIDE}, {"size", KIND_SIZE}, {NULL, 0},
+    {"ints", KIND_INTS},
+    {"index", KIND_INDEX},
+    {"flags", KIND_FLAGS},
+    {"bytes", KIND_BYTES},
+    {"segments", KIND_RANK_SEGMENTS},
+    {"int", KIND_INT},
+    {"flag", KIND_FLAG},
+    {"operator", KIND_OPERATOR},
+    {"wide", KIND_WIDE},
+    {"size", KIND_SIZE},
+    {NULL, 0},
 };
 
 static const Word extents[] = {
-    {"n", EXTENT_N}, {"m", EXTENT_M}, {"segments", EXTENT_SEGMENTS}, {"total", EXTENT_TOTAL}, {"trues", EXTENT_TRUES},
-    {"falses", EXTENT_FALSES}, {"offsets", EXTENT_OFFSETS}, {NULL, 0},
+    {"n", EXTENT_N},         {"m", EXTENT_M},           {"segments", EXTENT_SEGMENTS}, {"total", EXTENT_TOTAL},
+    {"trues", EXTENT_TRUES}, {"falses", EXTENT_FALSES}, {"offsets", EXTENT_OFFSETS},   {NULL, 0},
 };
 
 /* What a call gives: one value, or an array, which may stand in the caller's room. */
 static const Word results[] = {
-    {"one", GIVES_INT}, {"ints", GIVES_INTS}, {"flags", GIVES_FLAGS}, {"bytes", GIVES_BYTES}, {"sums", GIVES_SUMS},
-    {"over_ints", GIVES_OVER_INTS}, {"over_flags", GIVES_OVER_FLAGS}, {"over_sums", GIVES_OVER_SUMS}, {"front_ints", GIVES_FRONT_INTS},
-    {"front_flags", GIVES_FRONT_FLAGS}, {NULL, 0},
+    {"one", GIVES_INT},
+    {"ints", GIVES_INTS},
+    {"flags", GIVES_FLAGS},
+    {"bytes", GIVES_BYTES},
+    {"sums", GIVES_SUMS},
+    {"over_ints", GIVES_OVER_INTS},
+    {"over_flags", GIVES_OVER_FLAGS},
+    {"over_sums", GIVES_OVER_SUMS},
+    {"front_ints", GIVES_FRONT_INTS},
+    {"front_flags", GIVES_FRONT_FLAGS},
+    {NULL, 0},
 };
 
 /* The number of a word, or -1 with an exception. */
@@ -164,7 +181,8 @@ static PyObject *narrowed(PyObject *self, PyObject *index) {
     Frame frame = {.no_memory = 0};
     Given wide = {.at = NULL}, room = {.at = NULL};
     (void)self;
-    if (!PyArray_Check(index) || !PyArray_EquivTypes(PyArray_DESCR((PyArrayObject *)index), cvl_sums.descr)) return Py_NewRef(index);
+    if (!PyArray_Check(index) || !PyArray_EquivTypes(PyArray_DESCR((PyArrayObject *)index), cvl_sums.descr))
+        return Py_NewRef(index);
     wide.at = PyArray_DATA((PyArrayObject *)index);
     wide.count = (size_t)PyArray_SIZE((PyArrayObject *)index);
     if (cvl_new_room(&frame, &room, wide.count, &cvl_ints) < 0) return NULL;
@@ -179,25 +197,29 @@ static PyObject *narrowed(PyObject *self, PyObject *index) {
 
 /* ---- the functions ---- */
 
-PyDoc_STRVAR(doc_take,
+PyDoc_STRVAR(
+    doc_take,
     "take(row, *arguments, **named)\n"
     "\n"
     "The arguments of a call over ranks as its plain call takes them, or what that raises; then the caller's room, as an array\n"
     "and as it was given, or None twice. The row has the name of the call, its operands with their kinds and extents, what the\n"
     "call gives, and whether a number may stand for an array.");
 
-PyDoc_STRVAR(doc_said,
+PyDoc_STRVAR(
+    doc_said,
     "said(row, given, number, place)\n"
     "\n"
     "What the plain call says of a fault, or None: of the arguments that take() gave, with two numbers in the place of\n"
     "segments, how many start in this rank and how many elements they have here. The place is this rank's own.");
 
-PyDoc_STRVAR(doc_about,
+PyDoc_STRVAR(
+    doc_about,
     "about(row, number)\n"
     "\n"
     "The place of the operand that a fault of this number is about, or None.");
 
-PyDoc_STRVAR(doc_narrowed,
+PyDoc_STRVAR(
+    doc_narrowed,
     "narrowed(index)\n"
     "\n"
     "An index that take() gave in 32 bits: a new array if it has 64, in which one that is outside 32 bits is -1.");

@@ -10,8 +10,10 @@ static PyObject *long_as(const Family *family, const Operand *operand) {
         const Operand *other = &family->operands[k];
         if (operand->extent == EXTENT_NONE || other == operand) continue;
         const int over_ranks = other->kind == KIND_RANK_SEGMENTS;
-        if (is_cut(other) && operand->extent == EXTENT_SEGMENTS) return PyUnicode_FromFormat(over_ranks ? "%s.starts" : "len(%s)", other->name);
-        if (is_cut(other) && other->extent == operand->extent) return PyUnicode_FromFormat(over_ranks ? "%s.total" : "numpy.sum(%s)", other->name);
+        if (is_cut(other) && operand->extent == EXTENT_SEGMENTS)
+            return PyUnicode_FromFormat(over_ranks ? "%s.starts" : "len(%s)", other->name);
+        if (is_cut(other) && other->extent == operand->extent)
+            return PyUnicode_FromFormat(over_ranks ? "%s.total" : "numpy.sum(%s)", other->name);
         if (like == NULL && cvl_is_array(other) && other->extent == operand->extent) like = other;
     }
     return like == NULL ? Py_NewRef(Py_None) : PyUnicode_FromFormat("len(%s)", like->name);
@@ -52,8 +54,9 @@ int cvl_refuse_array(PyObject *object, const Operand *operand, const Row *row) {
     const int least = PyObject_TypeCheck(object, cvl_lengths_type) ? 1 : 2;
     PyObject *type = cvl_type_name(object), *length = type == NULL ? NULL : long_as(row->family, operand);
     PyObject *order = length == NULL ? NULL : cvl_has_order(row, least) ? cvl_order_of(row) : Py_NewRef(Py_None);
-    PyObject *words = order == NULL ? NULL : Py_BuildValue("OssOsOO", object, operand->name, cvl_needs[operand->kind].element->name, type,
-        row->name, length, order);
+    PyObject *words = order == NULL
+        ? NULL
+        : Py_BuildValue("OssOsOO", object, operand->name, cvl_needs[operand->kind].element->name, type, row->name, length, order);
     Py_XDECREF(order);
     Py_XDECREF(length);
     Py_XDECREF(type);

@@ -4,7 +4,8 @@
 #include <cvl_parallel.h>
 #include <errno.h>
 
-PyDoc_STRVAR(doc_get_threads,
+PyDoc_STRVAR(
+    doc_get_threads,
     "get_threads($module, /)\n"
     "--\n"
     "\n"
@@ -16,7 +17,8 @@ PyDoc_STRVAR(doc_get_threads,
     "...     cvl.get_threads()\n"
     "3");
 
-PyDoc_STRVAR(doc_set_threads,
+PyDoc_STRVAR(
+    doc_set_threads,
     "set_threads($module, count, /)\n"
     "--\n"
     "\n"

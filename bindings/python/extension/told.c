@@ -81,7 +81,8 @@ static PyObject *offsets_differ(const Frame *frame, int k) {
     if (given->count == 0) return PyUnicode_FromFormat("len(%s) is 0", operands[k].name);
     if (offsets[0] != 0) return PyUnicode_FromFormat("the first of %s is %d, and has to be 0", operands[k].name, (int)offsets[0]);
     const size_t last = (size_t)offsets[given->count - 1];
-    return differ("the last of %s is %zd, and len(%s) is %zd", operands[k].name, last, operands[k + 1].name, frame->given[k + 1].count);
+    return differ(
+        "the last of %s is %zd, and len(%s) is %zd", operands[k].name, last, operands[k + 1].name, frame->given[k + 1].count);
 }
 
 /* The first two arguments that are not as long as they have to be, or nothing; then an exception may be set. */
@@ -113,7 +114,8 @@ static PyObject *room_differs(const Frame *frame) {
     const int counts = family->gives == GIVES_FRONT_INTS || family->gives == GIVES_FRONT_FLAGS || family->gives == GIVES_READ;
     size_t needed = frame->told;
     if (!counts && !cvl_measure(frame, &needed)) return NULL;
-    return PyUnicode_FromFormat(counts ? "len(out) is %zd, and has to be %zd or more" : "len(out) is %zd, and has to be %zd",
+    return PyUnicode_FromFormat(
+        counts ? "len(out) is %zd, and has to be %zd or more" : "len(out) is %zd, and has to be %zd",
         (Py_ssize_t)frame->room.count, (Py_ssize_t)needed);
 }
 
@@ -223,7 +225,9 @@ static PyObject *shared_said(const Frame *frame) {
 static PyObject *with_order(const Frame *frame, PyObject *said) {
     if (PyErr_Occurred() || !cvl_has_order(frame->row, 2)) return said;
     PyObject *order = cvl_order_of(frame->row), *both = NULL;
-    if (order != NULL) both = PyUnicode_FromFormat(said == NULL ? "%Vthe order of arguments is %U" : "%V; the order of arguments is %U", said, "", order);
+    if (order != NULL)
+        both = PyUnicode_FromFormat(
+            said == NULL ? "%Vthe order of arguments is %U" : "%V; the order of arguments is %U", said, "", order);
     Py_XDECREF(order);
     Py_XDECREF(said);
     return both;

@@ -138,7 +138,10 @@ def sums_by_key(w):
     assert w.rank or exact.tolist() == [100 + 10**8 * (total - 100) for total in wanted]
     assert w.ranks.combine_checked_int(w.own, keys, sums) is sums
     assert w.rank or sums.tolist() == [2 * total - 100 for total in wanted]
-    assert raised(w.ranks.combine_checked_int, large, keys, sums) == (18, next(k for k in (0, 1) if 10**8 * (wanted[k] - 100) >= 2**31 - 1000))
+    assert raised(w.ranks.combine_checked_int, large, keys, sums) == (
+        18,
+        next(k for k in (0, 1) if 10**8 * (wanted[k] - 100) >= 2**31 - 1000),
+    )
     counts = w.ranks.counts(keys, length=w.on_first(2))
     assert w.rank or counts.tolist() == [int((WHOLE % 2 == k).sum()) for k in (0, 1)]
 
@@ -322,7 +325,9 @@ def indices_of_64_bits(w):
     bad = wide.copy()
     bad[-1] = 2**32 if w.rank == last else bad[-1]
     for call in (lambda: ranks.smp_puz(own, bad), lambda: ranks.route(bad, w.count)):
-        wanted = "fault 10 IndexOutOfRange at 10" + (f": index[{w.count - 1}] is 4294967296, on rank {last}" if w.rank == last else "")
+        wanted = "fault 10 IndexOutOfRange at 10" + (
+            f": index[{w.count - 1}] is 4294967296, on rank {last}" if w.rank == last else ""
+        )
         found = refused(call)
         assert found == (cvl.Fault, wanted), (found, wanted)
     whole = numpy.zeros(2 * w.count, numpy.int64)

@@ -49,7 +49,10 @@ class Column:
     """A column as pandas has it whose numbers may be missing, where pandas is not: what numpy makes of it are objects."""
 
     def __init__(self, items, kind):
-        self.items, self.dtype = items, type("Dtype", (), {"numpy_dtype": numpy.dtype(bool if kind == "boolean" else kind.lower())})()
+        self.items, self.dtype = (
+            items,
+            type("Dtype", (), {"numpy_dtype": numpy.dtype(bool if kind == "boolean" else kind.lower())})(),
+        )
 
     def isna(self):
         return numpy.array([item is None for item in self.items])
@@ -122,7 +125,15 @@ class Arguments(Limited):
         self.assertEqual(self.taken_as_advised(cvl.add_suz, a=b"\3\1"), [0, 3])
         self.assertEqual(self.taken_as_advised(cvl.add_suz, a=[]), [])
         self.assertEqual(self.taken_as_advised(cvl.add_suz, a=numpy.float64(2.25)), [0])
-        for given in (square, square != 0, square + 0.5, [[0, 1], [1, 1]], [False, True, True, True], [0, 1, 2, 3], square.astype(numpy.uint8)):
+        for given in (
+            square,
+            square != 0,
+            square + 0.5,
+            [[0, 1], [1, 1]],
+            [False, True, True, True],
+            [0, 1, 2, 3],
+            square.astype(numpy.uint8),
+        ):
             wanted = numpy.ravel(given).astype(bool).tolist()
             self.assertEqual(self.taken_as_advised(cvl.not_wub, a=given), [not flag for flag in wanted], given)
         for given in (square, square.astype(float), [0, 1, 2, 3], [[0, 1], [2, 3]], "\0\1\2\3"):
@@ -134,7 +145,9 @@ class Arguments(Limited):
         self.refused(r"rows that differ in length are a cvl\.Ragged\(a\)$", cvl.add_suz, [[1], [2, 3]])
         self.refused("such as numpy.ravel.flags. == x$", cvl.cnt_lub, numpy.array(["x"]))
         keys = numpy.array(["tea", "milk", "tea"])
-        self.refused(r"to number texts as keys cvl\.as_ints\(numpy\.unique\(index, return_inverse=True\)\[1\]\)$", cvl.counts, keys, 2)
+        self.refused(
+            r"to number texts as keys cvl\.as_ints\(numpy\.unique\(index, return_inverse=True\)\[1\]\)$", cvl.counts, keys, 2
+        )
         self.assertEqual(cvl.counts(cvl.as_ints(numpy.unique(keys, return_inverse=True)[1]), 2).tolist(), [1, 2])
 
     def test_a_number_where_one_a_segment_is_wanted(self):
@@ -142,18 +155,29 @@ class Arguments(Limited):
         full = r"numpy\.full\(len\(segments\), {}, dtype=numpy\.int32\)$"
         self.refused("^inits is no array but a int; write " + full.format("inits"), cvl.ind_lez, 0, 1, rows)
         self.assertEqual(self.taken_as_advised(cvl.ind_lez, inits=ints(0, 0, 0), strides=1, segments=rows), [0, 1, 0, 1, 2])
-        self.assertEqual(self.taken_as_advised(cvl.ind_lez, inits=ints(0, 0, 0), strides=1.75, segments=ints(2, 0, 3)), [0, 2, 0, 2, 4])
+        self.assertEqual(
+            self.taken_as_advised(cvl.ind_lez, inits=ints(0, 0, 0), strides=1.75, segments=ints(2, 0, 3)), [0, 2, 0, 2, 4]
+        )
         self.assertEqual(self.taken_as_advised(cvl.dis_veb, values=True, segments=rows), [True] * 5)
         self.assertEqual(self.taken_as_advised(cvl.add_rez, a=2, segments=rows), [4, 0, 6])
         self.assertEqual(self.taken_as_advised(cvl.sel_puz, source=ints(7, 8), index=0, flags=flags(True, False)), [7])
 
     def test_booleans_are_told_the_call_that_takes_them(self):
         rows = cvl.Segments([2, 1])
-        self.refused(r"values has elements of bool.*, or cvl\.dis_veb, which takes booleans$", cvl.dis_vez, flags(True, False), rows)
-        self.refused(r"values is no array but a list; .*, or cvl\.dis_veb, which takes booleans$", cvl.dis_vez, [True, False], rows)
+        self.refused(
+            r"values has elements of bool.*, or cvl\.dis_veb, which takes booleans$", cvl.dis_vez, flags(True, False), rows
+        )
+        self.refused(
+            r"values is no array but a list; .*, or cvl\.dis_veb, which takes booleans$", cvl.dis_vez, [True, False], rows
+        )
         self.refused(r"values has elements of int32.*, or cvl\.pck_luz, which takes integers$", cvl.pck_lub, ints(1), flags(True))
         self.refused(r"a has elements of bool, and has to have int32; write cvl\.as_ints\(a\)$", cvl.add_ruz, flags(True))
-        self.refused(r"values has elements of int8, and has to have int32; write cvl\.as_ints\(values\)$", cvl.dis_vez, numpy.zeros(2, numpy.int8), rows)
+        self.refused(
+            r"values has elements of int8, and has to have int32; write cvl\.as_ints\(values\)$",
+            cvl.dis_vez,
+            numpy.zeros(2, numpy.int8),
+            rows,
+        )
         self.refused(r"values is no array but a list; write cvl\.as_ints\(values\)$", cvl.dis_vez, [1, 2], rows)
         self.refused(r"index has elements of bool.*write cvl\.as_ints\(index\)$", cvl.bck_puz, ints(1), flags(True))
         self.assertEqual(self.taken_as_advised(cvl.dis_vez, values=flags(True, False), segments=rows), [1, 1, 0])
@@ -169,10 +193,29 @@ class Arguments(Limited):
                 cvl.append_segments_int(*arguments)
             self.assertEqual(caught.exception.number, number)
             self.assertTrue(said is None or caught.exception.said.startswith(f"{said}; "), caught.exception.said)
-        self.refused(r"b is no array but a Segments, whose lengths are b\.lengths; " + order, cvl.append_segments_int, a, cvl.Segments(rows), b, others)
+        self.refused(
+            r"b is no array but a Segments, whose lengths are b\.lengths; " + order,
+            cvl.append_segments_int,
+            a,
+            cvl.Segments(rows),
+            b,
+            others,
+        )
         self.refused(order, cvl.append_segments_int, a, rows.tolist(), b, others)
-        self.refused(r"b has elements of int32.*; the order of arguments is append_segments_bool\(a, b, ", cvl.append_segments_bool, a != 2, rows, b != 7, others)
-        self.refused(r"a is no array but a Segments.*; the order of arguments is add_rez\(a, segments\)$", cvl.add_rez, cvl.Segments(rows), a)
+        self.refused(
+            r"b has elements of int32.*; the order of arguments is append_segments_bool\(a, b, ",
+            cvl.append_segments_bool,
+            a != 2,
+            rows,
+            b != 7,
+            others,
+        )
+        self.refused(
+            r"a is no array but a Segments.*; the order of arguments is add_rez\(a, segments\)$",
+            cvl.add_rez,
+            cvl.Segments(rows),
+            a,
+        )
         self.refused(r"a is no array but a Segments, whose lengths are a\.lengths$", cvl.add_suz, cvl.Segments(rows))
         # the room is not among them, and a call with one vector of lengths has no other order
         with self.assertRaisesRegex(cvl.Fault, r"len\(out\) is 1, and has to be 6$"):
@@ -184,10 +227,14 @@ class Arguments(Limited):
             ("add", "ADD"), ("ADD", "ADD"), ("+", "ADD"), ("sum", "ADD"), (numpy.add, "ADD"), (operator.add, "ADD"), (sum, "ADD"), (numpy.multiply, "MUL"),
             (min, "MIN"), (numpy.maximum, "MAX"), ("or", "IOR"), (operator.or_, "IOR"), (operator.and_, "AND"), (numpy.bitwise_xor, "XOR"),
         ):  # fmt: skip
-            self.refused(rf"^op is no number of an operator but a .*; write cvl\.operators\.{name}$", cvl.combine_permute_int, word, *given)
+            self.refused(
+                rf"^op is no number of an operator but a .*; write cvl\.operators\.{name}$", cvl.combine_permute_int, word, *given
+            )
         for word in ("sub", numpy.subtract, "other", None, 1.5):
             self.refused("write one of cvl.operators: ADD, MUL, MIN, MAX, AND, IOR, XOR$", cvl.combine_permute_int, word, *given)
-        self.refused("write one of cvl.operators: AND, IOR, XOR$", cvl.combine_permute_bool, "add", flags(True), ints(0), flags(True))
+        self.refused(
+            "write one of cvl.operators: AND, IOR, XOR$", cvl.combine_permute_bool, "add", flags(True), ints(0), flags(True)
+        )
         self.assertEqual(cvl.combine_permute_int(cvl.operators.ADD, *given).tolist(), [18])
 
     def test_what_is_not_in_one_row_is_refused(self):
@@ -314,7 +361,9 @@ class Arguments(Limited):
             with self.assertRaisesRegex(OverflowError, f"b is {number}, which does not fit 32 bits"):
                 cvl.add_wuz(a, number)
         self.refused(r"b is no whole number but a float; int\(b\) would cut its fraction", cvl.add_wuz, a, 0.5)
-        self.refused(r"b is no whole number but a numpy.float64; int\(b\) would cut its fraction", cvl.add_wuz, a, numpy.float64(2))
+        self.refused(
+            r"b is no whole number but a numpy.float64; int\(b\) would cut its fraction", cvl.add_wuz, a, numpy.float64(2)
+        )
         self.refused(r"b is no boolean but a int; write bool\(b\)", cvl.and_wub, b, 1)
         self.refused(r"beside an array, and there is none; write numpy.array\(\[a\], dtype=numpy.int32\)", cvl.add_wuz, 1, 2)
         self.refused(r"beside an array, and there is none; write numpy.array\(\[flags\], dtype=bool\)", cvl.sel_wuz, True, 1, 2)
@@ -464,9 +513,15 @@ class Rooms(Limited):
         source, more = ints(3, 1, 4), numpy.array([0, 2**32, -(2**40)])
         for call, said in (
             (lambda: cvl.bck_puz(source, more), "10 IndexOutOfRange at 1: index[1] is 4294967296, and len(source) is 3"),
-            (lambda: cvl.smp_puz(source, more[[0, 2, 1]]), "10 IndexOutOfRange at 1: index[1] is -1099511627776, and the result has 3 elements"),
+            (
+                lambda: cvl.smp_puz(source, more[[0, 2, 1]]),
+                "10 IndexOutOfRange at 1: index[1] is -1099511627776, and the result has 3 elements",
+            ),
             (lambda: cvl.smp_puz(source, numpy.array([1, 1, 2**32])), "11 IndexRepeated at 1: index[1] is 1"),
-            (lambda: cvl.sel_puz(source, more, flags(False, True, False)), "10 IndexOutOfRange at 1: index[1] is 4294967296, and the result has 1 elements"),
+            (
+                lambda: cvl.sel_puz(source, more, flags(False, True, False)),
+                "10 IndexOutOfRange at 1: index[1] is 4294967296, and the result has 1 elements",
+            ),
             (lambda: cvl.counts(more, 5), "10 IndexOutOfRange at 1: index[1] is 4294967296, and the result has 5 elements"),
             (lambda: cvl.gather_segments_int(source, more, ints(1, 0, 1)), "10 IndexOutOfRange at 1: starts[1] is 4294967296"),
             (lambda: cvl.bck_puz(source, more, out=ints(1, 2)), "7 LengthMismatch: len(out) is 2, and has to be 3"),
@@ -488,13 +543,19 @@ class Rooms(Limited):
             (lambda: cvl.bck_puz(ints(7, 8), a), "10 IndexOutOfRange at 0: index[0] is 3, and len(source) is 2"),
             (lambda: cvl.smp_puz(a, ints(0, -1, 9)), "10 IndexOutOfRange at 1: index[1] is -1, and the result has 3 elements"),
             (lambda: cvl.smp_puz(a, ints(0, 2, 2)), "11 IndexRepeated at 2: index[2] is 2"),
-            (lambda: cvl.sel_puz(a, ints(0, 9, 2), flags(True, False, True)), "10 IndexOutOfRange at 2: index[2] is 2, and the result has 2 elements"),
+            (
+                lambda: cvl.sel_puz(a, ints(0, 9, 2), flags(True, False, True)),
+                "10 IndexOutOfRange at 2: index[2] is 2, and the result has 2 elements",
+            ),
             (lambda: cvl.def_puz(a, ints(0, 1, 5), ints(0, 0)), "10 IndexOutOfRange at 2: index[2] is 5, and len(defaults) is 2"),
             (lambda: cvl.ext_vuz(a, 3), "10 IndexOutOfRange at 0: index is 3, and len(vector) is 3"),
             (lambda: cvl.ext_vuz(a, 2**70), "10 IndexOutOfRange at 0"),
             (lambda: cvl.smp_pez(a, ints(0, 1, 2), lengths), "10 IndexOutOfRange at 2: index[2] is 2"),
             (lambda: cvl.ext_vez(a, ints(0, 2), lengths), "10 IndexOutOfRange at 1: index[1] is 2"),
-            (lambda: cvl.sparse_product(lengths, columns, columns, x), "10 IndexOutOfRange at 2: columns[2] is 2, and len(x) is 2"),
+            (
+                lambda: cvl.sparse_product(lengths, columns, columns, x),
+                "10 IndexOutOfRange at 2: columns[2] is 2, and len(x) is 2",
+            ),
             (lambda: cvl.add_sez(a, ints(4, -1)), "12 NegativeLength at 1: segments[1] is -1"),
             (lambda: cvl.dis_vuz(1, -3), "12 NegativeLength: count is -3"),
             (lambda: cvl.tot_suz(ints(2**31 - 1, 1, 1)), "18 Overflow at 2"),
@@ -508,7 +569,12 @@ class Rooms(Limited):
     def test_numbers_as_integers(self):
         a = ints(3, 1)
         self.assertIs(cvl.as_ints(a), a)
-        for given, wanted in (([3, 1.0], [3, 1]), (numpy.array([True, False]), [1, 0]), ((), []), (numpy.array([2**31 - 1, -(2**31)]), [2**31 - 1, -(2**31)])):
+        for given, wanted in (
+            ([3, 1.0], [3, 1]),
+            (numpy.array([True, False]), [1, 0]),
+            ((), []),
+            (numpy.array([2**31 - 1, -(2**31)]), [2**31 - 1, -(2**31)]),
+        ):
             found = cvl.as_ints(given)
             self.assertEqual((found.dtype, found.tolist()), (numpy.int32, wanted))
         for given, kind, said in (
@@ -548,7 +614,9 @@ class Rooms(Limited):
                 found = cvl.as_ints(column)
                 self.assertEqual((found.dtype, found.tolist()), (numpy.int32, wanted))
             for column in columns([given[0], None, given[1], None], kind):
-                with self.assertRaisesRegex(ValueError, r"^k\[1\] is missing, and has to be a number; fill in or drop what is missing$"):
+                with self.assertRaisesRegex(
+                    ValueError, r"^k\[1\] is missing, and has to be a number; fill in or drop what is missing$"
+                ):
                     cvl.as_ints(column, "k")
         for column in columns([2, 0, 1], "Int64"):
             self.assertEqual((cvl.Segments(column).lengths.tolist(), cvl.argsort(column).tolist()), ([2, 0, 1], [1, 2, 0]))
@@ -825,7 +893,13 @@ class Threads(Limited):
     def test_the_variable(self):
         said = "import cvl; print(cvl.get_threads())"
         is_no_number = 'cvl: CVL_NUM_THREADS is "{}", and has to be a number from 1 to 64; calls have {}\n'
-        for word, count, told_of in (("3", 3, ""), ("", 1, ""), ("65", 64, "64 threads"), (" 4", 4, "4 threads"), ("abc", 1, "1 thread")):
+        for word, count, told_of in (
+            ("3", 3, ""),
+            ("", 1, ""),
+            ("65", 64, "64 threads"),
+            (" 4", 4, "4 threads"),
+            ("abc", 1, "1 thread"),
+        ):
             place = {**os.environ, "CVL_NUM_THREADS": word, "PYTHONPATH": os.pathsep.join(filter(None, sys.path))}
             told = subprocess.run([sys.executable, "-c", said], env=place, capture_output=True, text=True, timeout=self.LIMIT)
             self.assertEqual((told.stdout, told.stderr), (f"{count}\n", told_of and is_no_number.format(word, told_of)))
@@ -891,7 +965,11 @@ class EachCall(Limited):
             others = (numpy.int64, numpy.int8, float, ">i4")
             for make in (*(lambda a, dtype=dtype: a.astype(dtype) for dtype in others), numpy.ndarray.tolist):
                 for changed, arguments in example.other_arguments(make):
-                    if changed in INDICES and arguments[changed] is not None and getattr(arguments[changed], "dtype", None) == numpy.int64:
+                    if (
+                        changed in INDICES
+                        and arguments[changed] is not None
+                        and getattr(arguments[changed], "dtype", None) == numpy.int64
+                    ):
                         continue
                     with self.assertRaisesRegex(TypeError, f"^{changed} ", msg=name):
                         example.call(**arguments)
@@ -905,7 +983,10 @@ class EachCall(Limited):
 
     def outcome(self, example, **changed):
         """What a call gives and what stands in its rooms after it, or its fault with them."""
-        arguments = {name: given.copy() if isinstance(given, numpy.ndarray) else given for name, given in {**example.arguments, **changed}.items()}
+        arguments = {
+            name: given.copy() if isinstance(given, numpy.ndarray) else given
+            for name, given in {**example.arguments, **changed}.items()
+        }
         rooms = [given for name, given in arguments.items() if isinstance(given, numpy.ndarray) and name in ("out", "marks")]
         try:
             found = example.call(**arguments)
@@ -924,7 +1005,11 @@ class EachCall(Limited):
                 for number in (2**31, -(2**31) - 1, 2**32 + int(index[place]), -(2**63), 2**63 - 1):
                     outside, other = index.copy(), wide.copy()
                     outside[place], other[place] = -1, number
-                    self.assertEqual(self.outcome(example, **{changed: other}), self.outcome(example, **{changed: outside}), (name, place, number))
+                    self.assertEqual(
+                        self.outcome(example, **{changed: other}),
+                        self.outcome(example, **{changed: outside}),
+                        (name, place, number),
+                    )
                     tried += 1
         self.assertGreater(tried, 500)
 
@@ -1115,8 +1200,12 @@ class FirstSenders(Limited):
             (lambda: cvl.first_senders(index, 3, out=ints(7)), 7, None, "len(out) is 1, and has to be 3"),
             (lambda: cvl.select_first_senders(index, flags(True), 3), 7, None, "len(flags) is 1, and len(index) is 100"),
             (lambda: cvl.seg_first_senders(ints(0), ints(1), ints(2), out=ints(7)), 7, None, "len(out) is 1, and has to be 2"),
-            (lambda: cvl.seg_first_senders(ints(0), ints(1), ints(2, 1)), 7, None,
-                "len(result_segments) is 2, and len(segments) is 1; the order of arguments is seg_first_senders(index, segments, result_segments)"),
+            (
+                lambda: cvl.seg_first_senders(ints(0), ints(1), ints(2, 1)),
+                7,
+                None,
+                "len(result_segments) is 2, and len(segments) is 1; the order of arguments is seg_first_senders(index, segments, result_segments)",
+            ),
             (lambda: cvl.seg_first_senders(ints(0, 2), ints(1, 1), ints(2, 1)), 10, 1, "index[1] is 2"),
         ):
             with self.assertRaises(cvl.Fault) as caught:
@@ -1197,7 +1286,9 @@ class Slices(Limited):
     def test_transposes(self):
         matrix = numpy.arange(70 * 45, dtype=numpy.int32).reshape(70, 45)
         self.assertEqual(cvl.transpose_int(numpy.ravel(matrix), 70, 45).tolist(), numpy.ravel(matrix.T).tolist())
-        self.assertEqual(cvl.transpose_bool(numpy.ravel(matrix % 3 == 1), 70, 45).tolist(), numpy.ravel(matrix.T % 3 == 1).tolist())
+        self.assertEqual(
+            cvl.transpose_bool(numpy.ravel(matrix % 3 == 1), 70, 45).tolist(), numpy.ravel(matrix.T % 3 == 1).tolist()
+        )
         with self.assertRaisesRegex(OverflowError, "rows is -1, which does not fit a number of elements"):
             cvl.transpose_int(ints(1), -1, -1)
 
@@ -1214,7 +1305,10 @@ class Slices(Limited):
             cvl.bytes_from_ints(ints(1, 256, -1), out=numpy.zeros(3, numpy.uint8))
         self.assertEqual((caught.exception.number, caught.exception.place), (18, 1))
         for given, said in (
-            (numpy.zeros(2, numpy.int8), r"bytes has elements of int8, and has to have uint8; bytes of another kind are bytes.view\(numpy.uint8\)"),
+            (
+                numpy.zeros(2, numpy.int8),
+                r"bytes has elements of int8, and has to have uint8; bytes of another kind are bytes.view\(numpy.uint8\)",
+            ),
             ("text", "bytes is no array but a str; write bytes.encode"),
         ):
             with self.assertRaisesRegex(TypeError, said):
@@ -1283,14 +1377,21 @@ class CombiningPermutes(Limited):
         there_and_back = numpy.concatenate([source, -source])
         self.assertIs(cvl.combine_checked_int(there_and_back, numpy.tile(self.index, 2), room), room)
         self.assertEqual(room.tolist(), self.before.tolist())
-        self.assertEqual(cvl.seg_combine_checked_int(ints(1, 2, 3), ints(1, 0, 0), ints(1, 2), ints(2, 1), ints(5, 6, 7)).tolist(), [5, 7, 12])
+        self.assertEqual(
+            cvl.seg_combine_checked_int(ints(1, 2, 3), ints(1, 0, 0), ints(1, 2), ints(2, 1), ints(5, 6, 7)).tolist(), [5, 7, 12]
+        )
         halves = numpy.array([5, 6, 7])
-        self.assertEqual(cvl.seg_combine_exact_sums(ints(1, 2, 2**31 - 1), ints(1, 0, 0), ints(1, 2), ints(2, 1), halves).tolist(), [5, 7, 2**31 + 8])
+        self.assertEqual(
+            cvl.seg_combine_exact_sums(ints(1, 2, 2**31 - 1), ints(1, 0, 0), ints(1, 2), ints(2, 1), halves).tolist(),
+            [5, 7, 2**31 + 8],
+        )
 
     def test_of_booleans(self):
         source, room = self.source > 0, self.before > 0
         wanted = combined(int.__xor__, source, self.index, room)
-        self.assertEqual(cvl.combine_permute_bool(cvl.operators.XOR, source, self.index, room).tolist(), [bool(found) for found in wanted])
+        self.assertEqual(
+            cvl.combine_permute_bool(cvl.operators.XOR, source, self.index, room).tolist(), [bool(found) for found in wanted]
+        )
         odd = numpy.array([2, 0, 255], dtype=numpy.uint8).view(bool)
         cvl.combine_permute_bool(cvl.operators.XOR, flags(True, True), ints(1, 2), odd)
         self.assertEqual(odd.view(numpy.uint8).tolist(), [1, 1, 0])
@@ -1315,16 +1416,36 @@ class CombiningPermutes(Limited):
     def test_faults(self):
         add, one, most = cvl.operators.ADD, ints(1), 2**31 - 1
         for call, number, place, said in (
-            (lambda: cvl.combine_permute_int(add, ints(1, 2, 3), ints(0, 3, 4), ints(7, 7, 7)), 10, 1, "index[1] is 3, and the result has 3 elements"),
+            (
+                lambda: cvl.combine_permute_int(add, ints(1, 2, 3), ints(0, 3, 4), ints(7, 7, 7)),
+                10,
+                1,
+                "index[1] is 3, and the result has 3 elements",
+            ),
             (lambda: cvl.combine_permute_int(add, one, ints(0, 0), ints(7)), 7, None, "len(index) is 2, and len(source) is 1"),
             (lambda: cvl.combine_permute_int(cvl.operators.SUB, one, one, ints(7, 7)), 2, None, None),
             (lambda: cvl.combine_permute_int(add, one, (room := ints(0, 0))[:1], room), 102, None, "out and index share memory"),
-            (lambda: cvl.seg_combine_permute_int(add, one, one, ints(1), ints(2), ints(7)), 7, None, "len(out) is 1, and has to be 2"),
+            (
+                lambda: cvl.seg_combine_permute_int(add, one, one, ints(1), ints(2), ints(7)),
+                7,
+                None,
+                "len(out) is 1, and has to be 2",
+            ),
             (lambda: cvl.seg_combine_permute_int(add, one, ints(2), ints(1), ints(2), ints(7, 7)), 10, 0, "index[0] is 2"),
             (lambda: cvl.combine_checked_int(ints(most, 1, 1), ints(1, 1, 0), ints(most, 0, 0)), 18, 0, None),
-            (lambda: cvl.combine_checked_int(ints(most, 1), ints(0, 3), ints(7, 7, 7)), 10, 1, "index[1] is 3, and the result has 3 elements"),
+            (
+                lambda: cvl.combine_checked_int(ints(most, 1), ints(0, 3), ints(7, 7, 7)),
+                10,
+                1,
+                "index[1] is 3, and the result has 3 elements",
+            ),
             (lambda: cvl.combine_exact_sums(one, ints(0), numpy.array([2**62])), 18, 0, None),
-            (lambda: cvl.combine_exact_sums(one, ints(2), numpy.zeros(2, numpy.int64)), 10, 0, "index[0] is 2, and the result has 2 elements"),
+            (
+                lambda: cvl.combine_exact_sums(one, ints(2), numpy.zeros(2, numpy.int64)),
+                10,
+                0,
+                "index[0] is 2, and the result has 2 elements",
+            ),
             (lambda: cvl.counts(one, -1), 12, None, "count is -1"),
             (lambda: cvl.counts(one, most + 1), 13, None, None),
             (lambda: cvl.counts(ints(0, 3), 3), 10, 1, "index[1] is 3, and the result has 3 elements"),
@@ -1349,7 +1470,11 @@ class CombiningPermutes(Limited):
             (given, TypeError, r"combine_permute_int\(\) missing 1 required argument: 'out'"),
             ((*given, None), TypeError, "out is no array but a NoneType; a room that holds what stands before is made by"),
             ((*given, [7]), TypeError, "out is no array but a list; a room that holds what stands before is made by"),
-            ((*given, flags(True)), TypeError, r"out has elements of bool, and has to have int32; a room .* numpy.zeros\(n, dtype=numpy.int32\)"),
+            (
+                (*given, flags(True)),
+                TypeError,
+                r"out has elements of bool, and has to have int32; a room .* numpy.zeros\(n, dtype=numpy.int32\)",
+            ),
             ((*given, read_only), ValueError, "out may not be written"),
             ((*given, ints(7), ints(7)), TypeError, r"combine_permute_int\(\) takes 4 positional arguments but 5 were given"),
         ):
@@ -1361,7 +1486,11 @@ class Sorts(Limited):
     def setUp(self):
         # few keys, keys by digits of 8 bits, and keys by digits of 11; many that are equal, and the greatest and the least
         rng = numpy.random.default_rng(8)
-        self.vectors = [rng.integers(low, high, n, numpy.int32) for n in (0, 40, 900, 5000) for low, high in ((-5, 5), (-(2**31), 2**31 - 1))]
+        self.vectors = [
+            rng.integers(low, high, n, numpy.int32)
+            for n in (0, 40, 900, 5000)
+            for low, high in ((-5, 5), (-(2**31), 2**31 - 1))
+        ]
 
     def test_as_numpy_sorts(self):
         for keys in self.vectors:
@@ -1383,7 +1512,9 @@ class Sorts(Limited):
             lengths = ints(len(keys) // 3, 0, len(keys) - len(keys) // 3)
             pieces = keys[: lengths[0]], keys[lengths[0] :]
             for call, flat in ((cvl.seg_order, cvl.order), (cvl.seg_rank, cvl.rank), (cvl.seg_sort, cvl.sort)):
-                self.assertEqual(call(keys, lengths).tolist(), [*flat(pieces[0].copy()).tolist(), *flat(pieces[1].copy()).tolist()])
+                self.assertEqual(
+                    call(keys, lengths).tolist(), [*flat(pieces[0].copy()).tolist(), *flat(pieces[1].copy()).tolist()]
+                )
 
     def test_by_key(self):
         for keys in self.vectors:
@@ -1444,7 +1575,14 @@ class Names(Limited):
         self.assertNotIn("method of", pydoc.plain(pydoc.render_doc(cvl.add_wuz)))
 
     def test_help_has_the_names_of_other_libraries(self):
-        words = {"cumsum": "add_suz", "prefix sum": "add_suz", "scatter": "smp_puz", "argsort": "order", "bincount": "counts", "unique": "sort"}
+        words = {
+            "cumsum": "add_suz",
+            "prefix sum": "add_suz",
+            "scatter": "smp_puz",
+            "argsort": "order",
+            "bincount": "counts",
+            "unique": "sort",
+        }
         for word, name in words.items():
             self.assertIn(word, pydoc.plain(pydoc.render_doc(getattr(cvl, name))))
 

@@ -213,8 +213,9 @@ class Errors(Limited):
             frame = traceback.extract_tb(error.__traceback__)[-1]
         function = inside or function
         code = function.plain.__code__
-        self.assertEqual((frame.lineno - code.co_firstlineno, frame.filename, frame.name), (line, code.co_filename,
-        function.name))
+        self.assertEqual(
+            (frame.lineno - code.co_firstlineno, frame.filename, frame.name), (line, code.co_filename, function.name)
+        )
 
     def test_lines(self):
         self.stops(ZeroDivisionError, 3, inverse, [[1], [2, 0], [0]])
@@ -274,7 +275,7 @@ class Errors(Limited):
     def test_numbers_of_32_bits(self):
         least, greatest = -(2**31), 2**31 - 1
         values = 0, 1, -1, 2, -2, 3, 46341, -46341, 65536, -65536
-        values += *range(least, least + 9), *range(greatest - 8, greatest + 1)
+        values += [*range(least, least + 9), *range(greatest - 8, greatest + 1)]
         of_one = "-a", "a + 7", "-7 - a", "a * 3", "a * -3", "a // -1", "a % -5"
         for op in ("a + b", "a - b", "a * b", "a // b", "a % b", "sum([a, b])", *of_one):
             text = f"def f(a, b):\n    return {op}\n"
@@ -350,7 +351,7 @@ class Page(Limited):
         with tempfile.TemporaryDirectory() as folder:
             copy = pathlib.Path(shutil.copytree(TOP / "examples/python/flatten", pathlib.Path(folder, "flatten")))
             language = (copy / "language.py").read_text()
-            (copy / "language.py").write_text(language.replace('BUILTINS = (', 'BUILTINS = ("divmod", '))
+            (copy / "language.py").write_text(language.replace("BUILTINS = (", 'BUILTINS = ("divmod", '))
             for name, block in (("infer", infer), ("functions", functions)):
                 with open(copy / f"{name}.py", "a") as file:
                     file.write(f"\n{block}")

@@ -54,7 +54,9 @@ def preloaded(source, folder):
     return {**os.environ, "LD_PRELOAD": loaded, "PYTHONMALLOC": "malloc", "PYTHONPATH": paths}
 
 
-may_preload = unittest.skipUnless(shutil.which("cc") and sys.platform == "linux", "what refuses is compiled, and stands before glibc")
+may_preload = unittest.skipUnless(
+    shutil.which("cc") and sys.platform == "linux", "what refuses is compiled, and stands before glibc"
+)
 
 
 def forms(example):
@@ -156,7 +158,10 @@ def refused_in_turn(name, call, arguments, refused):
     """Refuses the first request of a call, then the second and so on, alone and with those behind it. How many there were."""
     wanted = outcome(call, **with_its_room(arguments))
     for after in range(1000):
-        told = [outcome(lambda given: refused(call, (), given, after, alone, 0), given=with_its_room(arguments)) for alone in (True, False)]
+        told = [
+            outcome(lambda given: refused(call, (), given, after, alone, 0), given=with_its_room(arguments))
+            for alone in (True, False)
+        ]
         if any(found not in (MemoryError, wanted) for found in told):
             sys.exit(f"{name} gives {told} and not {wanted}, where request {after} is refused")
         if MemoryError not in told:
@@ -270,7 +275,9 @@ def main():
     what_comes_before_memory(refused, how_many)
     a_refusal_that_resizes_an_array(refused)
     orders = [(call, *order) for call, *both in pairs() for order in (both, both[::-1])]
-    print(f"{count} requests were refused, and arguments changed at {sum(changed_in_turn(changed, how_many, *order) for order in orders)}")
+    print(
+        f"{count} requests were refused, and arguments changed at {sum(changed_in_turn(changed, how_many, *order) for order in orders)}"
+    )
 
 
 if __name__ == "__main__":

@@ -116,7 +116,9 @@ class Said(unittest.TestCase):
     def test_all_that_is_missing_is_said_at_once(self):
         with mock.patch.object(package, "python_headers", mock.Mock(side_effect=package.Missing("no headers"))):
             said = self.refusal(package.check, "1.19.5", CC="no-such-compiler").splitlines()
-        self.assertEqual([said[0].startswith("numpy 1.23"), *said[1:]], [True, "no headers", "there is no C compiler no-such-compiler"])
+        self.assertEqual(
+            [said[0].startswith("numpy 1.23"), *said[1:]], [True, "no headers", "there is no C compiler no-such-compiler"]
+        )
 
     def test_pip_shows_what_is_missing_and_no_traceback(self):
         fails = mock.Mock(side_effect=package.Missing("no headers"))
@@ -141,7 +143,9 @@ class Said(unittest.TestCase):
             named = self.headers(pathlib.Path(folder), "#define NPY_2_0_API_VERSION 18\n")
             with mock.patch.dict(os.environ, CVL_NUMPY_HEADERS=named):
                 target = package.every_python()
-        self.assertEqual((target.suffix, target.tag, target.numpy, target.headers), (".abi3.so", "cp39-abi3", "numpy>=1.23", named))
+        self.assertEqual(
+            (target.suffix, target.tag, target.numpy, target.headers), (".abi3.so", "cp39-abi3", "numpy>=1.23", named)
+        )
         said = package.metadata(target)
         self.assertIn("Requires-Python: >=3.9\n", said)
         self.assertIn("Requires-Dist: numpy>=1.23\n", said)

@@ -236,7 +236,11 @@ def graph_times(said, rows, ends):
     except ImportError:
         return
     matrix = csr_matrix((numpy.ones(len(ends)), ends, numpy.array(rows.offsets)), shape=(len(rows), len(rows)))
-    measured(f"breadth_first.py, {said}", lambda: breadth_first(rows, ends, 0), ("scipy", lambda: csgraph.breadth_first_order(matrix, 0)))
+    measured(
+        f"breadth_first.py, {said}",
+        lambda: breadth_first(rows, ends, 0),
+        ("scipy", lambda: csgraph.breadth_first_order(matrix, 0)),
+    )
     others = ("scipy", lambda: csgraph.connected_components(matrix, directed=False))
     measured(f"connected_parts.py, {said}", lambda: connected_parts(rows, ends), others)
 
@@ -261,20 +265,41 @@ def tables_times(rng, n=1 << 22, many=1 << 16):
     few, any_keys, values = (rng.integers(0, limit, n, dtype=numpy.int32) for limit in (many, n, 1000))
     table = pandas.DataFrame({"few": few, "any": any_keys, "value": values})
     said = "4,194,304 values"
-    measured(f"groups.py, sums of {said} in 65,536 groups", lambda: sums_of(few, values, many), ("pandas", lambda: table.groupby("few").value.sum()))
+    measured(
+        f"groups.py, sums of {said} in 65,536 groups",
+        lambda: sums_of(few, values, many),
+        ("pandas", lambda: table.groupby("few").value.sum()),
+    )
     everything = ["count", "sum", "min", "max"]
-    measured(f"groups.py, counts, sums and bounds of {said} in 65,536 groups", lambda: Groups(many).add_up(few, values),
-             ("pandas", lambda: table.groupby("few").value.agg(everything)))
-    measured(f"groups.py, sums and medians of {said} by any keys", lambda: sort_groups(any_keys, values),
-             ("pandas", lambda: table.groupby("any").value.agg(["count", "sum", "median"])))
-    measured(f"dictionary.py, numbers for {said}", lambda: encode(any_keys), ("pandas", lambda: pandas.factorize(any_keys, sort=True)),
-             ("numpy", lambda: numpy.unique(any_keys, return_inverse=True)))
+    measured(
+        f"groups.py, counts, sums and bounds of {said} in 65,536 groups",
+        lambda: Groups(many).add_up(few, values),
+        ("pandas", lambda: table.groupby("few").value.agg(everything)),
+    )
+    measured(
+        f"groups.py, sums and medians of {said} by any keys",
+        lambda: sort_groups(any_keys, values),
+        ("pandas", lambda: table.groupby("any").value.agg(["count", "sum", "median"])),
+    )
+    measured(
+        f"dictionary.py, numbers for {said}",
+        lambda: encode(any_keys),
+        ("pandas", lambda: pandas.factorize(any_keys, sort=True)),
+        ("numpy", lambda: numpy.unique(any_keys, return_inverse=True)),
+    )
     half = n // 4
     for said, factor in (("that lie close together", 1), ("of any size", 2654435761)):
         keys = ((any_keys[: 2 * half] // 4).astype(numpy.int64) * factor).astype(numpy.uint32).view(numpy.int32)
         left, right = keys[:half], keys[half:]
-        tables = [pandas.DataFrame({"key": side, name: numpy.arange(half, dtype=numpy.int32)}) for side, name in ((left, "left"), (right, "right"))]
-        measured(f"join.py, 1,048,576 rows on either side, keys {said}", lambda: join(left, right), ("pandas", lambda: tables[0].merge(tables[1], on="key")))
+        tables = [
+            pandas.DataFrame({"key": side, name: numpy.arange(half, dtype=numpy.int32)})
+            for side, name in ((left, "left"), (right, "right"))
+        ]
+        measured(
+            f"join.py, 1,048,576 rows on either side, keys {said}",
+            lambda: join(left, right),
+            ("pandas", lambda: tables[0].merge(tables[1], on="key")),
+        )
 
 
 def matrices_times(rng, many=1 << 16, degree=8):
@@ -282,7 +307,9 @@ def matrices_times(rng, many=1 << 16, degree=8):
         from scipy.sparse import csr_matrix
     except ImportError:
         return
-    columns, values = rng.integers(0, many, many * degree, dtype=numpy.int32), rng.integers(0, 1000, many * degree, dtype=numpy.int32)
+    columns, values = rng.integers(0, many, many * degree, dtype=numpy.int32), rng.integers(
+        0, 1000, many * degree, dtype=numpy.int32
+    )
     rows = cvl.Segments(numpy.full(many, degree))
     matrix = csr_matrix((values, columns, numpy.array(rows.offsets)), shape=(many, many))
 
@@ -291,8 +318,12 @@ def matrices_times(rng, many=1 << 16, degree=8):
         found.sort_indices()
         return found
 
-    measured("matrix_product.py, 65,536 rows with 8 entries each, squared", lambda: matrix_product(rows, columns, values, rows, columns, values),
-             ("scipy with sorted columns", product), ("scipy", lambda: matrix @ matrix))
+    measured(
+        "matrix_product.py, 65,536 rows with 8 entries each, squared",
+        lambda: matrix_product(rows, columns, values, rows, columns, values),
+        ("scipy with sorted columns", product),
+        ("scipy", lambda: matrix @ matrix),
+    )
 
 
 def texts_times(rng, n=1 << 18):
@@ -308,7 +339,11 @@ def texts_times(rng, n=1 << 18):
         slices = (text[start : start + length] for start, length in zip(starts.tolist(), lengths.tolist()))
         return [numbers.setdefault(word, len(numbers)) for word in slices]
 
-    measured(f"dictionary.py, numbers for {len(starts):,} words", lambda: encode(*columns_of(text, starts, lengths)), ("a dict", by_dict))
+    measured(
+        f"dictionary.py, numbers for {len(starts):,} words",
+        lambda: encode(*columns_of(text, starts, lengths)),
+        ("a dict", by_dict),
+    )
 
 
 def times():

@@ -396,20 +396,38 @@ class Operators(Refusing):
     def test_faults_say_row_and_place(self):
         r, deep = Ragged(ROWS), Ragged(DEEP)
         for said, call in (
-            ("fault 8 DivideByZero at (2, 1): the divisor of place 1 in row 2 is 0", lambda: r // Ragged([[1, 1], [], [1, 0, 1]])),
+            (
+                "fault 8 DivideByZero at (2, 1): the divisor of place 1 in row 2 is 0",
+                lambda: r // Ragged([[1, 1], [], [1, 0, 1]]),
+            ),
             ("fault 8 DivideByZero at (0, 0): the divisor of place 0 in row 0 is 0", lambda: r % 0),
             ("fault 8 DivideByZero at (0, 0): the divisor of place 0 in row 0 is 0", lambda: 5 // (r * 0)),
             ("fault 8 DivideByZero at (2, 0): the divisor of place 0 in row 2 is 0", lambda: r // [1, 0, 0]),
             ("fault 8 DivideByZero at (2, 0, 0): the divisor of place 0 in row [2][0] is 0", lambda: deep // [1, 1, 0]),
-            ("fault 9 ShiftOutOfRange at (2, 2): the shift of place 2 in row 2 is 32", lambda: r << Ragged([[1, 1], [], [1, 0, 32]])),
+            (
+                "fault 9 ShiftOutOfRange at (2, 2): the shift of place 2 in row 2 is 32",
+                lambda: r << Ragged([[1, 1], [], [1, 0, 32]]),
+            ),
             ("fault 9 ShiftOutOfRange at (0, 0): the shift of place 0 in row 0 is -1", lambda: r >> -1),
             ("fault 10 IndexOutOfRange at (2, 1): row 2 has 3 elements, and index[2][1] is 3", lambda: r.take([[0], [], [0, 3]])),
-            ("fault 10 IndexOutOfRange at (1, 0): row 1 has 0 elements, and index[1][0] is 0", lambda: r.take([[0], [0], [0, 3]])),
+            (
+                "fault 10 IndexOutOfRange at (1, 0): row 1 has 0 elements, and index[1][0] is 0",
+                lambda: r.take([[0], [0], [0, 3]]),
+            ),
             ("fault 10 IndexOutOfRange at (0, 0): row 0 has 2 elements, and index[0][0] is -3", lambda: r.take([[-3], [], []])),
             ("fault 10 IndexOutOfRange at (1, 0): row 1 has 0 elements, and index[1] is 0", lambda: r.take([0, 0, 0])),
-            ("fault 10 IndexOutOfRange at (0, 1, 0): row [0][1] has 0 elements, and index[0][1][0] is 5", lambda: deep.take([[[0], [5]], [], [[]]])),
-            ("fault 10 IndexOutOfRange at (2, 0): row 2 has 3 elements, and index[2][0] is 7", lambda: r.copy().add_at([[0], [], [7]], 1)),
-            ("fault 12 NegativeLength at (2, 1): the count of place 1 in row 2 is -2", lambda: r.repeat([[1, 1], [], [1, -2, 3]])),
+            (
+                "fault 10 IndexOutOfRange at (0, 1, 0): row [0][1] has 0 elements, and index[0][1][0] is 5",
+                lambda: deep.take([[[0], [5]], [], [[]]]),
+            ),
+            (
+                "fault 10 IndexOutOfRange at (2, 0): row 2 has 3 elements, and index[2][0] is 7",
+                lambda: r.copy().add_at([[0], [], [7]], 1),
+            ),
+            (
+                "fault 12 NegativeLength at (2, 1): the count of place 1 in row 2 is -2",
+                lambda: r.repeat([[1, 1], [], [1, -2, 3]]),
+            ),
             ("fault 10 IndexOutOfRange at (0, 1): place 1 in row 0 is -1", lambda: Ragged([[3, -1]]).bincount()),
             ("fault 13 TooLong: the greatest element is 2147483647", lambda: Ragged([[2**31 - 1]]).bincount()),
             ("fault 7 LengthMismatch: row 1 has 0 elements, and row 1 beside it 1", lambda: r + Ragged([[1, 1], [1], [1, 1]])),
@@ -419,7 +437,10 @@ class Operators(Refusing):
             ("fault 7 LengthMismatch: there are 3 rows, and 2 beside them", lambda: r.take([[-1], [0]])),
             ("fault 7 LengthMismatch: there are 3 rows, and 2 beside them", lambda: r.append([[1], [0]])),
             ("fault 7 LengthMismatch: there are 3 rows, and 2 beside them", lambda: r.add_at([[1], [0]], 1)),
-            ("fault 7 LengthMismatch: row 1 has 1 elements, and row 1 beside it 0", lambda: r.add_at([[1], [0], []], [[1], [], []])),
+            (
+                "fault 7 LengthMismatch: row 1 has 1 elements, and row 1 beside it 0",
+                lambda: r.add_at([[1], [0], []], [[1], [], []]),
+            ),
             ("fault 7 LengthMismatch: row 0 has 2 elements, and row 0 beside it 1", lambda: deep.take([[[0]], [], [[0]]])),
         ):
             fault = self.refused(cvl.Fault, said, call)
@@ -463,7 +484,11 @@ class Operators(Refusing):
             (ValueError, "row 1 is empty and has no argmax; write r[r.lengths > 0].argmax()", r.argmax),
             (ValueError, "row 1 is empty and has no argmin", r.argmin),
             (TypeError, "write r.sum(exact=True) / r.lengths", r.mean),
-            (TypeError, "64 bits are no elements of a Ragged; write r.values.sum(exact=True)", lambda: Ragged(DEEP).sum(exact=True)),
+            (
+                TypeError,
+                "64 bits are no elements of a Ragged; write r.values.sum(exact=True)",
+                lambda: Ragged(DEEP).sum(exact=True),
+            ),
             (ValueError, "minlength is -1, and has to be 0 or more", lambda: r.bincount(-1)),
             (ValueError, "minlength is -1, and has to be 0 or more", lambda: cvl.bincount([1], -1)),
             (TypeError, "an index is no boolean; write r.filter(mask)", lambda: r.take(r > 1)),
@@ -486,7 +511,19 @@ class Operators(Refusing):
             self.refused(error, said, call)
 
     def test_each_method_refuses_each_kind_of_bad_input(self):
-        r, no_numbers = Ragged(ROWS), ("a", None, 1.5, {}, object(), 2**40, -(2**40), [0.5] * 3, [2**40] * 3, ["a"] * 3, [None] * 3)
+        r, no_numbers = Ragged(ROWS), (
+            "a",
+            None,
+            1.5,
+            {},
+            object(),
+            2**40,
+            -(2**40),
+            [0.5] * 3,
+            [2**40] * 3,
+            ["a"] * 3,
+            [None] * 3,
+        )
         no_rows = ([1, 2], [[1, 2], [3]], Ragged([[1, 2], [3]]), Ragged([[[1]]]), numpy.ones((2, 2, 2), int))
         masked = numpy.ma.array([1, 2, 3], mask=[True, False, False])
         for name, call in (
@@ -528,7 +565,9 @@ class Flat(Refusing):
         self.assertEqual((cvl.bincount(a).tolist(), cvl.bincount([]).tolist()), ([0, 2, 0, 1, 1, 1], []))
         self.assertEqual(cvl.bincount(a, 9).tolist(), [0, 2, 0, 1, 1, 1, 0, 0, 0])
         self.assertEqual((cvl.take(a, [4, -1, 0]).tolist(), cvl.take(a, []).tolist()), ([5, 5, 3], []))
-        self.assertEqual((cvl.take(a > 1, [1, 0]).tolist(), cvl.take(a, Ragged([[4], [], [-1]])).tolist()), ([False, True], [[5], [], [5]]))
+        self.assertEqual(
+            (cvl.take(a > 1, [1, 0]).tolist(), cvl.take(a, Ragged([[4], [], [-1]])).tolist()), ([False, True], [[5], [], [5]])
+        )
         self.assertEqual((cvl.compress(a > 2, a).tolist(), cvl.compress([1, 0], [True, True]).tolist()), ([3, 4, 5], [True]))
         sums = ints(0, 0, 0)
         self.assertIs(cvl.add_at(sums, [2, 0, -1], [5, 6, 7]), sums)

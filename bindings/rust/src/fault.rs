@@ -81,10 +81,7 @@ impl Fault {
     /// ```
     pub fn explain(&self) -> String {
         let place = self.place.and_then(|place| i64::try_from(place).ok());
-        let status = CvlStatus {
-            number: self.number,
-            place: place.unwrap_or(-1),
-        };
+        let status = CvlStatus { number: self.number, place: place.unwrap_or(-1) };
         if !self.by_library.0 {
             return self.to_string();
         }
@@ -97,10 +94,7 @@ impl Fault {
 
     /// The same fault, with what the library counted, if it did.
     pub(crate) fn needing(self, count: usize) -> Fault {
-        Fault {
-            needed: (count != NOT_TOLD).then_some(count),
-            ..self
-        }
+        Fault { needed: (count != NOT_TOLD).then_some(count), ..self }
     }
 
     /// Lengths that must agree differ.
@@ -115,12 +109,7 @@ impl Fault {
 
     /// The length of this segment is below 0.
     pub(crate) fn negative_length_of(segment: usize) -> Fault {
-        Fault {
-            number: faults::NEGATIVE_LENGTH,
-            place: Some(segment as u64),
-            needed: None,
-            by_library: ByLibrary(false),
-        }
+        Fault { number: faults::NEGATIVE_LENGTH, place: Some(segment as u64), needed: None, by_library: ByLibrary(false) }
     }
 
     /// More elements than a vector may have.
@@ -134,12 +123,7 @@ impl Fault {
     }
 
     fn of(number: u32) -> Fault {
-        Fault {
-            number,
-            place: None,
-            needed: None,
-            by_library: ByLibrary(false),
-        }
+        Fault { number, place: None, needed: None, by_library: ByLibrary(false) }
     }
 }
 
@@ -160,12 +144,9 @@ impl std::error::Error for Fault {}
 pub(crate) fn told(status: CvlStatus) -> Result<(), Fault> {
     match status {
         CvlStatus { number: 0, .. } => Ok(()),
-        CvlStatus { number, place } => Err(Fault {
-            number,
-            place: u64::try_from(place).ok(),
-            needed: None,
-            by_library: ByLibrary(true),
-        }),
+        CvlStatus { number, place } => {
+            Err(Fault { number, place: u64::try_from(place).ok(), needed: None, by_library: ByLibrary(true) })
+        }
     }
 }
 

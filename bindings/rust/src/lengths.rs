@@ -70,10 +70,7 @@ pub(crate) fn zeros<T: Zero>(places: usize) -> Result<Vec<T>, Fault> {
 
 /// What a call writes that tells how many elements it has, where so many places are enough. A fault that hangs on no
 /// memory is told before there is none.
-pub(crate) fn counted<T: Zero>(
-    places: usize,
-    fill: impl Fn(&mut [T]) -> Result<usize, Fault>,
-) -> Result<Vec<T>, Fault> {
+pub(crate) fn counted<T: Zero>(places: usize, fill: impl Fn(&mut [T]) -> Result<usize, Fault>) -> Result<Vec<T>, Fault> {
     let mut out = match zeros(places) {
         Ok(out) => out,
         Err(no_memory) => return Err(without_room(no_memory, fill(&mut []))),
@@ -99,8 +96,7 @@ pub(crate) fn text_of(bytes: Vec<u8>) -> String {
 /// A copy of integers, if there is memory for it.
 pub(crate) fn copied(numbers: impl ExactSizeIterator<Item = i32>) -> Result<Vec<i32>, Fault> {
     let mut copy = Vec::new();
-    copy.try_reserve_exact(numbers.len())
-        .map_err(|_| Fault::no_resources())?;
+    copy.try_reserve_exact(numbers.len()).map_err(|_| Fault::no_resources())?;
     copy.extend(numbers);
     Ok(copy)
 }
@@ -114,11 +110,7 @@ mod tests {
         let most = MOST_ELEMENTS as i64;
         assert_eq!(limit(MOST_ELEMENTS), Ok(()));
         assert_eq!(places(most), Ok(MOST_ELEMENTS));
-        for fault in [
-            limit(MOST_ELEMENTS + 1).unwrap_err(),
-            places(most + 1).unwrap_err(),
-            places(i64::MAX).unwrap_err(),
-        ] {
+        for fault in [limit(MOST_ELEMENTS + 1).unwrap_err(), places(most + 1).unwrap_err(), places(i64::MAX).unwrap_err()] {
             assert_eq!(fault, Fault::too_long());
         }
         assert_eq!(places(-1), Err(Fault::negative_length()));
@@ -134,10 +126,7 @@ mod tests {
             Err(Fault::length_mismatch())
         };
         assert_eq!(counted(too_many, full), Err(no_memory));
-        assert_eq!(
-            counted(too_many, |_: &mut [i32]| Err(Fault::too_long())),
-            Err(Fault::too_long())
-        );
+        assert_eq!(counted(too_many, |_: &mut [i32]| Err(Fault::too_long())), Err(Fault::too_long()));
         assert_eq!(counted(too_many, |_: &mut [i32]| Ok(0)), Err(no_memory));
     }
 }

@@ -29,10 +29,7 @@ pub fn seg_read_ints(text: impl AsRef<[u8]>) -> Result<(Vec<i32>, Segments), Fau
     let (mut out, mut lengths) = match (zeros(places), zeros(places)) {
         (Ok(out), Ok(lengths)) => (out, lengths),
         (Err(no_memory), _) | (_, Err(no_memory)) => {
-            return Err(without_room(
-                no_memory,
-                seg_read_ints_into(text, &mut [], &mut []),
-            ))
+            return Err(without_room(no_memory, seg_read_ints_into(text, &mut [], &mut [])))
         }
     };
     let (count, segments) = seg_read_ints_into(text, &mut out, &mut lengths)?;
@@ -42,11 +39,7 @@ pub fn seg_read_ints(text: impl AsRef<[u8]>) -> Result<(Vec<i32>, Segments), Fau
 
 /// [`seg_read_ints`] into rooms for the integers and for the lengths of the lists, which are as long as what they
 /// hold or longer, and how many elements each has; a fault leaves the rooms as they were.
-pub fn seg_read_ints_into(
-    text: impl AsRef<[u8]>,
-    out: &mut [i32],
-    lengths: &mut [i32],
-) -> Result<(usize, usize), Fault> {
+pub fn seg_read_ints_into(text: impl AsRef<[u8]>, out: &mut [i32], lengths: &mut [i32]) -> Result<(usize, usize), Fault> {
     let text = text.as_ref();
     let (mut count, mut segments) = (0, 0);
     call!(cvl_seg_read_ints | cvl_seg_read_ints_on: text.as_ptr(), text.len(), out.as_mut_ptr(), out.len(), &mut count,

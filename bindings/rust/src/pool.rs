@@ -71,16 +71,9 @@ pub(crate) mod in_use {
     /// What the calls give, and their faults, are the same. Calls of other threads, and those within the pool's `run`, do not see
     /// this pool.
     pub fn with_pool<T>(pool: &dyn Pool, work: impl FnOnce() -> T) -> T {
-        let state = State {
-            pool,
-            panicked: Cell::new(None),
-        };
+        let state = State { pool, panicked: Cell::new(None) };
         let in_use = InUse {
-            given: CvlPool {
-                parts: pool.parts(),
-                run: run_parts,
-                state: (&state as *const State<'_> as *mut State<'_>).cast(),
-            },
+            given: CvlPool { parts: pool.parts(), run: run_parts, state: (&state as *const State<'_> as *mut State<'_>).cast() },
             panicked: &state.panicked,
         };
         let _restored = Current::replaced((&in_use as *const InUse<'_>).cast());
@@ -124,9 +117,7 @@ pub(crate) mod in_use {
 
     impl Current {
         fn replaced(now: *const InUse<'static>) -> Current {
-            Current {
-                before: CURRENT.with(|current| current.replace(now)),
-            }
+            Current { before: CURRENT.with(|current| current.replace(now)) }
         }
     }
 
@@ -163,12 +154,7 @@ pub(crate) mod in_use {
     }
 
     /// What the library calls for each step. No panic leaves it; after one the pool runs nothing more of the call.
-    unsafe extern "C" fn run_parts(
-        state: *mut c_void,
-        part: CvlPart,
-        work: *mut c_void,
-        count: usize,
-    ) {
+    unsafe extern "C" fn run_parts(state: *mut c_void, part: CvlPart, work: *mut c_void, count: usize) {
         // It stands in the frame of `with_pool` in which the call is made.
         let state = &*(state as *const State<'_>);
         let panicked = state.panicked.take();

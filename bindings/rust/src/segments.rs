@@ -32,10 +32,7 @@ impl Segments {
     pub fn new(lengths: &[i32]) -> Result<Segments, Fault> {
         let mut total = 0;
         call!(cvl_make_descriptor | cvl_make_descriptor_on: given(lengths), &mut total)?;
-        Ok(Segments {
-            lengths: copied(lengths.iter().copied())?,
-            total,
-        })
+        Ok(Segments { lengths: copied(lengths.iter().copied())?, total })
     }
 
     /// Segments whose starts are these, and whose last one ends at the last of them, as in a matrix of compressed rows.
@@ -52,10 +49,7 @@ impl Segments {
         if let Some(segment) = offsets.windows(2).position(|pair| pair[1] < pair[0]) {
             return Err(Fault::negative_length_of(segment));
         }
-        Ok(Segments {
-            lengths: copied(offsets.windows(2).map(|pair| pair[1] - pair[0]))?,
-            total: end as usize,
-        })
+        Ok(Segments { lengths: copied(offsets.windows(2).map(|pair| pair[1] - pair[0]))?, total: end as usize })
     }
 
     /// Where each segment starts, and last where the last one ends: one more than there are segments.
@@ -113,10 +107,7 @@ impl Segments {
 
 /// Lengths as the library takes them, which are there as long as the slice is.
 fn given(lengths: &[i32]) -> CvlLengths {
-    CvlLengths {
-        lengths: lengths.as_ptr(),
-        segments: lengths.len(),
-    }
+    CvlLengths { lengths: lengths.as_ptr(), segments: lengths.len() }
 }
 
 /// The number of integers.

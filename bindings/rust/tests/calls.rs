@@ -41,22 +41,13 @@ fn a_room_that_is_too_short_is_told_how_long_it_has_to_be() {
     let (values, flags) = ([5, 1, 7], [true, false, true]);
     let (mut room, mut text) = ([9; 1], [b'?'; 1]);
     let needed = |found: Result<usize, Fault>| found.unwrap_err().needed();
-    assert_eq!(
-        needed(cvl::pck_luz_into(&values, &flags, &mut room)),
-        Some(2)
-    );
-    assert_eq!(
-        needed(cvl::pck_lub_into(&flags, &flags, &mut [])),
-        Some(2)
-    );
+    assert_eq!(needed(cvl::pck_luz_into(&values, &flags, &mut room)), Some(2));
+    assert_eq!(needed(cvl::pck_lub_into(&flags, &flags, &mut [])), Some(2));
     assert_eq!(needed(cvl::read_ints_into("1 2 3", &mut room)), Some(3));
     assert_eq!(needed(cvl::write_ints_into(&[10], &mut text)), Some(4));
     assert_eq!((room, text), ([9], [b'?']));
     // where two lengths are wrong it is told that the vectors differ, and nothing was counted
-    assert_eq!(
-        needed(cvl::pck_luz_into(&values[1..], &flags, &mut room)),
-        None
-    );
+    assert_eq!(needed(cvl::pck_luz_into(&values[1..], &flags, &mut room)), None);
     assert_eq!(needed(cvl::read_ints_into("x", &mut room)), None);
     let unequal = cvl::add_wuz_into(&[1], &[1], &mut []).unwrap_err();
     assert_eq!(unequal.needed(), None);
@@ -69,14 +60,8 @@ fn a_fault_has_its_place_and_leaves_the_room() {
     assert_eq!(told(fault), (8, Some(1)));
     assert_eq!(fault.to_string(), "fault 8 DivideByZero at 1");
     assert_eq!(room, [7; 3]);
-    assert_eq!(
-        told(cvl::smp_puz(&[1, 2], &[1, 1]).unwrap_err()),
-        (11, Some(1))
-    );
-    assert_eq!(
-        told(cvl::tot_ruz(&[i32::MAX, 1]).unwrap_err()),
-        (18, Some(0))
-    );
+    assert_eq!(told(cvl::smp_puz(&[1, 2], &[1, 1]).unwrap_err()), (11, Some(1)));
+    assert_eq!(told(cvl::tot_ruz(&[i32::MAX, 1]).unwrap_err()), (18, Some(0)));
 }
 
 #[test]
@@ -91,14 +76,7 @@ fn place_0_of_a_fault_is_told_and_shown() {
 #[test]
 fn counts_and_places_that_may_not_be() {
     let wide = 1_i64 << 32;
-    let counts = [
-        (-1, 12),
-        (MOST + 1, 13),
-        (wide + 3, 13),
-        (3 - wide, 12),
-        (i64::MAX, 13),
-        (i64::MIN, 12),
-    ];
+    let counts = [(-1, 12), (MOST + 1, 13), (wide + 3, 13), (3 - wide, 12), (i64::MAX, 13), (i64::MIN, 12)];
     for (count, number) in counts {
         for fault in [
             cvl::dis_vuz(1, count).unwrap_err(),
@@ -129,10 +107,7 @@ fn a_pack_takes_a_longer_room_and_tells_how_many() {
         let mut room = vec![7; places];
         let mut of_rows = room.clone();
         let found = cvl::pck_luz_into(&values, &kept, &mut room);
-        assert_eq!(
-            cvl::pck_lez_into(&values, &kept, &rows, &mut of_rows),
-            found
-        );
+        assert_eq!(cvl::pck_lez_into(&values, &kept, &rows, &mut of_rows), found);
         assert_eq!(of_rows, room);
         if places < 2 {
             assert_eq!(told(found.unwrap_err()), (7, None));
@@ -170,19 +145,13 @@ fn a_result_may_be_as_long_as_a_vector_and_no_longer() {
 
 #[test]
 fn a_nested_text_may_have_so_many_elements_and_others_more() {
-    let (numbers, flags) = (
-        vec![1; cvl::MOST_OF_TEXT + 1],
-        vec![true; cvl::MOST_OF_TEXT + 1],
-    );
+    let (numbers, flags) = (vec![1; cvl::MOST_OF_TEXT + 1], vec![true; cvl::MOST_OF_TEXT + 1]);
     let most = &numbers[1..];
     let text = cvl::write_ints(most).unwrap();
     assert_eq!(text.len(), 2 * most.len() + 1);
     let (read, rows) = cvl::seg_read_ints(format!("[{text}]")).unwrap();
     assert!(read == most && rows.lengths() == [most.len() as i32]);
-    assert_eq!(
-        cvl::seg_write_ints(most, &rows).unwrap().len(),
-        text.len() + 2
-    );
+    assert_eq!(cvl::seg_write_ints(most, &rows).unwrap().len(), text.len() + 2);
     let longer = cvl::write_ints(&numbers).unwrap();
     assert_eq!(longer.len(), text.len() + 2);
     let words = &longer[1..longer.len() - 1];
@@ -196,15 +165,9 @@ fn a_nested_text_may_have_so_many_elements_and_others_more() {
     assert!(none.is_empty() && rows.len() == cvl::MOST_OF_TEXT);
     let nested = cvl::seg_read_ints(format!("[{lists}[]]")).unwrap_err();
     assert_eq!(told(nested), (13, None));
-    assert_eq!(
-        cvl::write_bools(&flags).unwrap().len(),
-        2 * flags.len() + 1
-    );
+    assert_eq!(cvl::write_bools(&flags).unwrap().len(), 2 * flags.len() + 1);
     let rows = Segments::new(&[most.len() as i32, 1]).unwrap();
-    assert_eq!(
-        cvl::seg_write_bools(&flags, &rows).unwrap().len(),
-        2 * flags.len() + 5
-    );
+    assert_eq!(cvl::seg_write_bools(&flags, &rows).unwrap().len(), 2 * flags.len() + 5);
 }
 
 #[test]
@@ -236,21 +199,12 @@ fn segments_of_lengths_and_of_offsets() {
     let rows = Segments::new(&[2, 0, 3]).unwrap();
     assert_eq!(Segments::from_offsets(&[0, 2, 2, 5]).unwrap(), rows);
     for offsets in [&[1, 2][..], &[1, 5, 3], &[i32::MIN, i32::MAX], &[]] {
-        assert_eq!(
-            told(Segments::from_offsets(offsets).unwrap_err()),
-            (7, None)
-        );
+        assert_eq!(told(Segments::from_offsets(offsets).unwrap_err()), (7, None));
     }
     for (offsets, segment) in [(&[0, 3, 2, 1][..], 1), (&[0, i32::MAX, i32::MIN], 1)] {
-        assert_eq!(
-            told(Segments::from_offsets(offsets).unwrap_err()),
-            (12, Some(segment))
-        );
+        assert_eq!(told(Segments::from_offsets(offsets).unwrap_err()), (12, Some(segment)));
     }
-    assert_eq!(
-        Segments::from_offsets(&[0, i32::MAX]).unwrap().total(),
-        cvl::MOST_ELEMENTS
-    );
+    assert_eq!(Segments::from_offsets(&[0, i32::MAX]).unwrap().total(), cvl::MOST_ELEMENTS);
     assert_eq!(cvl::len_fos(&rows), [2, 0, 3]);
     // where the last offset is not the number of elements, the call on these tells it
     assert_eq!(told(cvl::add_rez(&[1; 4], &rows).unwrap_err()), (7, None));
@@ -297,53 +251,17 @@ fn each_fault_has_its_number_and_its_name() {
     use cvl::faults;
     let rows = Segments::new(&[1, 1]).unwrap();
     let found = [
-        (
-            cvl::add_wuz(&[1], &[]).unwrap_err(),
-            faults::LENGTH_MISMATCH,
-            7,
-        ),
-        (
-            cvl::div_wuz(&[1], &[0]).unwrap_err(),
-            faults::DIVIDE_BY_ZERO,
-            8,
-        ),
-        (
-            cvl::lsh_wuz(&[1], &[32]).unwrap_err(),
-            faults::SHIFT_OUT_OF_RANGE,
-            9,
-        ),
-        (
-            cvl::bck_puz(&[1], &[1]).unwrap_err(),
-            faults::INDEX_OUT_OF_RANGE,
-            10,
-        ),
-        (
-            cvl::smp_pez(&[1, 2], &[0, 1], &rows).unwrap_err(),
-            faults::INDEX_OUT_OF_RANGE,
-            10,
-        ),
-        (
-            cvl::smp_puz(&[1, 2], &[0, 0]).unwrap_err(),
-            faults::INDEX_REPEATED,
-            11,
-        ),
-        (
-            Segments::new(&[-1]).unwrap_err(),
-            faults::NEGATIVE_LENGTH,
-            12,
-        ),
+        (cvl::add_wuz(&[1], &[]).unwrap_err(), faults::LENGTH_MISMATCH, 7),
+        (cvl::div_wuz(&[1], &[0]).unwrap_err(), faults::DIVIDE_BY_ZERO, 8),
+        (cvl::lsh_wuz(&[1], &[32]).unwrap_err(), faults::SHIFT_OUT_OF_RANGE, 9),
+        (cvl::bck_puz(&[1], &[1]).unwrap_err(), faults::INDEX_OUT_OF_RANGE, 10),
+        (cvl::smp_pez(&[1, 2], &[0, 1], &rows).unwrap_err(), faults::INDEX_OUT_OF_RANGE, 10),
+        (cvl::smp_puz(&[1, 2], &[0, 0]).unwrap_err(), faults::INDEX_REPEATED, 11),
+        (Segments::new(&[-1]).unwrap_err(), faults::NEGATIVE_LENGTH, 12),
         (cvl::dis_vuz(0, MOST + 1).unwrap_err(), faults::TOO_LONG, 13),
         (cvl::read_ints("x").unwrap_err(), faults::BAD_INPUT, 15),
-        (
-            cvl::tot_ruz(&[i32::MAX, 1]).unwrap_err(),
-            faults::OVERFLOW,
-            18,
-        ),
-        (
-            cvl::bool_scan_after(Operator::Add, true, &[true]).unwrap_err(),
-            faults::UNKNOWN_CALL,
-            2,
-        ),
+        (cvl::tot_ruz(&[i32::MAX, 1]).unwrap_err(), faults::OVERFLOW, 18),
+        (cvl::bool_scan_after(Operator::Add, true, &[true]).unwrap_err(), faults::UNKNOWN_CALL, 2),
     ];
     for (fault, named, number) in found {
         assert_eq!((fault.number(), named), (number, number));
@@ -362,35 +280,20 @@ fn texts() {
     assert_eq!(cvl::read_ints(b"12".as_slice()).unwrap(), [12]);
     assert_eq!(cvl::read_ints(String::from("1 2\n")).unwrap(), [1, 2]);
     assert_eq!(told(cvl::read_ints("1 2 -").unwrap_err()), (15, Some(2)));
-    assert_eq!(
-        told(cvl::read_ints_after(5, "1 2147483648").unwrap_err()),
-        (15, Some(6))
-    );
-    assert_eq!(
-        told(cvl::read_ints([0xff, b' ', 0]).unwrap_err()),
-        (15, Some(0))
-    );
+    assert_eq!(told(cvl::read_ints_after(5, "1 2147483648").unwrap_err()), (15, Some(6)));
+    assert_eq!(told(cvl::read_ints([0xff, b' ', 0]).unwrap_err()), (15, Some(0)));
     assert_eq!(cvl::write_ints(&[]).unwrap(), "[]");
     assert_eq!(cvl::write_bools(&[true, false]).unwrap(), "[T F]");
     let least = [i32::MIN; 1000];
     assert_eq!(cvl::write_ints(&least).unwrap().len(), 12 * 1000 + 1);
     let rows = Segments::new(&[1; 1000]).unwrap();
-    assert_eq!(
-        cvl::seg_write_ints(&least, &rows).unwrap().len(),
-        14 * 1000 + 1
-    );
-    assert_eq!(
-        cvl::seg_write_bools(&[true; 1000], &rows).unwrap().len(),
-        4 * 1000 + 1
-    );
+    assert_eq!(cvl::seg_write_ints(&least, &rows).unwrap().len(), 14 * 1000 + 1);
+    assert_eq!(cvl::seg_write_bools(&[true; 1000], &rows).unwrap().len(), 4 * 1000 + 1);
     let empty = Segments::new(&[0; 1000]).unwrap();
     assert_eq!(cvl::seg_write_ints(&[], &empty).unwrap().len(), 3001);
     assert_eq!(cvl::seg_write_bools(&[], &empty).unwrap().len(), 3001);
     let short = Segments::new(&[1; 999]).unwrap();
-    assert_eq!(
-        told(cvl::seg_write_ints(&least, &short).unwrap_err()),
-        (7, None)
-    );
+    assert_eq!(told(cvl::seg_write_ints(&least, &short).unwrap_err()), (7, None));
 }
 
 #[test]
@@ -409,10 +312,7 @@ fn a_text_has_a_room_that_is_long_enough() {
         let mut numbers = vec![7; places];
         let found = cvl::read_ints_into("1 2 3", &mut numbers);
         assert_eq!(found.is_ok(), places >= 3);
-        assert_eq!(
-            numbers[..places.min(3)],
-            [[7; 3], [1, 2, 3]][usize::from(places >= 3)][..places.min(3)]
-        );
+        assert_eq!(numbers[..places.min(3)], [[7; 3], [1, 2, 3]][usize::from(places >= 3)][..places.min(3)]);
     }
 }
 
@@ -425,16 +325,10 @@ fn nested_texts() {
     let many = format!("[{}]", "[]".repeat(1000));
     let (numbers, rows) = cvl::seg_read_ints(&many).unwrap();
     assert_eq!((numbers.len(), rows.lengths()), (0, &[0; 1000][..]));
-    assert_eq!(
-        told(cvl::seg_read_ints("[[1] 2]").unwrap_err()),
-        (15, Some(4))
-    );
+    assert_eq!(told(cvl::seg_read_ints("[[1] 2]").unwrap_err()), (15, Some(4)));
     assert_eq!(told(cvl::seg_read_ints("[[1]").unwrap_err()), (15, Some(4)));
     let (mut out, mut lengths) = ([7; 4], [7; 4]);
-    assert_eq!(
-        cvl::seg_read_ints_into("[[1 2] [3]]", &mut out, &mut lengths),
-        Ok((3, 2))
-    );
+    assert_eq!(cvl::seg_read_ints_into("[[1 2] [3]]", &mut out, &mut lengths), Ok((3, 2)));
     assert_eq!((out, lengths), ([1, 2, 3, 7], [2, 1, 7, 7]));
     let (mut out, mut lengths) = ([7; 3], [7; 1]);
     let short = cvl::seg_read_ints_into("[[1 2] [3]]", &mut out, &mut lengths).unwrap_err();
@@ -456,10 +350,7 @@ fn parts_give_what_the_whole_gives() {
         (Operator::Ior, cvl::ior_ruz(left), cvl::ior_suz(&a)),
         (Operator::Xor, cvl::xor_ruz(left), cvl::xor_suz(&a)),
     ] {
-        assert_eq!(
-            cvl::int_scan_after(operator, before.unwrap(), right).unwrap(),
-            whole.unwrap()[377..]
-        );
+        assert_eq!(cvl::int_scan_after(operator, before.unwrap(), right).unwrap(), whole.unwrap()[377..]);
     }
     let before = cvl::xor_rub(&flags[..377]).unwrap();
     let mut within = flags[377..].to_vec();
@@ -467,15 +358,9 @@ fn parts_give_what_the_whole_gives() {
     assert_eq!(within, cvl::xor_sub(&flags).unwrap()[377..]);
     let sum = cvl::exact_sum(left).unwrap();
     assert_eq!(sum, left.iter().map(|&a| i64::from(a)).sum::<i64>());
-    assert_eq!(
-        cvl::checked_scan_after(sum, right).unwrap(),
-        cvl::tot_suz(&a).unwrap()[377..]
-    );
+    assert_eq!(cvl::checked_scan_after(sum, right).unwrap(), cvl::tot_suz(&a).unwrap()[377..]);
     assert_eq!(cvl::exact_sum(&[i32::MAX; 3]), Ok(3 * i64::from(i32::MAX)));
-    assert_eq!(
-        told(cvl::checked_scan_after(i64::from(i32::MAX), &[1, 0]).unwrap_err()),
-        (18, Some(1))
-    );
+    assert_eq!(told(cvl::checked_scan_after(i64::from(i32::MAX), &[1, 0]).unwrap_err()), (18, Some(1)));
 }
 
 #[test]

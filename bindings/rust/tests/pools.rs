@@ -37,32 +37,13 @@ fn by<F: Fn(usize, Part<'_>)>(parts: usize, run: F) -> By<F> {
 fn pools_that_run_each_part() {
     limit();
     let backwards = by(4, |parts, part| (0..parts).rev().for_each(part));
-    let twice = by(4, |parts, part| {
-        (0..2 * parts).for_each(|k| part(k % parts))
-    });
-    let beyond = by(4, |parts, part| {
-        (0..=parts)
-            .chain([usize::MAX, usize::MAX / 2])
-            .for_each(part)
-    });
-    let by_another = by(3, |parts, part| {
-        thread::scope(|scope| drop(scope.spawn(|| (0..parts).for_each(part))))
-    });
-    let at_once = by(4, |parts, part| {
-        thread::scope(|scope| (0..2 * parts).for_each(|k| drop(scope.spawn(move || part(k / 2)))))
-    });
+    let twice = by(4, |parts, part| (0..2 * parts).for_each(|k| part(k % parts)));
+    let beyond = by(4, |parts, part| (0..=parts).chain([usize::MAX, usize::MAX / 2]).for_each(part));
+    let by_another = by(3, |parts, part| thread::scope(|scope| drop(scope.spawn(|| (0..parts).for_each(part)))));
+    let at_once = by(4, |parts, part| thread::scope(|scope| (0..2 * parts).for_each(|k| drop(scope.spawn(move || part(k / 2))))));
     let many = by(1_000, |parts, part| (0..parts).for_each(part));
     let none = by(0, |parts, part| (0..parts).for_each(part));
-    let pools: [&dyn Pool; 8] = [
-        &backwards,
-        &twice,
-        &beyond,
-        &by_another,
-        &at_once,
-        &many,
-        &none,
-        &ScopedThreads(4),
-    ];
+    let pools: [&dyn Pool; 8] = [&backwards, &twice, &beyond, &by_another, &at_once, &many, &none, &ScopedThreads(4)];
     let long = Long::new();
     for pool in pools {
         with_pool(pool, || long.calls_are_right()).unwrap();
@@ -76,11 +57,7 @@ fn a_pool_that_leaves_parts_out_is_told() {
     let leaving_out = [(0, 1), (1, 2), (3, 4), (0, 4)];
     let a = ints(LONG);
     for (from, to) in leaving_out {
-        let pool = by(4, move |parts, part| {
-            (0..parts)
-                .filter(|k| !(from..to).contains(k))
-                .for_each(part)
-        });
+        let pool = by(4, move |parts, part| (0..parts).filter(|k| !(from..to).contains(k)).for_each(part));
         let mut room = vec![7; LONG];
         let found = with_pool(&pool, || {
             [
@@ -90,10 +67,7 @@ fn a_pool_that_leaves_parts_out_is_told() {
                 cvl::add_ruz(&a).map(|_| 0),
             ]
         });
-        assert_eq!(
-            found.map(|found| told(found.unwrap_err())),
-            [(100, None); 4]
-        );
+        assert_eq!(found.map(|found| told(found.unwrap_err())), [(100, None); 4]);
         assert!(room == vec![7; LONG]);
     }
 }
@@ -109,10 +83,7 @@ fn a_part_that_is_left_out_of_a_step_that_writes_is_run_by_the_thread_that_calls
         (0..parts).skip(usize::from(steps.get() > 1)).for_each(part)
     });
     let doubled = with_pool(&pool, || cvl::add_wuz(&a, &a)).unwrap();
-    assert!(doubled
-        .iter()
-        .zip(&a)
-        .all(|(found, a)| *found == a.wrapping_mul(2)));
+    assert!(doubled.iter().zip(&a).all(|(found, a)| *found == a.wrapping_mul(2)));
     assert_eq!(steps.get(), 2);
 }
 
@@ -123,26 +94,16 @@ fn a_panic_of_a_pool_goes_on_after_the_call() {
     for panics_after in 0..6 {
         let runs = Cell::new(0);
         let pool = by(4, |parts, part| {
-            let run = (0..parts).filter(|_| {
-                runs.replace(runs.get() + 1) != panics_after || panic!("part {panics_after}")
-            });
+            let run = (0..parts).filter(|_| runs.replace(runs.get() + 1) != panics_after || panic!("part {panics_after}"));
             run.for_each(part)
         });
         let mut room = vec![7; LONG];
-        let caught = catch_unwind(AssertUnwindSafe(|| {
-            with_pool(&pool, || cvl::add_wuz_into(&a, &a, &mut room))
-        }));
+        let caught = catch_unwind(AssertUnwindSafe(|| with_pool(&pool, || cvl::add_wuz_into(&a, &a, &mut room))));
         let payload = caught.unwrap_err();
-        assert_eq!(
-            payload.downcast_ref(),
-            Some(&format!("part {panics_after}"))
-        );
+        assert_eq!(payload.downcast_ref(), Some(&format!("part {panics_after}")));
         // the first step has no work; in the second one the thread that calls runs what the pool left out
         let first = panics_after < 4;
-        assert!(room
-            .iter()
-            .zip(&a)
-            .all(|(found, a)| *found == if first { 7 } else { a.wrapping_mul(2) }));
+        assert!(room.iter().zip(&a).all(|(found, a)| *found == if first { 7 } else { a.wrapping_mul(2) }));
         assert_eq!(runs.get(), panics_after + 1);
         assert_eq!(cvl::add_ruz(&a), Ok(sum(&a)));
     }
@@ -159,9 +120,7 @@ fn a_pool_that_panicked_runs_nothing_more_of_the_call() {
         runs.set(runs.get() + 1);
         assert!(runs.get() != 2, "the second step");
     });
-    let caught = catch_unwind(AssertUnwindSafe(|| {
-        with_pool(&pool, || cvl::write_ints(&a))
-    }));
+    let caught = catch_unwind(AssertUnwindSafe(|| with_pool(&pool, || cvl::write_ints(&a))));
     assert_eq!(caught.unwrap_err().downcast_ref(), Some(&"the second step"));
     assert_eq!(runs.get(), 2);
 }
@@ -180,9 +139,7 @@ fn a_payload_that_panics_when_it_is_dropped() {
     }
     let pool = by(4, |_, _| std::panic::panic_any(Bomb));
     let a = ints(LONG);
-    let caught = catch_unwind(AssertUnwindSafe(|| {
-        with_pool(&pool, || cvl::add_wuz(&a, &a))
-    }));
+    let caught = catch_unwind(AssertUnwindSafe(|| with_pool(&pool, || cvl::add_wuz(&a, &a))));
     let payload = caught.unwrap_err();
     assert!(payload.is::<Bomb>());
     std::mem::forget(payload);
@@ -210,9 +167,7 @@ fn the_pool_is_that_of_the_thread_and_of_the_time() {
         cvl::add_ruz(&a[..100_000]).unwrap();
         thread::scope(|scope| drop(scope.spawn(|| cvl::add_ruz(&a).unwrap())));
         assert!(!count(&outer_runs));
-        let panicked = catch_unwind(AssertUnwindSafe(|| {
-            with_pool(&inner, || panic!("on the way"))
-        }));
+        let panicked = catch_unwind(AssertUnwindSafe(|| with_pool(&inner, || panic!("on the way"))));
         assert!(panicked.is_err());
         cvl::add_ruz(&a).unwrap();
         assert!(count(&outer_runs) && !count(&inner_runs));

@@ -11,10 +11,7 @@ struct Numbers(u64);
 
 impl Numbers {
     fn below(&mut self, limit: u64) -> u64 {
-        self.0 = self
-            .0
-            .wrapping_mul(6_364_136_223_846_793_005)
-            .wrapping_add(1_442_695_040_888_963_407);
+        self.0 = self.0.wrapping_mul(6_364_136_223_846_793_005).wrapping_add(1_442_695_040_888_963_407);
         (self.0 >> 33) % limit
     }
 
@@ -37,13 +34,7 @@ fn joined(left: &[i32], right: &[i32]) -> (Vec<i32>, Vec<i32>) {
     for (place, &key) in right.iter().enumerate() {
         places.entry(key).or_default().push(place as i32);
     }
-    let of_left = |(place, key)| {
-        places
-            .get(key)
-            .into_iter()
-            .flatten()
-            .map(move |&j| (place as i32, j))
-    };
+    let of_left = |(place, key)| places.get(key).into_iter().flatten().map(move |&j| (place as i32, j));
     left.iter().enumerate().flat_map(of_left).unzip()
 }
 

@@ -118,12 +118,7 @@ fn calls_of_several_threads_at_once() {
 fn started_with(said: &str) -> usize {
     let itself = env::current_exe().unwrap();
     let mut child = Command::new(itself);
-    let output = child
-        .env("CVL_NUM_THREADS", said)
-        .env("TELLS_THREADS", "1")
-        .arg("--nocapture")
-        .output()
-        .unwrap();
+    let output = child.env("CVL_NUM_THREADS", said).env("TELLS_THREADS", "1").arg("--nocapture").output().unwrap();
     let told = String::from_utf8(output.stdout).unwrap();
     let line = told.lines().find_map(|line| line.split("threads: ").nth(1));
     line.expect("the process tells how many").parse().unwrap()

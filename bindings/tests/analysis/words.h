@@ -18,7 +18,7 @@ enum { memory_order_relaxed, memory_order_acquire, memory_order_release };
 #define atomic_store_explicit(at, value, order) (*(at) = (value))
 #define atomic_fetch_add_explicit(at, value, order) (*(at) += (value))
 #define atomic_fetch_and_explicit(at, value, order) (*(at) &= (value))
-#define atomic_compare_exchange_strong_explicit(at, seen, next, order, other)                                                  \
+#define atomic_compare_exchange_strong_explicit(at, seen, next, order, other) \
     (*(at) == *(seen) ? (*(at) = (next), 1) : (*(seen) = *(at), 0))
 static inline unsigned char atomic_exchange(unsigned char *at, unsigned char value) {
     const unsigned char was = *at;

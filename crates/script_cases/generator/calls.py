@@ -8,13 +8,27 @@ result, and its function. The kinds are `z` integers, `b` booleans, `d` descript
 import operator
 from itertools import accumulate
 
-LEAST, GREATEST = -2**31, 2**31 - 1
+LEAST, GREATEST = -(2**31), 2**31 - 1
 MOST_ELEMENTS = 4194304
 
 FAULTS = {
-    1: "BadLine", 2: "UnknownCall", 3: "WrongArgumentCount", 4: "UnknownName", 5: "WrongKind", 6: "BadNumber",
-    7: "LengthMismatch", 8: "DivideByZero", 9: "ShiftOutOfRange", 10: "IndexOutOfRange", 11: "IndexRepeated",
-    12: "NegativeLength", 13: "TooLong", 14: "NoSuchInput", 15: "BadInput", 16: "TooManyNames", 17: "ScriptTooLong",
+    1: "BadLine",
+    2: "UnknownCall",
+    3: "WrongArgumentCount",
+    4: "UnknownName",
+    5: "WrongKind",
+    6: "BadNumber",
+    7: "LengthMismatch",
+    8: "DivideByZero",
+    9: "ShiftOutOfRange",
+    10: "IndexOutOfRange",
+    11: "IndexRepeated",
+    12: "NegativeLength",
+    13: "TooLong",
+    14: "NoSuchInput",
+    15: "BadInput",
+    16: "TooManyNames",
+    17: "ScriptTooLong",
     18: "Overflow",
 }
 
@@ -43,7 +57,7 @@ def agree(*lengths):
 def cut(vector, lengths):
     """The lists of these lengths, one after another."""
     ends = list(accumulate(lengths))
-    return [vector[end - length:end] for end, length in zip(ends, lengths)]
+    return [vector[end - length : end] for end, length in zip(ends, lengths)]
 
 
 def joined(lists):
@@ -53,13 +67,23 @@ def joined(lists):
 # place by place
 
 INT2 = {
-    "add": lambda a, b: wrap(a + b), "sub": lambda a, b: wrap(a - b), "mul": lambda a, b: wrap(a * b),
-    "min": min, "max": max, "and": operator.and_, "ior": operator.or_, "xor": operator.xor,
+    "add": lambda a, b: wrap(a + b),
+    "sub": lambda a, b: wrap(a - b),
+    "mul": lambda a, b: wrap(a * b),
+    "min": min,
+    "max": max,
+    "and": operator.and_,
+    "ior": operator.or_,
+    "xor": operator.xor,
 }
 BOOL2 = {"and": lambda a, b: a and b, "ior": lambda a, b: a or b, "xor": lambda a, b: a != b}
 COMPARE = {
-    "grt": lambda a, b: a > b, "les": lambda a, b: a < b, "geq": lambda a, b: a >= b,
-    "leq": lambda a, b: a <= b, "eql": lambda a, b: a == b, "neq": lambda a, b: a != b,
+    "grt": lambda a, b: a > b,
+    "les": lambda a, b: a < b,
+    "geq": lambda a, b: a >= b,
+    "leq": lambda a, b: a <= b,
+    "eql": lambda a, b: a == b,
+    "neq": lambda a, b: a != b,
 }
 
 
@@ -81,6 +105,7 @@ def place_by_place(function):
     def call(*vectors):
         agree(*map(len, vectors))
         return [function(*xs) for xs in zip(*vectors)]
+
     return call
 
 
@@ -91,6 +116,7 @@ def where_valued(number, function):
         if None in values:
             raise Fault(number, values.index(None))
         return values
+
     return call
 
 
@@ -115,17 +141,21 @@ def reduce(function, identity):
 
 def by_segments(function):
     """A call on each segment of a vector, whose results are lists."""
+
     def call(a, d):
         agree(len(a), sum(d))
         return joined(map(function, cut(a, d)))
+
     return call
 
 
 def for_each_segment(function):
     """A call on each segment of a vector, whose results are single elements."""
+
     def call(a, d):
         agree(len(a), sum(d))
         return list(map(function, cut(a, d)))
+
     return call
 
 
@@ -159,6 +189,7 @@ def tot_rez(a, d):
 
 
 # permutes
+
 
 def sent(room, first, elements, index, flags):
     """The room, into which each element whose flag is true was sent to its index. The first one is at place `first`."""
@@ -235,6 +266,7 @@ def bck_pu(source, index):
 
 # lengths, packs, copies, single elements, descriptors
 
+
 def pck_lu(values, flags):
     agree(len(values), len(flags))
     return [x for x, flag in zip(values, flags) if flag]
@@ -286,7 +318,7 @@ def ext_ve(vector, index, d):
 
 def rep_vu(vector, index, value, place=0):
     at = inside(index, vector, place)
-    return vector[:at] + [value] + vector[at + 1:]
+    return vector[:at] + [value] + vector[at + 1 :]
 
 
 def rep_ve(vector, index, values, d):
@@ -307,14 +339,23 @@ def mke_fov(lengths):
 # the table
 
 CALLS = {
-    "tot_suz": ("z", "z", tot_suz), "tot_sez": ("zd", "z", tot_sez),
-    "tot_ruz": ("z", "i", tot_ruz), "tot_rez": ("zd", "z", tot_rez),
-    "not_wuz": ("z", "z", place_by_place(lambda a: ~a)), "not_wub": ("b", "b", place_by_place(lambda a: not a)),
-    "cpy_wuz": ("z", "z", place_by_place(lambda a: a)), "cpy_wub": ("b", "b", place_by_place(lambda a: a)),
-    "int_wub": ("b", "z", place_by_place(int)), "boo_wuz": ("z", "b", place_by_place(bool)),
-    "cnt_lub": ("b", "i", lambda f: f.count(True)), "cnt_leb": ("bd", "z", counts), "pck_fov": ("bd", "d", counts),
+    "tot_suz": ("z", "z", tot_suz),
+    "tot_sez": ("zd", "z", tot_sez),
+    "tot_ruz": ("z", "i", tot_ruz),
+    "tot_rez": ("zd", "z", tot_rez),
+    "not_wuz": ("z", "z", place_by_place(lambda a: ~a)),
+    "not_wub": ("b", "b", place_by_place(lambda a: not a)),
+    "cpy_wuz": ("z", "z", place_by_place(lambda a: a)),
+    "cpy_wub": ("b", "b", place_by_place(lambda a: a)),
+    "int_wub": ("b", "z", place_by_place(int)),
+    "boo_wuz": ("z", "b", place_by_place(bool)),
+    "cnt_lub": ("b", "i", lambda f: f.count(True)),
+    "cnt_leb": ("bd", "z", counts),
+    "pck_fov": ("bd", "d", counts),
     "ind_luz": ("iii", "z", lambda init, stride, count: strided(init, stride, checked_count(count))),
-    "ind_lez": ("zzd", "z", ind_lez), "mke_fov": ("z", "d", mke_fov), "len_fos": ("d", "z", lambda d: d),
+    "ind_lez": ("zzd", "z", ind_lez),
+    "mke_fov": ("z", "d", mke_fov),
+    "len_fos": ("d", "z", lambda d: d),
 }
 for name, function in INT2.items():
     CALLS[f"{name}_wuz"] = ("zz", "z", place_by_place(function))
@@ -334,15 +375,21 @@ for kind, one, monoids, functions in (("z", "i", INT_MONOIDS, INT2), ("b", "t", 
 for x, one in (("z", "i"), ("b", "t")):
     CALLS |= {
         f"sel_wu{x}": (f"b{x}{x}", x, place_by_place(lambda flag, a, b: a if flag else b)),
-        f"smp_pu{x}": (f"{x}z", x, smp_pu), f"smp_pe{x}": (f"{x}zd", x, smp_pe),
-        f"bck_pu{x}": (f"{x}z", x, bck_pu), f"bck_pe{x}": (f"{x}zdd", x, bck_pe),
-        f"sel_pu{x}": (f"{x}zb", x, sel_pu), f"sel_pe{x}": (f"{x}zbd", x, sel_pe),
-        f"def_pu{x}": (f"{x}z{x}", x, def_pu), f"def_pe{x}": (f"{x}z{x}dd", x, def_pe),
+        f"smp_pu{x}": (f"{x}z", x, smp_pu),
+        f"smp_pe{x}": (f"{x}zd", x, smp_pe),
+        f"bck_pu{x}": (f"{x}z", x, bck_pu),
+        f"bck_pe{x}": (f"{x}zdd", x, bck_pe),
+        f"sel_pu{x}": (f"{x}zb", x, sel_pu),
+        f"sel_pe{x}": (f"{x}zbd", x, sel_pe),
+        f"def_pu{x}": (f"{x}z{x}", x, def_pu),
+        f"def_pe{x}": (f"{x}z{x}dd", x, def_pe),
         f"len_lu{x}": (x, "i", len),
-        f"pck_lu{x}": (f"{x}b", x, pck_lu), f"pck_le{x}": (f"{x}bd", x, pck_le),
+        f"pck_lu{x}": (f"{x}b", x, pck_lu),
+        f"pck_le{x}": (f"{x}bd", x, pck_le),
         f"dis_vu{x}": (f"{one}i", x, lambda value, count: [value] * checked_count(count)),
         f"dis_ve{x}": (f"{x}d", x, dis_ve),
         f"ext_vu{x}": (f"{x}i", one, lambda vector, index: vector[inside(index, vector, 0)]),
         f"ext_ve{x}": (f"{x}zd", x, ext_ve),
-        f"rep_vu{x}": (f"{x}i{one}", x, rep_vu), f"rep_ve{x}": (f"{x}z{x}d", x, rep_ve),
+        f"rep_vu{x}": (f"{x}i{one}", x, rep_vu),
+        f"rep_ve{x}": (f"{x}z{x}d", x, rep_ve),
     }

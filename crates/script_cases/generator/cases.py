@@ -71,6 +71,7 @@ def alike(name, settings, script, rows):
     for row in rows:
         groups.setdefault(scripts.run(script, [row]), []).append(row)
     return "".join(
-        f"== case {name}, {number} of {len(groups)}\n{settings}== script\n{script}{outcome(*shown)}== each\n" + "".join(row + "\n" for row in group)
+        f"== case {name}, {number} of {len(groups)}\n{settings}== script\n{script}{outcome(*shown)}== each\n"
+        + "".join(row + "\n" for row in group)
         for number, (shown, group) in enumerate(sorted(groups.items()), 1)
     )

@@ -16,6 +16,7 @@ def case(name, file, write, rows):
 
 # lines of sight
 
+
 def seen(altitudes):
     """Which points are seen from the first: those with a slope above all slopes before, compared by products of whole numbers."""
     flags, rise, distance = [], None, None
@@ -36,16 +37,19 @@ def terrain(rng):
     count = rng.randint(0, 12)
     first = rng.choice([LEAST, GREATEST, 0, rng.randint(LEAST, GREATEST)])
     slope = rng.choice([1, -1]) * rng.randint(0, rng.choice([3, 1000, 2**32])) / rng.randint(1, 12)
-    kind = rng.choice([
-        lambda i: rng.randint(LEAST, GREATEST),
-        lambda i: rng.randint(-3, 3),
-        lambda i: rng.choice([LEAST, LEAST + 1, -1, 0, 1, GREATEST - 1, GREATEST]),
-        lambda i: fitting(first + int(slope * i) + rng.randint(0, 1)),
-    ])
+    kind = rng.choice(
+        [
+            lambda i: rng.randint(LEAST, GREATEST),
+            lambda i: rng.randint(-3, 3),
+            lambda i: rng.choice([LEAST, LEAST + 1, -1, 0, 1, GREATEST - 1, GREATEST]),
+            lambda i: fitting(first + int(slope * i) + rng.randint(0, 1)),
+        ]
+    )
     return [kind(i) for i in range(count)]
 
 
 # histograms and branches
+
 
 def keys_of(rng, most):
     return [rng.randint(0, most) for _ in range(rng.randint(0, 12))]

@@ -13,7 +13,13 @@ from calls import CALLS, FAULTS, MOST_ELEMENTS, Fault
 from cases import number_lines, refused, tiles
 
 KIND_WORDS = {"z": "integers", "b": "booleans", "d": "a descriptor", "i": "an integer", "t": "a boolean"}
-WHOLE_KINDS = {"z": "vector of integers", "b": "vector of booleans", "d": "descriptor", "i": "single integer", "t": "single boolean"}
+WHOLE_KINDS = {
+    "z": "vector of integers",
+    "b": "vector of booleans",
+    "d": "descriptor",
+    "i": "single integer",
+    "t": "single boolean",
+}
 
 # the calls that read an input, which the rows of calls leave out, with what they take and give
 READING = {"input": ("i", "z"), "nested": ("i", "zd")}
@@ -34,9 +40,10 @@ def shortened(text, most=40):
     if len(text) <= most:
         return shown(text)
     ends = itertools.accumulate(
-        len(character.encode("utf-8", "surrogateescape")) for character in text.encode("latin-1").decode("utf-8", "surrogateescape")
+        len(character.encode("utf-8", "surrogateescape"))
+        for character in text.encode("latin-1").decode("utf-8", "surrogateescape")
     )
-    return shown(text[:max((end for end in ends if end <= most), default=0)]) + ".."
+    return shown(text[: max((end for end in ends if end <= most), default=0)]) + ".."
 
 
 def listed(kinds):
@@ -67,6 +74,7 @@ def near(word, known):
 
 
 # arguments
+
 
 def held(names, arg):
     """The kind and the value of an argument, if it has them."""
@@ -101,6 +109,7 @@ def binding_words(binding, inputs):
 
 
 # what is at fault in a call: the place of each argument counts from 0
+
 
 def pairs(name):
     """The lengths that a call compares: elements `e`, segments `s` and the total `t` of the argument at a place, in its order."""
@@ -176,7 +185,7 @@ def room(name, args, values, place):
     if segment is not None:
         lengths = values[{"def": 4, "sel": 3, "rep": 3}.get(name[:3], 2)][1]
         start = sum(lengths[:segment])
-        elements = elements[start:start + lengths[segment]]
+        elements = elements[start : start + lengths[segment]]
         part = f"segment {segment} of {part}"
     if name[:3] == "sel" and name[3:5] == "_p":
         return f"{part} has {counted(elements.count(True), 'true flag')}"
@@ -254,9 +263,15 @@ def call_fault(names, inputs, name, args, fault):
     if fault.number == 13 and name == "mke_fov":
         return f"the lengths in {args[0]} add up to {sum(values[0][1])}, and a vector has at most {MOST_ELEMENTS} elements"
     if fault.number == 13:
-        return number(name, args, values, length_at(name), place, "the length") + f", and a vector has at most {MOST_ELEMENTS} elements"
+        return (
+            number(name, args, values, length_at(name), place, "the length")
+            + f", and a vector has at most {MOST_ELEMENTS} elements"
+        )
     if fault.number == 14:
-        return number(name, args, values, 0, place, "the input's number") + f", and the run has {counted(len(inputs), 'input')}; inputs count from 1"
+        return (
+            number(name, args, values, 0, place, "the input's number")
+            + f", and the run has {counted(len(inputs), 'input')}; inputs count from 1"
+        )
     if fault.number == 16:
         binds = 2 if name == "nested" else 1
         return f"the lines before bind {counted(len(names), 'name')}, and this line binds {binds}: at most {scripts.MOST_NAMES} may be bound"
@@ -270,10 +285,13 @@ def call_fault(names, inputs, name, args, fault):
 
 # what is at fault in an input
 
+
 def is_list_of_numbers(text):
     """Whether `input` reads a text."""
     words = text.split()
-    return len(words) <= MOST_ELEMENTS and all(re.fullmatch(r"-?[0-9]+", word) and -(2**31) <= int(word) < 2**31 for word in words)
+    return len(words) <= MOST_ELEMENTS and all(
+        re.fullmatch(r"-?[0-9]+", word) and -(2**31) <= int(word) < 2**31 for word in words
+    )
 
 
 def input_fault(text, name, file, fault):
@@ -292,11 +310,20 @@ def input_fault(text, name, file, fault):
         lists = "; nested reads lists of lists" if token.startswith("[") else ""
         return f'{at}"{shortened(token)}" is no integer from -2147483648 to 2147483647{lists}'
     open_lists = max(before.count("[") - before.count("]"), 0)
-    expected = '"["' if fault.place == 0 else ["the end", '"[" or "]"', 'an integer from -2147483648 to 2147483647 or "]"'][min(open_lists, 2)]
-    return f"{at}the text ends where {expected} is expected" if token is None else f'{at}"{shortened(token)}" stands where {expected} is expected'
+    expected = (
+        '"["'
+        if fault.place == 0
+        else ["the end", '"[" or "]"', 'an integer from -2147483648 to 2147483647 or "]"'][min(open_lists, 2)]
+    )
+    return (
+        f"{at}the text ends where {expected} is expected"
+        if token is None
+        else f'{at}"{shortened(token)}" stands where {expected} is expected'
+    )
 
 
 # stops
+
 
 def explanation(script, inputs, call_names):
     """The lines that explain why a script stops, where it does."""
@@ -322,7 +349,9 @@ def explanation(script, inputs, call_names):
             lines = [call_words(name)]
             for arg in dict.fromkeys(args):
                 if scripts.is_name(arg):
-                    lines.append(f"{arg}: {value_words(names.get(arg))}" + (binding_words(bound_at[arg], inputs) if arg in names else ""))
+                    lines.append(
+                        f"{arg}: {value_words(names.get(arg))}" + (binding_words(bound_at[arg], inputs) if arg in names else "")
+                    )
             if name in ("input", "nested") and fault.number in (13, 15):
                 which = held(names, args[0])[1]
                 lines.append(input_fault(inputs[which - 1], name, f"{which}.txt", fault))
@@ -374,13 +403,17 @@ def places_of(tokens):
     if tokens[0] == "write" and tokens[1:2] != ["="]:
         return ["a name"] * len(tokens[1:])
     names = ["a name", "= or a name"] if tokens[1:2] == ["="] else ["a name", "= or a name", "="]
-    return names + ["a call"] + ["a name, a number, T or F"] * len(tokens[len(names) + 1:])
+    return names + ["a call"] + ["a name, a number, T or F"] * len(tokens[len(names) + 1 :])
 
 
 def bad_line(line, tokens, call_names):
     """Where a line has none of the forms of a line, and what it lacks."""
     if len(tokens) == 2 and all(map(scripts.is_name, tokens)):
-        lacks = "binds no name: a call stands behind a name and =" if tokens[0] in call_names else f"is no binding; `write {tokens[1]}` shows a value"
+        lacks = (
+            "binds no name: a call stands behind a name and ="
+            if tokens[0] in call_names
+            else f"is no binding; `write {tokens[1]}` shows a value"
+        )
         return f"`{' '.join(tokens)}` {lacks}"
     starts = [match.start() for match in re.finditer("=|[^ \t=]+", line.split("#")[0])]
     ends = starts[-1] + len(tokens[-1])
@@ -403,7 +436,7 @@ def line_fault(line, fault, call_names):
     if fault.number == 1:
         return bad_line(line, tokens, call_names)
     at = tokens.index("=") + 1 if "=" in tokens else 0
-    name, args = tokens[at] if at < len(tokens) else "", tokens[at + 1:]
+    name, args = tokens[at] if at < len(tokens) else "", tokens[at + 1 :]
     if fault.number == 2:
         return no_call(name, args, call_names)
     if fault.number == 3:
@@ -435,7 +468,11 @@ def at_fault(rng, name):
     """Rows of a call that are at fault: an example of each fault that it may have."""
     kinds, found = CALLS[name][0], {}
     for _ in range(60):
-        args = rng.choice([rows.at_fault, rows.unequal])(rng, name) if sum(kind in "zbd" for kind in kinds) > 1 else rows.at_fault(rng, name)
+        args = (
+            rng.choice([rows.at_fault, rows.unequal])(rng, name)
+            if sum(kind in "zbd" for kind in kinds) > 1
+            else rows.at_fault(rng, name)
+        )
         if any(arg == [] for arg in args):
             continue
         try:
@@ -462,7 +499,10 @@ def of_kinds(rng, name):
 
 # tokens of lines, good ones and others
 TOKENS = """= = = a b x write T F 7 -1 +2 99999999999 my-vec 5x a, (a a) add_wuz(a, add_wuz mul_wuz add_ruz cpy_wuz nested input mke_fov print
-    sort cumsum ad_wuz sub_suz Add_ruz plus_wuz""".split() + ["n" * 32, "n" * 33]
+    sort cumsum ad_wuz sub_suz Add_ruz plus_wuz""".split() + [
+    "n" * 32,
+    "n" * 33,
+]
 
 
 def is_unsure(line):

@@ -36,7 +36,13 @@ PERMUTES = [
 ]
 
 # places whose index is another one: one that is no place, or none for that of the place before
-FLAWS = [[(199_990, -1)], [(199_990, FEWER_PLACES)], [(199_990, None)], [(85_000, None), (199_990, -1)], [(FEWER_PLACES - 1, None)]]
+FLAWS = [
+    [(199_990, -1)],
+    [(199_990, FEWER_PLACES)],
+    [(199_990, None)],
+    [(85_000, None), (199_990, -1)],
+    [(FEWER_PLACES - 1, None)],
+]
 
 
 def permutes(rng):
@@ -52,14 +58,20 @@ def permutes(rng):
             for place, other in flaws:
                 changed += f"x = ext_vuz i {place - 1}\ni = rep_vuz i {place} {'x' if other is None else other}\n"
             line = changed.count("\n") + 1
-            stop = f"line {line}: fault " + ("11 IndexRepeated" if dict(flaws)[first] is None else "10 IndexOutOfRange") + f" at {first}\n"
+            stop = (
+                f"line {line}: fault "
+                + ("11 IndexRepeated" if dict(flaws)[first] is None else "10 IndexOutOfRange")
+                + f" at {first}\n"
+            )
             text += f"== case long {name} with a fault, {number}\n{settings}== script\n{changed}{call}== stop\n{stop}"
     start = permuted(FEWER_PLACES)
     changed = start + "i = rep_vuz i 199990 0\n"
     short = tiles(("4096", "4")) + refused(14)
     text += f"== case a long permute where memory is refused\n{short}== script\n{start}p = smp_puz v i\nx = ext_vuz p 0\nwrite x\n== text\nx = 0\n"
-    text += f"== case a long permute at fault where memory is refused\n{short}== script\n{changed}p = smp_puz v i\n" \
+    text += (
+        f"== case a long permute at fault where memory is refused\n{short}== script\n{changed}p = smp_puz v i\n"
         "== stop\nline 6: fault 11 IndexRepeated at 199990\n"
+    )
     return text
 
 
@@ -105,7 +117,12 @@ def checked(rng):
         # a fault ends a script
         for number, end in enumerate(ends if last else ["".join(ends)]):
             name = calls[number][0] if last else "sums that never wrap"
-            text += whole(f"{name} of {count} numbers" + (" that do not fit" if last else ""), settings, lines + end, [f"1 0 170000 {count - 170001} 0"])
+            text += whole(
+                f"{name} of {count} numbers" + (" that do not fit" if last else ""),
+                settings,
+                lines + end,
+                [f"1 0 170000 {count - 170001} 0"],
+            )
     return text
 
 
@@ -129,8 +146,10 @@ def blocks(rng):
             text += whole(f"{first} and {second} before {place}", settings, script + ends, [])
     for step in STEPS:
         text += whole(f"{step} again and again", settings, f"a = dis_vuz {step} {COUNT}\n" + ends, [])
-    in_turn = f"a = dis_vuz 1 {COUNT}\ni = ind_luz 0 1 {COUNT}\ni = and_wuz i a\nf = boo_wuz i\na = dis_vuz {GREATEST} {COUNT}\n" \
+    in_turn = (
+        f"a = dis_vuz 1 {COUNT}\ni = ind_luz 0 1 {COUNT}\ni = and_wuz i a\nf = boo_wuz i\na = dis_vuz {GREATEST} {COUNT}\n"
         f"b = dis_vuz {-GREATEST} {COUNT}\na = sel_wuz f b a\n"
+    )
     # a first number stands before the others, which are GREATEST and its opposite in turn
     for first in (0, -1, LEAST, 1, GREATEST):
         script = in_turn + f"b = dis_vuz {first} {COUNT + 1}\nj = ind_luz 1 1 {COUNT}\na = def_puz a j b\n"
@@ -156,8 +175,10 @@ def divisions(rng):
                 # the two vectors, the race for the least fault, and the result
                 refusals = tiles(("4096", "4")) + refused(14)
                 text += f"== case {call} of {count} elements where memory is refused\n{refusals}== script\n{start}{ends}== text\nt = T\n"
-                text += f"== case {call} of {count} elements with two faults where memory is refused\n{refusals}== script\n{flawed}{ends}" \
+                text += (
+                    f"== case {call} of {count} elements with two faults where memory is refused\n{refusals}== script\n{flawed}{ends}"
                     f"== stop\nline 5: fault {fault} at {count - 10}\n"
+                )
     return text
 
 
@@ -168,14 +189,18 @@ SUMMED = [*range(13), 0, 16, 1]
 SENT = [31, 32, 33, 0, 1, 34, 64, 2]
 LOOKED_AT = [[127] * 9, [128] * 9, [4095], [4096], [4097], [9000], [0, 8193, 200]]
 
-REDUCED = "d = mke_fov l\nr = add_rez a d\nwrite r\nr = mul_rez a d\nwrite r\nr = max_rez a d\nwrite r\n" \
+REDUCED = (
+    "d = mke_fov l\nr = add_rez a d\nwrite r\nr = mul_rez a d\nwrite r\nr = max_rez a d\nwrite r\n"
     "b = grt_wuz a z\nr = xor_reb b d\nwrite r\ns = add_sez a d\nwrite s d\n"
+)
 
 
 def turned(lengths):
     """A vector in segments, and in each of them an index that names its places from the last to the first."""
-    return f"l = input 1\nd = mke_fov l\nv = ind_luz 7 3 {sum(lengths)}\no = dis_vuz 1 {len(lengths)}\nn = sub_wuz l o\n" \
+    return (
+        f"l = input 1\nd = mke_fov l\nv = ind_luz 7 3 {sum(lengths)}\no = dis_vuz 1 {len(lengths)}\nn = sub_wuz l o\n"
         f"m = dis_vuz -1 {len(lengths)}\ni = ind_lez n m d\n"
+    )
 
 
 def walks(rng):
@@ -203,8 +228,13 @@ def walks(rng):
             flat = f"v = ind_luz 7 3 {count}\ni = ind_luz 0 1 {count}\ni = rep_vuz i {count - 1} -1\n"
             ends = f"i = rep_vuz i {place} {count if other > 0 else other}\np = bck_puz v i\n"
             text += whole(f"{count} indices, of which one is outside at {place}", settings, flat + ends, [])
-        text += whole(f"{count} indices", settings, f"v = ind_luz 7 3 {count}\ni = ind_luz {count - 1} -1 {count}\n"
-            "p = bck_puz v i\nq = bck_puz p i\ne = eql_wuz q v\nt = and_rub e\nwrite t\nx = ext_vuz p 1\nwrite x\n", [])
+        text += whole(
+            f"{count} indices",
+            settings,
+            f"v = ind_luz 7 3 {count}\ni = ind_luz {count - 1} -1 {count}\n"
+            "p = bck_puz v i\nq = bck_puz p i\ne = eql_wuz q v\nt = and_rub e\nwrite t\nx = ext_vuz p 1\nwrite x\n",
+            [],
+        )
     return text
 
 

@@ -52,7 +52,9 @@ def spoiled(rng, line):
     """The line with a token left out, added or changed."""
     tokens = line.split()
     place = rng.randint(0, len(tokens))
-    return " ".join([*tokens[:place], *rng.choice([[rng.choice(ODD)], [rng.choice(ODD_NUMBERS)], []]), *tokens[place + rng.randint(0, 1):]])
+    return " ".join(
+        [*tokens[:place], *rng.choice([[rng.choice(ODD)], [rng.choice(ODD_NUMBERS)], []]), *tokens[place + rng.randint(0, 1) :]]
+    )
 
 
 def script_of(rng, inputs):

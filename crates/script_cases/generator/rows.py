@@ -139,13 +139,21 @@ def unequal(rng, name):
 
 
 # how an argument of each kind is made of an input
-MADE = {"z": "", "b": "{0} = boo_wuz {0}\n", "d": "{0} = mke_fov {0}\n", "i": "{0} = ext_vuz {0} 0\n", "t": "{0} = boo_wuz {0}\n{0} = ext_vub {0} 0\n"}
+MADE = {
+    "z": "",
+    "b": "{0} = boo_wuz {0}\n",
+    "d": "{0} = mke_fov {0}\n",
+    "i": "{0} = ext_vuz {0} 0\n",
+    "t": "{0} = boo_wuz {0}\n{0} = ext_vub {0} 0\n",
+}
 
 
 def cutting(name):
     """The argument that cuts the result of a call, if one does."""
     kinds, result, _ = CALLS[name]
-    is_cut = result in "zb" and kinds[-1] == "d" and name[3:6] not in ("_re", "_ve") or name[:3] in ("rep", "dis") and name[5] == "e"
+    is_cut = (
+        result in "zb" and kinds[-1] == "d" and name[3:6] not in ("_re", "_ve") or name[:3] in ("rep", "dis") and name[5] == "e"
+    )
     return kinds.rindex("d") if is_cut and name[:6] not in ("cnt_le", "pck_le", "sel_pe", "len_fo") else None
 
 
@@ -164,7 +172,11 @@ def row(args):
 
 
 def can_fault(name):
-    return name in PARTIAL + ONE_ELEMENT + A_SEGMENT + ("ind_luz", "dis_vuz", "dis_vub", "mke_fov") or "_p" in name or name.startswith("tot")
+    return (
+        name in PARTIAL + ONE_ELEMENT + A_SEGMENT + ("ind_luz", "dis_vuz", "dis_vub", "mke_fov")
+        or "_p" in name
+        or name.startswith("tot")
+    )
 
 
 def random_rows(rng, name):

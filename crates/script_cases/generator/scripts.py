@@ -36,6 +36,7 @@ def number_of(token):
 
 # lines
 
+
 def tokens_of(line):
     return re.findall("=|[^ \t=]+", line.split("#")[0])
 
@@ -70,6 +71,7 @@ def call_of(line):
 
 
 # inputs
+
 
 def words_of(text, alone=""):
     """The tokens between white space, of which those of these letters stand alone."""
@@ -113,6 +115,7 @@ def nested_of(text):
 
 # texts
 
+
 def text_of(value):
     if isinstance(value, list):
         return "[" + " ".join(map(text_of, value)) + "]"
@@ -122,6 +125,7 @@ def text_of(value):
 
 
 # runs
+
 
 def argument(names, arg, wanted):
     """The value of an argument, which must be of this kind."""

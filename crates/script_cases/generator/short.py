@@ -35,7 +35,12 @@ PERMUTES = [
     ("bck_puz", "v = input 1\ni = input 2\n" + GIVES.format("bck_puz v i"), [TAKEN], "i"),
     ("smp_pez", SEND.format(1) + LENGTHS.format(2) + GIVES.format("smp_pez s i d") + " d", [], "il"),
     ("sel_pez", SEND.format(1) + FLAGS.format(2) + LENGTHS.format(3) + GIVES.format("sel_pez s i f d"), [], "ifl"),
-    ("def_pez", CUT_OTHERS + SEND.format(3) + LENGTHS.format(4) + GIVES.format("def_pez s i v d e") + " e", [OTHERS, DEFAULTS], "il"),
+    (
+        "def_pez",
+        CUT_OTHERS + SEND.format(3) + LENGTHS.format(4) + GIVES.format("def_pez s i v d e") + " e",
+        [OTHERS, DEFAULTS],
+        "il",
+    ),
     ("bck_pez", CUT_OTHERS + "i = input 3\n" + LENGTHS.format(4) + GIVES.format("bck_pez v i e d") + " d", [OTHERS, TAKEN], "il"),
 ]
 
@@ -109,8 +114,46 @@ def checked(rng):
 LONGEST = 40
 
 NUMBERS = [
-    3, -1, 7, 0, GREATEST, 4, LEAST, 9, 2, -6, 5, 1500000000, 1500000000, 8, -3, 6, -9, 11, 0, 13, -2000000000, -2000000000, 17, 1, 19,
-    -4, 21, 22, -5, 23, 24, GREATEST, 26, -7, 27, 28, 12, -29, 30, 31,
+    3,
+    -1,
+    7,
+    0,
+    GREATEST,
+    4,
+    LEAST,
+    9,
+    2,
+    -6,
+    5,
+    1500000000,
+    1500000000,
+    8,
+    -3,
+    6,
+    -9,
+    11,
+    0,
+    13,
+    -2000000000,
+    -2000000000,
+    17,
+    1,
+    19,
+    -4,
+    21,
+    22,
+    -5,
+    23,
+    24,
+    GREATEST,
+    26,
+    -7,
+    27,
+    28,
+    12,
+    -29,
+    30,
+    31,
 ]
 
 SEGMENTS = [0, 2, 0, 0, 3, 1, 1, 5, 0, 8, 4, 0, 2, 6, 0, 1, 3, 0, 4, 0]
@@ -128,8 +171,12 @@ def in_tiles(rng):
     """Scans and reduces by each operator of the first elements, each number of them, flat and in segments."""
     text = ""
     # every cut for a sum, and for an operator whose identity is no zero; all operators are walked and joined alike
-    for name, x, is_full in [(op, "z", op in ("add", "max")) for op in INT_MONOIDS] + [(op, "b", op == "xor") for op in BOOL_MONOIDS]:
-        settings = tiles(("1 2 3 4 5 6 7 8", "1"), ("1", "3"), ("5", "2")) if is_full else tiles(("1", "2"), ("3", "3"), ("4", "1"))
+    for name, x, is_full in [(op, "z", op in ("add", "max")) for op in INT_MONOIDS] + [
+        (op, "b", op == "xor") for op in BOOL_MONOIDS
+    ]:
+        settings = (
+            tiles(("1 2 3 4 5 6 7 8", "1"), ("1", "3"), ("5", "2")) if is_full else tiles(("1", "2"), ("3", "3"), ("4", "1"))
+        )
         settings += tiles(("2", "7")) if name == "add" else ""
         start = "a = input 1\n" + ("" if x == "z" else "a = boo_wuz a\n") + "o = input 2\n"
         flat = by_segments = start
@@ -137,7 +184,9 @@ def in_tiles(rng):
             taken = f"i = ind_luz 0 1 {count}\nv = bck_pu{x} a i\n"
             flat += f"{taken}s = {name}_su{x} v\nwrite s\nr = {name}_ru{x} v\nwrite r\n"
             if count % 3 == 1 or is_full:
-                by_segments += f"{taken}l = input {count + 3}\nd = mke_fov l\ns = {name}_se{x} v d\nwrite s\nr = {name}_re{x} v d\nwrite r\n"
+                by_segments += (
+                    f"{taken}l = input {count + 3}\nd = mke_fov l\ns = {name}_se{x} v d\nwrite s\nr = {name}_re{x} v d\nwrite r\n"
+                )
         inputs = [number_lines(NUMBERS if x == "z" else [k % 3 > 0 for k in range(LONGEST)]), ""]
         text += whole(f"{name}_su{x} and {name}_ru{x} of each length", settings, flat, inputs)
         inputs += [number_lines(first_segments(count)) for count in range(LONGEST + 1)]
@@ -151,7 +200,13 @@ def elementwise(rng):
     pairs = list(product(EDGES, repeat=2))
     for name in [*INT2, *COMPARE]:
         rows = [[number_lines(xs) for xs in zip(*pairs)]]
-        text += each(f"{name}_wuz of each two edges", tiles(("2", "3")), f"a = input 1\nb = input 2\nr = {name}_wuz a b\nwrite r\n", [], rows)
+        text += each(
+            f"{name}_wuz of each two edges",
+            tiles(("2", "3")),
+            f"a = input 1\nb = input 2\nr = {name}_wuz a b\nwrite r\n",
+            [],
+            rows,
+        )
     for name, (_, function) in PARTIAL.items():
         script = f"a = input 1\nb = input 2\nr = {name}_wuz a b\nwrite r\n"
         good = [pair for pair in product(EDGES, EDGES + list(range(32))) if function(*pair) is not None]
@@ -167,18 +222,25 @@ def again(rng):
     text = each("the least divisor of 0 every time", tiles(("16", "8")), script, [], [["3 900"]], 100)
     script = "i = ind_luz 0 1 1000\nz = input 1\nx = ext_vuz z 0\ny = ext_vuz z 1\ni = rep_vuz i x 2\ni = rep_vuz i y 1000\nr = smp_puz i i\n"
     text += each("the least bad index every time", tiles(("16", "8")), script, [], [["5 999"]], 100)
-    script = "l = input 1\nd = mke_fov l\nv = ind_luz 0 1 1000\nb = input 2\nb = dis_vez b d\ni = sub_wuz v b\n" \
+    script = (
+        "l = input 1\nd = mke_fov l\nv = ind_luz 0 1 1000\nb = input 2\nb = dis_vez b d\ni = sub_wuz v b\n"
         "i = rep_vuz i 5 2\ni = rep_vuz i 999 1000\nr = smp_pez v i d\n"
-    text += each("the least bad index of segments every time", tiles(("16", "8")), script, ["250 250 0 500"], [["0 250 500 500"]], 100)
+    )
+    text += each(
+        "the least bad index of segments every time", tiles(("16", "8")), script, ["250 250 0 500"], [["0 250 500 500"]], 100
+    )
     for name in ("add", "max"):
         script = f"l = input 1\nd = mke_fov l\nv = input 2\nr = {name}_sez v d\nwrite r d\n"
         # five elements are five tiles, three, two or one, for which no more workers race
-        text += each(f"{name}_sez every time", tiles(("1", "2 3 64"), ("2", "3"), ("3 4", "2")), script, ["2 3"], [["1 2 3 4 5"]], 50)
+        text += each(
+            f"{name}_sez every time", tiles(("1", "2 3 64"), ("2", "3"), ("3 4", "2")), script, ["2 3"], [["1 2 3 4 5"]], 50
+        )
         text += each(f"{name}_sez by one worker", tiles(("1 2 3 4", "1"), ("5", "64")), script, ["2 3"], [["1 2 3 4 5"]])
     return text
 
 
 # texts
+
 
 def token_texts(rng):
     """Every text of up to four bytes of digits, signs and white space."""
@@ -199,7 +261,9 @@ def nested_texts(rng):
     texts = lists("[]1x", 7)
     script = "v d = nested 1\nwrite v d\n"
     text = alike("nested inputs of every short text", "", script, list(map(close, texts)))
-    return text + alike("nested inputs of every short text with blanks", "", script, [" ".join(one) for one in texts if len(one) < 7])
+    return text + alike(
+        "nested inputs of every short text with blanks", "", script, [" ".join(one) for one in texts if len(one) < 7]
+    )
 
 
 def nests(rng):
@@ -207,7 +271,10 @@ def nests(rng):
     numbers = [LEAST, LEAST + 1, -10, -1, 0, 9, GREATEST - 1, GREATEST]
     rows, again = [], []
     for _ in range(400):
-        lists = [[rng.choice([rng.choice(numbers), rng.randint(LEAST, GREATEST)]) for _ in range(rng.randint(0, 7))] for _ in range(rng.randint(0, 7))]
+        lists = [
+            [rng.choice([rng.choice(numbers), rng.randint(LEAST, GREATEST)]) for _ in range(rng.randint(0, 7))]
+            for _ in range(rng.randint(0, 7))
+        ]
         rows.append([number_lines(map(len, lists)), number_lines(x for one in lists for x in one)])
         again.append(["[" + " ".join("[" + number_lines(one) + "]" for one in lists) + "]"])
     text = each("random nests that are written", "", "l = input 1\nv = input 2\nd = mke_fov l\nwrite v d\n", [], rows)

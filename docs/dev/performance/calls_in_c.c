@@ -19,11 +19,19 @@ static bool flags[MOST], others[MOST], taken[MOST];
 
 #define LOOP __attribute__((noinline)) static void
 
-LOOP loop_add(size_t n) { for (size_t k = 0; k < n; k++) out[k] = (int32_t)((uint32_t)a[k] + (uint32_t)b[k]); }
-LOOP loop_less(size_t n) { for (size_t k = 0; k < n; k++) ((bool *)out)[k] = a[k] < b[k]; }
-LOOP loop_select(size_t n) { for (size_t k = 0; k < n; k++) out[k] = flags[k] ? a[k] : b[k]; }
+LOOP loop_add(size_t n) {
+    for (size_t k = 0; k < n; k++) out[k] = (int32_t)((uint32_t)a[k] + (uint32_t)b[k]);
+}
+LOOP loop_less(size_t n) {
+    for (size_t k = 0; k < n; k++) ((bool *)out)[k] = a[k] < b[k];
+}
+LOOP loop_select(size_t n) {
+    for (size_t k = 0; k < n; k++) out[k] = flags[k] ? a[k] : b[k];
+}
 
-LOOP loop_xor(size_t n) { for (size_t k = 0; k < n; k++) ((bool *)out)[k] = flags[k] != others[k]; }
+LOOP loop_xor(size_t n) {
+    for (size_t k = 0; k < n; k++) ((bool *)out)[k] = flags[k] != others[k];
+}
 LOOP loop_replace(size_t n) { memcpy(out, flags, n), ((bool *)out)[n / 2] = true; }
 
 LOOP loop_count(size_t n) {
@@ -167,8 +175,12 @@ LOOP loop_pack_flags(size_t n) {
     }
 }
 
-LOOP loop_distribute(size_t n) { for (size_t k = 0; k < n; k++) out[k] = a[0]; }
-LOOP loop_index(size_t n) { for (size_t k = 0; k < n; k++) out[k] = (int32_t)(5 + 3 * (uint32_t)k); }
+LOOP loop_distribute(size_t n) {
+    for (size_t k = 0; k < n; k++) out[k] = a[0];
+}
+LOOP loop_index(size_t n) {
+    for (size_t k = 0; k < n; k++) out[k] = (int32_t)(5 + 3 * (uint32_t)k);
+}
 
 static void must(CvlStatus status) {
     if (status.number != CVL_DONE) {

@@ -79,7 +79,8 @@ def choices_said():
         f"{said((8, TILE), usual)} of that of four, and 64 take {said((64, TILE), usual)} of it.\n"
         f"- **Tiles:** leave them as they are. Tiles of 1,024 elements take {said((WORKERS, 1_024), usual)} of the time of those of 4,096, and tiles of "
         f"65,536 take {said((WORKERS, 65_536), usual)} of it. Tiles of 256 take {said((WORKERS, 256), usual)}: workers then meet at the board all the time, "
-        "and permutes race place by place.\n")
+        "and permutes race place by place.\n"
+    )
 
 
 def mark(number, x, y):
@@ -145,12 +146,16 @@ def plot():
     times = read_times()
     labels = labels_of(times)
     height = 410 + 20 * math.ceil(len(labels) / 3)
-    yield (f'<svg xmlns="http://www.w3.org/2000/svg" width="820" height="{height}" viewBox="0 0 820 {height}" font-family="sans-serif" '
-           'font-size="13" role="img">')
+    yield (
+        f'<svg xmlns="http://www.w3.org/2000/svg" width="820" height="{height}" viewBox="0 0 820 {height}" font-family="sans-serif" '
+        'font-size="13" role="img">'
+    )
     yield "<title>Time of a call with other numbers of workers and other lengths of tiles, over its time with the defaults</title>"
-    yield ("<desc>Two plots with a line for each call, on a logarithmic scale. On the left the number of workers changes, on the right the "
-           "length of tiles. At 1 a call takes as long as with 4 workers and tiles of 4,096 elements. An arrow with a value stands where a line leaves the "
-           "plot. docs/dev/performance/measured.txt has the numbers.</desc>")
+    yield (
+        "<desc>Two plots with a line for each call, on a logarithmic scale. On the left the number of workers changes, on the right the "
+        "length of tiles. At 1 a call takes as long as with 4 workers and tiles of 4,096 elements. An arrow with a value stands where a line leaves the "
+        "plot. docs/dev/performance/measured.txt has the numbers.</desc>"
+    )
     yield '<rect width="100%" height="100%" fill="#ffffff"/>'
     yield '<text x="10" y="24" font-size="15">Time over that with the defaults, 4 workers and tiles of 4,096 elements (below 1 is faster)</text>'
     yield from panel(times, "workers, in tiles of 4,096", choices_of(times, 1), lambda count: (count, TILE), 50)

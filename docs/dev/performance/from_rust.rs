@@ -14,18 +14,13 @@ struct Numbers(u64);
 
 impl Numbers {
     fn next(&mut self) -> u64 {
-        self.0 = self
-            .0
-            .wrapping_mul(6_364_136_223_846_793_005)
-            .wrapping_add(1_442_695_040_888_963_407);
+        self.0 = self.0.wrapping_mul(6_364_136_223_846_793_005).wrapping_add(1_442_695_040_888_963_407);
         self.0 >> 33
     }
 
     /// So many numbers from -1000 to 999.
     fn ints(&mut self, n: usize) -> Vec<i32> {
-        (0..n)
-            .map(|_| (self.next() % 2_000) as i32 - 1_000)
-            .collect()
+        (0..n).map(|_| (self.next() % 2_000) as i32 - 1_000).collect()
     }
 
     /// The places below n, in some order.
@@ -60,33 +55,15 @@ fn times(n: usize) -> Result<Vec<(&'static str, f64)>, Fault> {
     let mut kept = vec![0; flags.iter().filter(|&&flag| flag).count()];
     Ok(vec![
         ("add_wuz", least(n, || cvl::add_wuz_into(&a, &b, &mut out))),
-        (
-            "les_wuz",
-            least(n, || cvl::les_wuz_into(&a, &b, &mut marks)),
-        ),
-        (
-            "sel_wuz",
-            least(n, || cvl::sel_wuz_into(&flags, &a, &b, &mut out)),
-        ),
+        ("les_wuz", least(n, || cvl::les_wuz_into(&a, &b, &mut marks))),
+        ("sel_wuz", least(n, || cvl::sel_wuz_into(&flags, &a, &b, &mut out))),
         ("add_suz", least(n, || cvl::add_suz_into(&a, &mut out))),
         ("add_ruz", least(n, || cvl::add_ruz(&a))),
         ("max_ruz", least(n, || cvl::max_ruz(&a))),
-        (
-            "add_rez",
-            least(n, || cvl::add_rez_into(&a, &rows, &mut sums)),
-        ),
-        (
-            "bck_puz",
-            least(n, || cvl::bck_puz_into(&a, &index, &mut out)),
-        ),
-        (
-            "smp_puz",
-            least(n, || cvl::smp_puz_into(&a, &index, &mut out)),
-        ),
-        (
-            "pck_luz",
-            least(n, || cvl::pck_luz_into(&a, &flags, &mut kept)),
-        ),
+        ("add_rez", least(n, || cvl::add_rez_into(&a, &rows, &mut sums))),
+        ("bck_puz", least(n, || cvl::bck_puz_into(&a, &index, &mut out))),
+        ("smp_puz", least(n, || cvl::smp_puz_into(&a, &index, &mut out))),
+        ("pck_luz", least(n, || cvl::pck_luz_into(&a, &flags, &mut kept))),
     ])
 }
 

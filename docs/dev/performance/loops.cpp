@@ -121,12 +121,12 @@ int32_t masked(bool flag, int32_t x, int32_t y) {
     return (x & mask) | (y & ~mask);
 }
 
-#define EACH(TYPE, ELEMENT)                                                                                                     \
-    [](const Vectors &v) {                                                                                                      \
-        const int32_t *a = v.numbers.data(), *b = v.divisors.data(), *shifts = v.shifts.data();                                 \
-        const bool *flags = v.flags.get(), *others = v.others.get();                                                            \
-        (void)a, (void)b, (void)shifts, (void)flags, (void)others;                                                              \
-        return each<TYPE>(v, [=](size_t k) -> TYPE { return ELEMENT; });                                                        \
+#define EACH(TYPE, ELEMENT)                                                                     \
+    [](const Vectors &v) {                                                                      \
+        const int32_t *a = v.numbers.data(), *b = v.divisors.data(), *shifts = v.shifts.data(); \
+        const bool *flags = v.flags.get(), *others = v.others.get();                            \
+        (void)a, (void)b, (void)shifts, (void)flags, (void)others;                              \
+        return each<TYPE>(v, [=](size_t k) -> TYPE { return ELEMENT; });                        \
     }
 
 // ---- scans and reduces, by segments; a flat vector is one segment
@@ -189,8 +189,8 @@ Answer checked_sums(const Vectors &v) {
 // Sends n elements, those whose flag is true where there are flags, each to its index in a room of so many places. False at an
 // index that is no free place.
 template <bool FLAGGED>
-__attribute__((noinline)) bool send(int32_t *out, bool *taken, size_t places, const int32_t *source, const int32_t *index,
-                                    const bool *flags, size_t n) {
+__attribute__((noinline)) bool send(
+    int32_t *out, bool *taken, size_t places, const int32_t *source, const int32_t *index, const bool *flags, size_t n) {
     for (size_t k = 0; k < n; k++) {
         if (FLAGGED && !flags[k]) continue;
         const size_t place = uint32_t(index[k]);
@@ -377,14 +377,16 @@ void elementwise() {
 }
 
 void scans() {
-    const Case flat[] = {{"scan of sums", sums_before},
-                         {"sum", sums},
-                         {"checked scan of sums", checked_sums_before},
-                         {"checked sum", checked_sums}};
-    const Case segmented[] = {{"scan of sums by segments", sums_before},
-                              {"sums by segments", sums},
-                              {"checked scan of sums by segments", checked_sums_before},
-                              {"checked sums by segments", checked_sums}};
+    const Case flat[] = {
+        {"scan of sums", sums_before},
+        {"sum", sums},
+        {"checked scan of sums", checked_sums_before},
+        {"checked sum", checked_sums}};
+    const Case segmented[] = {
+        {"scan of sums by segments", sums_before},
+        {"sums by segments", sums},
+        {"checked scan of sums by segments", checked_sums_before},
+        {"checked sums by segments", checked_sums}};
     for (size_t n : LENGTHS) {
         measure(flat, {"", n, n});
         for (size_t segment : {size_t(1), size_t(4), size_t(16), size_t(1'000), n}) {
@@ -395,10 +397,11 @@ void scans() {
 
 void permutes() {
     const Case flat[] = {{"simple", simple}, {"back", back}, {"select of half", select}, {"default", default_into}};
-    const Case segmented[] = {{"simple by segments", simple},
-                              {"back by segments", back},
-                              {"select of half by segments", select},
-                              {"default by segments", default_into}};
+    const Case segmented[] = {
+        {"simple by segments", simple},
+        {"back by segments", back},
+        {"select of half by segments", select},
+        {"default by segments", default_into}};
     for (size_t n : LENGTHS) {
         for (bool at_random : {false, true}) {
             const char *words = at_random ? ", at random" : ", in order";
@@ -410,10 +413,11 @@ void permutes() {
 
 void packs() {
     const Case of_flags[] = {{"pack", pack, pack_without_branch}, {"count", count}};
-    const Case segmented[] = {{"count by segments", counts},
-                              {"pack by segments", pack, pack_without_branch},
-                              {"distribute by segments", distribute},
-                              {"index by segments", index}};
+    const Case segmented[] = {
+        {"count by segments", counts},
+        {"pack by segments", pack, pack_without_branch},
+        {"distribute by segments", distribute},
+        {"index by segments", index}};
     const Case without_flags[] = {{"distribute", distribute}, {"index", index}};
     for (size_t n : LENGTHS) {
         for (int percent : {1, 50, 99}) measure(of_flags, {", " + std::to_string(percent) + " % true", n, n, false, percent});
@@ -459,7 +463,8 @@ int main(int count, char **words) {
     const struct {
         const char *name;
         void (*measure)();
-    } subjects[] = {{"elementwise", elementwise}, {"scans", scans}, {"permutes", permutes}, {"packs", packs}, {"recipes", recipes}};
+    } subjects[] = {
+        {"elementwise", elementwise}, {"scans", scans}, {"permutes", permutes}, {"packs", packs}, {"recipes", recipes}};
     for (const auto &subject : subjects) {
         if (wanted.empty() || wanted == subject.name) subject.measure();
     }

@@ -64,6 +64,7 @@ static void cut_segments(void) {
 
 /* ---- the calls: over ranks, and by the threads of the plain library ---- */
 
+/* clang-format off */
 #define CALLS(X)                                                                                                                                 \
     X(add_wuz, "add_wuz", cvl_add_wuz_mpi(ranks, a, b, out, n), cvl_add_wuz(a, b, out, n))                                                       \
     X(div_wuz, "div_wuz", cvl_div_wuz_mpi(ranks, a, b, out, n), cvl_div_wuz(a, b, out, n))                                                       \
@@ -93,9 +94,10 @@ static void cut_segments(void) {
     X(seg_sort, "cvl_seg_sort, of 1,000", cvl_seg_sort_mpi(ranks, a, n, segments, out, n), cvl_seg_sort(a, n, cut, out, n))                      \
     X(sort, "cvl_sort", cvl_sort_mpi(ranks, a, n, out, n), cvl_sort(a, n, out, n))                                                               \
     X(order, "cvl_order", cvl_order_mpi(ranks, a, n, out, n), cvl_order(a, n, out, n))
+/* clang-format on */
 
-#define DEFINED(id, name, over, plain)                                                                                                           \
-    static CvlStatus over_##id(void) { return over; }                                                                                            \
+#define DEFINED(id, name, over, plain)                \
+    static CvlStatus over_##id(void) { return over; } \
     static CvlStatus plain_##id(void) { return plain; }
 CALLS(DEFINED)
 
@@ -151,7 +153,8 @@ static size_t owner_of(uint64_t place) {
 static CvlStatus plain_permute(void) {
     CvlStatus status = {CVL_DONE, -1};
     const size_t words = n / 64 + 1;
-    int *counts = calloc(4 * (size_t)size + 2, sizeof *counts), *first = counts + size, *got_counts = first + size + 1, *got_first = got_counts + size;
+    int *counts = calloc(4 * (size_t)size + 2, sizeof *counts), *first = counts + size, *got_counts = first + size + 1,
+        *got_first = got_counts + size;
     int *next = calloc((size_t)size, sizeof *next);
     Pair *sent = malloc((n + 1) * sizeof *sent), *got = malloc((n + 1) * sizeof *got);
     uint64_t *marks = calloc(words, sizeof *marks);
@@ -206,7 +209,8 @@ static int measure_all(int rounds, long threads) {
     }
     for (size_t k = 0; k < count; k++) measure(rounds, rows[k].name, rows[k].over);
     if (cvl_route_new(ranks, at_random, n, n, &route).number != CVL_DONE) return 1;
-    measure(rounds, "bck_puz, at random, by a route", back_by_route), measure(rounds, "smp_puz, at random, by a route", permute_by_route);
+    measure(rounds, "bck_puz, at random, by a route", back_by_route),
+        measure(rounds, "smp_puz, at random, by a route", permute_by_route);
     measure(rounds, "a plain scan", plain_scan), measure(rounds, "a plain permute, at random", plain_permute);
     cvl_route_free(route);
     return 0;
@@ -219,7 +223,8 @@ int main(int words, char **word) {
     MPI_Comm_size(MPI_COMM_WORLD, &size);
     const int rounds = words > 1 ? atoi(word[1]) : 3;
     total = words > 2 ? strtoull(word[2], NULL, 10) : 4194304;
-    if (cvl_ranks_new(MPI_COMM_WORLD, &ranks).number != CVL_DONE || cvl_even_share(ranks, total, &from, &n).number != CVL_DONE) return 1;
+    if (cvl_ranks_new(MPI_COMM_WORLD, &ranks).number != CVL_DONE || cvl_even_share(ranks, total, &from, &n).number != CVL_DONE)
+        return 1;
     if (cvl_even_share(ranks, KEYS, &none, &own_keys).number != CVL_DONE) return 1;
     fill();
     sums = memory(own_keys, sizeof *sums);

@@ -47,8 +47,9 @@ struct Vectors {
 };
 
 Vectors made() {
-    Vectors v{std::vector<uint32_t>(COUNT), std::vector<uint32_t>(COUNT), std::vector<uint32_t>(COUNT),
-              std::vector<uint32_t>(COUNT), std::vector<uint32_t>(COUNT)};
+    Vectors v{
+        std::vector<uint32_t>(COUNT), std::vector<uint32_t>(COUNT), std::vector<uint32_t>(COUNT), std::vector<uint32_t>(COUNT),
+        std::vector<uint32_t>(COUNT)};
     std::mt19937 next(1);
     for (size_t k = 0; k < COUNT; k++) {
         v.a[k] = uint32_t(next());
@@ -74,14 +75,16 @@ void by_thrust(const Vectors &v) {
         Numbers fresh(COUNT);
         thrust::exclusive_scan(a.begin(), a.end(), fresh.begin());
     });
-    measure("Thrust, add scan, segments of 1,000",
-            [&] { thrust::exclusive_scan_by_key(segment.begin(), segment.end(), a.begin(), out.begin()); });
+    measure("Thrust, add scan, segments of 1,000", [&] {
+        thrust::exclusive_scan_by_key(segment.begin(), segment.end(), a.begin(), out.begin());
+    });
     measure("Thrust, add reduce", [&] {
         volatile uint32_t sum = thrust::reduce(a.begin(), a.end());
         (void)sum;
     });
-    measure("Thrust, add reduce, segments of 1,000",
-            [&] { thrust::reduce_by_key(segment.begin(), segment.end(), a.begin(), keys.begin(), out.begin()); });
+    measure("Thrust, add reduce, segments of 1,000", [&] {
+        thrust::reduce_by_key(segment.begin(), segment.end(), a.begin(), keys.begin(), out.begin());
+    });
     measure("Thrust, gather", [&] { thrust::gather(index.begin(), index.end(), a.begin(), out.begin()); });
     measure("Thrust, gather, fresh", [&] {
         Numbers fresh(COUNT);
@@ -92,14 +95,16 @@ void by_thrust(const Vectors &v) {
         Numbers fresh(COUNT);
         thrust::scatter(a.begin(), a.end(), index.begin(), fresh.begin());
     });
-    measure("Thrust, pack",
-            [&] { thrust::copy_if(a.begin(), a.end(), flags.begin(), out.begin(), [](uint32_t flag) { return flag != 0; }); });
+    measure("Thrust, pack", [&] {
+        thrust::copy_if(a.begin(), a.end(), flags.begin(), out.begin(), [](uint32_t flag) { return flag != 0; });
+    });
 }
 
 void by_standard_library(const Vectors &v) {
     std::vector<uint32_t> out(COUNT);
     const auto policy = std::execution::par_unseq;
-    measure("C++17, add", [&] { std::transform(policy, v.a.begin(), v.a.end(), v.b.begin(), out.begin(), std::plus<uint32_t>()); });
+    measure(
+        "C++17, add", [&] { std::transform(policy, v.a.begin(), v.a.end(), v.b.begin(), out.begin(), std::plus<uint32_t>()); });
     measure("C++17, add scan", [&] { std::exclusive_scan(policy, v.a.begin(), v.a.end(), out.begin(), 0u); });
     measure("C++17, add reduce", [&] {
         volatile uint32_t sum = std::reduce(policy, v.a.begin(), v.a.end());
@@ -115,13 +120,17 @@ void more(const Vectors &v) {
     for (auto &divisor : b) divisor = divisor >> 7 | 1;
     const auto policy = std::execution::par_unseq;
     measure("C++17, less", [&] { std::transform(policy, a.begin(), a.end(), b.begin(), flags.begin(), std::less<int32_t>()); });
-    measure("C++17, divide", [&] { std::transform(policy, a.begin(), a.end(), b.begin(), out.begin(), std::divides<int32_t>()); });
+    measure(
+        "C++17, divide", [&] { std::transform(policy, a.begin(), a.end(), b.begin(), out.begin(), std::divides<int32_t>()); });
     const thrust::device_vector<int32_t> left(a), right(b);
     thrust::device_vector<int32_t> quotients(COUNT);
     thrust::device_vector<uint8_t> less(COUNT);
-    measure("Thrust, less", [&] { thrust::transform(left.begin(), left.end(), right.begin(), less.begin(), thrust::less<int32_t>()); });
-    measure("Thrust, divide",
-            [&] { thrust::transform(left.begin(), left.end(), right.begin(), quotients.begin(), thrust::divides<int32_t>()); });
+    measure("Thrust, less", [&] {
+        thrust::transform(left.begin(), left.end(), right.begin(), less.begin(), thrust::less<int32_t>());
+    });
+    measure("Thrust, divide", [&] {
+        thrust::transform(left.begin(), left.end(), right.begin(), quotients.begin(), thrust::divides<int32_t>());
+    });
 }
 
 int main(int words, char **word) {

@@ -73,9 +73,12 @@ static void with_threads(size_t count) {
 }
 
 // Measures a call, a loop and, where it has one, Thrust; `clear` makes the room anew, and `answer` reads it.
-static void measure(const std::string &name, Work clear, std::function<uint32_t()> answer, Work call, Work loop, Work peer = nullptr) {
-    std::vector<Run> runs = {{"1 thread", [&] { with_threads(1), clear(); }, call}, {"4 threads", [&] { with_threads(THREADS), clear(); }, call},
-                             {"loop", clear, loop}};
+static void measure(
+    const std::string &name, Work clear, std::function<uint32_t()> answer, Work call, Work loop, Work peer = nullptr) {
+    std::vector<Run> runs = {
+        {"1 thread", [&] { with_threads(1), clear(); }, call},
+        {"4 threads", [&] { with_threads(THREADS), clear(); }, call},
+        {"loop", clear, loop}};
     if (peer && peers::are_here()) runs.push_back({"Thrust", clear, peer});
     const auto start = std::chrono::steady_clock::now();
     for (Run &run : runs) {
@@ -83,10 +86,12 @@ static void measure(const std::string &name, Work clear, std::function<uint32_t(
         else run.before(), run.work();
         run.answer = answer();
     }
-    for (int round = 1; round < 2 || std::chrono::duration<double>(std::chrono::steady_clock::now() - start).count() < seconds; round++) {
+    for (int round = 1; round < 2 || std::chrono::duration<double>(std::chrono::steady_clock::now() - start).count() < seconds;
+         round++) {
         for (Run &run : runs) run.least = std::min(run.least, timed(run));
     }
-    for (const Run &run : runs) printf("%s, %zu elements, %s: %.0f ns, answer %u\n", name.c_str(), n, run.column, run.least, run.answer);
+    for (const Run &run : runs)
+        printf("%s, %zu elements, %s: %.0f ns, answer %u\n", name.c_str(), n, run.column, run.least, run.answer);
     fflush(stdout);
 }
 
@@ -94,15 +99,20 @@ static void nothing() {}
 
 static void measure_sorts(Ints &out) {
     const auto answer = [&] { return answer_of(out.data(), n); };
-    for (const auto &[said, keys] : {std::pair("any keys", numbers(n, 1)), std::pair("keys below the length", numbers(n, 2, n))}) {
+    for (const auto &[said, keys] :
+         {std::pair("any keys", numbers(n, 1)), std::pair("keys below the length", numbers(n, 2, n))}) {
         const int32_t *const k = keys.data();
         if (is_long() && said[0] != 'a') break;
-        measure("order, " + std::string(said), nothing, answer, [&] { must(cvl_order(k, n, out.data(), n)); },
-                [&] { loops::order(k, n, out.data()); }, [&] { peers::order(k, n, out.data()); });
-        if (!is_long()) measure("rank, " + std::string(said), nothing, answer, [&] { must(cvl_rank(k, n, out.data(), n)); },
+        measure(
+            "order, " + std::string(said), nothing, answer, [&] { must(cvl_order(k, n, out.data(), n)); },
+            [&] { loops::order(k, n, out.data()); }, [&] { peers::order(k, n, out.data()); });
+        if (!is_long())
+            measure(
+                "rank, " + std::string(said), nothing, answer, [&] { must(cvl_rank(k, n, out.data(), n)); },
                 [&] { loops::rank(k, n, out.data()); }, [&] { peers::rank(k, n, out.data()); });
-        measure("sort, " + std::string(said), nothing, answer, [&] { must(cvl_sort(k, n, out.data(), n)); },
-                [&] { loops::sort(k, n, out.data()); }, [&] { peers::sort(k, n, out.data()); });
+        measure(
+            "sort, " + std::string(said), nothing, answer, [&] { must(cvl_sort(k, n, out.data(), n)); },
+            [&] { loops::sort(k, n, out.data()); }, [&] { peers::sort(k, n, out.data()); });
     }
 }
 
@@ -119,18 +129,22 @@ static void measure_segments(Ints &out) {
         if (is_long() && length == FEW) break;
         const Ints lengths = segments_of(length);
         const CvlLengths cut = {lengths.data(), lengths.size()};
-        measure("sort, segments of " + std::string(length == FEW ? "8" : "1,000"), nothing, answer,
-                [&] { must(cvl_seg_sort(keys.data(), n, cut, out.data(), n)); },
-                [&] { loops::sort_segments(keys.data(), lengths.data(), lengths.size(), out.data()); });
+        measure(
+            "sort, segments of " + std::string(length == FEW ? "8" : "1,000"), nothing, answer,
+            [&] { must(cvl_seg_sort(keys.data(), n, cut, out.data(), n)); },
+            [&] { loops::sort_segments(keys.data(), lengths.data(), lengths.size(), out.data()); });
     }
     const Ints lengths = segments_of(SEGMENT);
     std::vector<int64_t> sums(lengths.size());
     Ints segment_of_each(n);
     for (size_t k = 0; k < n; k++) segment_of_each[k] = static_cast<int32_t>(k / SEGMENT);
-    measure("exact sums, segments of 1,000", nothing, [&] { return answer_of(sums.data(), sums.size()); },
-            [&] { must(cvl_seg_exact_sums(keys.data(), n, {lengths.data(), lengths.size()}, sums.data(), sums.size())); },
-            [&] { loops::exact_sums(keys.data(), lengths.data(), lengths.size(), sums.data()); },
-            [&] { peers::exact_sums(keys.data(), segment_of_each.data(), n, sums.data()); });
+    measure(
+        "exact sums, segments of 1,000", nothing, [&] { return answer_of(sums.data(), sums.size()); },
+        [&] {
+            must(cvl_seg_exact_sums(keys.data(), n, {lengths.data(), lengths.size()}, sums.data(), sums.size()));
+        },
+        [&] { loops::exact_sums(keys.data(), lengths.data(), lengths.size(), sums.data()); },
+        [&] { peers::exact_sums(keys.data(), segment_of_each.data(), n, sums.data()); });
 }
 
 // Even keys, as many as a quarter of the elements; skewed ones, of which a half is below a sixteenth of them; and 256.
@@ -151,17 +165,21 @@ static void measure_by_key(Ints &out) {
         size_t places;
         Ints index;
     };
-    for (const Keys &keys : {Keys{"even keys", many, numbers(n, 4, many)}, Keys{"skewed keys", many, skewed(many)}, Keys{"256 keys", 256, numbers(n, 6, 256)}}) {
+    for (const Keys &keys :
+         {Keys{"even keys", many, numbers(n, 4, many)}, Keys{"skewed keys", many, skewed(many)},
+          Keys{"256 keys", 256, numbers(n, 6, 256)}}) {
         const int32_t *const index = keys.index.data();
         const size_t places = keys.places;
         const auto answer = [&] { return answer_of(out.data(), places); };
-        measure("sums by key, " + std::string(keys.said), [&] { std::fill_n(out.begin(), places, 0); }, answer,
-                [&] { must(cvl_combine_permute_int(CVL_ADD, values.data(), n, index, n, out.data(), places)); },
-                [&] { loops::add_by_key(index, values.data(), n, out.data(), places); },
-                [&] { peers::add_by_key(index, values.data(), n, out.data(), places); });
+        measure(
+            "sums by key, " + std::string(keys.said), [&] { std::fill_n(out.begin(), places, 0); }, answer,
+            [&] { must(cvl_combine_permute_int(CVL_ADD, values.data(), n, index, n, out.data(), places)); },
+            [&] { loops::add_by_key(index, values.data(), n, out.data(), places); },
+            [&] { peers::add_by_key(index, values.data(), n, out.data(), places); });
         if (places == many && keys.said[0] == 'e')
-            measure("counts, even keys", nothing, answer, [&] { must(cvl_counts(index, n, out.data(), places)); },
-                    [&] { loops::counts(index, n, out.data(), places); });
+            measure(
+                "counts, even keys", nothing, answer, [&] { must(cvl_counts(index, n, out.data(), places)); },
+                [&] { loops::counts(index, n, out.data(), places); });
     }
 }
 
@@ -177,12 +195,14 @@ static void measure_slices(Ints &out) {
     const CvlLengths cut = {lengths.data(), segments}, other = {others.data(), segments};
     const Ints room = numbers(rest, 9), first = numbers(total, 10);
     if (out.size() < total + rest) out.resize(total + rest);
-    measure("gather of segments, of 8", nothing, [&] { return answer_of(out.data(), total); },
-            [&] { must(cvl_gather_segments_int(source.data(), n, starts.data(), segments, cut, out.data(), total)); },
-            [&] { loops::gather_segments(source.data(), n, starts.data(), lengths.data(), segments, out.data()); });
-    measure("append of segments, of 8", nothing, [&] { return answer_of(out.data(), total + rest); },
-            [&] { must(cvl_append_segments_int(first.data(), total, room.data(), rest, cut, other, out.data(), total + rest)); },
-            [&] { loops::append_segments(first.data(), room.data(), lengths.data(), others.data(), segments, out.data()); });
+    measure(
+        "gather of segments, of 8", nothing, [&] { return answer_of(out.data(), total); },
+        [&] { must(cvl_gather_segments_int(source.data(), n, starts.data(), segments, cut, out.data(), total)); },
+        [&] { loops::gather_segments(source.data(), n, starts.data(), lengths.data(), segments, out.data()); });
+    measure(
+        "append of segments, of 8", nothing, [&] { return answer_of(out.data(), total + rest); },
+        [&] { must(cvl_append_segments_int(first.data(), total, room.data(), rest, cut, other, out.data(), total + rest)); },
+        [&] { loops::append_segments(first.data(), room.data(), lengths.data(), others.data(), segments, out.data()); });
 }
 
 static void measure_flags(Ints &out) {
@@ -190,11 +210,13 @@ static void measure_flags(Ints &out) {
     const std::unique_ptr<bool[]> flags(new bool[n]), none(new bool[n]());
     size_t some = 0;
     for (size_t k = 0; k < n; k++) some += flags[k] = hash(static_cast<uint32_t>(k), 11) >> 31;
-    measure("merge by flags", nothing, [&] { return answer_of(out.data(), n); },
-            [&] { must(cvl_merge_by_flags_int(flags.get(), n, a.data(), some, b.data(), n - some, out.data(), n)); },
-            [&] { loops::merge_by_flags(flags.get(), n, a.data(), b.data(), out.data()); });
-    measure("first true flag, of none", nothing, [&] { return answer_of(out.data(), 1); }, [&] { must(cvl_first_true(none.get(), n, out.data())); },
-            [&] { out[0] = loops::first_true(none.get(), n); });
+    measure(
+        "merge by flags", nothing, [&] { return answer_of(out.data(), n); },
+        [&] { must(cvl_merge_by_flags_int(flags.get(), n, a.data(), some, b.data(), n - some, out.data(), n)); },
+        [&] { loops::merge_by_flags(flags.get(), n, a.data(), b.data(), out.data()); });
+    measure(
+        "first true flag, of none", nothing, [&] { return answer_of(out.data(), 1); },
+        [&] { must(cvl_first_true(none.get(), n, out.data())); }, [&] { out[0] = loops::first_true(none.get(), n); });
 }
 
 // A matrix with as many columns as its rows are, or about; the last elements of the vector may be left out.
@@ -202,9 +224,10 @@ static void measure_transpose(Ints &out) {
     size_t side = 1;
     while ((side + 1) * (side + 1) <= n) side++;
     const Ints source = numbers(side * side, 1);
-    measure("transpose, as many rows as columns", nothing, [&] { return answer_of(out.data(), side * side); },
-            [&] { must(cvl_transpose_int(source.data(), side * side, side, side, out.data(), side * side)); },
-            [&] { loops::transpose(source.data(), side, side, out.data()); });
+    measure(
+        "transpose, as many rows as columns", nothing, [&] { return answer_of(out.data(), side * side); },
+        [&] { must(cvl_transpose_int(source.data(), side * side, side, side, out.data(), side * side)); },
+        [&] { loops::transpose(source.data(), side, side, out.data()); });
 }
 
 int main(int words, char **word) {

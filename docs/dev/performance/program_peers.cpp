@@ -37,7 +37,9 @@ static uint32_t *flipped_keys(const int32_t *keys, size_t n) {
 
 bool are_here() { return true; }
 
-void use_threads(int threads) { limit = std::make_unique<tbb::global_control>(tbb::global_control::max_allowed_parallelism, threads); }
+void use_threads(int threads) {
+    limit = std::make_unique<tbb::global_control>(tbb::global_control::max_allowed_parallelism, threads);
+}
 
 void order(const int32_t *keys, size_t n, int32_t *out) {
     uint32_t *const room = flipped_keys(keys, n);

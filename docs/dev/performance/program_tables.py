@@ -10,9 +10,23 @@ CASE = re.compile(r"(.+), (\d+) elements")
 # each length, its unit, and the calls that the page shows of it; the pages of the calls have all
 LENGTHS = (
     (1_000, 1e3, "microseconds", {"order, any keys", "sort, any keys", "sums by key, even keys", "merge by flags"}),
-    (4_194_304, 1e6, "milliseconds", {
-        "order, any keys", "rank, any keys", "sort, any keys", "sort, segments of 1,000", "exact sums, segments of 1,000", "sums by key, even keys",
-        "sums by key, 256 keys", "gather of segments, of 8", "merge by flags", "transpose, as many rows as columns"}),
+    (
+        4_194_304,
+        1e6,
+        "milliseconds",
+        {
+            "order, any keys",
+            "rank, any keys",
+            "sort, any keys",
+            "sort, segments of 1,000",
+            "exact sums, segments of 1,000",
+            "sums by key, even keys",
+            "sums by key, 256 keys",
+            "gather of segments, of 8",
+            "merge by flags",
+            "transpose, as many rows as columns",
+        },
+    ),
     (67_108_864, 1e6, "milliseconds", {"order, any keys", "sort, any keys", "sums by key, even keys", "merge by flags"}),
 )
 
@@ -64,7 +78,9 @@ def programs(subject, heads):
             others = [f"{column} {digits(time)}" for column, time in times.items()]
             to_one += columns["4 threads"] > columns["1 thread"]
             to_others += columns["4 threads"] > min(times.values())
-            lines.append([f"`{name}`{rest and ','}{rest}", digits(columns["1 thread"]), digits(columns["4 threads"]), "; ".join(others)])
+            lines.append(
+                [f"`{name}`{rest and ','}{rest}", digits(columns["1 thread"]), digits(columns["4 threads"]), "; ".join(others)]
+            )
     than_one = f"in {to_one} of these {len(lines)}" if to_one else "in none of these"
     lose = f"slower than one thread {than_one}, and slower than the best of the last column in {to_others} of {len(lines)}"
     return f"{table(heads, lines)}\nFour threads are {lose}.\n"

@@ -25,6 +25,7 @@ static CvlLengths cut;
 static CvlPool pool;
 
 /* Rows of the table: a call, how many bytes it reads and writes for an element where these lie side by side, and its arguments. */
+/* clang-format off */
 #define CALLS(X)                                                                                                               \
     X(add, "add_wuz", 12, add_wuz, a, b, out, n)                                                                               \
     X(less, "les_wuz", 9, les_wuz, a, b, bools, n)                                                                             \
@@ -45,9 +46,10 @@ static CvlPool pool;
     X(gather, "bck_puz, at random", 0, bck_puz, a, n, shuffled, out, n)                                                        \
     X(scatter_in_order, "smp_puz, in order", 12, smp_puz, a, in_order, out, n)                                                 \
     X(scatter, "smp_puz, at random", 0, smp_puz, a, shuffled, out, n)
+/* clang-format on */
 
-#define DEFINED(id, name, bytes, call, ...)                                                                                    \
-    static CvlStatus plain_##id(void) { return call(__VA_ARGS__); }                                                            \
+#define DEFINED(id, name, bytes, call, ...)                         \
+    static CvlStatus plain_##id(void) { return call(__VA_ARGS__); } \
     static CvlStatus parts_##id(void) { return call##_on(&pool, __VA_ARGS__); }
 CALLS(DEFINED)
 
@@ -75,7 +77,8 @@ static CvlStatus plain_copy(void) {
 static CvlStatus copy_by_threads(void) {
     const size_t parts = pool.parts;
 #pragma omp parallel for
-    for (size_t k = 0; k < parts; k++) memcpy(out + n * k / parts, a + n * k / parts, (n * (k + 1) / parts - n * k / parts) * sizeof *a);
+    for (size_t k = 0; k < parts; k++)
+        memcpy(out + n * k / parts, a + n * k / parts, (n * (k + 1) / parts - n * k / parts) * sizeof *a);
     return copied();
 }
 
@@ -96,7 +99,8 @@ static double best(Call *call, size_t threads, int rounds) {
 }
 
 static void measure(const Row *row, double copy_of_a_byte, int rounds) {
-    const double alone = best(row->plain, 1, rounds), parts = best(row->parts, 1, rounds), threads = best(row->plain, pool.parts, rounds);
+    const double alone = best(row->plain, 1, rounds), parts = best(row->parts, 1, rounds),
+                 threads = best(row->plain, pool.parts, rounds);
     printf("%-20s %10.3f %10.3f %10.3f", row->name, alone, parts, threads);
     if (row->bytes > 0) printf(" %10.2f", (parts < threads ? parts : threads) / ((double)n * row->bytes * copy_of_a_byte));
     printf("\n");
@@ -147,7 +151,9 @@ static void measure_all(size_t count, int rounds) {
     begin(count);
     const double alone = best(plain_copy, 1, rounds), shared = best(copy_by_threads, 1, rounds);
     printf("%zu elements, in milliseconds, by %zu threads\n", n, pool.parts);
-    printf("%-20s %10s %10s %10s %10s\n%-20s %10.3f %10.3f\n", "", "one thread", "in parts", "threads", "of a copy", "memcpy", alone, shared);
+    printf(
+        "%-20s %10s %10s %10s %10s\n%-20s %10.3f %10.3f\n", "", "one thread", "in parts", "threads", "of a copy", "memcpy", alone,
+        shared);
     for (size_t k = 0; k < sizeof rows / sizeof *rows; k++) measure(&rows[k], shared / ((double)n * 8), rounds);
 }
 

@@ -254,6 +254,7 @@ class Body(Functions):
         outer = {name: value for name, value in names.items() if name not in bound_by(first.target)}
         count = self.call("add_ruz", source.lengths)
         nodes = nodes_of(node, first.ifs, rest)
+
         def enter(value):
             return self.spread(value, source.lengths)
 

@@ -30,15 +30,8 @@ pub enum Found {
 impl Lookup<'_> {
     /// The variables that the answer hangs on.
     pub fn asked(&self) -> Vec<String> {
-        let fixed = [
-            "CARGO_MANIFEST_DIR",
-            "DOCS_RS",
-            "CVL_LIB_DIR",
-            "CVL_SHARED",
-            "PKG_CONFIG",
-            "PKG_CONFIG_PATH",
-            "PKG_CONFIG_LIBDIR",
-        ];
+        let fixed =
+            ["CARGO_MANIFEST_DIR", "DOCS_RS", "CVL_LIB_DIR", "CVL_SHARED", "PKG_CONFIG", "PKG_CONFIG_PATH", "PKG_CONFIG_LIBDIR"];
         let mut asked: Vec<String> = fixed.iter().map(|name| name.to_string()).collect();
         asked.push(self.of_target());
         asked
@@ -46,10 +39,7 @@ impl Lookup<'_> {
 
     /// The variable that names the folder of a library for the target alone.
     fn of_target(&self) -> String {
-        format!(
-            "CVL_LIB_DIR_{}",
-            self.said("TARGET").replace(['-', '.'], "_")
-        )
+        format!("CVL_LIB_DIR_{}", self.said("TARGET").replace(['-', '.'], "_"))
     }
 
     fn said(&self, name: &str) -> String {
@@ -77,9 +67,7 @@ impl Lookup<'_> {
 
     /// The archive inside the crate, which it has for some targets as it is released, and not in a checkout.
     fn inside(&self, shared: bool) -> Option<Library> {
-        let folder = PathBuf::from((self.variable)("CARGO_MANIFEST_DIR")?)
-            .join("native")
-            .join(self.said("TARGET"));
+        let folder = PathBuf::from((self.variable)("CARGO_MANIFEST_DIR")?).join("native").join(self.said("TARGET"));
         if shared {
             return None;
         }
@@ -89,14 +77,8 @@ impl Lookup<'_> {
     /// The folder that a variable names, with the variable. A library of the machine that builds is none for another one.
     fn named(&self) -> Result<Option<(String, PathBuf)>, String> {
         let (target, host, own) = (self.said("TARGET"), self.said("HOST"), self.of_target());
-        let names = if target == host {
-            vec![own.clone(), "CVL_LIB_DIR".into()]
-        } else {
-            vec![own.clone()]
-        };
-        let said = names
-            .into_iter()
-            .find_map(|name| (self.variable)(&name).map(|folder| (name, PathBuf::from(folder))));
+        let names = if target == host { vec![own.clone(), "CVL_LIB_DIR".into()] } else { vec![own.clone()] };
+        let said = names.into_iter().find_map(|name| (self.variable)(&name).map(|folder| (name, PathBuf::from(folder))));
         match said {
             Some((name, folder)) if folder.as_os_str().is_empty() => {
                 Err(format!("the variable {name} is empty; it has to be the folder of the library, or unset"))
@@ -122,10 +104,7 @@ impl Lookup<'_> {
         match in_folder("cvl.pc", folder, shared) {
             Ok(library) => {
                 let said = self.folder_of_package("includedir");
-                Found::Library(Library {
-                    include: said.or(library.include),
-                    ..library
-                })
+                Found::Library(Library { include: said.or(library.include), ..library })
             }
             Err(why) => Found::Missing(why),
         }
@@ -142,25 +121,16 @@ impl Lookup<'_> {
 fn in_folder(named: &str, folder: PathBuf, shared: bool) -> Result<Library, String> {
     let file = folder.join(if shared { "libcvl.so" } else { "libcvl.a" });
     if !file.is_file() {
-        return Err(format!(
-            "the library cvl was not found: {named} leads to {}, which is not there",
-            file.display()
-        ));
+        return Err(format!("the library cvl was not found: {named} leads to {}, which is not there", file.display()));
     }
     let include = include_beside(&folder);
-    Ok(Library {
-        folder,
-        shared,
-        include,
-    })
+    Ok(Library { folder, shared, include })
 }
 
 /// The headers of a library in `lib`, or in a folder of the machine's kind in it.
 fn include_beside(folder: &Path) -> Option<PathBuf> {
     let around = folder.ancestors().skip(1).take(2);
-    around
-        .map(|above| above.join("include"))
-        .find(|include| include.join("cvl.h").is_file())
+    around.map(|above| above.join("include")).find(|include| include.join("cvl.h").is_file())
 }
 
 impl Library {
@@ -168,11 +138,7 @@ impl Library {
     /// this one see, as DEP_CVL_LIB, DEP_CVL_INCLUDE and DEP_CVL_ROOT.
     pub fn lines(&self) -> Vec<String> {
         let folder = self.folder.display();
-        let (kind, file) = if self.shared {
-            ("dylib", "libcvl.so")
-        } else {
-            ("static", "libcvl.a")
-        };
+        let (kind, file) = if self.shared { ("dylib", "libcvl.so") } else { ("static", "libcvl.a") };
         let mut lines = vec![
             format!("cargo:rerun-if-changed={folder}/{file}"),
             format!("cargo:rustc-link-search=native={folder}"),
@@ -181,11 +147,7 @@ impl Library {
         ];
         if let Some(include) = &self.include {
             lines.push(format!("cargo:include={}", include.display()));
-            lines.extend(
-                include
-                    .parent()
-                    .map(|root| format!("cargo:root={}", root.display())),
-            );
+            lines.extend(include.parent().map(|root| format!("cargo:root={}", root.display())));
         }
         lines
     }

@@ -11,10 +11,7 @@ use library::{Found, Lookup};
 fn of_package(name: &str) -> Option<String> {
     let program = env::var("PKG_CONFIG").unwrap_or_else(|_| "pkg-config".into());
     let variable = format!("--variable={name}");
-    let output = Command::new(program)
-        .args([&variable, "cvl"])
-        .output()
-        .ok()?;
+    let output = Command::new(program).args([&variable, "cvl"]).output().ok()?;
     let said = String::from_utf8(output.stdout).ok()?.trim().to_string();
     (output.status.success() && !said.is_empty()).then_some(said)
 }

@@ -36,11 +36,7 @@ pub struct CvlSegments {
 }
 
 /// What a descriptor starts as.
-pub const CVL_NO_SEGMENTS: CvlSegments = CvlSegments {
-    lengths: null(),
-    segments: 0,
-    some: false,
-};
+pub const CVL_NO_SEGMENTS: CvlSegments = CvlSegments { lengths: null(), segments: 0, some: false };
 
 /// The most parts of a call.
 pub const CVL_MOST_PARTS: usize = 64;
@@ -54,8 +50,7 @@ pub type CvlPart = unsafe extern "C" fn(work: *mut c_void, part: usize);
 pub struct CvlPool {
     /// Into how many parts a long vector is cut: 0 are one, and more than [`CVL_MOST_PARTS`] are that many.
     pub parts: usize,
-    pub run:
-        unsafe extern "C" fn(state: *mut c_void, part: CvlPart, work: *mut c_void, parts: usize),
+    pub run: unsafe extern "C" fn(state: *mut c_void, part: CvlPart, work: *mut c_void, parts: usize),
     /// What `run` is given.
     pub state: *mut c_void,
 }
@@ -96,12 +91,7 @@ extern "C" {
     pub fn cvl_make_flags(flags: *mut bool, flags_len: usize);
 
     /// Each index in 32 bits, as calls take it: one outside 32 bits becomes -1, which is no place of any vector.
-    pub fn cvl_narrow_index(
-        index: *const i64,
-        index_len: usize,
-        out: *mut i32,
-        out_len: usize,
-    ) -> CvlStatus;
+    pub fn cvl_narrow_index(index: *const i64, index_len: usize, out: *mut i32, out_len: usize) -> CvlStatus;
 
     /// Makes the descriptor of segments with these lengths. After a fault of the lengths there is none.
     pub fn cvl_segments_new(lengths: CvlLengths, segments: *mut CvlSegments) -> CvlStatus;
@@ -123,18 +113,10 @@ extern "C" {
     pub fn cvl_segments_total(segments: *const CvlSegments, total: *mut usize) -> CvlStatus;
 
     /// Where each segment starts, and last where the last one ends.
-    pub fn cvl_segments_offsets(
-        segments: *const CvlSegments,
-        out: *mut i32,
-        out_len: usize,
-    ) -> CvlStatus;
+    pub fn cvl_segments_offsets(segments: *const CvlSegments, out: *mut i32, out_len: usize) -> CvlStatus;
 
     /// At each place the number of its segment, counted from 0.
-    pub fn cvl_segments_numbers(
-        segments: *const CvlSegments,
-        out: *mut i32,
-        out_len: usize,
-    ) -> CvlStatus;
+    pub fn cvl_segments_numbers(segments: *const CvlSegments, out: *mut i32, out_len: usize) -> CvlStatus;
 
     /// A pool of the thread that calls, which runs so many parts in turn.
     pub fn cvl_pool_alone(parts: usize) -> CvlPool;

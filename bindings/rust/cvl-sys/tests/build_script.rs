@@ -32,17 +32,10 @@ fn prefix(name: &str) -> PathBuf {
 
 /// What is found where these variables are set, and pkg-config says this of its variables.
 fn found(variables: &[(&str, &str)], package: &[(&str, &str)]) -> Result<Found, String> {
-    let of = |pairs: &[(&str, &str)], name: &str| {
-        pairs
-            .iter()
-            .find(|pair| pair.0 == name)
-            .map(|pair| pair.1.to_string())
-    };
+    let of = |pairs: &[(&str, &str)], name: &str| pairs.iter().find(|pair| pair.0 == name).map(|pair| pair.1.to_string());
     let fixed = [("HOST", HERE), ("TARGET", HERE)];
-    let lookup = Lookup {
-        variable: &|name| of(variables, name).or_else(|| of(&fixed, name)),
-        package: &|name| of(package, name),
-    };
+    let lookup =
+        Lookup { variable: &|name| of(variables, name).or_else(|| of(&fixed, name)), package: &|name| of(package, name) };
     lookup.find()
 }
 
@@ -85,10 +78,7 @@ fn the_folder_that_a_variable_names() {
     let root = prefix("named");
     let (folder, other) = (root.join("lib"), prefix("packaged").join("lib"));
     let package = [("libdir", other.to_str().unwrap())];
-    let named = library(found(
-        &[("CVL_LIB_DIR", folder.to_str().unwrap())],
-        &package,
-    ));
+    let named = library(found(&[("CVL_LIB_DIR", folder.to_str().unwrap())], &package));
     assert_eq!(named.folder, folder);
     assert_eq!(named.include, Some(root.join("include")));
     assert_eq!(
@@ -110,12 +100,9 @@ fn the_folder_that_a_variable_names() {
 /// those of something else.
 #[test]
 fn the_headers_of_a_library() {
-    for (libdir, has_headers) in [
-        ("lib", true),
-        ("lib64", true),
-        ("lib/x86_64-linux-gnu", true),
-        ("deep/lib/x86_64-linux-gnu", false),
-    ] {
+    for (libdir, has_headers) in
+        [("lib", true), ("lib64", true), ("lib/x86_64-linux-gnu", true), ("deep/lib/x86_64-linux-gnu", false)]
+    {
         let root = prefix_with(&format!("with {}", libdir.replace('/', " ")), libdir);
         let folder = root.join(libdir);
         let said = folder.to_str().unwrap();
@@ -123,15 +110,8 @@ fn the_headers_of_a_library() {
         let named = library(found(&[("CVL_LIB_DIR", said)], &[]));
         assert_eq!(named.include, wanted, "{libdir}");
         let lines = named.lines();
-        let roots: Vec<_> = lines
-            .iter()
-            .filter_map(|line| line.strip_prefix("cargo:root="))
-            .collect();
-        assert_eq!(
-            roots.first().map(Path::new),
-            has_headers.then_some(&*root),
-            "{libdir}"
-        );
+        let roots: Vec<_> = lines.iter().filter_map(|line| line.strip_prefix("cargo:root=")).collect();
+        assert_eq!(roots.first().map(Path::new), has_headers.then_some(&*root), "{libdir}");
         // and where pkg-config leads, which may say no folder of headers
         let packaged = library(found(&[], &[("libdir", said)]));
         assert_eq!(packaged.include, wanted, "{libdir}");
@@ -149,10 +129,7 @@ fn a_variable_that_is_empty_or_leads_nowhere() {
         for (shared, file) in [("0", "libcvl.a"), ("1", "libcvl.so")] {
             let variables = [(name, "/nowhere"), ("CVL_SHARED", shared)];
             let nowhere = found(&variables, &package).unwrap_err();
-            assert!(
-                nowhere.contains(&format!("{name} leads to /nowhere/{file}")),
-                "{nowhere}"
-            );
+            assert!(nowhere.contains(&format!("{name} leads to /nowhere/{file}")), "{nowhere}");
         }
     }
 }
@@ -161,36 +138,18 @@ fn a_variable_that_is_empty_or_leads_nowhere() {
 fn the_folder_of_the_package() {
     let root = prefix("package");
     let escaped = root.to_str().unwrap().replace(' ', "\\ ");
-    let (lib, include) = (
-        format!("{escaped}/lib/../lib"),
-        format!("{escaped}/lib/../include"),
-    );
+    let (lib, include) = (format!("{escaped}/lib/../lib"), format!("{escaped}/lib/../include"));
     let told = library(found(&[], &[("libdir", &lib), ("includedir", &include)]));
-    assert_eq!(
-        (told.folder, told.include),
-        (root.join("lib"), Some(root.join("include")))
-    );
+    assert_eq!((told.folder, told.include), (root.join("lib"), Some(root.join("include"))));
     let why = missing(found(&[], &[]));
-    assert!(
-        why.contains("CVL_LIB_DIR") && why.contains("PKG_CONFIG_PATH"),
-        "{why}"
-    );
-    assert!(missing(found(&[], &[("libdir", "/nowhere")]))
-        .contains("cvl.pc leads to /nowhere/libcvl.a"));
+    assert!(why.contains("CVL_LIB_DIR") && why.contains("PKG_CONFIG_PATH"), "{why}");
+    assert!(missing(found(&[], &[("libdir", "/nowhere")])).contains("cvl.pc leads to /nowhere/libcvl.a"));
 }
 
 #[test]
 fn the_shared_object_is_taken_where_that_is_said() {
     let folder = prefix("shared").join("lib");
-    let of = |said: &str| {
-        found(
-            &[
-                ("CVL_LIB_DIR", folder.to_str().unwrap()),
-                ("CVL_SHARED", said),
-            ],
-            &[],
-        )
-    };
+    let of = |said: &str| found(&[("CVL_LIB_DIR", folder.to_str().unwrap()), ("CVL_SHARED", said)], &[]);
     for (said, shared, line) in [
         ("1", true, "cargo:rustc-link-lib=dylib=cvl"),
         ("0", false, "cargo:rustc-link-lib=static=cvl"),
@@ -208,26 +167,13 @@ fn another_machine_needs_a_library_of_its_own() {
     let folder = prefix("other").join("lib");
     let folder = folder.to_str().unwrap();
     let package = [("libdir", folder)];
-    for variables in [
-        vec![("TARGET", THERE)],
-        vec![("TARGET", THERE), ("CVL_LIB_DIR", folder)],
-    ] {
+    for variables in [vec![("TARGET", THERE)], vec![("TARGET", THERE), ("CVL_LIB_DIR", folder)]] {
         let why = found(&variables, &package).unwrap_err();
-        assert!(
-            why.contains(THERE) && why.contains("CVL_LIB_DIR_aarch64_unknown_linux_gnu"),
-            "{why}"
-        );
+        assert!(why.contains(THERE) && why.contains("CVL_LIB_DIR_aarch64_unknown_linux_gnu"), "{why}");
     }
-    let own = [
-        ("TARGET", THERE),
-        ("CVL_LIB_DIR_aarch64_unknown_linux_gnu", folder),
-        ("CVL_LIB_DIR", "/nowhere"),
-    ];
+    let own = [("TARGET", THERE), ("CVL_LIB_DIR_aarch64_unknown_linux_gnu", folder), ("CVL_LIB_DIR", "/nowhere")];
     assert_eq!(library(found(&own, &[])).folder, Path::new(folder));
-    let of_this = [
-        ("CVL_LIB_DIR_x86_64_unknown_linux_gnu", folder),
-        ("CVL_LIB_DIR", "/nowhere"),
-    ];
+    let of_this = [("CVL_LIB_DIR_x86_64_unknown_linux_gnu", folder), ("CVL_LIB_DIR", "/nowhere")];
     assert_eq!(library(found(&of_this, &[])).folder, Path::new(folder));
 }
 
@@ -246,17 +192,10 @@ fn each_variable_that_is_asked_is_watched() {
         asked.borrow_mut().push(name.to_string());
         (name == "TARGET" || name == "HOST").then(|| HERE.to_string())
     };
-    let lookup = Lookup {
-        variable: &ask,
-        package: &|_| None,
-    };
+    let lookup = Lookup { variable: &ask, package: &|_| None };
     lookup.find().unwrap();
     let watched = lookup.asked();
-    for name in asked
-        .borrow()
-        .iter()
-        .filter(|name| *name != "TARGET" && *name != "HOST")
-    {
+    for name in asked.borrow().iter().filter(|name| *name != "TARGET" && *name != "HOST") {
         assert!(watched.contains(name), "{name} is asked and not watched");
     }
 }

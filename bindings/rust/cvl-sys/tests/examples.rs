@@ -15,10 +15,7 @@ mod functions;
 use example::{Example, Operand};
 use functions::FUNCTIONS;
 
-const DONE: CvlStatus = CvlStatus {
-    number: CVL_DONE,
-    place: -1,
-};
+const DONE: CvlStatus = CvlStatus { number: CVL_DONE, place: -1 };
 
 /// The memory of an operand that holds these numbers, each in as many bytes as in C.
 fn stored(operand: &Operand, numbers: &[i64]) -> Vec<Cell<u64>> {
@@ -45,10 +42,7 @@ pub struct Held<'a> {
 impl Held<'_> {
     fn of(example: &Example) -> Held<'_> {
         let before = |operand: &Operand| stored(operand, &operand.numbers_before());
-        Held {
-            example,
-            memory: example.operands.iter().map(before).collect(),
-        }
+        Held { example, memory: example.operands.iter().map(before).collect() }
     }
 
     fn at<T>(&self, name: &str) -> *mut T {
@@ -68,10 +62,7 @@ impl Held<'_> {
     }
 
     fn lengths(&self, name: &str) -> CvlLengths {
-        CvlLengths {
-            lengths: self.at(name),
-            segments: self.len(name),
-        }
+        CvlLengths { lengths: self.at(name), segments: self.len(name) }
     }
 
     fn descriptor(&self, name: &str) -> CvlSegments {

@@ -8,10 +8,7 @@ use cvl_sys::*;
 
 /// Lengths as the library takes them.
 fn given(lengths: &[i32]) -> CvlLengths {
-    CvlLengths {
-        lengths: lengths.as_ptr(),
-        segments: lengths.len(),
-    }
+    CvlLengths { lengths: lengths.as_ptr(), segments: lengths.len() }
 }
 
 /// The descriptor of segments with these lengths.
@@ -22,10 +19,7 @@ fn descriptor(lengths: &[i32]) -> CvlSegments {
     made
 }
 
-const DONE: CvlStatus = CvlStatus {
-    number: CVL_DONE,
-    place: -1,
-};
+const DONE: CvlStatus = CvlStatus { number: CVL_DONE, place: -1 };
 
 extern "C" {
     /// Ends the process after so many seconds, for a test that could wait for ever.
@@ -52,10 +46,7 @@ fn the_version_and_the_names_of_faults() {
     assert_eq!(build.split(' ').next(), Some(CVL_VERSION));
     assert_eq!(build.split(' ').count(), 3, "{build}");
     let numbers = [CVL_VERSION_MAJOR, CVL_VERSION_MINOR, CVL_VERSION_PATCH];
-    assert_eq!(
-        numbers.map(|number| number.to_string()).join("."),
-        CVL_VERSION
-    );
+    assert_eq!(numbers.map(|number| number.to_string()).join("."), CVL_VERSION);
     let name = |number| text(unsafe { cvl_fault_name(number) });
     let named = [
         (CVL_LENGTH_MISMATCH, "LengthMismatch"),
@@ -148,10 +139,7 @@ fn posix_threads_run_the_parts() {
         assert_eq!(cvl_threads_start(3, &mut threads), 0);
         let pool = cvl_pool_posix(threads);
         assert_eq!((pool.parts, cvl_pool_alone(5).parts), (3, 5));
-        assert_eq!(
-            cvl_add_wuz_on(&pool, a.as_ptr(), a.as_ptr(), out.as_mut_ptr(), a.len()),
-            DONE
-        );
+        assert_eq!(cvl_add_wuz_on(&pool, a.as_ptr(), a.as_ptr(), out.as_mut_ptr(), a.len()), DONE);
         cvl_threads_stop(threads);
     }
     assert!(out.iter().zip(&a).all(|(found, a)| *found == 2 * a));

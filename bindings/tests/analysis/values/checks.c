@@ -19,7 +19,9 @@ static void write_ints(size_t n) { (void)cvl_write_ints(ints[n], n, text, sizeof
 static void write_bools(size_t n) { (void)cvl_write_bools(bools[n], n, text, sizeof text, &count); }
 static void seg_write_ints(size_t n) { (void)cvl_seg_write_ints(ints[n], n, cut, text, sizeof text, &count); }
 static void seg_write_bools(size_t n) { (void)cvl_seg_write_bools(bools[n], n, cut, text, sizeof text, &count); }
-static void merge(size_t n) { (void)cvl_merge_by_flags_bool(flags[n], n, bools[n > 1], n > 1, bools[n > 0], n > 0, bool_room[n], n); }
+static void merge(size_t n) {
+    (void)cvl_merge_by_flags_bool(flags[n], n, bools[n > 1], n > 1, bools[n > 0], n > 0, bool_room[n], n);
+}
 static void append(size_t n) { (void)cvl_append_segments_bool(bools[MOST], MOST, bools[MOST], MOST, cut, cut, bool_room[n], n); }
 
 static void lengths_of_any(void) {

@@ -10,8 +10,8 @@
 
 enum { MOST = 4, PARTS = 3 };
 
-#define ARRAYS(type, name)                                                                                                     \
-    static type name##_1[1], name##_2[2], name##_3[3], name##_4[4];                                                            \
+#define ARRAYS(type, name)                                          \
+    static type name##_1[1], name##_2[2], name##_3[3], name##_4[4]; \
     static type *const name[MOST + 1] = {NULL, name##_1, name##_2, name##_3, name##_4}
 
 ARRAYS(int32_t, ints);
@@ -35,7 +35,7 @@ static inline void fill_ints(int32_t *const *arrays) {
 static inline void fill_flags(bool *const *arrays, unsigned pattern, bool clean) {
     for (size_t n = 1; n <= MOST; n++) {
 
-                   for (size_t k = 0; k < n; k++) {
+        for (size_t k = 0; k < n; k++) {
             const bool is_true = pattern >> k & 1;
             arrays[n][k] = !is_true ? 0 : clean ? 1 : Frama_C_unsigned_char_interval(2, 255);
         }

@@ -59,9 +59,8 @@ static bool has_room(size_t needed, size_t room, size_t *count) {
     return needed <= room;
 }
 
-CvlStatus cvl_proved_pack_int(const int32_t *values, size_t values_len, const bool *flags, size_t flags_len, int32_t *out,
-    size_t out_len,
-    size_t *count) {
+CvlStatus cvl_proved_pack_int(
+    const int32_t *values, size_t values_len, const bool *flags, size_t flags_len, int32_t *out, size_t out_len, size_t *count) {
     if (is_refused()) return told_fault();
     reads_ints(values, values_len);
     reads_flags(flags, flags_len);
@@ -70,9 +69,8 @@ CvlStatus cvl_proved_pack_int(const int32_t *values, size_t values_len, const bo
     return cvl_done();
 }
 
-CvlStatus cvl_proved_pack_bool(const bool *values, size_t values_len, const bool *flags, size_t flags_len, bool *out,
-    size_t out_len,
-    size_t *count) {
+CvlStatus cvl_proved_pack_bool(
+    const bool *values, size_t values_len, const bool *flags, size_t flags_len, bool *out, size_t out_len, size_t *count) {
     if (is_refused()) return told_fault();
     reads_flags(values, values_len);
     reads_flags(flags, flags_len);
@@ -95,7 +93,8 @@ static void writes_ends(size_t first, size_t n, uint32_t *ends, size_t ends_len)
 }
 
 CvlStatus cvl_proved_key_block(
-    uint32_t pass, size_t first, const int32_t *block, size_t block_len, int32_t *room, size_t room_len, uint32_t *ends, size_t ends_len) {
+    uint32_t pass, size_t first, const int32_t *block, size_t block_len, int32_t *room, size_t room_len, uint32_t *ends,
+    size_t ends_len) {
     (void)pass;
     if (is_refused()) return told_fault();
     reads_ints(block, block_len);
@@ -104,8 +103,9 @@ CvlStatus cvl_proved_key_block(
     return cvl_done();
 }
 
-CvlStatus cvl_proved_placed_block(uint32_t pass, size_t first, const CvlPlaced *block, size_t block_len, CvlPlaced *room, size_t room_len,
-    uint32_t *ends, size_t ends_len) {
+CvlStatus cvl_proved_placed_block(
+    uint32_t pass, size_t first, const CvlPlaced *block, size_t block_len, CvlPlaced *room, size_t room_len, uint32_t *ends,
+    size_t ends_len) {
     (void)pass;
     if (is_refused()) return told_fault();
     reads_placed(block, block_len);
@@ -142,17 +142,15 @@ static size_t lists_length(const int32_t *lengths, size_t segments, size_t each)
     return length;
 }
 
-CvlStatus cvl_proved_seg_write_ints(const int32_t *a, size_t a_len, const int32_t *lengths, size_t lengths_len, bool *out,
-    size_t out_len,
-    size_t *count) {
+CvlStatus cvl_proved_seg_write_ints(
+    const int32_t *a, size_t a_len, const int32_t *lengths, size_t lengths_len, bool *out, size_t out_len, size_t *count) {
     if (is_refused()) return told_fault();
     reads_ints(a, a_len);
     return writes_text(lists_length(lengths, lengths_len, digits_each), out, out_len, count);
 }
 
-CvlStatus cvl_proved_seg_write_bools(const bool *a, size_t a_len, const int32_t *lengths, size_t lengths_len, bool *out,
-    size_t out_len,
-    size_t *count) {
+CvlStatus cvl_proved_seg_write_bools(
+    const bool *a, size_t a_len, const int32_t *lengths, size_t lengths_len, bool *out, size_t out_len, size_t *count) {
     if (is_refused()) return told_fault();
     reads_flags(a, a_len);
     return writes_text(lists_length(lengths, lengths_len, 1), out, out_len, count);

@@ -51,9 +51,7 @@ static void default_permute_bools(size_t n) {
 }
 
 static void first_senders(size_t n) { (void)cvl_first_senders_on(&pool, others[n], n, room[n], n); }
-static void select_first_senders(size_t n) {
-    (void)cvl_select_first_senders_on(&pool, others[n], n, flags[n], n, room[n], n);
-}
+static void select_first_senders(size_t n) { (void)cvl_select_first_senders_on(&pool, others[n], n, flags[n], n, room[n], n); }
 
 void places(void) {
     fill(5, 1);
@@ -162,7 +160,9 @@ void combines(void) {
 
 /* Matrices of two rows or fewer, which have as many elements or not. */
 static void turn_ints(size_t n) { (void)cvl_transpose_int_on(&pool, ints[n], n, n > 2 ? 2 : n, n > 2 ? n / 2 : 1, room[n], n); }
-static void turn_bools(size_t n) { (void)cvl_transpose_bool_on(&pool, bools[n], n, n > 2 ? 2 : n, n > 2 ? n / 2 : 1, bool_room[n], n); }
+static void turn_bools(size_t n) {
+    (void)cvl_transpose_bool_on(&pool, bools[n], n, n > 2 ? 2 : n, n > 2 ? n / 2 : 1, bool_room[n], n);
+}
 static void turn_range(size_t n) { (void)cvl_transpose_bool_range(bools[MOST], MOST, 2, MOST / 2, n - 1, bool_room[n], n); }
 
 void turns(void) {

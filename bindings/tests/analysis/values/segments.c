@@ -30,17 +30,17 @@ static void copies_of_bools(size_t n) {
     (void)cvl_seg_distribute_bool_on(&pool, per_segment_flags[cut.segments], cut.segments, cut, bool_room[n], n);
 }
 static void numbers(size_t n) {
-    (void)cvl_seg_index_on(&pool, per_segment[cut.segments], cut.segments, per_segment[cut.segments], cut.segments, cut,
-        room[n], n);
+    (void)cvl_seg_index_on(
+        &pool, per_segment[cut.segments], cut.segments, per_segment[cut.segments], cut.segments, cut, room[n], n);
 }
 static void extract(size_t n) {
-    (void)cvl_seg_extract_int_on(&pool, ints[n], n, per_segment[cut.segments], cut.segments, cut, segment_room[cut.segments],
-        cut.segments);
+    (void)cvl_seg_extract_int_on(
+        &pool, ints[n], n, per_segment[cut.segments], cut.segments, cut, segment_room[cut.segments], cut.segments);
 }
 static void replace_bools(size_t n) {
-    (void)cvl_seg_replace_bool_on(&pool, bools[n], n, per_segment[cut.segments], cut.segments, per_segment_flags[cut.segments],
-        cut.segments,
-        cut, bool_room[n], n);
+    (void)cvl_seg_replace_bool_on(
+        &pool, bools[n], n, per_segment[cut.segments], cut.segments, per_segment_flags[cut.segments], cut.segments, cut,
+        bool_room[n], n);
 }
 static void pack(size_t n) { (void)cvl_seg_pack_int_on(&pool, ints[n], n, flags[n], n, cut, room[n], n, &count); }
 static void packed_lengths(size_t n) {
@@ -63,8 +63,8 @@ static void back_permute(size_t n) {
 }
 
 static void default_permute(size_t n) {
-    if (cut.segments == 2) (void)cvl_seg_default_permute_bool_on(&pool, bools[n], n, others[n], n, flags[2], 2, cut, other_cut,
-        bool_room[2], 2);
+    if (cut.segments == 2)
+        (void)cvl_seg_default_permute_bool_on(&pool, bools[n], n, others[n], n, flags[2], 2, cut, other_cut, bool_room[2], 2);
 }
 
 /* The room has two segments of one element, too, and holds what stands before: 0 and 1, or a byte that is neither, and then it is copied. */
@@ -72,8 +72,8 @@ static bool clean_room;
 
 static void combine(size_t n) {
     fill_flags(bool_room, 5, clean_room);
-    if (cut.segments == 2) (void)cvl_seg_combine_permute_bool_on(&pool, CVL_XOR, bools[n], n, others[n], n, cut, other_cut,
-        bool_room[2], 2);
+    if (cut.segments == 2)
+        (void)cvl_seg_combine_permute_bool_on(&pool, CVL_XOR, bools[n], n, others[n], n, cut, other_cut, bool_room[2], 2);
 }
 
 /* Each way to cut n elements into so many segments: what is left goes to the last one. */

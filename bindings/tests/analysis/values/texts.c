@@ -25,9 +25,7 @@ static void read_into_less(size_t n) { (void)cvl_read_ints_on(&pool, text[n], n,
 static void write_ints(size_t n) { (void)cvl_write_ints_on(&pool, ints[n], n, out, out_len, &count); }
 static void write_bools(size_t n) { (void)cvl_write_bools_on(&pool, bools[n], n, out, out_len, &count); }
 
-static void cut_at(size_t n) {
-    length[0] = n > 1, length[1] = (int32_t)n - length[0];
-}
+static void cut_at(size_t n) { length[0] = n > 1, length[1] = (int32_t)n - length[0]; }
 
 static void seg_write_ints(size_t n) {
     cut_at(n);

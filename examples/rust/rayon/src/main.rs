@@ -18,10 +18,7 @@ impl Pool for Rayon {
 
 fn main() -> Result<(), Fault> {
     let a: Vec<i32> = (0..4_000_000).map(|k| k % 10).collect();
-    let threads = rayon::ThreadPoolBuilder::new()
-        .num_threads(4)
-        .build()
-        .expect("rayon starts threads");
+    let threads = rayon::ThreadPoolBuilder::new().num_threads(4).build().expect("rayon starts threads");
     let sums = threads.install(|| cvl::with_pool(&Rayon, || cvl::add_suz(&a)))?;
     println!("the sum of all but the last: {}", sums[a.len() - 1]);
     Ok(())

@@ -27,14 +27,7 @@ impl Operand {
         let words: Vec<_> = line.split(' ').collect();
         let numbers: Vec<_> = words[5..].iter().map(|word| word.parse().unwrap()).collect();
         assert_eq!(words[4], numbers.len().to_string(), "{}", line);
-        Operand {
-            role: words[0],
-            name: words[1],
-            kind: words[2],
-            extent: words[3],
-            numbers,
-            before: None,
-        }
+        Operand { role: words[0], name: words[1], kind: words[2], extent: words[3], numbers, before: None }
     }
 }
 
@@ -63,12 +56,7 @@ impl Example {
                 _ => operands.push(operand),
             }
         }
-        Example {
-            name: head[1],
-            family: head[2],
-            operator: head[3].parse().unwrap(),
-            operands,
-        }
+        Example { name: head[1], family: head[2], operator: head[3].parse().unwrap(), operands }
     }
 
     /// The place of an operand.
