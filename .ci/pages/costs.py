@@ -77,7 +77,7 @@ def begins(entry):
 
 def program_calls():
     """Each case of the programs, once, with the function that it measures: that behind the longest words with which it begins."""
-    named = re.findall(r'measure\("([^"]*)".*?must\(cvl_(\w+)\(', text_of(PROGRAMS), re.S)
+    named = re.findall(r'measure\(\s*"([^"]*)".*?must\(cvl_(\w+)\(', text_of(PROGRAMS), re.S)
     cases = dict.fromkeys(line.rsplit(", ", 1)[0] for line in measured_lines("calls for programs"))
     for case in cases:
         yield case, max((words, function) for words, function in named if case.startswith(words))[1]
