@@ -2,6 +2,7 @@
 #include "program_calls.h"
 
 #if !defined(WITHOUT_THRUST) && __has_include(<thrust/sort.h>) && __has_include(<tbb/global_control.h>)
+#define THRUST_DEVICE_SYSTEM THRUST_DEVICE_SYSTEM_TBB
 #include <memory>
 #include <tbb/global_control.h>
 #include <thrust/copy.h>

@@ -1,4 +1,4 @@
-"""The tables of calls that only programs make, and of the programs of the examples, as `measure_program_calls` measures them."""
+"""The tables of calls that only programs make, of the programs of the examples, and of tasks, as `measure_program_calls` measures them."""
 
 import re
 
@@ -94,4 +94,18 @@ def in_python():
     return programs("programs in Python", ["Program", "1 thread", "4 threads", "Others"])
 
 
-TABLES = {"program_calls": calls, "programs_in_c": in_c, "programs_in_python": in_python}
+def tasks(subject, *others):
+    """A row for each task: its time by one thread, by four, and in each other way."""
+    columns = ("1 thread", "4 threads", *others)
+    rows = {case: times for (found, case), times in ROWS.items() if found == subject}
+    lines = [[case, *(digits(times[column]) if column in times else "" for column in columns)] for case, times in rows.items()]
+    return table(["Task", *columns], lines)
+
+
+TABLES = {
+    "program_calls": calls,
+    "programs_in_c": in_c,
+    "programs_in_python": in_python,
+    "columns": lambda: tasks("columns", "numpy", "pandas"),
+    "tasks": lambda: tasks("tasks", "Thrust"),
+}
