@@ -62,7 +62,7 @@ EDITS = {
     "promises.check_promises": [(BODIES, "", f"{TABLE}| a body | `crates/boards/must-fail/no_such.edit` |\n")],
     "promises.check_edits": [("crates/boards/must-fail/unnamed.edit", "", "file: src/lib.rt\n")],
     "promises.check_trusted": [(PROVED, "`rayon`, `strsim`, `thiserror`", "`rayon`, `thiserror`")],
-    "promises.check_from_c": [("docs/user/rust.md", "is tested and not proved.", "is proved.")],
+    "promises.check_from_c": [("docs/user/rust.md", "The C over them is tested,", "The C over them is proved,")],
     "paths.check_paths": [("README.md", "", "\nSee `docs/no-such-page.md`.\n")],
     "paths.check_links": [("README.md", "", "\nSee [a page](docs/no-such-page.md).\n")],
     "paths.check_tests": [("tests/README.md", "`nests.c`", "another")],

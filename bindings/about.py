@@ -3,11 +3,14 @@ have no row."""
 
 from table import MOST_ELEMENTS, MOST_OF_TEXT, MOST_STACK
 
-# what is proved of the library from other languages, in the same words on all pages
+# what is proved of the library from other languages, in the same words on the pages that stand alone, and in short on the others
 FROM_C = (
     "The exported functions of the library are proved on the thread that calls: each gives the value or the first fault of its definition, and a fault "
     "leaves your arrays as they were. The C over them, which checks arguments and shares long calls among threads, is tested, and in part proved by another tool. "
     "So a call on several threads is tested and not proved."
+)
+FROM_C_IN_SHORT = (
+    "On the thread that calls, the functions below a call are [proved](proved.md). The C over them is tested, and so is a call on several threads."
 )
 
 ABOUT = (

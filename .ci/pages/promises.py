@@ -116,16 +116,16 @@ def check_trusted():
     )
 
 
-# the pages that say what is proved of the library from other languages; the manual takes the words from the same place
-PAGES_FROM_C = (
-    "README.md",
-    "bindings/rust/README.md",
-    *(f"docs/user/{name}.md" for name in ("programs", "cpp", "python", "rust", "fortran")),
-)
+# what each page says is proved of the library from other languages; the manual takes the words from the same place
+SAID_FROM_C = {
+    "README.md": about.FROM_C,
+    "bindings/rust/README.md": about.FROM_C,
+    **{f"docs/user/{name}.md": about.FROM_C_IN_SHORT for name in ("programs", "cpp", "python", "rust", "fortran")},
+}
 
 
 def check_from_c():
     """What is proved of the library from C, and what is not, stands on each of these pages in the same words."""
-    for page in PAGES_FROM_C:
-        if about.FROM_C not in text_of(page):
+    for page, said in SAID_FROM_C.items():
+        if said not in text_of(page):
             yield f"{page} does not have the sentences of bindings/about.py on what is proved from C"
