@@ -125,7 +125,6 @@ SECTIONS = (
                 "The elements of each segment, combined; the identity for an empty segment.",
                 ("reduce_segments", "Each element goes to the sum of its segment"),
                 ("add reduce, segments of 1,000",),
-                shows="The empty segment has the identities.",
             ),
         ),
     ),
@@ -280,7 +279,6 @@ SECTIONS = (
                 "The values of each segment whose flag is T, in their order.",
                 ("pack_segments", "The elements of each segment whose flag is true move up"),
                 ("pack, segments of 1,000",),
-                shows="`pck_fov` of the same flags cuts the pack into segments again.",
             ),
             Entry(
                 ("pck_fov",),

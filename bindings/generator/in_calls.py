@@ -7,16 +7,16 @@ import reference
 
 HEAD = """# The calls
 
-Look up a call: what it takes and gives, its faults, and an example. The [cheat sheet](sheet.md) has all names, and the [glossary](glossary.md) those of other libraries. Programs have [more functions](#functions-that-no-script-calls).
+The [cheat sheet](sheet.md) has all names on one page, the [glossary](glossary.md) those of other libraries. Programs have [more functions](#functions-that-no-script-calls).
 
 The comment after an `input` shows what it holds. In the pictures a box is an element, and a frame a segment."""
 
 READING = """## Reading an entry
 
 - A name is an operator and [three letters](sheet.md#names): `bck_puz` is a back permute (`p`) of a flat vector (`u`) of integers (`z`).
-- `Takes` has the arguments in order. *Integers* and *booleans* are vectors, an *integer* and a *boolean* single values; *elements* are integers or booleans, by the name's last letter.
+- `Takes` has the arguments in order. *Integers* and *booleans* are vectors, an *integer* and a *boolean* single values; *elements* are either, by the name's last letter.
 - A descriptor is the lengths of the segments that it *cuts* a vector into; its *total* is their sum. A segmented call does in each segment what the flat call does on a whole vector.
-- Vectors whose elements go together have equal lengths, and the total of a descriptor is the length of each vector that it cuts; two descriptors have equally many segments. If not, the call stops with fault 7 LengthMismatch, without a place. Then come those under `Faults`, of the entry or its section; there are no others. [Faults of any line](script.md#when-a-script-stops) come first.
+- Vectors whose elements go together have equal lengths, and so have a descriptor's total and each vector that it cuts; two descriptors have equally many segments. If not, the call stops with fault 7 LengthMismatch, without a place. Then come those under `Faults`, of the entry or its section. [Faults of any line](script.md#when-a-script-stops) come first.
 - Places count from 0, in the whole vector. Of several bad elements the first is reported."""
 
 # the faults that a section says for those of its entries that have no others
@@ -24,15 +24,11 @@ OF_FAULTS = {"Permutes": f"{entries.AT_INDICES}."}
 
 BESIDE = """## Functions that no script calls
 
-C, C++, Fortran, Python and Rust have them, in C and Fortran with `cvl_` before the name: see `man 3 cvl`, `cvl.hpp`, `help(cvl)` and `cargo doc`. With `seg_` they work in each segment, or on nested texts."""
+C, C++, Fortran, Python and Rust have them, in C and Fortran with `cvl_` before the name: see `man 3 cvl`, `cvl.hpp`, `help(cvl)` and `cargo doc`. With `seg_` they work in each segment, or on nested texts. Most with `int` have a form for booleans, with `bool`."""
 
 
 def anchor(entry):
     return entry.heading.replace(" ", "-")
-
-
-def _names(entry):
-    return " ".join(f"`{name}`" for name in entry.calls)
 
 
 def index(found, leads_to):
@@ -80,9 +76,9 @@ def _entry(entry):
 
 
 def _beside():
-    """The functions that no script calls, by their sections."""
+    """The functions that no script calls, by their sections: of those for integers and for booleans the first."""
     lines = [
-        f"| {' '.join(_names(entry) for entry in found)} | {entries.BESIDE[title]} |" for title, _, found in reference.beside()
+        f"| {' '.join(f'`{entry.name}`' for entry in found)} | {entries.BESIDE[title]} |" for title, _, found in reference.beside()
     ]
     return "\n".join(["| Functions | What they do |", "|---|---|", *lines])
 
