@@ -33,10 +33,20 @@ import signatures
 
 NARROW = 360
 
-# names of other libraries, and words of the field, by which the search has to find a call among its first three answers
-ELSEWHERE = {
-    "cumsum": "add_suz", "prefix sum": "add_suz", "scatter": "smp_puz", "gather": "bck_puz", "argsort": "order", "bincount": "counts", "unique": "sort",
-    "group by": "combine_permute_int", "reduce_by_key": "run_lengths_int", "nonzero": "pck_luz",
+# the searches of readers who know only numpy, only Thrust, or neither, and the page that has to be among the first three answers
+SEARCHES = {
+    "cumsum": "calls/add_suz", "reduceat": "calls/add_rez", "bincount": "calls/counts", "unique": "calls/sort", "argsort": "calls/order",
+    "where": "calls/sel_wuz", "boolean mask": "calls/pck_luz", "searchsorted": "calls/counts", "repeat": "calls/dis_vez",
+    "concatenate": "calls/append_segments_int", "nonzero": "calls/pck_luz", "clip": "calls/add_wuz",
+
+    "reduce_by_key": "calls/run_lengths_int", "exclusive_scan_by_key": "calls/add_sez", "copy_if": "calls/pck_luz", "scatter_if": "calls/sel_puz",
+    "permutation_iterator": "calls/bck_puz", "stable_sort_by_key": "calls/sort_by_key", "inclusive_scan": "calls/add_suz",
+    "transform_reduce": "calls/add_wuz", "unique_by_key": "calls/run_starts_int", "counting_iterator": "calls/ind_luz", "scatter": "calls/smp_puz",
+    "gather": "calls/bck_puz", "prefix sum": "calls/add_suz",
+
+    "running total": "calls/add_suz", "average": "calls/add_ruz", "remove duplicates": "tasks", "count occurrences": "calls/counts",
+    "join tables": "calls/bck_puz", "largest": "calls/order", "sort descending": "calls/sort_by_key_descending", "filter": "calls/pck_luz",
+    "words of a text": "tasks", "sum of each row": "calls/add_rez", "group by": "calls/combine_permute_int", "lookup table": "calls/bck_puz",
 }  # fmt: skip
 
 # the least contrast of a text, and of one whose letters are large: WCAG 2.1, level AA
@@ -344,10 +354,10 @@ class Browser(unittest.TestCase):
         self.assertIn("examples.html", " ".join(address for _, address in self.found("histogram")))
         self.assertEqual(self.found("qwxyzzy"), [])
 
-    def test_the_search_leads_from_names_elsewhere_to_their_calls(self):
-        for words, call in ELSEWHERE.items():
+    def test_the_search_leads_from_names_elsewhere_to_their_pages(self):
+        for words, page in SEARCHES.items():
             addresses = [urllib.parse.urlsplit(address).path for _, address in self.found(words)[:3]]
-            self.assertIn(f"{SITE.as_uri()[7:]}/calls/{call}.html", addresses, words)
+            self.assertIn(f"{SITE.as_uri()[7:]}/{page}.html", addresses, words)
 
     def test_a_search_shows_a_line_with_its_words(self):
         shown = "return [...document.querySelectorAll('ul.search p.line')].map((line) => line.textContent)"
