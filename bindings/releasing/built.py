@@ -7,6 +7,7 @@ import os
 import pathlib
 import re
 import shlex
+import shutil
 import subprocess
 import sys
 import threading
@@ -28,6 +29,8 @@ class Built:
     def __init__(self, work, time, jobs, anew):
         # `anew`: what is compiled over the libraries that `rt ci` left is compiled again, and not taken from an earlier build
         self.work, self.jobs, self.anew, self.given, self.lock = pathlib.Path(work), jobs, anew, {}, threading.Lock()
+        # the program that was built beside the usual exports, where it was
+        self.left = None
         # what no caller says may change the bytes of a release
         unset = ("CPPFLAGS", "CFLAGS", "LDFLAGS", "CC", "LD", "OBJCOPY", "NM", "AR", "DESTDIR", "PYTHONPATH")
         self.environment = {name: said for name, said in os.environ.items() if name not in unset}
@@ -47,14 +50,27 @@ class Built:
         """Whether the caller named the program or an archive, as for a try of this code."""
         return any(building.Build(USUAL, self.jobs, "").given.values())
 
-    def build(self):
-        """The program and the exports for all processors, and then side by side those for others."""
-        program, exports = self._build.both(self.work / "logs")
-        self.given["program", USUAL] = self._linked_again(self._build.compiled_program(program))
-        self.given["exports", USUAL] = pathlib.Path(exports)
-        for cpu in OWN:
-            (self.work / "logs" / cpu).mkdir(parents=True)
-            self.given["exports", cpu] = pathlib.Path(self._build.exports_for(cpu, self.work / "logs" / cpu))
+    def steps(self):
+        """What builds the program and the exports for each kind of processor, by name: side by side over the libraries that `rt ci`
+        left, and else one after another, since `rt lib` writes an archive over the one that it made before."""
+        each = {"the exports": self._usual, **{f"the exports for {cpu}": functools.partial(self._own, cpu) for cpu in OWN}}
+        each["the program"] = self._program
+        if self._build.is_left and not self.is_given:
+            return each
+        return {"the program and the exports": lambda: [step() for step in each.values()]}
+
+    def _usual(self):
+        self.left, exports = self._build.both(self.work / "logs")
+        (self.work / "exports").mkdir()
+        self.given["exports", USUAL] = pathlib.Path(shutil.copy(exports, self.work / "exports"))
+
+    def _own(self, cpu):
+        logs = self.work / "logs" / cpu
+        logs.mkdir(parents=True)
+        self.given["exports", cpu] = pathlib.Path(self._build.exports_for(cpu, logs))
+
+    def _program(self):
+        self.given["program", USUAL] = self._linked_again(self._build.compiled_program(self.left))
 
     def _linked_again(self, compiled):
         """A program over the older glibc, of the object that the kit compiled."""

@@ -31,7 +31,7 @@ class Told:
 
 def _files(folder, builds, moment, jobs):
     """Writes all that is made of the builds, and answers the names of the files."""
-    first = {"the program and the exports": builds.build, "the pages in HTML": builds.site}
+    first = {**builds.steps(), "the pages in HTML": builds.site}
     steps = {
         "the tree": lambda: trees.write(folder, builds, moment), "the packages for Debian": lambda: debian.write(folder, builds),
         "the wheel and the source archive for Python": lambda: pythons.write(folder, builds),
