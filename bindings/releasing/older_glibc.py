@@ -20,8 +20,10 @@ LINE = re.compile(
     r"^ *\d+: [0-9a-f]+ +(\w+) (FUNC|IFUNC|OBJECT) +(?:GLOBAL|WEAK) +DEFAULT +(?!UND)\w+ (\w+)@(@?)GLIBC_([\d.]+)$", re.M
 )
 # what the program and a shared object ask of the processor, of which glibc knows since 2.33, and what the program runs before `main`,
-# which glibc does since 2.34
-PROCESSOR, LEVEL, START = (pathlib.Path(__file__).with_name(name) for name in ("processor.c", "level.c", "start.c"))
+# which glibc does since 2.34; and what the program was built of
+PROCESSOR, LEVEL, START, BUILD = (
+    pathlib.Path(__file__).with_name(name) for name in ("processor.c", "level.c", "start.c", "build.c")
+)
 
 Name = collections.namedtuple("Name", "name version kind size")
 
@@ -93,7 +95,7 @@ class OlderGlibc:
 
     def _compiled(self, source):
         made = self.folder / source.with_suffix(".o").name
-        archive.run(*archive.compiling(), "-c", source, "-o", made)
+        archive.run(*archive.compiling(archive.told_of([])), "-c", source, "-o", made)
         return made
 
     def _make_toolchain(self, kits):
@@ -117,5 +119,5 @@ class OlderGlibc:
 
     def program(self, compiled, made):
         """Links a program that the kit compiled."""
-        proved.link(compiled, made, self.toolchain, *map(self._compiled, (PROCESSOR, START)))
+        proved.link(compiled, made, self.toolchain, *map(self._compiled, (PROCESSOR, START, BUILD)))
         return made

@@ -79,14 +79,18 @@ class Cvl(Package):
     homepage = "{homepage}"
     license("MIT")
 
-    version("{version}", sha256="{sha256}", url="{url}")
+    version(
+        "{version}",
+        sha256="{sha256}",
+        url="{url}",
+    )
 
     conflicts("platform=darwin")
     conflicts("platform=windows")
     requires("target=x86_64_v2:")
 
     def install(self, spec, prefix):
-        for folder in {folders_in_python}:
+        for folder in ({quoted}):
             install_tree(folder, join_path(prefix, folder))
 """
 
@@ -103,7 +107,7 @@ def recipes(tree):
     said = {
         "version": table.VERSION, "file": trees.FILE, "url": f"{texts.ADDRESS}/{trees.FILE}", "homepage": texts.ADDRESS, "summary": SUMMARY,
         "sha256": hashlib.sha256(text).hexdigest(), "sha512": hashlib.sha512(text).hexdigest(), "glibc": older_glibc.OLDEST,
-        "folders": " ".join(FOLDERS), "quoted": ", ".join(f'"{folder}"' for folder in FOLDERS), "folders_in_python": FOLDERS,
+        "folders": " ".join(FOLDERS), "quoted": ", ".join(f'"{folder}"' for folder in FOLDERS),
     }  # fmt: skip
     rows = (
         ("conda/meta.yaml", CONDA),

@@ -10,19 +10,21 @@ import tempfile
 
 import proved
 
+from . import linting
+
 # the Debian that the packages are made for, the one before it, with glibc 2.31, and the next one
 SUITE, OLDER, NEWER = "bookworm", "bullseye", "trixie"
 PATH = "/usr/local/sbin:/usr/local/bin:/usr/sbin:/usr/bin:/sbin:/bin"
 # what a root has beside the essential packages and apt; the usual Debian has xz
 PACKAGES = {
     "bare": ("xz-utils",),
-    "compilers": ("gcc", "g++", "gfortran", "libc6-dev", "make", "pkg-config", "cmake"),
+    "compilers": ("gcc", "g++", "gfortran", "libc6-dev", "make", "pkg-config", "cmake", "qemu-user"),
     "python": ("python3-numpy", "python3-venv"),
     "source": ("gcc", "libc6-dev", "python3-numpy", "python3-dev", "python3-venv"),
     "rust": ("cargo", "gcc", "libc6-dev"),
     "mpich": ("gcc", "libc6-dev", "make", "pkg-config", "libmpich-dev", "mpich"),
     "openmpi": ("gcc", "libc6-dev", "pkg-config", "libopenmpi-dev", "openmpi-bin"),
-    "older": ("xz-utils", "gcc", "libc6-dev", "pkg-config", "python3-numpy", "python3-dev", "python3-venv"),
+    "older": ("xz-utils", "gcc", "libc6-dev", "pkg-config", "python3-numpy", "python3-dev", "python3-venv", "qemu-user"),
     "next": ("xz-utils", "cargo", "gcc", "libc6-dev", "pkg-config", "python3-numpy", "python3-dev", "python3-venv"),
 }
 
@@ -120,6 +122,6 @@ def check():
     """Stops if a release cannot be tried here."""
     if os.geteuid() != 0:
         proved.stop("only root can make roots of Debian")
-    for name in ("mmdebstrap", "lintian"):
-        if not shutil.which(name):
-            proved.stop(f"{name} is missing, which tries a release (Debian: {name})")
+    missing = [name for name in ("mmdebstrap", "lintian", *linting.PACKAGES) if not shutil.which(name)]
+    if missing:
+        proved.stop(f"{', '.join(missing)} missing, which try a release (Debian has packages of these names)")

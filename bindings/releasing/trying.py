@@ -11,7 +11,7 @@ import archive
 import proved
 import table
 
-from . import built, debian, over_ranks, roots, shown, trees
+from . import built, debian, linting, over_ranks, recipes, roots, shown, trees
 
 PRINTED = "y = [5 0 18]\n"
 # how long it may take from a file of the release to what README's example prints
@@ -109,6 +109,12 @@ def tree(release, made):
         below = "'/srv/another place'"
         by_both(root, f"cd {below}/{SCRIPTS} && env -i {below}/bin/cvl {EXAMPLE}", PRINTED)
         same(root.run(f"env -i {below}/bin/cvl --version"), f"cvl {table.VERSION}\n")
+        carries_its_build(root.folder / "srv/another place/bin/cvl")
+
+
+def carries_its_build(program):
+    """The section of a program, which no code reads, names its build."""
+    is_build(archive.run("readelf", "-p", ".cvl_build", program).split("]")[-1], "x86-64-v2")
 
 
 def tree_in_c(release, made):
@@ -121,6 +127,55 @@ def tree_in_c(release, made):
         by_cmake(root, **variables)
         in_fortran(root, **variables)
         own_builds(root, f"{below}/lib", **variables)
+        with_older_libraries(root, **variables)
+        on_older_processors(root, below)
+        moved(root, below)
+
+
+# libraries of the name that an older version or somebody else may have left, each with what the loader then says
+OLDER = (
+    ("no_versions", "int none;", "{ local: *; };", "undefined symbol: cvl_"),
+    ("no_1_0", "int older;", "CVL_0.9 { older; };", "version `CVL_1.0' not found"),
+)
+
+
+def with_older_libraries(root, **variables):
+    """If the loader finds another library first, it says what that one lacks; with the newer one's folder in front the program runs."""
+    for name, source, script, said in OLDER:
+        root.write(f"srv/{name}/older.c", source)
+        root.write(f"srv/{name}/older.map", script)
+        linked = "-shared -fPIC -Wl,--version-script=older.map -Wl,-soname,libcvl.so.1 -o libcvl.so.1"
+        root.run(f"cd /srv/{name} && cc {linked} older.c")
+        first = {**variables, "LD_LIBRARY_PATH": f"/srv/{name}:{variables['LD_LIBRARY_PATH']}"}
+        root.refuses("/srv/c/shared", said, **first)
+        last = {**variables, "LD_LIBRARY_PATH": f"{variables['LD_LIBRARY_PATH']}:/srv/{name}"}
+        by_both(root, "/srv/c/shared", PRODUCT, **last)
+
+
+def moved(root, below):
+    """After a tree is moved, the loader says that it finds no library, until it is told where that is now."""
+    root.run(f"mv {below} /opt/moved")
+    said = "libcvl.so.1: cannot open shared object file"
+    root.refuses("/srv/c/shared", said, LD_LIBRARY_PATH=f"{below}/lib")
+    by_both(root, "/srv/c/shared", PRODUCT, LD_LIBRARY_PATH="/opt/moved/lib")
+    # the archive needs no library
+    by_both(root, "env -i /srv/c/static", PRODUCT)
+
+
+# processors that an emulator has: one from before x86-64-v2, and one of exactly that level
+BEFORE_V2, EXACTLY_V2 = "core2duo", "Nehalem"
+TOO_OLD = "the processor lacks a feature of x86-64-v2"
+
+
+def on_older_processors(root, below, refused="CPU ISA level is lower than required"):
+    """The program, the library and the archive run on x86-64-v2. On an older processor the program says that it is too old, and of the
+    library the loader does, in these words, or the library."""
+    scripts, libraries = f"cd {below}/{SCRIPTS} && ", {"LD_LIBRARY_PATH": f"{below}/lib"}
+    by_both(root, f"{scripts}qemu-x86_64 -cpu {EXACTLY_V2} {below}/bin/cvl {EXAMPLE}", PRINTED)
+    for program in ("shared", "static"):
+        by_both(root, f"qemu-x86_64 -cpu {EXACTLY_V2} /srv/c/{program}", PRODUCT, **libraries)
+    root.refuses(f"{scripts}qemu-x86_64 -cpu {BEFORE_V2} {below}/bin/cvl {EXAMPLE}", TOO_OLD)
+    root.refuses(f"qemu-x86_64 -cpu {BEFORE_V2} /srv/c/shared", refused, **libraries)
 
 
 BUILD = """#include <cvl.h>
@@ -222,6 +277,7 @@ def packages(release, made):
         for upgrade in ("true", "dpkg -i /srv/*.deb"):
             root.run(upgrade)
             by_both(root, f"cd /usr/{SCRIPTS} && env -i /usr/bin/cvl {EXAMPLE}", PRINTED)
+        carries_its_build(root.folder / "usr/bin/cvl")
         for action in ("--remove", "--purge"):
             root.run(f"dpkg {action} {' '.join(names)}")
         left = sorted(root.files() - before)
@@ -245,6 +301,29 @@ def lintian(release, made):
     told = subprocess.run(["lintian", "--allow-root", *files], capture_output=True, text=True)
     if f"{told.stdout}{told.stderr}".strip():
         raise roots.Failed(f"lintian reports:\n{told.stdout}{told.stderr}")
+
+
+# ---- recipes ----
+
+
+def linted(release, made):
+    """The recipes read as their languages, and those of conda and vcpkg take from the tree what they should."""
+    with tempfile.TemporaryDirectory() as folder:
+        work = pathlib.Path(folder)
+        for file in (release.tree(), release.one(recipes.FILE)):
+            with tarfile.open(file) as whole:
+                whole.extractall(work)
+        below, found = work / recipes.NAME, work / trees.NAME
+        wrong = linting.faults(below)
+        wrong += filter(None, (linting.conda(below / "conda/meta.yaml", found, work / "conda"), linting.port(below / "vcpkg/portfile.cmake", found, work / "vcpkg")))
+        if wrong:
+            raise roots.Failed("\n".join(wrong))
+        same(archive.run(work / "conda/bin/cvl", "--version"), f"cvl {table.VERSION}\n")
+        if not (work / "vcpkg/lib/libcvl.a").exists():
+            raise roots.Failed("vcpkg's recipe puts no libcvl.a")
+
+
+# ---- Debian's own Python ----
 
 
 def in_python(root, python):
@@ -288,9 +367,13 @@ def by_wheel(release, root, own=None):
 
 
 def wheel(release, made):
-    """The wheel runs with the Python and the numpy 1.24 of this Debian."""
+    """The wheel runs with the Python and the numpy 1.24 of this Debian, and pip takes it for no system with musl."""
     with made.fresh("python") as root:
         by_wheel(release, root)
+        file = shown.command(".whl").rpartition("/")[2]
+        for_musl = "--platform musllinux_1_2_x86_64 --only-binary=:all: --no-deps --target /srv/musl"
+        said = f"{file} is not a supported wheel on this platform"
+        root.refuses(f"/srv/wheel/bin/pip install {for_musl} /srv/{file}", said, PIP_NO_INDEX="1")
 
 
 def by_source(release, root, prefix):
@@ -353,7 +436,7 @@ def newer_system(release, made):
 
 
 # Debian 11 has numpy 1.19
-TOO_OLD = "numpy 1.23 or later"
+OLD_NUMPY = "numpy 1.23 or later"
 
 
 def older_system(release, made):
@@ -362,14 +445,17 @@ def older_system(release, made):
     with made.fresh("older", roots.OLDER) as root:
         on_system(release, root)
         own_builds(root, f"/usr/{debian.LIBDIR}", "x86-64-v2")
+        root.unpack(release.tree())
+        # this glibc asks nothing of a processor, so the library does
+        on_older_processors(root, f"/opt/{trees.NAME}", TOO_OLD)
         said = shown.command(".whl")
         root.put(release.one(said.rpartition("/")[2]), release.one(f"cvl-{table.VERSION}.tar.gz"))
         root.run("python3 -m venv --system-site-packages /srv/own")
-        root.refuses(f"cd /srv && {shown.command('CVL_PREFIX=').replace('=PREFIX', '=/usr')}", TOO_OLD, **OWN)
+        root.refuses(f"cd /srv && {shown.command('CVL_PREFIX=').replace('=PREFIX', '=/usr')}", OLD_NUMPY, **OWN)
         root.refuses(f"cd /srv && {said}", "numpy>=1.23", **OWN)
         wheel = said.rpartition("/")[2]
         root.run(f"cd /srv/own/lib/python3.9/site-packages && python3 -m zipfile -e /srv/{wheel} .")
-        root.refuses("/srv/own/bin/python -c 'import cvl'", TOO_OLD)
+        root.refuses("/srv/own/bin/python -c 'import cvl'", OLD_NUMPY)
 
 
 # ---- the calls over ranks ----
@@ -418,7 +504,7 @@ def packages_over_ranks(release, made):
 
 
 TRIES = (
-    tree, tree_in_c, each_build, lintian, packages, packages_in_c, packages_in_python, packages_over_ranks, wheel, source, crates, in_mpi,
+    tree, tree_in_c, each_build, linted, lintian, packages, packages_in_c, packages_in_python, packages_over_ranks, wheel, source, crates, in_mpi,
     newer_system, older_system,
 )  # fmt: skip
 

@@ -31,6 +31,7 @@ from releasing import (
     debian,
     found_right,
     licences,
+    linting,
     older_glibc,
     over_ranks,
     packed,
@@ -45,8 +46,6 @@ from releasing import (
 from trees import Tree
 from whole import Whole, command, written
 
-# a recipe for conda begins without a line of hyphens, and has lines as long as a link
-YAML = "{extends: default, rules: {document-start: disable, line-length: disable, comments: {min-spaces-from-content: 1}}}"
 RECORD = {"tree": "a tree", "kit": "a kit", "last_line": "5 passed, 0 failed", "not_tried": ""}
 
 
@@ -338,6 +337,39 @@ class Environment(unittest.TestCase):
         self.assertEqual(said["SOURCE_DATE_EPOCH"], "1000")
 
 
+class Builds(Tree):
+    """The program and the exports, by what stands in for the kit."""
+
+    def steps(self, is_left):
+        """The steps of a build that writes each archive over the one before, as `rt lib` does."""
+
+        def archive_for(cpu, made):
+            self.write("out/libcvl_c.a", f"exports for {cpu}")
+            return shutil.copy(self.top / "out/libcvl_c.a", made) if made else self.top / "out/libcvl_c.a"
+
+        build = types.SimpleNamespace(
+            is_left=is_left, both=lambda logs: (self.top / "out/cvl", archive_for("all", None)), exports_for=archive_for,
+            compiled_program=lambda program: self.write("out/cvl.o", str(program)),
+        )  # fmt: skip
+        glibc = types.SimpleNamespace(linked=[], program=lambda compiled, made: compiled)
+        with mock.patch.object(built, "OlderGlibc", lambda folder: glibc), mock.patch.dict(os.environ):
+            (self.top / "work").mkdir()
+            builds = built.Built(self.top / "work", 1000, 2, False)
+        builds._build = build
+        return builds, builds.steps()
+
+    def test_the_usual_exports_stand_after_others_are_built(self):
+        builds, steps = self.steps(False)
+        self.assertEqual(list(steps), ["the program and the exports"])
+        built.side_by_side(steps, 2, lambda name: None)
+        said = {cpu: path.read_text() for (what, cpu), path in builds.given.items() if what == "exports"}
+        self.assertEqual(said, {"": "exports for all", **{cpu: f"exports for {cpu}" for cpu in built.OWN}})
+        self.assertEqual(builds.given["program", ""].read_text(), str(self.top / "out/cvl"))
+
+    def test_each_is_a_step_of_its_own_over_what_the_gate_left(self):
+        self.assertEqual(list(self.steps(True)[1]), ["the exports", "the exports for x86-64-v3", "the program"])
+
+
 class Older(Tree):
     """What is linked so that it runs with an older glibc."""
 
@@ -477,6 +509,15 @@ class Older(Tree):
         self.assertEqual(self.run_it("./runs", "word").stdout, "1 2 word")
 
 
+    def test_what_the_program_carries_of_its_build(self):
+        self.write("main.c", "#include <stdio.h>\nint main(void) { return puts(\"it runs\") < 0; }")
+        self.assertEqual(self.run_it("cc", "-fPIE", "-c", "main.c").stderr, "")
+        made = self.glibc.program(self.top / "main.o", self.top / "main")
+        self.assertEqual(self.run_it(made).stdout, "it runs\n")
+        self.run_it("strip", "--strip-all", made)
+        trying.carries_its_build(made)
+
+
 class Crates(Tree):
     """The crates for Rust, unpacked side by side."""
 
@@ -520,23 +561,6 @@ class Recipes(Tree):
     """The recipes for other package managers, each over a small tree, by what stands in for the words of its tool."""
 
     PLACED = ("bin/cvl", "include/cvl.h", "lib/libcvl.a", "lib/pkgconfig/cvl.pc", "share/doc/cvl/LICENSE")
-    # what vcpkg has beside CMake's own commands
-    OF_VCPKG = """cmake_minimum_required(VERSION 3.13)
-        macro(vcpkg_download_distfile VARIABLE)
-          set(${VARIABLE} "an archive")
-        endmacro()
-        function(vcpkg_extract_source_archive VARIABLE)
-          if(NOT "${ARGN}" STREQUAL "ARCHIVE;an archive")
-            message(FATAL_ERROR "${ARGN}")
-          endif()
-          set(${VARIABLE} "${TREE}" PARENT_SCOPE)
-        endfunction()
-        function(vcpkg_install_copyright WORD FILE)
-          file(INSTALL "${FILE}" DESTINATION "${CURRENT_PACKAGES_DIR}/share/cvl" RENAME copyright)
-        endfunction()
-        include("${PORTFILE}")
-        """
-
     def setUp(self):
         super().setUp()
         self.tree = self.write(trees.FILE, "a tree")
@@ -559,25 +583,31 @@ class Recipes(Tree):
                 self.assertIn(receipt.sum_of(self.tree), text, place)
             self.assertNotRegex(text, r"\{(version|url|sha)")
         self.assertEqual(json.loads(self.recipes["vcpkg/vcpkg.json"])["version"], table.VERSION)
-        for words, place in ((("ruby", "-c"), "homebrew/cvl.rb"), (("yamllint", "-s", "-d", YAML), "conda/meta.yaml")):
-            if shutil.which(words[0]):
-                told = subprocess.run([*words, self.write(place, self.recipes[place])], capture_output=True, text=True)
-                self.assertEqual(told.returncode, 0, told.stdout + told.stderr)
+        self.assertEqual({lint.place for lint in linting.LINTS} | {"vcpkg/portfile.cmake"}, set(self.recipes))
+
+    def faults(self):
+        """What the programs that are here find."""
+        for place, text in self.recipes.items():
+            self.write(f"recipes/{place}", text)
+        return linting.faults(self.top / "recipes", [lint for lint in linting.LINTS if shutil.which(lint.words[0])])
+
+    def test_each_reads_as_its_language(self):
+        self.assertEqual(self.faults(), [])
+
+    def test_what_no_language_takes_is_found(self):
+        self.recipes = {place: f"{text}  (\n" for place, text in self.recipes.items()}
+        here = [lint for lint in linting.LINTS if shutil.which(lint.words[0])]
+        self.assertEqual([text.partition(":")[0] for text in self.faults()], [lint.words[0] for lint in here])
 
     def test_what_conda_runs(self):
-        (script,) = re.findall(r"^  script: (.*)$", self.recipes["conda/meta.yaml"], re.M)
-        subprocess.run(["sh", "-euc", script], cwd=self.top / "tree", env={**os.environ, "PREFIX": str(self.made)}, check=True)
+        recipe = self.write("meta.yaml", self.recipes["conda/meta.yaml"])
+        self.assertEqual(linting.conda(recipe, self.top / "tree", self.made), "")
         self.assertEqual(self.placed(), sorted(self.PLACED))
 
     @unittest.skipUnless(shutil.which("cmake"), "no cmake")
     def test_what_vcpkg_runs(self):
         portfile = self.write("portfile.cmake", self.recipes["vcpkg/portfile.cmake"])
-        script = self.write("script.cmake", self.OF_VCPKG)
-        given = {"TREE": self.top / "tree", "PORTFILE": portfile, "CURRENT_PACKAGES_DIR": self.made}
-        told = subprocess.run(
-            ["cmake", *(f"-D{name}={value}" for name, value in given.items()), "-P", script], capture_output=True, text=True
-        )
-        self.assertEqual(told.returncode, 0, told.stderr)
+        self.assertEqual(linting.port(portfile, self.top / "tree", self.made), "")
         self.assertEqual(self.placed(), sorted(["include/cvl.h", "lib/libcvl.a", "lib/pkgconfig/cvl.pc", "share/cvl/copyright"]))
 
     def test_what_spack_runs(self):
