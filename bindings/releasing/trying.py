@@ -164,7 +164,7 @@ def moved(root, below):
 
 # processors that an emulator has: one from before x86-64-v2, and one of exactly that level
 BEFORE_V2, EXACTLY_V2 = "core2duo", "Nehalem"
-TOO_OLD = "the processor lacks a feature of x86-64-v2"
+TOO_OLD = "lacks a feature of x86-64-v2"
 
 
 def on_older_processors(root, below, refused="CPU ISA level is lower than required"):
@@ -315,7 +315,13 @@ def linted(release, made):
                 whole.extractall(work)
         below, found = work / recipes.NAME, work / trees.NAME
         wrong = linting.faults(below)
-        wrong += filter(None, (linting.conda(below / "conda/meta.yaml", found, work / "conda"), linting.port(below / "vcpkg/portfile.cmake", found, work / "vcpkg")))
+        wrong += filter(
+            None,
+            (
+                linting.conda(below / "conda/meta.yaml", found, work / "conda"),
+                linting.port(below / "vcpkg/portfile.cmake", found, work / "vcpkg"),
+            ),
+        )
         if wrong:
             raise roots.Failed("\n".join(wrong))
         same(archive.run(work / "conda/bin/cvl", "--version"), f"cvl {table.VERSION}\n")

@@ -508,9 +508,8 @@ class Older(Tree):
         self.assertEqual(self.run_it("cc", "-Wall", "-Wextra", "-o", "runs", "runs.c", older_glibc.START).stderr, "")
         self.assertEqual(self.run_it("./runs", "word").stdout, "1 2 word")
 
-
     def test_what_the_program_carries_of_its_build(self):
-        self.write("main.c", "#include <stdio.h>\nint main(void) { return puts(\"it runs\") < 0; }")
+        self.write("main.c", '#include <stdio.h>\nint main(void) { return puts("it runs") < 0; }')
         self.assertEqual(self.run_it("cc", "-fPIE", "-c", "main.c").stderr, "")
         made = self.glibc.program(self.top / "main.o", self.top / "main")
         self.assertEqual(self.run_it(made).stdout, "it runs\n")
@@ -561,6 +560,7 @@ class Recipes(Tree):
     """The recipes for other package managers, each over a small tree, by what stands in for the words of its tool."""
 
     PLACED = ("bin/cvl", "include/cvl.h", "lib/libcvl.a", "lib/pkgconfig/cvl.pc", "share/doc/cvl/LICENSE")
+
     def setUp(self):
         super().setUp()
         self.tree = self.write(trees.FILE, "a tree")
