@@ -635,8 +635,9 @@ class Recipes(Tree):
 class Receipt(Tree):
     """What the receipt says of files of a release."""
 
-    def text(self, is_given=False, not_tried=""):
+    def text(self, is_given=False, not_tried="", order=1):
         given = {("program", ""): self.write("cvl", "a program"), ("exports", "x86-64-v3"): self.write("libcvl_c.a", "exports")}
+        given = dict([*given.items()][::order])
         builds = types.SimpleNamespace(is_given=is_given, given=given)
         record = found_right.Record(**{**RECORD, "not_tried": not_tried})
         with mock.patch.object(receipt, "sources", lambda: {"crates/sums": "0" * 64, "docs": "1" * 64}), \
@@ -656,6 +657,9 @@ class Receipt(Tree):
             "`shell::program`",
         ):
             self.assertIn(said, text)
+
+    def test_which_step_ends_first_changes_no_byte(self):
+        self.assertEqual(self.text(), self.text(order=-1))
 
     def test_what_was_not_tried_or_not_built_is_named(self):
         self.assertIn("and it did not try Rust (no cargo).", self.text(not_tried="Rust (no cargo)"))
