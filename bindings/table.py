@@ -104,7 +104,14 @@ SPREAD_SIDES = OverRanks("merge", "when_true and when_false may be spread otherw
 ASKED_COLUMNS = OverRanks("product", "each rank asks once for each element of x that its columns name; a row may cross ranks")
 KEPT_ELEMENTS = OverRanks("pack", "what a rank keeps stays with it, and *count is how many they are on this rank")
 NO_TEXTS = OverRanks(None, "bindings/mpi/cvl_mpi.h.in has functions of its own for texts")
-RUNS_CROSS = OverRanks(None, "a run may go on over any number of ranks, and none of them could tell its length alone")
+OWN_LENGTHS = OverRanks(
+    "run_lengths", "a rank has the runs that begin in it, with what they have in ranks behind, and *count is how many they are"
+)
+OWN_STARTS = OverRanks(
+    "run_starts",
+    "a rank has the runs that begin in it, and *count is how many they are; places are those of the whole vector",
+    named=True,
+)
 NO_PARTS = OverRanks(None, "a part of a call: a rank makes it alone")
 BY_AN_ORDER = OverRanks(None, "over ranks an order of the keys and a back permute by it move any number of vectors")
 
@@ -121,6 +128,7 @@ Cut = namedtuple("Cut", "said over_ranks runs least any_bytes", defaults=(None, 
 DIGITS = "cut at places; each part sorts its own keys by a digit, and gathers a range of the result"
 IN_SEGMENTS = "cut inside segments; each part goes on from what stands before it in its segment"
 PIECES = "cut inside segments; the pieces of a cut segment are joined"
+RUNS_THERE = "cut at places; a part has the runs that begin in it, and the last of them may go on in later parts"
 BEFORE = "each rank goes on from what stands before it in its segment"
 JOINED_AT_START = "the pieces of a segment are joined where it starts"
 CUTS = {
@@ -145,6 +153,13 @@ CUTS = {
         "cut at places; the parts' counts are added", OverRanks("count", "the ranks' counts are added", named=True), "steps"
     ),
     "pack": Cut("cut at places; each part's elements go behind those of the parts before", KEPT_ELEMENTS, "pack"),
+    "run_lengths": Cut(RUNS_THERE, OWN_LENGTHS, "run_lengths"),
+    "run_starts": Cut(RUNS_THERE, OWN_STARTS, "run_starts"),
+    "run_counts": Cut(
+        PIECES,
+        OverRanks("run_counts", "the runs of a segment are added where it starts, each counted where it begins"),
+        "run_counts",
+    ),
     "whole": Cut("not cut"),
     "ranges": Cut("the result is cut; each part reads all indices", SENT_ELEMENTS, "ranges", any_bytes=True),
     "senders": Cut("the result is cut; each part reads all indices", SENT_SENDERS, "senders"),
@@ -356,8 +371,8 @@ OF_FAMILIES = {
     "runs of equal neighbours": (
         "No script calls these. A run is as long as its neighbours are equal, so that in sorted keys each key has one run. Unique keys are a back permute of the "
         "keys by the starts of their runs, and the lengths of the runs count each key. Reduce by key is a reduce of segments by these lengths.",
-        "With lengths, a run ends where its segment does, and cvl_seg_run_counts_int says how many runs each segment has. These calls ask for no memory, and run on "
-        "the calling thread.",
+        "With lengths, a run ends where its segment does, and cvl_seg_run_counts_int says how many runs each segment has. On several threads lengths and "
+        "starts take 4 bytes an element while they run; else these calls ask for no memory.",
     ),
     "slices and merges": (
         "No script calls these. They ask for memory only for booleans that are neither 0 nor 1, and on several threads for a copy of the buffer. A search for "
@@ -1449,7 +1464,8 @@ FAMILIES = (
         lambda kind: (any_items(kind, "a"), room("ints", "room"), told()),
         "The length of each run of equal neighbours, in order, and how many they are.",
         faults=(TOO_LONG, NO_ROOM),
-        over_ranks=RUNS_CROSS,
+        cut=("run_lengths", "n"),
+        over_ranks=OWN_LENGTHS._replace(named=True),
         shape="a has n elements.",
         told=PACKED,
         example=lambda kind: {
@@ -1463,7 +1479,7 @@ FAMILIES = (
         lambda kind: (any_items(kind, "a"), room("ints", "room"), told()),
         "The place where each run of equal neighbours begins, in order, and how many they are.",
         faults=(TOO_LONG, NO_ROOM),
-        over_ranks=RUNS_CROSS,
+        cut=("run_starts", "n"),
         shape="a has n elements.",
         told=PACKED,
         example=lambda kind: {
@@ -1478,7 +1494,7 @@ FAMILIES = (
         "The length of each run of equal neighbours of each segment, in order, one segment after another, and how many they are.",
         limit=None,
         faults=(SUM_OR_NO_ROOM,),
-        over_ranks=RUNS_CROSS,
+        cut=("run_lengths", "n"),
         shape="a has n elements.",
         told=PACKED,
         example=lambda kind: {
@@ -1494,7 +1510,7 @@ FAMILIES = (
         "start of a.",
         limit=None,
         faults=(SUM_OR_NO_ROOM,),
-        over_ranks=RUNS_CROSS,
+        cut=("run_starts", "n"),
         shape="a has n elements.",
         told=PACKED,
         example=lambda kind: {
@@ -1509,7 +1525,7 @@ FAMILIES = (
         "The number of runs of equal neighbours of each segment: the lengths of the segments of what the other calls give.",
         limit=None,
         faults=(SUM_OF_N,),
-        over_ranks=RUNS_CROSS,
+        cut=("run_counts", "n"),
         shape="a has n elements, out one for each segment.",
         example=lambda kind: {
             "ints": {"a": "3 3 3 5 5", "lengths": "2 0 3", "out": "1 0 2"},

@@ -1303,8 +1303,8 @@ CVL_CHECKED CvlStatus cvl_seg_sort_by_key_descending(CvlLengths lengths, int32_t
  * are a back permute of the keys by the starts of their runs, and the lengths of the runs count each key. Reduce by key is a
  * reduce of segments by these lengths.
  *
- * With lengths, a run ends where its segment does, and cvl_seg_run_counts_int says how many runs each segment has. These calls
- * ask for no memory, and run on the calling thread.
+ * With lengths, a run ends where its segment does, and cvl_seg_run_counts_int says how many runs each segment has. On several
+ * threads lengths and starts take 4 bytes an element while they run; else these calls ask for no memory.
  */
 
 /*

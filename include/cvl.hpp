@@ -2206,7 +2206,8 @@ inline void seg_sort_by_key_descending(const char *call, const Segments &segment
 inline std::size_t run_lengths_int(const char *call, Ints a, IntRoom out, Status &status) noexcept {
     if (!status.ok()) return 0;
     std::size_t count = not_told;
-    const CvlStatus found = run(cvl_run_lengths_int, a.data(), a.size(), out.data(), out.size(), &count);
+    const CvlStatus found = run_in_parts(cvl_run_lengths_int, cvl_run_lengths_int_on, a.data(), a.size(), out.data(),
+        out.size(), &count);
     if (found.number != CVL_DONE) tell(status, found, call, {{"a", Extent::n, a, about(CVL_TOO_LONG)},
         {"out", Extent::room, out}}, count);
     return found.number == CVL_DONE ? count : 0;
@@ -2219,7 +2220,8 @@ inline std::vector<std::int32_t> run_lengths_int(const char *call, Ints a, Statu
 inline std::size_t run_lengths_bool(const char *call, Bools a, IntRoom out, Status &status) noexcept {
     if (!status.ok()) return 0;
     std::size_t count = not_told;
-    const CvlStatus found = run(cvl_run_lengths_bool, a.data(), a.size(), out.data(), out.size(), &count);
+    const CvlStatus found = run_in_parts(cvl_run_lengths_bool, cvl_run_lengths_bool_on, a.data(), a.size(), out.data(),
+        out.size(), &count);
     if (found.number != CVL_DONE) tell(status, found, call, {{"a", Extent::n, a, about(CVL_TOO_LONG)},
         {"out", Extent::room, out}}, count);
     return found.number == CVL_DONE ? count : 0;
@@ -2232,7 +2234,8 @@ inline std::vector<std::int32_t> run_lengths_bool(const char *call, Bools a, Sta
 inline std::size_t run_starts_int(const char *call, Ints a, IntRoom out, Status &status) noexcept {
     if (!status.ok()) return 0;
     std::size_t count = not_told;
-    const CvlStatus found = run(cvl_run_starts_int, a.data(), a.size(), out.data(), out.size(), &count);
+    const CvlStatus found = run_in_parts(cvl_run_starts_int, cvl_run_starts_int_on, a.data(), a.size(), out.data(), out.size(),
+        &count);
     if (found.number != CVL_DONE) tell(status, found, call, {{"a", Extent::n, a, about(CVL_TOO_LONG)},
         {"out", Extent::room, out}}, count);
     return found.number == CVL_DONE ? count : 0;
@@ -2245,7 +2248,8 @@ inline std::vector<std::int32_t> run_starts_int(const char *call, Ints a, Status
 inline std::size_t run_starts_bool(const char *call, Bools a, IntRoom out, Status &status) noexcept {
     if (!status.ok()) return 0;
     std::size_t count = not_told;
-    const CvlStatus found = run(cvl_run_starts_bool, a.data(), a.size(), out.data(), out.size(), &count);
+    const CvlStatus found = run_in_parts(cvl_run_starts_bool, cvl_run_starts_bool_on, a.data(), a.size(), out.data(),
+        out.size(), &count);
     if (found.number != CVL_DONE) tell(status, found, call, {{"a", Extent::n, a, about(CVL_TOO_LONG)},
         {"out", Extent::room, out}}, count);
     return found.number == CVL_DONE ? count : 0;
@@ -2259,7 +2263,8 @@ inline std::size_t seg_run_lengths_int(const char *call, Ints a, const Segments 
     noexcept {
     if (!status.ok()) return 0;
     std::size_t count = not_told;
-    const CvlStatus found = run(cvl_seg_run_lengths_int, a.data(), a.size(), given(segments), out.data(), out.size(), &count);
+    const CvlStatus found = run_in_parts(cvl_seg_run_lengths_int, cvl_seg_run_lengths_int_on, a.data(), a.size(),
+        given(segments), out.data(), out.size(), &count);
     if (found.number != CVL_DONE) tell(status, found, call, {{"a", Extent::n, a}, {"segments", Extent::n, segments},
         {"out", Extent::room, out}}, count);
     return found.number == CVL_DONE ? count : 0;
@@ -2274,7 +2279,8 @@ inline std::size_t seg_run_lengths_bool(const char *call, Bools a, const Segment
     noexcept {
     if (!status.ok()) return 0;
     std::size_t count = not_told;
-    const CvlStatus found = run(cvl_seg_run_lengths_bool, a.data(), a.size(), given(segments), out.data(), out.size(), &count);
+    const CvlStatus found = run_in_parts(cvl_seg_run_lengths_bool, cvl_seg_run_lengths_bool_on, a.data(), a.size(),
+        given(segments), out.data(), out.size(), &count);
     if (found.number != CVL_DONE) tell(status, found, call, {{"a", Extent::n, a}, {"segments", Extent::n, segments},
         {"out", Extent::room, out}}, count);
     return found.number == CVL_DONE ? count : 0;
@@ -2289,7 +2295,8 @@ inline std::size_t seg_run_starts_int(const char *call, Ints a, const Segments &
     noexcept {
     if (!status.ok()) return 0;
     std::size_t count = not_told;
-    const CvlStatus found = run(cvl_seg_run_starts_int, a.data(), a.size(), given(segments), out.data(), out.size(), &count);
+    const CvlStatus found = run_in_parts(cvl_seg_run_starts_int, cvl_seg_run_starts_int_on, a.data(), a.size(), given(segments),
+        out.data(), out.size(), &count);
     if (found.number != CVL_DONE) tell(status, found, call, {{"a", Extent::n, a}, {"segments", Extent::n, segments},
         {"out", Extent::room, out}}, count);
     return found.number == CVL_DONE ? count : 0;
@@ -2304,7 +2311,8 @@ inline std::size_t seg_run_starts_bool(const char *call, Bools a, const Segments
     noexcept {
     if (!status.ok()) return 0;
     std::size_t count = not_told;
-    const CvlStatus found = run(cvl_seg_run_starts_bool, a.data(), a.size(), given(segments), out.data(), out.size(), &count);
+    const CvlStatus found = run_in_parts(cvl_seg_run_starts_bool, cvl_seg_run_starts_bool_on, a.data(), a.size(),
+        given(segments), out.data(), out.size(), &count);
     if (found.number != CVL_DONE) tell(status, found, call, {{"a", Extent::n, a}, {"segments", Extent::n, segments},
         {"out", Extent::room, out}}, count);
     return found.number == CVL_DONE ? count : 0;
@@ -2317,7 +2325,8 @@ inline std::vector<std::int32_t> seg_run_starts_bool(const char *call, Bools a, 
 
 inline void seg_run_counts_int(const char *call, Ints a, const Segments &segments, IntRoom out, Status &status) noexcept {
     if (!status.ok()) return;
-    const CvlStatus found = run(cvl_seg_run_counts_int, a.data(), a.size(), given(segments), out.data(), out.size());
+    const CvlStatus found = run_in_parts(cvl_seg_run_counts_int, cvl_seg_run_counts_int_on, a.data(), a.size(), given(segments),
+        out.data(), out.size());
     if (found.number != CVL_DONE) tell(status, found, call, {{"a", Extent::n, a}, {"segments", Extent::n, segments},
         {"out", Extent::segments, out}});
 }
@@ -2332,7 +2341,8 @@ inline std::vector<std::int32_t> seg_run_counts_int(const char *call, Ints a, co
 
 inline void seg_run_counts_bool(const char *call, Bools a, const Segments &segments, IntRoom out, Status &status) noexcept {
     if (!status.ok()) return;
-    const CvlStatus found = run(cvl_seg_run_counts_bool, a.data(), a.size(), given(segments), out.data(), out.size());
+    const CvlStatus found = run_in_parts(cvl_seg_run_counts_bool, cvl_seg_run_counts_bool_on, a.data(), a.size(),
+        given(segments), out.data(), out.size());
     if (found.number != CVL_DONE) tell(status, found, call, {{"a", Extent::n, a}, {"segments", Extent::n, segments},
         {"out", Extent::segments, out}});
 }

@@ -292,6 +292,32 @@ CVL_CHECKED CvlStatus cvl_seg_sort_by_key_on(const CvlPool *pool, CvlLengths len
     int32_t *values, size_t values_len);
 CVL_CHECKED CvlStatus cvl_seg_sort_by_key_descending_on(const CvlPool *pool, CvlLengths lengths, int32_t *keys, size_t keys_len,
     int32_t *values, size_t values_len);
+
+/* Cut at places; a part has the runs that begin in it, and the last of them may go on in later parts. */
+CVL_CHECKED CvlStatus cvl_run_lengths_int_on(const CvlPool *pool, const int32_t *a, size_t a_len, int32_t *out, size_t out_len,
+    size_t *count);
+CVL_CHECKED CvlStatus cvl_run_lengths_bool_on(const CvlPool *pool, const bool *a, size_t a_len, int32_t *out, size_t out_len,
+    size_t *count);
+CVL_CHECKED CvlStatus cvl_run_starts_int_on(const CvlPool *pool, const int32_t *a, size_t a_len, int32_t *out, size_t out_len,
+    size_t *count);
+CVL_CHECKED CvlStatus cvl_run_starts_bool_on(const CvlPool *pool, const bool *a, size_t a_len, int32_t *out, size_t out_len,
+    size_t *count);
+CVL_CHECKED CvlStatus cvl_seg_run_lengths_int_on(const CvlPool *pool, const int32_t *a, size_t a_len, CvlLengths lengths,
+    int32_t *out, size_t out_len, size_t *count);
+CVL_CHECKED CvlStatus cvl_seg_run_lengths_bool_on(const CvlPool *pool, const bool *a, size_t a_len, CvlLengths lengths,
+    int32_t *out, size_t out_len, size_t *count);
+CVL_CHECKED CvlStatus cvl_seg_run_starts_int_on(const CvlPool *pool, const int32_t *a, size_t a_len, CvlLengths lengths,
+    int32_t *out, size_t out_len, size_t *count);
+CVL_CHECKED CvlStatus cvl_seg_run_starts_bool_on(const CvlPool *pool, const bool *a, size_t a_len, CvlLengths lengths,
+    int32_t *out, size_t out_len, size_t *count);
+
+/* Cut inside segments; the pieces of a cut segment are joined. */
+CVL_CHECKED CvlStatus cvl_seg_run_counts_int_on(const CvlPool *pool, const int32_t *a, size_t a_len, CvlLengths lengths,
+    int32_t *out, size_t out_len);
+CVL_CHECKED CvlStatus cvl_seg_run_counts_bool_on(const CvlPool *pool, const bool *a, size_t a_len, CvlLengths lengths,
+    int32_t *out, size_t out_len);
+
+/* Cut between segments. */
 CVL_CHECKED CvlStatus cvl_gather_segments_int_on(const CvlPool *pool, const int32_t *source, size_t source_len,
     const int32_t *starts, size_t starts_len, CvlLengths lengths, int32_t *out, size_t out_len);
 CVL_CHECKED CvlStatus cvl_gather_segments_bool_on(const CvlPool *pool, const bool *source, size_t source_len,

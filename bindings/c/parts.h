@@ -225,6 +225,9 @@ CVL_HIDDEN bool cvl_seg_count_in_parts(const CvlPool *pool, CvlWork *w);
 /*@ assigns *w, rooms, made; */
 CVL_HIDDEN bool cvl_seg_copies_in_parts(const CvlPool *pool, CvlWork *w);
 CVL_HIDDEN bool cvl_seg_numbers_in_parts(const CvlPool *pool, CvlWork *w);
+CVL_HIDDEN bool cvl_run_lengths_in_parts(const CvlPool *pool, CvlWork *w);
+CVL_HIDDEN bool cvl_run_starts_in_parts(const CvlPool *pool, CvlWork *w);
+CVL_HIDDEN bool cvl_run_counts_in_parts(const CvlPool *pool, CvlWork *w);
 CVL_HIDDEN bool cvl_write_in_parts(const CvlPool *pool, CvlWork *w);
 CVL_HIDDEN bool cvl_read_in_parts(const CvlPool *pool, CvlWork *w);
 

@@ -424,6 +424,13 @@ static void fill_sums(unsigned char *at, size_t count, bool small) {
     }
 }
 
+/* Has most elements as the one before them, so that runs go on over several parts. */
+static void lengthen_runs(char *at, size_t n, size_t size) {
+    for (size_t j = 1; j < n; j++) {
+        if (below(8) > 0) memcpy(at + j * size, at + (j - 1) * size, size);
+    }
+}
+
 static void fill(const Row *row, Given *g, size_t k, size_t n, size_t m) {
     int32_t *ints = (int32_t *)g->at[k];
     unsigned char *bytes = (unsigned char *)g->at[k];
@@ -444,6 +451,7 @@ static void fill(const Row *row, Given *g, size_t k, size_t n, size_t m) {
     for (size_t j = 0; j < g->len[k] && has_runs && kind_of(row, k) == KIND_INTS; j++) ints[j] = (int32_t)below(2);
     for (size_t j = 0; j < g->len[k] && kind_of(row, k) == KIND_FLAGS; j++)
         bytes[j] = chance(2) ? 0 : plain || chance(2) ? 1 : (unsigned char)below(256);
+    if (has_runs && small) lengthen_runs(g->at[k], g->len[k], size_of(kind_of(row, k)));
     for (size_t j = 0; j < g->len[k] && kind_of(row, k) == KIND_BYTES; j++) bytes[j] = (unsigned char)below(256);
     for (size_t j = 0; j < g->len[k] && row->model == BYTES_FROM_INTS; j++) ints[j] = (int32_t)below(256);
     for (size_t bad = row->model == BYTES_FROM_INTS && chance(3) ? 1 + below(3) : 0; bad > 0 && g->len[k] > 0; bad--)

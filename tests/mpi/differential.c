@@ -365,6 +365,42 @@ static void cut_trues(Case *c) {
     for (int r = 0; r <= c->ranks; r++) c->cut[EXTENT_ROOM][r] = trues_of(c->whole.at[f], 0, c->cut[EXTENT_N][r]);
 }
 
+/* ---- runs of equal neighbours ---- */
+
+static int is_of_runs(const Row *row) { return row->model >= RUN_LENGTHS && row->model <= SEG_RUN_COUNTS; }
+
+static int64_t element(const Case *c, size_t k, size_t at) {
+    if (kind_of(c->row, k) == KIND_INTS) return ((const int32_t *)c->whole.at[k])[at];
+    return ((const uint8_t *)c->whole.at[k])[at] != 0;
+}
+
+/* How many runs begin before each rank: one where a segment starts, and one where an element differs from that before it. */
+static void cut_runs(Case *c, size_t k) {
+    const size_t lengths = lengths_for(c->row, EXTENT_N), n = c->whole.len[k];
+    const size_t segments = lengths < count_of(c->row) ? c->whole.len[lengths] : 0;
+    size_t segment = 0, start = 0, runs = 0;
+    int r = 0;
+    for (size_t at = 0; at < n; at++) {
+        int begins = at == 0;
+        for (; segment < segments && start == at; segment++, begins = 1)
+            start += (size_t)((int32_t *)c->whole.at[lengths])[segment];
+        for (; c->cut[EXTENT_N][r] == at; r++) c->cut[EXTENT_ROOM][r] = runs;
+        runs += (size_t)(begins || element(c, k, at) != element(c, k, at - 1));
+    }
+    for (; r <= c->ranks; r++) c->cut[EXTENT_ROOM][r] = runs;
+    c->counts[EXTENT_ROOM] = runs;
+}
+
+/* Has an element as the one before it, so often that runs cross ranks. */
+static void make_runs(Case *c, size_t k) {
+    const size_t n = c->whole.len[k], size = size_of(kind_of(c->row, k)), mean = one_in(3) ? n + 1 : 1 + below(6);
+    char *const at = c->whole.at[k];
+    for (size_t j = 1; j < n; j++) {
+        if (!one_in(mean)) memcpy(at + j * size, at + (j - 1) * size, size);
+    }
+    cut_runs(c, k);
+}
+
 static void make_number(Case *c, size_t k) {
     const Role role = role_of(c->row, k);
     const Kind kind = kind_of(c->row, k);
@@ -380,6 +416,7 @@ static void make_array(Case *c, size_t k) {
     c->whole.at[k] = malloc((count + 1) * size);
     fill(c, k);
     if (use_of(c->row, k) == USE_MASK) cut_trues(c);
+    if (is_of_runs(c->row)) make_runs(c, k);
     if (!is_over(c->row, k)) return;
     c->before[k] = malloc((count + 1) * size);
     memcpy(c->before[k], c->whole.at[k], count * size);
@@ -419,6 +456,7 @@ static void spoil(Case *c) {
     }
     c->shorter = (int)k;
     c->whole.len[k]--;
+    if (is_of_runs(row) && reads(row, k)) cut_runs(c, k);
 }
 
 /* Makes a piece of a segment less than 0 now and then. */
@@ -522,7 +560,7 @@ static int is_as_before(const Case *c, const Own *own, size_t k) {
 /* Whether a rank's room is its part of the whole's, and a count that of the whole, or how many elements the rank keeps. */
 static int is_cut_of(const Case *c, const Own *own, size_t k, int rank) {
     const size_t size = size_of(kind_of(c->row, k));
-    if (role_of(c->row, k) == ROLE_TOLD && uses(c->row, USE_MASK)) {
+    if (role_of(c->row, k) == ROLE_TOLD && (uses(c->row, USE_MASK) || is_of_runs(c->row))) {
         size_t sentinel;
         memset(&sentinel, 0x5a, sizeof sentinel);
         if (*(size_t *)c->whole.at[k] == sentinel) return is_as_before(c, own, k);

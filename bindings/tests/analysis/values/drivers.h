@@ -42,6 +42,13 @@ static inline void fill_flags(bool *const *arrays, unsigned pattern, bool clean)
     }
 }
 
+/* Integers in runs of so many. */
+static inline void fill_runs(int32_t *const *arrays, size_t each) {
+    for (size_t n = 1; n <= MOST; n++) {
+        for (size_t k = 0; k < n; k++) arrays[n][k] = (int32_t)(k / each);
+    }
+}
+
 /* Fills all arrays. */
 static inline void fill(unsigned pattern, bool clean) {
     fill_ints(ints);

@@ -165,3 +165,65 @@ CvlStatus cvl_proved_read_ints(const bool *text, size_t text_len, int32_t *out, 
     writes_ints(out, words);
     return cvl_done();
 }
+
+/* ---- runs of equal neighbours ---- */
+
+static bool ints_differ(const void *a, size_t j, size_t k) { return ((const int32_t *)a)[j] != ((const int32_t *)a)[k]; }
+
+static bool flags_differ(const void *a, size_t j, size_t k) { return (((const bool *)a)[j] != 0) != (((const bool *)a)[k] != 0); }
+
+/* Writes the lengths of the runs from one place to another behind `done` others, or nothing, and answers how many there are then. */
+static size_t runs_of(
+    bool (*differ)(const void *, size_t, size_t), const void *a, size_t from, size_t to, int32_t *out, size_t done) {
+    size_t begin = from;
+    for (size_t k = from + 1; k <= to; k++) {
+        if (k < to && !differ(a, k - 1, k)) continue;
+        if (out != NULL) out[done] = (int32_t)(k - begin);
+        begin = k, done++;
+    }
+    return done;
+}
+
+static size_t runs_in(
+    bool (*differ)(const void *, size_t, size_t), const void *a, const int32_t *lengths, size_t segments, int32_t *out) {
+    size_t from = 0, done = 0;
+    for (size_t s = 0; s < segments; s++) {
+        done = runs_of(differ, a, from, from + (size_t)lengths[s], out, done);
+        from += (size_t)lengths[s];
+    }
+    return done;
+}
+
+CvlStatus cvl_proved_run_lengths_int(const int32_t *a, size_t a_len, int32_t *out, size_t out_len, size_t *count) {
+    if (is_refused()) return told_fault();
+    if (!has_room(runs_of(ints_differ, a, 0, a_len, NULL, 0), out_len, count)) return cvl_status(CVL_LENGTH_MISMATCH, -1);
+    runs_of(ints_differ, a, 0, a_len, out, 0);
+    return cvl_done();
+}
+
+CvlStatus cvl_proved_run_lengths_bool(const bool *a, size_t a_len, int32_t *out, size_t out_len, size_t *count) {
+    if (is_refused()) return told_fault();
+    if (!has_room(runs_of(flags_differ, a, 0, a_len, NULL, 0), out_len, count)) return cvl_status(CVL_LENGTH_MISMATCH, -1);
+    runs_of(flags_differ, a, 0, a_len, out, 0);
+    return cvl_done();
+}
+
+CvlStatus cvl_proved_seg_run_lengths_int(
+    const int32_t *a, size_t a_len, const int32_t *lengths, size_t lengths_len, int32_t *out, size_t out_len, size_t *count) {
+    if (is_refused()) return told_fault();
+    reads_ints(a, a_len);
+    if (!has_room(runs_in(ints_differ, a, lengths, lengths_len, NULL), out_len, count))
+        return cvl_status(CVL_LENGTH_MISMATCH, -1);
+    runs_in(ints_differ, a, lengths, lengths_len, out);
+    return cvl_done();
+}
+
+CvlStatus cvl_proved_seg_run_lengths_bool(
+    const bool *a, size_t a_len, const int32_t *lengths, size_t lengths_len, int32_t *out, size_t out_len, size_t *count) {
+    if (is_refused()) return told_fault();
+    reads_flags(a, a_len);
+    if (!has_room(runs_in(flags_differ, a, lengths, lengths_len, NULL), out_len, count))
+        return cvl_status(CVL_LENGTH_MISMATCH, -1);
+    runs_in(flags_differ, a, lengths, lengths_len, out);
+    return cvl_done();
+}

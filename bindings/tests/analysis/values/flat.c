@@ -1,6 +1,6 @@
 /*
- * flat.c: calls in parts on whole vectors, and permutes: steps.c, flat_parts.c, range_parts.c, combine_parts.c and what they take of
- * cut.c.
+ * flat.c: calls in parts on whole vectors, and permutes: steps.c, flat_parts.c, range_parts.c, combine_parts.c, run_parts.c and what they
+ * take of cut.c.
  */
 #include "drivers.h"
 
@@ -199,4 +199,21 @@ static void copy_number(size_t n) { (void)cvl_distribute_int_on(&pool, any_int()
 void progressions(void) {
     each_length(index_room, 3, 2);
     each_length(copy_number, 3, 2);
+}
+
+static void run_lengths(size_t n) { (void)cvl_run_lengths_int_on(&pool, ints[n], n, room[n], n, &count); }
+static void run_starts(size_t n) { (void)cvl_run_starts_int_on(&pool, ints[n], n, room[n], n, &count); }
+static void lengths_into_one(size_t n) { (void)cvl_run_lengths_int_on(&pool, ints[n], n, room[n > 0], n > 0, &count); }
+static void runs_of_bools(size_t n) { (void)cvl_run_lengths_bool_on(&pool, bools[n], n, room[n], n, &count); }
+
+/* Each run within a part, over some, and over all. */
+void runs(void) {
+    fill_ints(room);
+    for (size_t each = 1; each <= MOST; each++) {
+        fill_runs(ints, each);
+        each_length(run_lengths, 12, 3);
+        each_length(run_starts, 14, 3);
+        each_length(lengths_into_one, 12, 3);
+    }
+    each_pattern(runs_of_bools, 12, 3);
 }

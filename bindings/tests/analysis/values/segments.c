@@ -1,4 +1,4 @@
-/* segments.c: calls in parts on segments: segment_parts.c and what it takes of cut.c. */
+/* segments.c: calls in parts on segments: segment_parts.c, run_parts.c and what they take of cut.c. */
 #include "drivers.h"
 
 enum { SEGMENTS = 3 };
@@ -25,6 +25,14 @@ static void checked_reduce(size_t n) {
     (void)cvl_seg_checked_reduce_on(&pool, ints[n], n, cut, segment_room[cut.segments], cut.segments);
 }
 static void count_flags(size_t n) { (void)cvl_seg_count_on(&pool, flags[n], n, cut, segment_room[cut.segments], cut.segments); }
+static void run_lengths(size_t n) { (void)cvl_seg_run_lengths_int_on(&pool, ints[n], n, cut, room[n], n, &count); }
+static void run_starts(size_t n) { (void)cvl_seg_run_starts_bool_on(&pool, bools[n], n, cut, room[n], n, &count); }
+static void run_counts(size_t n) {
+    (void)cvl_seg_run_counts_int_on(&pool, ints[n], n, cut, segment_room[cut.segments], cut.segments);
+}
+static void run_counts_of_bools(size_t n) {
+    (void)cvl_seg_run_counts_bool_on(&pool, bools[n], n, cut, segment_room[cut.segments], cut.segments);
+}
 static void copies(size_t n) { (void)cvl_seg_distribute_int_on(&pool, per_segment[cut.segments], cut.segments, cut, room[n], n); }
 static void copies_of_bools(size_t n) {
     (void)cvl_seg_distribute_bool_on(&pool, per_segment_flags[cut.segments], cut.segments, cut, bool_room[n], n);
@@ -154,4 +162,16 @@ void combines_of_segments(void) {
     each_cut(combine, 6, 3);
     clean_room = 0;
     each_cut(combine, 4, 0);
+}
+
+void runs_of_segments(void) {
+    begin(6, 0);
+    fill_ints(room);
+    each_cut(run_starts, 14, 5);
+    each_cut(run_counts_of_bools, 14, 3);
+    for (size_t each = 1; each <= MOST; each++) {
+        fill_runs(ints, each);
+        each_cut(run_lengths, 12, 5);
+        each_cut(run_counts, 12, 3);
+    }
 }
