@@ -17,6 +17,7 @@ pub mod Owned
 pub mod Packing
 pub mod PlaceByPlace
 pub mod Places
+pub mod RunsInParts
 pub mod Segments
 pub mod SegmentsInTwo
 pub mod Selecting

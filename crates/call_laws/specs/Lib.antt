@@ -6,5 +6,6 @@ pub mod InRooms
 pub mod OverRanks
 pub mod Owned
 pub mod Permuted
+pub mod RunsInParts
 pub mod Senders
 pub mod SortedOverRanks

@@ -19,6 +19,7 @@ pub mod owners;
 pub mod packs;
 pub mod permuted;
 pub mod permutes_in_parts;
+pub mod runs;
 pub mod scans;
 pub mod segmented;
 pub mod senders;
