@@ -69,7 +69,7 @@ EDITS = {
     "paths.check_named_pages": [("README.md", "", "\nSee `no-such-page.md`.\n")],
     "commands.check_commands": [("README.md", "", "\n    docs/dev/definitions.md\n")],
     "commands.check_own_paths": [
-        ("docs/dev/performance/in_c", "$top/docs/dev/performance/$source", "$top/docs/performance/$source")
+        ("docs/dev/performance/nested_programs", 'HERE / "nested_programs.c"', 'HERE / "no_programs.c"')
     ],
     "docs/dev/performance/draw": [("docs/user/performance.svg", "</svg>", "<!-- another --></svg>")],
     "docs/dev/performance/over_ranks": [

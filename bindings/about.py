@@ -9,9 +9,7 @@ FROM_C = (
     "leaves your arrays as they were. The C over them, which checks arguments and shares long calls among threads, is tested, and in part proved by another tool. "
     "So a call on several threads is tested and not proved."
 )
-FROM_C_IN_SHORT = (
-    "On the thread that calls, the functions below a call are [proved](proved.md). The C over them is tested, and so is a call on several threads."
-)
+FROM_C_IN_SHORT = "On the thread that calls, the functions below a call are [proved](proved.md). The C over them is tested, and so is a call on several threads."
 
 ABOUT = (
     "cvl.h: the vector calls of CVL, the C Vector Library, on your own memory.",

@@ -78,7 +78,8 @@ def _entry(entry):
 def _beside():
     """The functions that no script calls, by their sections: of those for integers and for booleans the first."""
     lines = [
-        f"| {' '.join(f'`{entry.name}`' for entry in found)} | {entries.BESIDE[title]} |" for title, _, found in reference.beside()
+        f"| {' '.join(f'`{entry.name}`' for entry in found)} | {entries.BESIDE[title]} |"
+        for title, _, found in reference.beside()
     ]
     return "\n".join(["| Functions | What they do |", "|---|---|", *lines])
 

@@ -89,7 +89,8 @@ def _of_objects(builds):
 def text(record, builds, folder, names):
     """The receipt of these files of a release."""
     compiled = [
-        (what, cpu or "the usual processors", f"`{sum_of(pathlib.Path(path))}`") for (what, cpu), path in sorted(builds.given.items())
+        (what, cpu or "the usual processors", f"`{sum_of(pathlib.Path(path))}`")
+        for (what, cpu), path in sorted(builds.given.items())
     ]
     files = [(f"`{name}`", made_of(name), f"`{sum_of(folder / name)}`") for name in names]
     return "\n".join([
