@@ -1,5 +1,4 @@
 pub mod LineLaws
-pub mod LineTexts
 pub mod Lists
 mod PlacedWalk
 pub mod Puts

@@ -1,4 +1,4 @@
-use Rattle.explained_calls.proofs.LineTexts.{fault_told}
+use Rattle.explained_calls.proofs.LineLaws.{fault_told}
 use Rattle.explained_calls.proofs.line_laws.know_texts.Goals as goal
 
 pub returns : goal.returns
