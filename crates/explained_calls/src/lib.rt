@@ -1,16 +1,21 @@
 //! Explains, from the table of calls and the grammar of lines, a call or a line that has a fault.
 #![tactic(auto)]
 
+mod argument_counts;
+mod bad_lines;
+mod bad_numbers;
 pub mod call_words;
 pub mod known_words;
 pub mod line_faults;
 pub mod line_laws;
+mod line_parts;
 mod misplaced;
 mod nearest_calls;
 pub mod pieces;
 pub mod placed_tokens;
 mod reasons;
 pub mod shown;
+mod unknown_calls;
 pub mod wanted;
 
 pub use call_words::{kind_words, put_call_words, put_spelling};

@@ -2,7 +2,7 @@ use Rattle.std.proofs.Common.{◌≡◌, ◌-◌, ◌≤◌, drop, find, length}
 use Rattle.line_reader.specs.Lines.{line_class}
 use Rattle.explained_calls.specs.LineFaults.{is_bad_number}
 use Rattle.explained_calls.specs.PlacedTokens.{placed_by}
-use Rattle.explained_calls.proofs.line_faults.put_bad_number.Given as goal
+use Rattle.explained_calls.proofs.bad_numbers.put_bad_number.Given as goal
 
 abbrev pub invariant-loop-token : goal.invariant-loop-token
 invariant-loop-token g l =

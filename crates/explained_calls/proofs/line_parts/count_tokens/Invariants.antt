@@ -1,7 +1,7 @@
 use Rattle.std.proofs.Common.{◌≡◌, ◌+◌, ◌-◌, ◌≤◌, drop, length}
 use Rattle.line_reader.specs.Lines.{line_class}
 use Rattle.explained_calls.specs.PlacedTokens.{placed_by}
-use Rattle.explained_calls.proofs.line_faults.count_tokens.Given as goal
+use Rattle.explained_calls.proofs.line_parts.count_tokens.Given as goal
 
 abbrev pub invariant-loop-behind : goal.invariant-loop-behind
 invariant-loop-behind l =

@@ -1,6 +1,6 @@
 use Rattle.std.proofs.Common.{◌∙◌}
 use Rattle.explained_calls.proofs.Puts.{counts_joined, only_part}
-use Rattle.explained_calls.proofs.line_faults.put_counts.Goals as goal
+use Rattle.explained_calls.proofs.argument_counts.put_counts.Goals as goal
 
 pub returns : goal.returns
 returns g c =

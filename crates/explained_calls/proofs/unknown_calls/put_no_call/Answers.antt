@@ -1,7 +1,7 @@
 use Rattle.std.proofs.Common.{ap}
 use Rattle.explained_calls.specs.LineFaults.{near_words}
 use Rattle.explained_calls.proofs.Puts.{both, last_part, unknown_joined}
-use Rattle.explained_calls.proofs.line_faults.put_no_call.Goals as goal
+use Rattle.explained_calls.proofs.unknown_calls.put_no_call.Goals as goal
 
 pub returns : goal.returns
 returns g c =

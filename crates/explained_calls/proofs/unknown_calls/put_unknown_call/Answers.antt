@@ -1,6 +1,6 @@
 use Rattle.std.proofs.Common.{sym, ◌∙◌}
 use Rattle.explained_calls.proofs.Puts.{write_told}
-use Rattle.explained_calls.proofs.line_faults.put_unknown_call.Goals as goal
+use Rattle.explained_calls.proofs.unknown_calls.put_unknown_call.Goals as goal
 
 pub returns-then-eq : goal.returns-then-eq
 returns-then-eq g c =

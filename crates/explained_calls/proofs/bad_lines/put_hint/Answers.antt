@@ -2,7 +2,7 @@ use Rattle.std.proofs.Common.{◌∙◌, ◌+◌}
 use Rattle.std.specs.Fmt.{decimal}
 use Rattle.explained_calls.proofs.Puts.{both, hint_joined, last_part}
 use Rattle.explained_calls.specs.LineFaults.{end_words, reason_length, reason_text, wanted_words}
-use Rattle.explained_calls.proofs.line_faults.put_hint.Goals as goal
+use Rattle.explained_calls.proofs.bad_lines.put_hint.Goals as goal
 
 pub returns : goal.returns
 returns g c =

@@ -3,7 +3,7 @@ use Rattle.std.specs.List.{after_first, position_or_len}
 use Rattle.line_reader.specs.Lines.{line_class}
 use Rattle.explained_calls.specs.Misplaced.{is_equals}
 use Rattle.explained_calls.specs.PlacedTokens.{placed_by}
-use Rattle.explained_calls.proofs.line_faults.names_before.Given as goal
+use Rattle.explained_calls.proofs.line_parts.names_before.Given as goal
 
 abbrev pub invariant-loop-token : goal.invariant-loop-token
 invariant-loop-token l =
