@@ -23,4 +23,4 @@ pub use known_words::{near, nearest};
 pub use line_faults::put_line_fault;
 pub use pieces::{ending, put_pieces};
 pub use placed_tokens::{Token, next_token};
-pub use shown::{put_front, put_shortened, put_shown};
+pub use shown::{bytes_behind, first_bytes, put_front, put_shortened, put_shown};

@@ -16,7 +16,7 @@ use crate::pieces::put_pieces;
 use cvl_base::{Memory, NoResources};
 
 /// The first bytes, so many if there are as many.
-pub(crate) fn first_bytes(bytes: &[u8], count: usize) -> &[u8]
+pub fn first_bytes(bytes: &[u8], count: usize) -> &[u8]
     ensures { result.now ≡ take count bytes.now }
 {
     if count < bytes.len() {
@@ -27,7 +27,7 @@ pub(crate) fn first_bytes(bytes: &[u8], count: usize) -> &[u8]
 }
 
 /// The bytes behind so many; none if there are no more.
-fn bytes_behind(bytes: &[u8], count: usize) -> &[u8]
+pub fn bytes_behind(bytes: &[u8], count: usize) -> &[u8]
     ensures { result.now ≡ drop count bytes.now }
 {
     if count < bytes.len() {

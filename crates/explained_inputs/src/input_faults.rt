@@ -7,10 +7,10 @@ ghost use Rattle.explained_inputs.specs.InputFaults.{flat_words, input_fault_wor
 ghost use Rattle.explained_inputs.specs.InputFaults.{position_words};
 ghost use Rattle.explained_inputs.specs.InputFaults.{many_words, quoted, stray_words, too_long_words, vector_words};
 
-use crate::token_places::{column_at, count_of, first_of, from_place, line_at, token_start};
+use crate::token_places::{column_at, count_of, first_of, line_at, token_start};
 use call_reader::{InputBytes, NestedBytes};
 use cvl_base::{Memory, NoResources};
-use explained_calls::{put_pieces, put_shortened, put_shown};
+use explained_calls::{bytes_behind, put_pieces, put_shortened, put_shown};
 use itoa::Buffer;
 
 /// Writes the file's name with the line and the column of a place: `numbers:3:7: `.
@@ -75,7 +75,7 @@ fn put_flat<B: Memory>(
 {
     put_pieces(text, &[b"  "])?;
     put_position(file, bytes, start, text)?;
-    put_no_integer(first_of::<InputBytes>(from_place(bytes, start)), text)?;
+    put_no_integer(first_of::<InputBytes>(bytes_behind(bytes, start)), text)?;
     put_pieces(text, &[b"\n"])
 }
 
@@ -141,7 +141,7 @@ fn put_stray<B: Memory>(
     let expected = expected_words(bytes, token, start);
     put_pieces(text, &[b"  "])?;
     put_position(file, bytes, start, text)?;
-    put_quoted(first_of::<NestedBytes>(from_place(bytes, start)), text)?;
+    put_quoted(first_of::<NestedBytes>(bytes_behind(bytes, start)), text)?;
     put_pieces(text, &[b" stands where ", expected, b" is expected\n"])
 }
 

@@ -1,10 +1,11 @@
 //! Where the tokens of an input begin, and the lines and columns of places in it.
 
-ghost use Rattle.std.specs.Prelude.{◌≡◌, ◌==◌, ◌≤◌, count_by, drop, length, slice_get, take};
+ghost use Rattle.std.specs.Prelude.{◌≡◌, ◌==◌, ◌≤◌, count_by, length, slice_get, take};
 ghost use Rattle.std.specs.List.{prefix_len};
 ghost use Rattle.line_reader.specs.Tokens.{is_in_token};
 ghost use Rattle.explained_inputs.specs.TokenPlaces.{begins_token, column_at, first_of, line_at, token_starts};
 
+use explained_calls::first_bytes;
 use line_reader::token::{ByteClass, Classes};
 
 /// Whether a token begins with a byte of this class, after a run or not.
@@ -37,36 +38,11 @@ pub(crate) fn token_start<C: Classes>(bytes: &[u8], token: usize) -> Option<usiz
     None
 }
 
-/// The bytes from a place on; none after the last.
-pub(crate) fn from_place(bytes: &[u8], place: usize) -> &[u8]
-    ensures { result.now ≡ drop place bytes.now }
-{
-    if place < bytes.len() {
-        &bytes[place..]
-    } else {
-        &[]
-    }
-}
-
-/// The bytes before a place.
-fn before_place(bytes: &[u8], place: usize) -> &[u8]
-    ensures { result.now ≡ take place bytes.now }
-{
-    if place < bytes.len() {
-        &bytes[..place]
-    } else {
-        bytes
-    }
-}
-
 /// Whether a byte is part of a run.
 fn is_in_token<C: Classes>(byte: u8) -> bool
     ensures { result ≡ is_in_token (C.class_of byte) }
 {
-    match C::class_of(byte) {
-        ByteClass::InToken => true,
-        _ => false,
-    }
+    matches!(C::class_of(byte), ByteClass::InToken)
 }
 
 /// The length of the run with which the bytes begin.
@@ -85,7 +61,7 @@ fn run_length<C: Classes>(bytes: &[u8]) -> usize
 pub(crate) fn first_of<C: Classes>(bytes: &[u8]) -> &[u8]
     ensures { result.now ≡ first_of C.class_of bytes.now }
 {
-    before_place(bytes, run_length::<C>(bytes).max(1))
+    first_bytes(bytes, run_length::<C>(bytes).max(1))
 }
 
 /// The line of a place, counted from 1.
@@ -100,7 +76,7 @@ pub(crate) fn count_of(byte: u8, bytes: &[u8], place: usize) -> usize
     ensures count { result ≡ count_by (λ b. b == byte) (take place bytes.now) }
     ensures few { result ≤ length bytes.now }
 {
-    before_place(bytes, place)
+    first_bytes(bytes, place)
         .iter()
         .filter(|b| **b == byte)
         .count()
@@ -110,7 +86,7 @@ pub(crate) fn count_of(byte: u8, bytes: &[u8], place: usize) -> usize
 pub(crate) fn column_at(bytes: &[u8], place: usize) -> usize
     ensures { result ≡ column_at bytes.now place }
 {
-    let before = before_place(bytes, place);
+    let before = first_bytes(bytes, place);
     let mut column = 1;
     for byte in before {
         column = if *byte == b'\n' { 1 } else { column + 1 };

@@ -9,7 +9,7 @@ use Rattle.explained_inputs.proofs.input_faults.put_flat.Goals as goal
 pub returns : goal.returns
 returns g c =
     let old = c.args.text.now.items in
-    let token = rw (c.first_of.ensures, c.from_place.ensures) at c.in_ok-put_no_integer.ensures in
+    let token = rw (c.first_of.ensures, c.bytes_behind.ensures) at c.in_ok-put_no_integer.ensures in
     let two = both old _ _ _ _ c.in_ok-put_pieces.ensures c.in_ok-put_position.ensures in
     let three = both old _ _ _ _ two token in
     last_part c.put_pieces-2.result old _ _ _ _ _ three c.put_pieces-2.ensures
