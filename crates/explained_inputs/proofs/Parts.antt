@@ -16,8 +16,8 @@ pub line_joined : (position words : List ℕ) → codes "  " ++ position ++ word
 line_joined position words = simp append_assoc refl
 
 -- a line of a file's name and what is said of it
-pub file_joined : (file words told : List ℕ) → told ≡ words → codes "  " ++ file ++ concat (told ∷ codes "\n" ∷ []) ≡ indented (file ++ words)
-file_joined file words told e = rw e (simp append_assoc refl)
+pub file_joined : (file words : List ℕ) → codes "  " ++ file ++ concat (words ∷ codes "\n" ∷ []) ≡ indented (file ++ words)
+file_joined file words = simp append_assoc refl
 
 pub end_joined : (position expected : List ℕ)
     → codes "  " ++ position ++ concat (codes "the text ends where " ∷ expected ∷ codes " is expected\n" ∷ [])

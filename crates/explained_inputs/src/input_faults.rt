@@ -1,7 +1,8 @@
 //! What is wrong with an input, in words.
 
-ghost use Rattle.std.specs.Prelude.{◌≡◌, ◌++◌, false, true, OnOk, option_copied};
+ghost use Rattle.std.specs.Prelude.{◌≡◌, ◌++◌, OnOk, option_copied};
 ghost use Rattle.explained_calls.specs.Sentences.{indented};
+ghost use Rattle.explained_calls.specs.Shown.{shown};
 ghost use Rattle.explained_inputs.specs.InputFaults.{bytes_words, end_words, expected_words};
 ghost use Rattle.explained_inputs.specs.InputFaults.{flat_words, input_fault_words, nested_words, no_integer_words};
 ghost use Rattle.explained_inputs.specs.InputFaults.{position_words};
@@ -79,21 +80,6 @@ fn put_flat<B: Memory>(
     put_pieces(text, &[b"\n"])
 }
 
-/// Writes the line about a token, by its number, of an input of only numbers.
-fn put_flat_fault<B: Memory>(
-    file: &[u8],
-    bytes: &[u8],
-    token: usize,
-    text: &mut Vec<u8, B>,
-) -> Result<(), NoResources>
-    ensures { OnOk result (text.new.items ≡ text.old.items ++ bytes_words false file.now bytes.now token) }
-{
-    match token_start::<InputBytes>(bytes, token) {
-        None => Ok(()),
-        Some(start) => put_flat(file, bytes, start, text),
-    }
-}
-
 /// What may stand at a place of a nested text after so many tokens.
 fn expected_words(bytes: &[u8], token: usize, place: usize) -> &'static [u8]
     ensures { result.now ≡ expected_words bytes.now token place }
@@ -145,21 +131,6 @@ fn put_stray<B: Memory>(
     put_pieces(text, &[b" stands where ", expected, b" is expected\n"])
 }
 
-/// Writes the line about a token, by its number, of a nested text.
-fn put_nested_fault<B: Memory>(
-    file: &[u8],
-    bytes: &[u8],
-    token: usize,
-    text: &mut Vec<u8, B>,
-) -> Result<(), NoResources>
-    ensures { OnOk result (text.new.items ≡ text.old.items ++ bytes_words true file.now bytes.now token) }
-{
-    match token_start::<NestedBytes>(bytes, token) {
-        None => put_end(file, bytes, token, text),
-        Some(start) => put_stray(file, bytes, token, start, text),
-    }
-}
-
 /// Writes the line about a token, by its number, of a nested text or of an input of numbers.
 fn put_bytes_fault<B: Memory>(
     is_nested: bool,
@@ -171,10 +142,29 @@ fn put_bytes_fault<B: Memory>(
     ensures { OnOk result (text.new.items ≡ text.old.items ++ bytes_words is_nested file.now bytes.now token) }
 {
     if is_nested {
-        put_nested_fault(file, bytes, token, text)
+        match token_start::<NestedBytes>(bytes, token) {
+            None => put_end(file, bytes, token, text),
+            Some(start) => put_stray(file, bytes, token, start, text),
+        }
     } else {
-        put_flat_fault(file, bytes, token, text)
+        match token_start::<InputBytes>(bytes, token) {
+            None => Ok(()),
+            Some(start) => put_flat(file, bytes, start, text),
+        }
     }
+}
+
+/// Writes a line that begins with the name of a file.
+pub fn put_file_words<B: Memory>(
+    file: &[u8],
+    words: &[u8],
+    text: &mut Vec<u8, B>,
+) -> Result<(), NoResources>
+    ensures { OnOk result (text.new.items ≡ text.old.items ++ indented (shown file.now ++ words.now)) }
+{
+    put_pieces(text, &[b"  "])?;
+    put_shown(text, file)?;
+    put_pieces(text, &[words, b"\n"])
 }
 
 /// Writes the line about an input that is a vector.
@@ -186,9 +176,7 @@ fn put_vector<B: Memory>(
     ensures { OnOk result (text.new.items ≡ text.old.items ++ vector_words is_nested file.now) }
 {
     if is_nested {
-        put_pieces(text, &[b"  "])?;
-        put_shown(text, file)?;
-        put_pieces(text, &[b" is a vector, and nested reads a text", b"\n"])
+        put_file_words(file, b" is a vector, and nested reads a text", text)
     } else {
         Ok(())
     }
@@ -213,9 +201,7 @@ fn put_too_long<B: Memory>(
 ) -> Result<(), NoResources>
     ensures { OnOk result (text.new.items ≡ text.old.items ++ too_long_words is_nested file.now) }
 {
-    put_pieces(text, &[b"  "])?;
-    put_shown(text, file)?;
-    put_pieces(text, &[many_words(is_nested), b"\n"])
+    put_file_words(file, many_words(is_nested), text)
 }
 
 /// Writes the line about an input at fault: the bytes of a file of this name, or none if it is a vector. The line has two spaces
