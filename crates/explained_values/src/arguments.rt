@@ -1,6 +1,6 @@
 //! The arguments of a line, as an explanation sees them.
 
-ghost use Rattle.std.specs.Prelude.{◌≡◌, ◌≤◌, ◌++◌, None, Some, OnOk, length, map, sum, unsigned_abs};
+ghost use Rattle.std.specs.Prelude.{◌≡◌, ◌≤◌, ◌++◌, None, Some, OnOk, length, map, unsigned_abs};
 ghost use Rattle.cvl_base.specs.declared.value.Value.TheVariants as value;
 ghost use Rattle.cvl_base.specs.Limits.{most_elements};
 ghost use Rattle.bound_names.specs.Arguments.{booleans_in, integers_in, lengths_in};
@@ -99,7 +99,6 @@ impl<'a, A: Memory> Argument<'a, A> {
     pub(crate) fn lengths(&self) -> &'a [i32]
         ensures value { map unsigned_abs result.now ≡ lengths_in self.now.value }
         ensures as_many { length result.now ≡ length (lengths_in self.now.value) }
-        ensures total { sum (lengths_in self.now.value) ≤ most_elements }
         ensures few { length (lengths_in self.now.value) ≤ most_elements }
     {
         match self.holding {

@@ -58,21 +58,21 @@ pub(crate) fn length_at(lengths: &[i32], segment: usize) -> usize
 
 /// The segment of a place in the whole vector.
 fn segment_of(lengths: &[i32], place: usize) -> usize
-    requires { sum (map unsigned_abs lengths.now) ≤ most_elements }
     ensures { result ≡ segment_of (map unsigned_abs lengths.now) place }
 {
-    let mut end = 0;
-    for segment in 0..lengths.len() {
-        end += length_at(lengths, segment);
-        if place < end {
+    let mut left = place;
+    for (segment, length) in lengths.iter().enumerate() {
+        let count = length.unsigned_abs() as usize;
+        if left < count {
             return segment;
         }
+        left -= count;
     }
     lengths.len()
 }
 
 /// Where a segment starts in the whole vector.
-#[tactic(auto, using(crate::proofs::SegmentWalk::starts, crate::proofs::SegmentWalk::ends))]
+#[tactic(auto, using(crate::proofs::SegmentStarts::starts, crate::proofs::SegmentStarts::ends))]
 pub(crate) fn start_of(lengths: &[i32], segment: usize) -> usize
     requires { length lengths.now ≤ most_elements }
     ensures { result ≡ start_of (map unsigned_abs lengths.now) segment }
