@@ -1,9 +1,7 @@
 -- Sentences that are written part by part.
 use Rattle.std.proofs.Common.{◌≡◌, ℕ, ℤ, List, [], ◌∷◌, ◌++◌, length, map, sum, append_assoc, append-nil, ap, sym, refl, codes, Option, Some, None, Result, OnOk, option_map}
 use Rattle.std.specs.Prelude.{unsigned_abs}
-use Rattle.std.specs.Fmt.{decimal}
 use Rattle.std.specs.List.{concat}
-use Rattle.std.specs.Option.{option_map_or}
 use Rattle.std.proofs.lemmas.List.{length-map}
 use Rattle.explained_calls.specs.Sentences.{counted, indented}
 use Rattle.explained_values.specs.Arguments.{descriptor_words, line_of}
@@ -25,14 +23,6 @@ pub a_line : {X E : Type 0} (r : Result (Unit {0}) E) (words : X → List ℕ) (
     → OnOk r (new ≡ old ++ indented (words x)) → OnOk r (new ≡ old ++ line_of (option_map words o))
 a_line r words o x old new some put = rw some put
 
--- the same of words that go on in a line
-pub no_words : {X : Type 0} (words : X → List ℕ) (o : Option X) (text : List ℕ) → o ≡ None → text ≡ text ++ option_map_or words o []
-no_words words o text none = rw none (sym (append-nil text))
-
-pub some_words : {X E : Type 0} (r : Result (Unit {0}) E) (words : X → List ℕ) (o : Option X) (x : X) (old new : List ℕ) → o ≡ Some x
-    → OnOk r (new ≡ old ++ words x) → OnOk r (new ≡ old ++ option_map_or words o [])
-some_words r words o x old new some put = rw some put
-
 pub unbound_joined : (word nearest words : List ℕ) → nearest ≡ words
     → concat (codes "  " ∷ word ∷ codes " is not bound" ∷ []) ++ nearest ++ codes "\n" ≡ indented (word ++ codes " is not bound" ++ words)
 unbound_joined word nearest words e = rw e refl
@@ -42,15 +32,10 @@ pub inside_joined : (word name : List ℕ)
     ≡ indented (word ++ codes " is a call, and " ++ name ++ codes " takes names of values and not calls: bind its result first")
 inside_joined word name = simp append_assoc refl
 
-names_joined : (names binds : List ℕ)
-    → codes "  the lines before bind " ++ names ++ concat (codes ", and this line binds " ∷ binds ∷ codes ": at most 4096 may be bound\n" ∷ [])
+pub too_many_joined : (names binds digits : List ℕ) → digits ≡ binds
+    → codes "  the lines before bind " ++ names ++ concat (codes ", and this line binds " ∷ digits ∷ codes ": at most 4096 may be bound\n" ∷ [])
     ≡ indented (codes "the lines before bind " ++ names ++ codes ", and this line binds " ++ binds ++ codes ": at most 4096 may be bound")
-names_joined names binds = simp append_assoc refl
-
-pub too_many_joined : (names binds : ℕ) (digits : List ℕ) → digits ≡ decimal binds
-    → codes "  the lines before bind " ++ counted names (codes "name") ++ concat (codes ", and this line binds " ∷ digits ∷ codes ": at most 4096 may be bound\n" ∷ [])
-    ≡ indented (codes "the lines before bind " ++ counted names (codes "name") ++ codes ", and this line binds " ++ decimal binds ++ codes ": at most 4096 may be bound")
-too_many_joined names binds digits e = rw e (names_joined (counted names (codes "name")) (decimal binds))
+too_many_joined names binds digits e = rw e (simp append_assoc refl)
 
 argument_joined : (number holds name wanted repeat : List ℕ)
     → concat (codes "  argument " ∷ number ∷ []) ++ holds ++ codes ", and " ++ name ++ concat (codes " takes a " ∷ wanted ∷ []) ++ repeat ++ codes "\n"

@@ -1,7 +1,6 @@
 //! The lengths of a call's arguments that must agree.
 
-ghost use Rattle.std.specs.Prelude.{◌≡◌, ◌++◌, OnOk, find};
-ghost use Rattle.explained_calls.specs.Sentences.{indented};
+ghost use Rattle.std.specs.Prelude.{◌≡◌, ◌++◌, OnOk, find, option_map};
 ghost use Rattle.explained_values.specs.Arguments.{line_of};
 ghost use Rattle.explained_values.specs.Extents.{amount_of, differ, extent_words};
 ghost use Rattle.explained_values.specs.Extents.{extents_of, mismatch_words, pair_words, permuted_extents};
@@ -127,14 +126,17 @@ fn differing<A: Memory>(op: Op, arguments: &[Argument<'_, A>]) -> Option<(Extent
         != amount_of(arguments, pair.1))
 }
 
-/// Writes the line about two lengths that do not agree.
+/// Writes the line about two lengths that do not agree, if there are such.
 fn put_pair<A: Memory, B: Memory>(
     arguments: &[Argument<'_, A>],
-    pair: (Extent, Extent),
+    pair: Option<(Extent, Extent)>,
     text: &mut Vec<u8, B>,
 ) -> Result<(), NoResources>
-    ensures { OnOk result (text.new.items ≡ text.old.items ++ indented (pair_words arguments.now pair)) }
+    ensures { OnOk result (text.new.items ≡ text.old.items ++ line_of (option_map (pair_words arguments.now) pair)) }
 {
+    let Some(pair) = pair else {
+        return Ok(());
+    };
     put_pieces(text, &[b"  "])?;
     put_extent(arguments, pair.0, text)?;
     put_pieces(text, &[b", and "])?;
@@ -150,8 +152,5 @@ pub(crate) fn put_mismatch<A: Memory, B: Memory>(
 ) -> Result<(), NoResources>
     ensures { OnOk result (text.new.items ≡ text.old.items ++ line_of (mismatch_words op arguments.now)) }
 {
-    match differing(op, arguments) {
-        None => Ok(()),
-        Some(pair) => put_pair(arguments, pair, text),
-    }
+    put_pair(arguments, differing(op, arguments), text)
 }

@@ -1,6 +1,7 @@
 //! What an index points into, and the earlier index that is the same.
 
-ghost use Rattle.std.specs.Prelude.{◌≡◌, ◌++◌, OnOk, drop, take};
+ghost use Rattle.std.specs.Prelude.{◌≡◌, ◌++◌, [], OnOk, drop, take};
+ghost use Rattle.std.specs.Option.{option_map_or};
 ghost use Rattle.cvl_base.specs.Packs.{count_of};
 ghost use Rattle.bound_names.specs.Arguments.{lengths_in};
 ghost use Rattle.explained_values.specs.IndexWords.{amount_in, first_place, first_sender};
@@ -166,14 +167,17 @@ fn first_place<A: Memory>(op: Op, arguments: &[Argument<'_, A>], place: usize) -
     }
 }
 
-/// Writes which earlier index is the same: `, which index[1] sent to before`.
+/// Writes which earlier index is the same, if one is: `, which index[1] sent to before`.
 fn put_sender<B: Memory>(
     index: &[u8],
-    first: usize,
+    first: Option<usize>,
     text: &mut Vec<u8, B>,
 ) -> Result<(), NoResources>
-    ensures { OnOk result (text.new.items ≡ text.old.items ++ sender_words index.now first) }
+    ensures { OnOk result (text.new.items ≡ text.old.items ++ option_map_or (sender_words index.now) first []) }
 {
+    let Some(first) = first else {
+        return Ok(());
+    };
     put_pieces(text, &[b", which "])?;
     put_element_name(index, first, text)?;
     put_pieces(text, &[b" sent to before"])
@@ -188,8 +192,6 @@ pub(crate) fn put_repeated<A: Memory, B: Memory>(
 ) -> Result<(), NoResources>
     ensures { OnOk result (text.new.items ≡ text.old.items ++ repeated_words op arguments.now place) }
 {
-    match first_place(op, arguments, place) {
-        None => Ok(()),
-        Some(first) => put_sender(spelled_at(arguments, 1).word(), first, text),
-    }
+    let first = first_place(op, arguments, place);
+    put_sender(spelled_at(arguments, 1).word(), first, text)
 }
