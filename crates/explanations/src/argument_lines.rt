@@ -5,7 +5,7 @@ ghost use Rattle.std.specs.List.{list_any};
 ghost use Rattle.bound_names.specs.Arguments.{arg_value};
 ghost use Rattle.explained_values.specs.Arguments.{value_held};
 ghost use Rattle.explanations.specs.ArgumentLines.{argument_line, argument_lines, binding_words, input_words};
-ghost use Rattle.explanations.specs.ArgumentLines.{is_named, is_told, names_in, new_line};
+ghost use Rattle.explanations.specs.ArgumentLines.{is_named, names_in, new_line};
 
 use crate::bindings::{Binding, last_binding};
 use crate::input_files::file_at;
@@ -102,24 +102,6 @@ fn put_name<A: Memory>(
     put_pieces(text, &[b"\n"])
 }
 
-/// Appends the line about an argument of a call; a number, `T` or `F` has none.
-fn put_line_of_argument<A: Memory>(
-    session: &Session<A>,
-    files: &[&str],
-    bindings: &[Binding],
-    arg: &Arg,
-    text: &mut Vec<u8, A>,
-) -> Result<(), NoResources>
-    ensures { OnOk result (text.new.items ≡ text.old.items
-        ++ argument_line session.now.names (names_in files.now) bindings.now arg.now) }
-{
-    match arg {
-        Arg::Name(name) => put_name(session, files, bindings, name, text),
-        Arg::Integer(_) => Ok(()),
-        Arg::Boolean(_) => Ok(()),
-    }
-}
-
 /// Whether an argument is this name.
 fn is_named(arg: &Arg, name: &Name) -> bool
     ensures { result ≡ is_named name.now arg.now }
@@ -137,17 +119,7 @@ fn is_among(args: &[Arg], name: &Name) -> bool
     args.iter().any(|arg| is_named(arg, name))
 }
 
-/// Whether an argument is a name that is among others.
-fn is_told(others: &[Arg], arg: &Arg) -> bool
-    ensures { result ≡ is_told others.now arg.now }
-{
-    match arg {
-        Arg::Name(name) => is_among(others, name),
-        _ => false,
-    }
-}
-
-/// Appends the line of an argument behind others, unless it is a name among them.
+/// Appends the line of an argument behind others; a number, `T` or `F` has none, and a name that is among the others neither.
 fn put_new_line<A: Memory>(
     session: &Session<A>,
     files: &[&str],
@@ -159,10 +131,16 @@ fn put_new_line<A: Memory>(
     ensures { OnOk result (text.new.items ≡ text.old.items
         ++ new_line before.now session.now.names (names_in files.now) bindings.now arg.now) }
 {
-    if is_told(before, arg) {
-        Ok(())
-    } else {
-        put_line_of_argument(session, files, bindings, arg, text)
+    match arg {
+        Arg::Name(name) => {
+            if is_among(before, name) {
+                Ok(())
+            } else {
+                put_name(session, files, bindings, name, text)
+            }
+        }
+        Arg::Integer(_) => Ok(()),
+        Arg::Boolean(_) => Ok(()),
     }
 }
 

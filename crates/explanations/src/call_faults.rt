@@ -1,18 +1,19 @@
-//! What is wrong with a call.
+//! A call that has a fault: what it takes, its arguments, and what is wrong with it.
 
 ghost use Rattle.std.specs.Prelude.{◌≡◌, ◌++◌, IfOk, OnOk, length, map, option_map};
 ghost use Rattle.bound_names.specs.Arguments.{arg_value, argument_at, integer_in};
 ghost use Rattle.explanations.specs.ArgumentLines.{names_in, spelled, word_of};
 ghost use Rattle.explained_values.specs.ValueFaults.{value_fault_words};
-ghost use Rattle.explanations.specs.Explained.{call_fault_words, is_nested, is_of_text, numbers_words, reads_input};
+ghost use Rattle.explanations.specs.Explained.{explained_call, is_nested, is_of_text, numbers_words, reads_input};
 ghost use Rattle.explanations.specs.Explained.{text_fault_words, text_words};
 
-use crate::argument_lines::holding_of;
+use crate::argument_lines::{holding_of, put_arguments};
 use crate::bindings::Binding;
 use crate::input_files::file_at;
 use cvl_base::{Arg, Call, Fault, FaultNo, Memory, NoResources, Op, Value};
-use explained_calls::{put_pieces, put_shown};
-use explained_inputs::put_input_fault;
+use explained_calls::put_call_words;
+use explained_inputs::{put_file_words, put_input_fault};
+use explained_values::arguments::Holding;
 use explained_values::{Argument, put_value_fault};
 use itoa::Buffer;
 use std::thread::Threads;
@@ -75,43 +76,31 @@ fn names_bound<A: Memory>(alloc: A, bindings: &[Binding]) -> Result<Vec<&[u8], A
 fn reads_input(op: Op) -> bool
     ensures { result ≡ reads_input op }
 {
-    match op {
-        Op::Input | Op::Nested => true,
-        _ => false,
-    }
+    matches!(op, Op::Input | Op::Nested)
 }
 
 /// Whether a call reads a nested text.
 fn is_nested(op: Op) -> bool
     ensures { result ≡ is_nested op }
 {
-    match op {
-        Op::Nested => true,
-        _ => false,
-    }
+    matches!(op, Op::Nested)
 }
 
 /// Whether a fault may be in an input's text.
 fn is_of_text(number: FaultNo) -> bool
     ensures { result ≡ is_of_text number }
 {
-    match number {
-        FaultNo::BadInput | FaultNo::TooLong => true,
-        _ => false,
-    }
+    matches!(number, FaultNo::BadInput | FaultNo::TooLong)
 }
 
 /// The number that an argument is.
 fn number_of<A: Memory>(session: &Session<A>, arg: &Arg) -> i32
     ensures { result ≡ integer_in (arg_value session.now.names arg.now) }
 {
-    match arg {
-        Arg::Integer(n) => *n,
-        Arg::Boolean(_) => 0,
-        Arg::Name(name) => match session.get(name) {
-            Some(Value::Integer(n)) => *n,
-            _ => 0,
-        },
+    match holding_of(session, arg) {
+        Holding::Integer(n) => n,
+        Holding::Value(Value::Integer(n)) => *n,
+        _ => 0,
     }
 }
 
@@ -136,14 +125,9 @@ fn put_numbers<A: Memory>(
     if !is_nested {
         return Ok(());
     }
-    put_pieces(text, &[b"  "])?;
-    put_shown(text, file)?;
-    put_pieces(
-        text,
-        &[
-            b" is a list of numbers, which input reads; nested reads a list of lists, as [[1 2] []]\n",
-        ],
-    )
+    let words =
+        b" is a list of numbers, which input reads; nested reads a list of lists, as [[1 2] []]";
+    put_file_words(file, words, text)
 }
 
 /// Appends what is wrong with an input, by its text if that is no list of numbers.
@@ -213,8 +197,8 @@ fn put_argument_fault<A: Memory>(
     )
 }
 
-/// Appends what is at fault in a call: an input's text, or the arguments.
-pub(crate) fn put_call_fault<R: Threads + Sync, A: Memory>(
+/// Appends what a call takes, its arguments, and what is at fault: an input's text, or the arguments.
+pub(crate) fn put_call<R: Threads + Sync, A: Memory>(
     rt: &R,
     alloc: A,
     session: &Session<A>,
@@ -224,9 +208,11 @@ pub(crate) fn put_call_fault<R: Threads + Sync, A: Memory>(
     fault: Fault,
     text: &mut Vec<u8, A>,
 ) -> Result<(), NoResources>
-    ensures { OnOk result (text.new.items ≡ text.old.items ++ call_fault_words
-        session.now.names (names_in files.now) session.now.inputs bindings.now call.now.op call.now.args fault) }
+    ensures { OnOk result (text.new.items ≡ text.old.items
+        ++ explained_call session.now.names (names_in files.now) session.now.inputs bindings.now call.now fault) }
 {
+    put_call_words(call.op, text)?;
+    put_arguments(session, files, bindings, call.args.as_slice(), text)?;
     if reads_input(call.op) && is_of_text(fault.number) {
         let number = number_asked(session, call.args.as_slice());
         return put_text_fault(rt, session, files, call.op, number, fault, text);

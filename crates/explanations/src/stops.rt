@@ -3,15 +3,14 @@
 ghost use Rattle.std.specs.Prelude.{◌≡◌, ◌++◌, IfOk, OnOk};
 ghost use Rattle.explained_calls.specs.Sentences.{indented};
 ghost use Rattle.explanations.specs.ArgumentLines.{names_in};
-ghost use Rattle.explanations.specs.Explained.{explained, explained_call, explained_fault};
+ghost use Rattle.explanations.specs.Explained.{explained, explained_fault};
 ghost use Rattle.explanations.specs.Explained.{explained_line, quoted, too_long_words};
 ghost use Rattle.line_reader.specs.Lines.{call_of};
 
-use crate::argument_lines::put_arguments;
 use crate::bindings::{Binding, stopped_at};
-use crate::call_faults::put_call_fault;
-use cvl_base::{Call, Fault, Memory, NoResources, Refused};
-use explained_calls::{put_call_words, put_front, put_line_fault, put_pieces};
+use crate::call_faults::put_call;
+use cvl_base::{Fault, Memory, NoResources, Refused};
+use explained_calls::{put_front, put_line_fault, put_pieces};
 use itoa::Buffer;
 use line_reader::read_line;
 use script_runs::Stop;
@@ -34,8 +33,7 @@ fn put_quoted<A: Memory>(number: u32, line: &[u8], text: &mut Vec<u8, A>) -> Res
     ensures { OnOk result (text.new.items ≡ text.old.items ++ quoted number line.now) }
 {
     let mut digits = Buffer::new();
-    let number = digits.format(number).as_bytes();
-    put_pieces(text, &[b"  ", number, b" | "])?;
+    put_pieces(text, &[b"  ", digits.format(number).as_bytes(), b" | "])?;
     put_front(text, MOST_TOLD, line)?;
     put_pieces(text, &[b"\n"])
 }
@@ -54,25 +52,6 @@ fn put_too_long<A: Memory>(script: &[u8], text: &mut Vec<u8, A>) -> Result<(), N
             b" bytes, and may have at most 1048576\n",
         ],
     )
-}
-
-/// Appends what a call takes, its arguments, and what is wrong.
-fn put_call<R: Threads + Sync, A: Memory>(
-    rt: &R,
-    alloc: A,
-    session: &Session<A>,
-    files: &[&str],
-    bindings: &[Binding],
-    call: &Call<A>,
-    fault: Fault,
-    text: &mut Vec<u8, A>,
-) -> Result<(), NoResources>
-    ensures { OnOk result (text.new.items ≡ text.old.items
-        ++ explained_call session.now.names (names_in files.now) session.now.inputs bindings.now call.now fault) }
-{
-    put_call_words(call.op, text)?;
-    put_arguments(session, files, bindings, call.args.as_slice(), text)?;
-    put_call_fault(rt, alloc, session, files, bindings, call, fault, text)
 }
 
 /// Appends what is at fault in a line: in its form, or in its call.
