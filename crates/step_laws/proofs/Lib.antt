@@ -5,6 +5,7 @@ pub mod CheckedScans
 pub mod Counted
 pub mod Fitting
 pub mod Operators
+pub mod Packed
 pub mod Parted
 pub mod PlaceByPlace
 pub mod Scanned

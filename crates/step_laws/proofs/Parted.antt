@@ -30,6 +30,15 @@ module _ {A B : Type 0} (R : A → B → Type 0) where
   keeps P Q step (x ∷ xs) (y ∷ ys) zipped holds =
       All-cons Q y ys (step x y zipped.0 (All-head P x xs holds)) (keeps P Q step xs ys zipped.1 (All-tail P x xs holds))
 
+-- functions that give the same lists give the same of each
+pub each-alike : {A X : Type 0} (f g : A → X) (xs : List A) → map f xs ≡ map g xs → All (λ x. f x ≡ g x) xs
+each-alike f g [] same = All-nil (λ x. f x ≡ g x)
+each-alike f g (x ∷ xs) same =
+    let listed : f x ∷ map f xs ≡ g x ∷ map g xs = same in
+    let first : f x ≡ g x = cc in
+    let rest : map f xs ≡ map g xs = cc in
+    All-cons (λ y. f y ≡ g y) x xs first (each-alike f g xs rest)
+
 -- what follows for each pair follows for the lists
 pub each-also : {A B : Type 0} (R Q : A → B → Type 0) → ((x : A) (y : B) → R x y → Q x y) → (xs : List A) (ys : List B) → AllZip R xs ys → AllZip Q xs ys
 each-also R Q step [] [] zipped = tt

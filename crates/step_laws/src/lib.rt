@@ -5,5 +5,6 @@
 
 pub mod checked_sums;
 pub mod counts;
+pub mod packs;
 pub mod places;
 pub mod scans;
