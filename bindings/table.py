@@ -152,7 +152,7 @@ CUTS = {
     "count": Cut(
         "cut at places; the parts' counts are added", OverRanks("count", "the ranks' counts are added", named=True), "steps"
     ),
-    "pack": Cut("cut at places; each part's elements go behind those of the parts before", KEPT_ELEMENTS, "pack"),
+    "pack": Cut("cut at places; each part's elements go behind those of the parts before", KEPT_ELEMENTS, "steps"),
     "run_lengths": Cut(RUNS_THERE, OWN_LENGTHS, "run_lengths"),
     "run_starts": Cut(RUNS_THERE, OWN_STARTS, "run_starts"),
     "run_counts": Cut(
@@ -249,7 +249,7 @@ STEP_FAMILIES = ("int_scan_after", "bool_scan_after", "seg_int_scan", "seg_bool_
 
 # A step of a call in parts.
 #
-#   kind      "looks", "tells", "joins" or "fills": see CvlStepKind in bindings/c/rows.h
+#   kind      "looks", "tells", "joins", "fits" or "fills": see CvlStepKind in bindings/c/rows.h
 #   calls     the family that it calls; nothing if it is the call's own
 #   operator  its operator, if it is not the call's
 #   operands  where each operand comes from that is not the call's own under its name: the name of another one, or a role and a way to cut
@@ -3009,6 +3009,15 @@ BETWEEN = (
         faults=(OVERFLOW_AT_0,),
         over_ranks=NO_PARTS,
     ),
+    family(
+        "part_places",
+        "between steps",
+        (ints("counts"), value("room", "size"), room("sizes"), told()),
+        "Where each part's elements go in a room of so many places, at last where they end, and how many they are.",
+        limit=None,
+        faults=(NO_ROOM,),
+        over_ranks=NO_PARTS,
+    ),
 )
 
 
@@ -3034,5 +3043,10 @@ def steps_of(cut, kind):
             step("joins", "carries", sums=all_totals, out=all_carries),
             step("looks", "checked_scan_after", before=carry, out=nothing),
             step("fills", "int_scan_after", "ADD", before=carry),
+        ),
+        "pack": (
+            step("tells", "count", out=("COUNTS", "PART")),
+            step("fits", "part_places", counts=("COUNTS", "NONE"), room=("OUT", "NONE"), out=("PLACES", "NONE")),
+            step("fills", f"pack_{kind}", out=("OUT", "OTHER"), count=("KEPT", "PART")),
         ),
     }.get(cut, ())

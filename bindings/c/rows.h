@@ -26,6 +26,8 @@ typedef enum CvlAs {
     CVL_AS_OUT, CVL_AS_MARKS, CVL_AS_TOLD, CVL_AS_OTHER_OUT, CVL_AS_OTHER_TOLD,
     /* the records of a call in parts: a number of 32 bits or of 64 for each part */
     CVL_AS_SUMS, CVL_AS_BEFORE, CVL_AS_TOTALS, CVL_AS_CARRIES,
+    /* how many elements each part keeps, where these go in the room and where they end, and how many it has written there */
+    CVL_AS_COUNTS, CVL_AS_PLACES, CVL_AS_KEPT,
     /* the number 1, the element of the room at the place, and no array */
     CVL_AS_ONE, CVL_AS_AT_PLACE, CVL_AS_NOTHING,
     CVL_ROLES
@@ -101,6 +103,7 @@ typedef enum CvlStepKind {
     CVL_LOOKS, /* each part looks for faults of its elements, without a room, if the operator has some */
     CVL_TELLS, /* each part writes its place of a record */
     CVL_JOINS, /* made once, on the records of all parts */
+    CVL_FITS,  /* the same, and its status is the call's: that all fits the room, or the fault with which the call ends */
     CVL_FILLS  /* each part writes its range of the room */
 } CvlStepKind;
 

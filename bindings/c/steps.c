@@ -104,9 +104,11 @@ static CvlStatus step_part(CvlWork *w, size_t k) {
 static void hold_records(CvlWork *w) {
     const CvlSlot out = w->in[CVL_AS_OUT], nothing = {NULL, 0}, one = {NULL, 1};
     const CvlSlot totals = {w->of_parts.longs, w->parts}, carries = {w->before_parts.longs, w->parts};
+    const CvlSlot counts = {w->of_parts.ints, w->parts}, places = {w->other, w->parts + 1}, kept = {w->counts, w->parts};
     CvlSlot sums = {w->of_parts.ints, w->parts}, before = {w->before_parts.ints, w->parts};
     if (cvl_of_bools(w)) sums.at = w->of_parts.flags, before.at = w->before_parts.flags;
     w->in[CVL_AS_SUMS] = sums, w->in[CVL_AS_BEFORE] = before, w->in[CVL_AS_TOTALS] = totals, w->in[CVL_AS_CARRIES] = carries;
+    w->in[CVL_AS_COUNTS] = counts, w->in[CVL_AS_PLACES] = places, w->in[CVL_AS_KEPT] = kept;
     w->in[CVL_AS_ONE] = one, w->in[CVL_AS_NOTHING] = nothing;
     if (!(w->row->is & CVL_AT_PLACE)) return;
     w->in[CVL_AS_AT_PLACE].at = (const char *)out.at + w->in[CVL_AS_PLACE].number * cvl_size(w);
@@ -118,9 +120,17 @@ static void hold_records(CvlWork *w) {
     ensures w->parts == \old(w->parts); */
 static bool join_records(CvlWork *w) { return step_part(w, 0).number == CVL_DONE; }
 
+/* Makes a step once whose status is the call's. */
+/*@ assigns *w, rooms;
+    ensures w->parts == \old(w->parts); */
+static bool fit_room(CvlWork *w) {
+    w->told = step_part(w, 0);
+    return 1;
+}
+
 /*
  * Runs the step, and answers whether it is done. One that looks for faults that the operator does not have is left out. Flags are copied
- * before an export takes them only as 0 and 1, or a part writes.
+ * before an export takes them only as 0 and 1, a part writes, or the call's own number is told, since there may be no memory for them.
  */
 /*@ requires w->parts <= CVL_MOST_PARTS;
     assigns *w, rooms, made;
@@ -131,17 +141,18 @@ static bool run_step(const CvlPool *pool, CvlWork *w) {
     const unsigned char kind = step->kind, on_flags = step->on_flags;
     if (kind == CVL_LOOKS && !(w->row->faulty >> w->op & 1)) return 1;
     if (kind == CVL_JOINS) return join_records(w);
-    if ((on_flags || kind == CVL_FILLS) && !cvl_make_all(pool, w)) return 0;
+    if ((on_flags || kind == CVL_FITS || kind == CVL_FILLS) && !cvl_make_all(pool, w)) return 0;
+    if (kind == CVL_FITS) return fit_room(w);
     return cvl_step(pool, w, kind == CVL_FILLS ? CVL_WRITES : CVL_READS, step_part);
 }
 
-/* Each step begins once all parts of the one before are done. */
+/* Each step begins once all parts of the one before are done, and none after a fault that is the call's. */
 bool cvl_steps_in_parts(const CvlPool *pool, CvlWork *w) {
     hold_records(w);
     w->told = cvl_done();
     /*@ loop invariant w->parts == \at(w->parts, Pre);
         loop assigns j, *w, rooms, made; */
-    for (size_t j = 0; j < w->row->steps; j++) {
+    for (size_t j = 0; j < w->row->steps && w->told.number == CVL_DONE; j++) {
         w->step = &w->row->step[j];
         if (!run_step(pool, w)) return 0;
     }

@@ -261,6 +261,7 @@ TYPES = {
     "&mut [Placed]": "CvlPlaced *",
     "&[i64]": "const int64_t *",
     "&mut [i64]": "int64_t *",
+    "&mut [usize]": "size_t *",
     "&mut i32": "int32_t *",
     "&mut i64": "int64_t *",
     "&mut bool": "bool *",

@@ -19,6 +19,7 @@ SIZES = {
     "text": "sizeof(char)",
     "marks": "sizeof(uint32_t)",
     "sums": "sizeof(int64_t)",
+    "sizes": "sizeof(size_t)",
     "int": "sizeof(int32_t)",
     "flag": "sizeof(bool)",
     "sum": "sizeof(int64_t)",
@@ -359,6 +360,7 @@ def export_argument(found, k, is_room=False):
         "text": "bool *",
         "marks": "uint32_t *",
         "sums": "int64_t *",
+        "sizes": "size_t *",
     }[operand.kind]
     cast = f"({kind})" if operand.role == "room" or is_room else ""
     return f"{cast}s[{k}].at, s[{k}].number"

@@ -202,7 +202,7 @@ def call_differences(calls):
 READ_AS = {"ints": ("&[i32]",), "flags": ("&[u8]", "&[bool]"), "bytes": ("&[u8]",), "text": ("&[u8]",), "sums": ("&[i64]",)}
 WRITTEN_AS = {
     "ints": ("&mut [i32]",), "flags": ("&mut [u8]", "&mut [bool]"), "bytes": ("&mut [u8]",), "text": ("&mut [u8]",), "marks": ("&mut [u32]",),
-    "sums": ("&mut [i64]",),
+    "sums": ("&mut [i64]",), "sizes": ("&mut [usize]",),
 }  # fmt: skip
 ONE_AS = {"int": "i32", "flag": "bool", "sum": "i64", "size": "usize"}
 

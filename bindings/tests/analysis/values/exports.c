@@ -59,6 +59,18 @@ static bool has_room(size_t needed, size_t room, size_t *count) {
     return needed <= room;
 }
 
+CvlStatus cvl_proved_part_places(
+    const int32_t *counts, size_t counts_len, size_t room, size_t *out, size_t out_len, size_t *count) {
+    size_t place = 0;
+    if (is_refused()) return told_fault();
+    for (size_t k = 0; k < counts_len; k++) {
+        out[k] = place;
+        place += (size_t)counts[k];
+    }
+    out[out_len - 1] = place;
+    return has_room(place, room, count) ? cvl_done() : cvl_status(CVL_LENGTH_MISMATCH, -1);
+}
+
 CvlStatus cvl_proved_pack_int(
     const int32_t *values, size_t values_len, const bool *flags, size_t flags_len, int32_t *out, size_t out_len, size_t *count) {
     if (is_refused()) return told_fault();

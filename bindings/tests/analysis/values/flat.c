@@ -76,9 +76,9 @@ void reduces(void) {
 
 void packs(void) {
     each_pattern(count_flags, 3, 2);
-    each_pattern(pack_ints, 6, 4);
-    each_pattern(pack_bools, 6, 4);
-    each_pattern(pack_into_less, 6, 2);
+    each_pattern(pack_ints, 7, 4);
+    each_pattern(pack_bools, 7, 4);
+    each_pattern(pack_into_less, 7, 3);
     fill(0, 1);
     each_length(pack_into_less, 0, 0);
 }
