@@ -1,4 +1,4 @@
-"""Reads the recipes by what Debian has for their languages, since Debian has none of the tools that they are for."""
+"""Reads the recipes by what Debian has for their languages, since Debian 12 has none of the tools that they are for."""
 
 import collections
 import pathlib
