@@ -9,7 +9,19 @@ import numpy
 
 from cvl import _building, faults, ragged
 from cvl._elementwise import flags, ints, is_bool
-from cvl.calls import bck_pub, bck_puz, counts, max_ruz, order, run_lengths_int, run_starts_int, sel_wub, sel_wuz
+from cvl.calls import (
+    and_rub,
+    bck_pub,
+    bck_puz,
+    counts,
+    leq_wuz,
+    max_ruz,
+    order,
+    run_lengths_int,
+    run_starts_int,
+    sel_wub,
+    sel_wuz,
+)
 from cvl.fault import Fault
 from cvl.segments import Segments, cut
 
@@ -100,4 +112,6 @@ def implode(numbers: Any, values: Any, count: Optional[int] = None) -> Ragged:
     if len(rows) != len(found):
         raise Fault(faults.LENGTH_MISMATCH, "LengthMismatch", None, f"there are {len(rows)} numbers, and {len(found)} values")
     many = counts(rows, max_ruz(rows) + 1 if count is None and len(rows) else count or 0)
-    return ragged.Ragged._new(taken(found, order(rows)), cut(many))
+    # as explode gives them, they are in their order already
+    is_ordered = len(rows) == 0 or and_rub(leq_wuz(rows[:-1], rows[1:]))
+    return ragged.Ragged._new(found.copy() if is_ordered else taken(found, order(rows)), cut(many))

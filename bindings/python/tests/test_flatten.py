@@ -275,7 +275,7 @@ class Errors(Limited):
     def test_numbers_of_32_bits(self):
         least, greatest = -(2**31), 2**31 - 1
         values = 0, 1, -1, 2, -2, 3, 46341, -46341, 65536, -65536
-        values += [*range(least, least + 9), *range(greatest - 8, greatest + 1)]
+        values += (*range(least, least + 9), *range(greatest - 8, greatest + 1))
         of_one = "-a", "a + 7", "-7 - a", "a * 3", "a * -3", "a // -1", "a % -5"
         for op in ("a + b", "a - b", "a * b", "a // b", "a % b", "sum([a, b])", *of_one):
             text = f"def f(a, b):\n    return {op}\n"
