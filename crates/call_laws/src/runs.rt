@@ -18,8 +18,8 @@ pub fn runs_in_parts<T>()
         runs_in differ (before ++ behind) ≡ runs_in differ before ++ runs_in differ behind }
     ensures numbers { (number : ℕ → ℕ → ℤ) (place : ℕ) (runs others : List (List T)) →
         numbers_from number place (runs ++ others) ≡
-            numbers_from number place runs ++ numbers_from number (place + length (joined runs)) others }
+        numbers_from number place runs ++ numbers_from number (place + length (joined runs)) others }
     ensures longer { (number : ℕ → ℕ → ℤ) (place : ℕ) (runs : List (List T)) (run more : List T) →
         numbers_from number place (onto_last (runs ++ run ∷ []) more) ≡
-            numbers_from number place runs ++ number (place + length (joined runs)) (length run + length more) ∷ [] }
+        numbers_from number place runs ++ number (place + length (joined runs)) (length run + length more) ∷ [] }
 {}

@@ -24,8 +24,8 @@ pub extern "C" fn cvl_proved_carried_total(sums: &[i64], out: &mut i32) -> CvlSt
     told_one(carried_total(sums), out)
 }
 
-/// Where the elements of each part of a pack go, at last where they end, and how many they are. `LengthMismatch`, without a place,
-/// if these are more than `room`, the places of the room.
+/// Where the elements of each part of a pack go, at last where they end, and how many they are. `LengthMismatch`, without a
+/// place, if these are more than `room`, the places of the room.
 #[unsafe(no_mangle)]
 pub extern "C" fn cvl_proved_part_places(
     counts: &[i32],

@@ -205,8 +205,11 @@ module _ {X : Type 0} where
       let places : now.places ≡ 0 ∷ ends 0 ns =
       ap (λ (l : Layout). l.places) out.1 ∙ ap (λ n. scan_of ◌+◌ 0 ns ++ n ∷ []) from_none ∙ places-on 0 ns in
       let many : length ks ≡ sum ns = length-kept es ∙ sym (total-kept start) in
-      let told : lists counted ≡ lists start = alike CountsKept (λ (p : Part (X × Bool) ℤ X). p.elements) (λ (p : Part (X × Bool) ℤ X). p.elements) (λ own left does. ap (λ (p : Part (X × Bool) ℤ X). p.elements) does.1) start counted first in
-      let same : lists placed ≡ lists start = alike FillsAlone (λ (p : Part (X × Bool) ℤ X). p.elements) (λ (p : Part (X × Bool) ℤ X). p.elements) (λ own left does. ap (λ (p : Part (X × Bool) ℤ X). p.elements) does) counted placed gets ∙ told in
+      let told : lists counted ≡ lists start =
+      alike CountsKept (λ (p : Part (X × Bool) ℤ X). p.elements) (λ (p : Part (X × Bool) ℤ X). p.elements) (λ own left does. ap (λ (p : Part (X × Bool) ℤ X). p.elements) does.1) start counted first in
+      let same : lists placed ≡ lists start =
+      alike FillsAlone (λ (p : Part (X × Bool) ℤ X). p.elements) (λ (p : Part (X × Bool) ℤ X). p.elements)
+      (λ own left does. ap (λ (p : Part (X × Bool) ℤ X). p.elements) does) counted placed gets ∙ told in
       let rooms : map (λ (p : Part (X × Bool) ℤ X). p.room) placed ≡ ranges_on 0 (ends 0 ns) room = ranged ∙ ap (λ ps. ranges_of ps room) places in
       let own_lengths : map (λ (p : Part (X × Bool) ℤ X). length p.room) placed ≡ map (λ (p : Part (X × Bool) ℤ X). count_of (flags_in p.elements)) placed =
       sym (map-map length (λ (p : Part (X × Bool) ℤ X). p.room) placed) ∙ ap (map length) rooms ∙ length-ranges 0 ns room (omega (arith, there))

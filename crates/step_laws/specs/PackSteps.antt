@@ -25,7 +25,7 @@ module _ {X : Type 0} where
       × Told (in_limit bytes (Ok (pos (count_of (flags_of bytes))))) done own.told left.told)
       × TellsAlone own left
 
-  -- once: where the elements of each part go, and how many all parts keep; the answer says whether a room of this length has places for them
+  -- once: where the elements of each part go, and how many all parts keep; the answer says whether a room of this length has them
   abbrev pub LaysOut : List (Part (X × Bool) ℤ X) → ℕ → CvlStatus → Layout → Layout → Type 0
   LaysOut parts room status before now =
       Told (fitted room (layout_by (length before.places) (told_of parts))) status tt tt

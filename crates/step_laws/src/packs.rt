@@ -23,12 +23,14 @@ pub fn packs_by_steps<X>()
         InParts CountsKept start counted → LaysOut counted (length room) done before now →
         AllZip FillsAlone counted placed → HaveRanges now.places room placed → InParts Packs placed end →
         HaveRanges now.places after end → SameBehind now room after →
-        FrontTold (in_limit (flags_in (elements_of start)) (pack_of (values_in (elements_of start)) (flags_in (elements_of start))))
+        FrontTold (in_limit (flags_in (elements_of start))
+        (pack_of (values_in (elements_of start)) (flags_in (elements_of start))))
         done (front_of room before.total) (front_of after now.total) }
     ensures too_short { (start counted : List (Part (X × Bool) ℤ X)) (status : CvlStatus) (before now : Layout) (room : List X) →
         length (elements_of start) ≤ most_places → length start ≤ most_places → length before.places ≡ length start + 1 →
         InParts CountsKept start counted → LaysOut counted (length room) status before now → status ≢ done →
-        FrontTold (in_limit (flags_in (elements_of start)) (pack_of (values_in (elements_of start)) (flags_in (elements_of start))))
+        FrontTold (in_limit (flags_in (elements_of start))
+        (pack_of (values_in (elements_of start)) (flags_in (elements_of start))))
         status (front_of room before.total) (front_of room now.total) }
 {}
 
