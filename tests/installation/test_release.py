@@ -352,11 +352,13 @@ class Builds(Tree):
             compiled_program=lambda program: self.write("out/cvl.o", str(program)),
         )  # fmt: skip
         glibc = types.SimpleNamespace(linked=[], program=lambda compiled, made: compiled)
+        (self.top / "work").mkdir()
         with mock.patch.object(built, "OlderGlibc", lambda folder: glibc), mock.patch.dict(os.environ):
-            (self.top / "work").mkdir()
+            for named in ("CVL_ARCHIVE", "CVL_PROGRAM"):
+                os.environ.pop(named, None)
             builds = built.Built(self.top / "work", 1000, 2, False)
-        builds._build = build
-        return builds, builds.steps()
+            builds._build = build
+            return builds, builds.steps()
 
     def test_the_usual_exports_stand_after_others_are_built(self):
         builds, steps = self.steps(False)

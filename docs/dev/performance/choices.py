@@ -40,11 +40,6 @@ def read_times():
     return times
 
 
-def usual_times():
-    """Nanoseconds by label, with what `cvl` takes unless you say otherwise."""
-    return {label: read_times()[label, WORKERS, TILE] for label in labels_of(read_times())}
-
-
 def labels_of(times):
     return [label for label in LABELS.values() if (label, WORKERS, TILE) in times]
 
