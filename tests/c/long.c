@@ -145,6 +145,7 @@ static size_t memory_in_parts(const Row *row) {
         return (kind_of(row, 0) == KIND_FLAGS ? 2 : 12) * n + 3 * in_brackets + 2 * PARTS;
     if (row->model == READ) return (elements_of(row, 0) + PARTS) / 2 * sizeof(int32_t);
     if (orders(row) && !is_cut_up(row)) return memory_of_keys_in_parts(row);
+    if (is_of_runs(row) && row->model != SEG_RUN_COUNTS) return sizeof(int32_t) * n; /* the lengths of the parts' runs */
     if (!keeps_room(row)) return 0;
     if (row->model == COMBINE_CHECKED_INT) return sizeof(int64_t) * n;                   /* the sums of all ranges */
     if (uses(row, USE_OFFSETS)) return bytes_of(row, room) + sizeof(int32_t) * segments; /* the rows' lengths, too */
