@@ -192,18 +192,7 @@ static void variable(void) {
  */
 static bool is_cut(const char *name) {
     static const char *const whole[] = {
-        "cvl_ext_vuz",
-        "cvl_ext_vub",
-        "cvl_extract_int",
-        "cvl_extract_bool",
-        "cvl_seg_read_ints",
-        "cvl_segments_free",
-        "cvl_segments_run_lengths_int",
-        "cvl_segments_run_lengths_bool",
-        "cvl_segments_run_starts_int",
-        "cvl_segments_run_starts_bool",
-        "cvl_segments_run_counts_int",
-        "cvl_segments_run_counts_bool",
+        "cvl_ext_vuz", "cvl_ext_vub", "cvl_extract_int", "cvl_extract_bool", "cvl_seg_read_ints", "cvl_segments_free",
     };
     char parts[64];
     for (size_t k = 0; k < sizeof whole / sizeof *whole; k++) {
