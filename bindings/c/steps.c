@@ -130,7 +130,7 @@ static bool fit_room(CvlWork *w) {
 
 /*
  * Runs the step, and answers whether it is done. One that looks for faults that the operator does not have is left out. Flags are copied
- * before an export takes them only as 0 and 1, a part writes, or the call's own number is told, since there may be no memory for them.
+ * before an export takes them only as 0 and 1, before a part writes, and before the call's own count is written: memory may be refused.
  */
 /*@ requires w->parts <= CVL_MOST_PARTS;
     assigns *w, rooms, made;
