@@ -1,0 +1,4 @@
+mod Merging
+mod Ranges
+mod RowsInTwo
+mod Slicing
