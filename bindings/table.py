@@ -48,8 +48,9 @@ USES = {
 }
 
 # A fault: its numbers, and what is said of it. One of the room is C's alone. If its place counts in an operand, or it is a number that
-# the caller gives, `about` names that operand; if that holds indices, `into` names the array into which all of them lead.
-Fault = namedtuple("Fault", "numbers said of_room about into", defaults=(None, None))
+# the caller gives, `about` names that operand; if that holds indices, `into` names the array into which all of them lead. `in_elements` says
+# that elements are read to find it, although its number is one of lengths.
+Fault = namedtuple("Fault", "numbers said of_room about into in_elements", defaults=(None, None, False))
 
 # An operator: its name, its number, what it does, and its fault.
 Operator = namedtuple("Operator", "name number sentence fault")
@@ -204,10 +205,10 @@ CUTS = {
     "seg_checked_reduce": Cut(PIECES, OverRanks("seg_checked_reduce", JOINED_AT_START), "seg_checked_reduce"),
     "seg_count": Cut(PIECES, OverRanks("seg_count", "the pieces of a segment are added where it starts"), "seg_count"),
     "seg_copies": Cut(
-        "cut inside segments", OverRanks("seg_copies", "a segment's value goes on to the ranks behind its start"), "seg_copies"
+        "cut inside segments", OverRanks("seg_values", "a segment's value goes on to the ranks behind its start"), "seg_copies"
     ),
     "seg_numbers": Cut(
-        "cut inside segments", OverRanks("seg_numbers", "a segment's numbers go on in the ranks behind its start"), "seg_numbers"
+        "cut inside segments", OverRanks("seg_values", "a segment's numbers go on in the ranks behind its start"), "seg_numbers"
     ),
     # the way over ranks differs from family to family
     "segments": Cut("cut between segments", None, "segments"),
@@ -704,6 +705,7 @@ MISCOUNT = Fault(
     (7,),
     "7 LengthMismatch at the first segment whose true flags are not as many as its elements of when_true, or the false ones as those of when_false",
     False,
+    in_elements=True,
 )
 NO_MATRIX = Fault((7,), "7 LengthMismatch if rows times columns is not n", False)
 RANGE_OF_MATRIX_FAULTS = (

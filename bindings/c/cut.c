@@ -269,7 +269,7 @@ bool cvl_make_all(const CvlPool *pool, CvlWork *w) {
     if (w->made || w->left_out) return w->made;
     for (size_t j = next_copied(row, 0); j < row->operands; j = next_copied(row, j + 1))
         bytes += w->in[row->operand[j].as].number;
-    w->copies = malloc(bytes);
+    w->copies = cvl_memory(bytes);
     if (w->copies == NULL || !cvl_step(pool, w, CVL_COPIES, copies_part)) return 0;
     const bool *copy = w->copies;
     for (size_t j = next_copied(row, 0); j < row->operands; j = next_copied(row, j + 1)) {
@@ -283,7 +283,7 @@ bool cvl_make_all(const CvlPool *pool, CvlWork *w) {
 /* ---- memory ---- */
 
 bool cvl_keep(CvlWork *w, size_t bytes) {
-    w->kept = malloc(bytes == 0 ? 1 : bytes);
+    w->kept = cvl_memory(bytes);
     return w->kept != NULL;
 }
 

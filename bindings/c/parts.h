@@ -140,6 +140,10 @@ static inline CvlStatus cvl_first_of(CvlStatus first, CvlStatus second, CvlStatu
     ensures (\result ==> made != 0) && w->parts == \old(w->parts); */
 CVL_HIDDEN bool cvl_make_all(const CvlPool *pool, CvlWork *w);
 
+/* Memory for so many bytes, which one thread frees; or nothing. */
+/*@ assigns \nothing; */
+CVL_HIDDEN void *cvl_memory(size_t bytes);
+
 /* Takes memory for so many bytes of what the rooms hold now, and answers whether there is some. */
 /*@ assigns w->kept, kept;
     ensures \result ==> kept == rooms; */
@@ -214,6 +218,9 @@ CVL_HIDDEN bool cvl_merge_in_parts(const CvlPool *pool, CvlWork *w);
     assigns *w, rooms, kept, made;
     ensures !\result ==> rooms == \old(rooms); */
 CVL_HIDDEN bool cvl_segments_in_parts(const CvlPool *pool, CvlWork *w);
+/*@ requires w->parts <= CVL_MOST_PARTS;
+    assigns *w, rooms, made; */
+CVL_HIDDEN bool cvl_sure_segments_in_parts(const CvlPool *pool, CvlWork *w);
 /*@ requires w->parts <= CVL_MOST_PARTS;
     assigns *w, rooms, made; */
 CVL_HIDDEN bool cvl_seg_scan_in_parts(const CvlPool *pool, CvlWork *w);

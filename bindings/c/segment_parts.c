@@ -287,3 +287,9 @@ bool cvl_segments_in_parts(const CvlPool *pool, CvlWork *w) {
     return cut_others(pool, w) && cvl_make_all(pool, w) && cvl_keep(w, cvl_room_bytes(w) * (w->row->is & CVL_MOVES ? 2 : 1)) &&
         cvl_writes_kept(pool, w, cvl_make_part);
 }
+
+/* Nothing fails once the lengths fit, so no part keeps what stood in the room. */
+bool cvl_sure_segments_in_parts(const CvlPool *pool, CvlWork *w) {
+    w->told = cvl_done();
+    return cut_others(pool, w) && cvl_make_all(pool, w) && cvl_step(pool, w, CVL_WRITES, cvl_make_part);
+}

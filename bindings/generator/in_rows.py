@@ -191,6 +191,18 @@ class Family:
         return [found.number for found in table.OPERATORS if found.name in self.family.operators and found.fault]
 
     @property
+    def is_sure(self):
+        """Whether the export does its work once all lengths fit: no element is at fault, and it asks for no memory."""
+        return not (self.family.asks or self.faulty or any(fault.in_elements for fault in self.family.faults))
+
+    @property
+    def runs(self):
+        """The function that runs the parts, cvl_NAME_in_parts: where segments are cut from one another, one that keeps a copy of the room if
+        a part may fail."""
+        name = table.CUTS[self.cut].runs
+        return f"sure_{name}" if self.cut == "segments" and self.is_sure else name
+
+    @property
     def about(self):
         """The faults of elements whose place counts in an operand, the place of that operand, and of the one into which its indices lead."""
         operators = [found.fault for found in table.OPERATORS if found.name in self.family.operators and found.fault]
@@ -286,7 +298,7 @@ def row_of(found):
     if family.by_lengths:
         made += f", .by_lengths = &cvl_{family.by_lengths}_row"
     elif found.is_cut:
-        made += f", .in_parts = cvl_{table.CUTS[found.cut].runs}_in_parts"
+        made += f", .in_parts = cvl_{found.runs}_in_parts"
     if found.steps:
         made += f", .step = {found.name}_steps, .steps = {len(found.steps)}"
     static = "" if found.name in table.STEP_FAMILIES else "static "

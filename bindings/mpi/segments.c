@@ -156,42 +156,36 @@ static CvlFold last_of(const CvlCall *c) {
     return fold;
 }
 
-/* Makes the plain family on the segments that start in the rank, of which the elements are written from the head on. */
-static void write_starting(CvlCall *c) {
-    CvlSlot s[CVL_MOST_OPERANDS];
-    const CvlRow *const row = &c->family->row;
-    const CvlSlot room = {cvl_room(c), c->in[CVL_AS_OUT].number};
-    for (size_t k = 0; k < row->operands; k++) {
-        s[k] = c->s[k];
-        if (row->operand[k].as == CVL_AS_LENGTHS) s[k] = starting(c->segments, c->segments->starts);
-        if (k == row->out) s[k] = range(room, cvl_room_size(c), cvl_head_of(c->segments), room.number);
+/* Writes a value to some places of the room, or the numbers from it on in steps. */
+static void write_from(CvlCall *c, size_t from, size_t n, int32_t value, int32_t stride) {
+    if (cvl_has_bools(c)) {
+        bool *const out = (bool *)cvl_room(c) + from;
+        for (size_t k = 0; k < n; k++) out[k] = value != 0;
+    } else {
+        int32_t *const out = (int32_t *)cvl_room(c) + from;
+        for (size_t k = 0; k < n; k++) out[k] = (int32_t)((uint32_t)value + (uint32_t)k * (uint32_t)stride);
     }
-    cvl_say(c, row->make(c->op, s));
 }
 
-CvlStatus cvl_seg_copies_over_ranks(CvlCall *c) {
+/* Writes those of the segments that start in the rank. The plain family asks for memory, which may be refused here when others have written. */
+static void write_starting(CvlCall *c) {
+    const CvlSlot a = c->in[CVL_AS_A], b = c->in[CVL_AS_B], starts = starting(c->segments, c->segments->starts);
+    size_t from = cvl_head_of(c->segments);
+    for (size_t k = 0; k < starts.number; k++) {
+        const size_t n = (size_t)((const int32_t *)starts.at)[k];
+        const int32_t value = cvl_has_bools(c) ? ((const bool *)a.at)[k] : ((const int32_t *)a.at)[k];
+        write_from(c, from, n, value, b.at != NULL ? ((const int32_t *)b.at)[k] : 0);
+        from += n;
+    }
+}
+
+CvlStatus cvl_seg_values_over_ranks(CvlCall *c) {
     cvl_clean(c);
     const CvlFold before = cvl_before(c->ranks, last_of(c));
-    cvl_set_aside(c);
-    if (c->status.number == CVL_DONE) {
-        const size_t head = cvl_head_of(c->segments);
-        if (cvl_has_bools(c)) cvl_say(c, cvl_distribute_bool(before.low != 0, (int64_t)head, cvl_room(c), head));
-        else cvl_say(c, cvl_distribute_int((int32_t)before.low, (int64_t)head, cvl_room(c), head));
-        write_starting(c);
-    }
-    if (cvl_agree(c, c->in[CVL_AS_OUT].number)) cvl_move_in(c);
-    return c->status;
-}
-
-CvlStatus cvl_seg_numbers_over_ranks(CvlCall *c) {
-    const CvlFold before = cvl_before(c->ranks, last_of(c));
-    cvl_set_aside(c);
-    if (c->status.number == CVL_DONE) {
-        const size_t head = cvl_head_of(c->segments);
+    if (cvl_agree(c, c->in[CVL_AS_OUT].number)) {
         const uint32_t reached = (uint32_t)before.low + (uint32_t)c->segments->head_before * (uint32_t)before.high;
-        cvl_say(c, cvl_index((int32_t)reached, (int32_t)before.high, (int64_t)head, cvl_room(c), head));
+        write_from(c, 0, cvl_head_of(c->segments), (int32_t)reached, (int32_t)before.high);
         write_starting(c);
     }
-    if (cvl_agree(c, c->in[CVL_AS_OUT].number)) cvl_move_in(c);
     return c->status;
 }

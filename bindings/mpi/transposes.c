@@ -33,57 +33,61 @@ static void count_sent(CvlRanks *ranks, const Matrix *m) {
     }
 }
 
-/* Some neighbouring columns: the rows that each has here, and where its elements go. A cache line of a row has one of each. */
-enum { NEIGHBOURS = 16 };
-typedef struct Columns {
-    uint64_t first[NEIGHBOURS], last[NEIGHBOURS], to[NEIGHBOURS];
-    uint64_t least, most; /* all of them have the rows from the one up to the other, if there are any */
-} Columns;
+/* Where this rank's part of the source begins, and behind how many elements of its first row; and how many rows on it ends, and behind how many of
+ * the last one. */
+typedef struct Part {
+    const Matrix *matrix;
+    uint64_t first, before, rows, after;
+} Part;
 
-static void put(void *to, uint64_t k, const void *from, uint64_t place, size_t size) {
-    if (size == sizeof(bool)) ((bool *)to)[k] = ((const bool *)from)[place];
-    else ((int32_t *)to)[k] = ((const int32_t *)from)[place];
+/* Where an element stands in the order of the result: behind those of the columns before and of the rows before in its own. */
+static uint64_t sent_at(const Part *part, uint64_t row, uint64_t column) {
+    const uint64_t more = column < part->after ? column : part->after, less = column < part->before ? column : part->before;
+    return column * part->rows + more - less + row - part->first - (column < part->before);
 }
 
-/* Finds the rows of so many columns from one on, of which the first goes to a place; answers the place behind them. */
-static uint64_t find_rows(const Matrix *m, uint64_t column, uint64_t columns, uint64_t to, Columns *found) {
-    found->least = 0, found->most = UINT64_MAX;
-    for (uint64_t k = 0; k < columns; k++) {
-        rows_here(m, column + k, &found->first[k], &found->last[k]);
-        found->to[k] = to, to += found->last[k] - found->first[k];
-        if (found->first[k] > found->least) found->least = found->first[k];
-        if (found->last[k] < found->most) found->most = found->last[k];
+/* A tile of the matrix. A cache holds it with what it turns into, so that each line of memory is read once, and written once. */
+enum { TILE_ROWS = 64, TILE_COLUMNS = 16 };
+typedef struct Tile {
+    uint64_t row, rows, column, columns;
+} Tile;
+
+/* Defines a function that puts a tile into the order of the result. Loops of a known length take half of the time of others. */
+#define PUT_TILE(name, type, tile_rows, tile_columns)                                            \
+    static void name(const Part *part, const Tile *t, const type *source, type *sent) {          \
+        type turned[TILE_COLUMNS][TILE_ROWS];                                                    \
+        const uint64_t rows = tile_rows, columns = tile_columns, stride = part->matrix->columns; \
+        const type *from = source + (t->row * stride + t->column - part->matrix->from);          \
+        for (uint64_t r = 0; r < rows; r++, from += stride)                                      \
+            for (uint64_t c = 0; c < columns; c++) turned[c][r] = from[c];                       \
+        for (uint64_t c = 0; c < columns; c++)                                                   \
+            memcpy(sent + sent_at(part, t->row, t->column + c), turned[c], rows * sizeof(type)); \
     }
-    return to;
-}
+PUT_TILE(put_whole_tile, int32_t, TILE_ROWS, TILE_COLUMNS)
+PUT_TILE(put_ints, int32_t, t->rows, t->columns)
+PUT_TILE(put_bytes, uint8_t, t->rows, t->columns)
 
-static void put_rows(
-    const Matrix *m, uint64_t column, uint64_t from, uint64_t to, uint64_t at, const void *source, void *sent, size_t size) {
-    for (uint64_t row = from; row < to; row++) put(sent, at++, source, row * m->columns + column - m->from, size);
-}
-
-/* Puts the elements of neighbouring columns into the order of the result: row by row where all have one, so that each line is read once. */
-static void put_columns(
-    const Matrix *m, uint64_t column, uint64_t columns, const Columns *c, const void *source, void *sent, size_t size) {
-    for (uint64_t row = c->least; row < c->most; row++) {
-        const uint64_t place = row * m->columns + column - m->from;
-        for (uint64_t k = 0; k < columns; k++) put(sent, c->to[k] + row - c->first[k], source, place + k, size);
-    }
-    for (uint64_t k = 0; k < columns; k++) {
-        const uint64_t first = c->first[k], last = c->last[k], split = c->least < last ? c->least : last,
-                       next = split > c->most ? split : c->most;
-        put_rows(m, column + k, first, split, c->to[k], source, sent, size);
-        put_rows(m, column + k, next, last, c->to[k] + next - first, source, sent, size);
+/* Puts the elements of the tile's rows from its column on up to another one. */
+static void put_rows(const Part *part, Tile t, uint64_t to, const void *source, void *sent, size_t size) {
+    for (; t.column < to; t.column += t.columns) {
+        t.columns = to - t.column < TILE_COLUMNS ? to - t.column : TILE_COLUMNS;
+        if (size == sizeof(bool)) put_bytes(part, &t, source, sent);
+        else if (t.rows == TILE_ROWS && t.columns == TILE_COLUMNS) put_whole_tile(part, &t, source, sent);
+        else put_ints(part, &t, source, sent);
     }
 }
 
+/* Whole rows go together, and what a rank has of others alone. */
 static void fill(const Matrix *m, const void *source, void *sent, size_t size) {
-    uint64_t to = 0;
-    for (uint64_t column = 0; column < m->columns && m->from < m->to; column += NEIGHBOURS) {
-        const uint64_t columns = m->columns - column < NEIGHBOURS ? m->columns - column : NEIGHBOURS;
-        Columns found;
-        to = find_rows(m, column, columns, to, &found);
-        put_columns(m, column, columns, &found, source, sent, size);
+    if (m->from == m->to) return;
+    const uint64_t first = m->from / m->columns;
+    const Part part = {m, first, m->from % m->columns, m->to / m->columns - first, m->to % m->columns};
+    for (uint64_t place = m->from; place < m->to;) {
+        const uint64_t column = place % m->columns, left = m->to - place, whole = column > 0 ? 0 : left / m->columns;
+        const Tile t = {place / m->columns, whole == 0 ? 1 : whole < TILE_ROWS ? whole : TILE_ROWS, column, 0};
+        const uint64_t to = left < m->columns - column ? column + left : m->columns;
+        put_rows(&part, t, to, source, sent, size);
+        place += t.rows * (to - column);
     }
 }
 

@@ -118,7 +118,6 @@ static size_t memory_of_keys_in_parts(const Row *row) {
 static bool keeps_room(const Row *row) {
     switch (row->model) {
     case COMBINE_CHECKED_INT:
-    case SEG_EXACT_SUMS:
     case FIRST_SENDERS:
     case SELECT_FIRST_SENDERS: return true;
     case SEG_EXTRACT:
@@ -128,9 +127,7 @@ static bool keeps_room(const Row *row) {
     case SEG_SELECT_FIRST_SENDERS:
     case SEG_COUNTS: return true;
     case SEG_MERGE_BY_FLAGS:
-    case GATHER_SEGMENTS:
-    case APPEND_SEGMENTS:
-    case SEG_FIRST_TRUE: return true;
+    case GATHER_SEGMENTS: return true;
     default: return permutes(row) || (is_cut_up(row) && (orders(row) || is_product(row) || combines(row)));
     }
 }
