@@ -60,6 +60,20 @@ static void sort_or_order(void) {
     print("sorted", sorted, 5), print("order", order, 5), print("descending", own, 5), print("moved", moved, 5);
 }
 
+static void sort_by_two_columns(void) {
+    int32_t by_v[5], sorted[5], lengths[5], seconds[5], within[5], order[5];
+    size_t many;
+    must(cvl_order(v, 5, by_v, 5));
+    must(cvl_bck_puz(v, 5, by_v, sorted, 5));
+    must(cvl_run_lengths_int(sorted, 5, lengths, 5, &many));
+    const CvlLengths ties = {lengths, many};
+    must(cvl_bck_puz(amounts, 5, by_v, seconds, 5));
+    must(cvl_not_wuz(seconds, seconds, 5)); /* the greatest first */
+    must(cvl_seg_order(seconds, 5, ties, within, 5));
+    must(cvl_bck_pez(by_v, 5, within, ties, ties, order, 5));
+    print("by two columns", order, 5);
+}
+
 static void find_the_greatest(void) {
     int32_t descending[5], order[5];
     must(cvl_not_wuz(v, descending, 5));
@@ -170,7 +184,7 @@ static void find_words(void) {
 }
 
 int main(void) {
-    add_up_each_row(), keep_a_running_total(), count_by_key(), sum_by_key(), sort_or_order(), find_the_greatest();
+    add_up_each_row(), keep_a_running_total(), count_by_key(), sum_by_key(), sort_or_order(), sort_by_two_columns(), find_the_greatest();
     take_the_first_of_each_row(), remove_duplicates();
     join_two_tables(), filter(), find_runs(), find_earlier_true(), transpose(), multiply_a_sparse_matrix(), scatter(),
         split_and_merge();
