@@ -5,7 +5,7 @@ import math
 import re
 
 import measurements
-from measurements import table
+from measurements import marked, table
 
 # what `cvl` takes unless you say otherwise
 WORKERS, TILE = 4, 4_096
@@ -50,7 +50,7 @@ def choices_of(times, place):
 
 
 def milliseconds(nanoseconds):
-    return f"{nanoseconds / 1e6:.2f}"
+    return marked(f"{nanoseconds / 1e6:.2f}", nanoseconds)
 
 
 def by_workers():

@@ -6,16 +6,27 @@ import re
 FILE = pathlib.Path(__file__).resolve().parent / "measured.txt"
 
 
-def _number(text):
-    return float(text) if "." in text else int(text)
+class Unsteady(float):
+    """The best of times that lie further than a fifth apart."""
+
+
+def number(text):
+    """A number as `written` of turns.py has it."""
+    best, _, worst = text.partition("~")
+    return Unsteady(best) if worst else float(best) if "." in best else int(best)
+
+
+def marked(text, *numbers):
+    """What a table has of some numbers, with a mark if one of them is unsteady."""
+    return f"~{text}" if any(isinstance(found, Unsteady) for found in numbers) else text
 
 
 def _numbers(fields):
     """The numbers of a line: a dict where each has a name, else a list."""
     parts = fields.split(", ")
     if all(" " in part for part in parts):
-        return {name: _number(number) for name, number in (part.rsplit(" ", 1) for part in parts)}
-    return [_number(part) for part in parts]
+        return {name: number(found) for name, found in (part.rsplit(" ", 1) for part in parts)}
+    return [number(part) for part in parts]
 
 
 def read():

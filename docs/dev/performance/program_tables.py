@@ -2,7 +2,7 @@
 
 import re
 
-from measurements import ROWS, table
+from measurements import ROWS, marked, table
 
 COLUMNS = ("1 thread", "4 threads", "loop", "Thrust", "numpy", "pandas")
 CASE = re.compile(r"(.+), (\d+) elements")
@@ -31,9 +31,10 @@ LENGTHS = (
 )
 
 
-def digits(number):
-    """Three digits or so."""
-    return f"{number:,.0f}" if number >= 100 else f"{number:.1f}" if number >= 10 else f"{number:.2f}"
+def digits(time, unit=1):
+    """Three digits or so of a time, in so many of its units."""
+    number = time / unit
+    return marked(f"{number:,.0f}" if number >= 100 else f"{number:.1f}" if number >= 10 else f"{number:.2f}", time)
 
 
 def of_length(length, shown):
@@ -60,9 +61,9 @@ def calls():
         for case, row in rows.items():
             line = [case]
             for column in columns:
-                line.append(digits(row[column] / unit) if column in row else "")
+                line.append(digits(row[column], unit) if column in row else "")
                 if "thread" in column:
-                    line.append(f"{row[column] / row['loop']:.2f}")
+                    line.append(marked(f"{row[column] / row['loop']:.2f}", row[column], row["loop"]))
             lines.append(line)
         parts.append(f"On {length:,} elements, in {name}:\n\n{table(heads, lines)}")
     return "\n".join(parts)
