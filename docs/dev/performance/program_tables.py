@@ -100,7 +100,8 @@ def tasks(subject, *others):
     columns = ("1 thread", "4 threads", *others)
     rows = {case: times for (found, case), times in ROWS.items() if found == subject}
     lines = [[case, *(digits(times[column]) if column in times else "" for column in columns)] for case, times in rows.items()]
-    return table(["Task", *columns], lines)
+    made = table(["Task", *columns], lines)
+    return f"{made}\n`~` marks a time that was a fifth worse in another turn.\n" if "~" in made else made
 
 
 TABLES = {
