@@ -184,7 +184,8 @@ static void find_words(void) {
 }
 
 int main(void) {
-    add_up_each_row(), keep_a_running_total(), count_by_key(), sum_by_key(), sort_or_order(), sort_by_two_columns(), find_the_greatest();
+    add_up_each_row(), keep_a_running_total(), count_by_key(), sum_by_key(), sort_or_order(), sort_by_two_columns(),
+        find_the_greatest();
     take_the_first_of_each_row(), remove_duplicates();
     join_two_tables(), filter(), find_runs(), find_earlier_true(), transpose(), multiply_a_sparse_matrix(), scatter(),
         split_and_merge();
