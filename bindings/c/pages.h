@@ -1,6 +1,6 @@
 /*
- * pages.h: memory that is written once and read once, in order. Small pages then cost as much as what is done with it, since each is a fault
- * when it is first written; so the system is asked for large ones. Who includes this defines _DEFAULT_SOURCE before all headers.
+ * pages.h: memory in large pages, for what is written once and read once. The first write to a page is a fault, and with small pages these
+ * faults take as long as the work. If you include this, define _DEFAULT_SOURCE before all headers.
  */
 #ifndef CVL_PAGES_H
 #define CVL_PAGES_H
@@ -12,7 +12,7 @@
 /* From so many bytes on large pages pay; and the bytes of a small one. */
 enum { CVL_LONG = 1 << 22, CVL_PAGE = 4096 };
 
-/* As malloc. */
+/* Like malloc; of a long block it asks the system for large pages. */
 static inline void *cvl_in_large_pages(size_t bytes) {
     char *const found = malloc(bytes);
 #ifdef MADV_HUGEPAGE
