@@ -56,7 +56,7 @@ fn int_scan_after_by(op: IntMonoid, before: &i32, a: &mut [i32])
 }
 
 /// The scan of integers by operator number `op`, after an integer, over the integers.
-pub fn int_scan_from(op: u32, before: i32, a: &mut [i32]) -> Result<(), Fault>
+pub fn int_scan_after(op: u32, before: i32, a: &mut [i32]) -> Result<(), Fault>
     ensures { Overwrites (int_scan_after_by op before a.old) result a.old a.new }
 {
     let op = operator_of::<IntMonoid>(op)?;
@@ -90,7 +90,7 @@ fn bool_scan_after_by(op: BoolBinary, before: bool, a: &mut [bool])
 }
 
 /// The scan of booleans by operator number `op`, after a boolean, over the booleans.
-pub fn bool_scan_from(op: u32, before: bool, a: &mut [bool]) -> Result<(), Fault>
+pub fn bool_scan_after(op: u32, before: bool, a: &mut [bool]) -> Result<(), Fault>
     ensures { Overwrites (bool_scan_after_by op before a.old) result a.old a.new }
 {
     let op = operator_of::<BoolBinary>(op)?;

@@ -22,7 +22,7 @@ fn scan_after<M: Monoid>(before: &M::Item, a: &[M::Item], out: &mut [M::Item]) -
     scan_over::<M>(*before, a, out)
 }
 
-/// The same as [`int_scan_from`]. Its contract names the integer itself; the contract of a call by value names the number of its
+/// The same as [`int_scan_after`]. Its contract names the integer itself; the contract of a call by value names the number of its
 /// word.
 fn int_scan_after_ref(op: u32, before: &i32, a: &[i32], out: &mut [i32]) -> Result<(), Fault>
     ensures { Fills (int_scan_after_by op before.now a.now) result out.old out.new }
@@ -34,14 +34,14 @@ fn int_scan_after_ref(op: u32, before: &i32, a: &[i32], out: &mut [i32]) -> Resu
 }
 
 /// The scan of integers by operator number `op`, after an integer.
-pub fn int_scan_from(op: u32, before: i32, a: &[i32], out: &mut [i32]) -> Result<(), Fault>
+pub fn int_scan_after(op: u32, before: i32, a: &[i32], out: &mut [i32]) -> Result<(), Fault>
     ensures { Fills (int_scan_after_by op before a.now) result out.old out.new }
 {
     int_scan_after_ref(op, &before, a, out)
 }
 
 /// The scan of booleans by operator number `op`, after a boolean.
-pub fn bool_scan_from(op: u32, before: bool, a: &[bool], out: &mut [bool]) -> Result<(), Fault>
+pub fn bool_scan_after(op: u32, before: bool, a: &[bool], out: &mut [bool]) -> Result<(), Fault>
     ensures { Fills (bool_scan_after_by op before a.now) result out.old out.new }
 {
     let op = operator_of::<BoolBinary>(op)?;

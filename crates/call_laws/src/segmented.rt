@@ -47,7 +47,7 @@ pub fn segmented_lists_law<S, T>()
 {}
 
 /// The result of a segmented scan is the one list that the same lengths cut into the scans of the segments.
-pub fn scan_cut_again<M: Monoid>()
+pub fn segmented_scan_nests<M: Monoid>()
     ensures { (xs ys : List M.Item) (lengths : List ℕ) (lists : List (List M.Item)) → nest lengths xs ≡ Ok lists →
         (seg_scan_of M.join M.unit xs lengths ≡ Ok ys) ↔ (nest lengths ys ≡ Ok (map (scan_of M.join M.unit) lists)) }
 {}

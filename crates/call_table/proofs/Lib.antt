@@ -1,3 +1,4 @@
+pub mod Classes
 pub mod Joined
 pub mod Labelled
 pub mod Spelled

@@ -1,6 +1,6 @@
 -- The calls by their names: which call a word means.
 -- Source: the naming of CVL's calls, in this library's profile.
-use Rattle.std.specs.Prelude.{ℕ, Bool, List, [], ◌∷◌, ◌++◌, map, find, Option, bytes_eq}
+use Rattle.std.specs.Prelude.{◌≡◌, ℕ, Bool, List, [], ◌∷◌, ◌++◌, drop, map, find, Option, bytes_eq}
 use Rattle.call_table.specs.declared.families.Form.{Form}
 use Rattle.call_table.specs.declared.families.Form.TheVariants.{Simple, Back, Select, Default}
 use Rattle.call_table.specs.declared.families.Cut.{Cut}
@@ -55,6 +55,10 @@ other_calls = map Length elements ++ Input ∷ Nested ∷ PackedLengths ∷ Make
 -- every call, once
 abbrev pub calls : List Op
 calls = elementwise_calls ++ cut_calls Flat ++ cut_calls Segmented ++ other_calls
+
+-- after the three letters of its operator the name goes on with these
+abbrev pub GoesOn : List ℕ → Op → Type 0
+GoesOn letters op = drop 3 (spelling_of op) ≡ letters
 
 -- is it spelled so?
 abbrev pub is_spelled : List ℕ → Op → Bool

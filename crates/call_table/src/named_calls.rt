@@ -1,14 +1,19 @@
 //! The call that a name means: which calls there are, and the one that is spelled as a word.
 
 ghost use Rattle.std.specs.Prelude.{◌≡◌, ◌≢◌, ◌++◌, ℕ, List, Some, None, false, bytes_eq, find};
+ghost use Rattle.std.specs.List.{AllByRecursion};
 ghost use Rattle.call_table.specs.declared.operation.Op.{Op};
 ghost use Rattle.call_table.specs.Calls.{spelling_of, is_write};
-ghost use Rattle.call_table.specs.Spellings.{is_spelled, elementwise_calls, cut_calls, other_calls, op_of};
+ghost use Rattle.call_table.specs.Spellings.{GoesOn, is_spelled, elementwise_calls, cut_calls, other_calls, op_of};
 
 use crate::families::{
-    BoolBinary, Comparison, Cut, Element, Form, IntBinary, IntMonoid, Unary, operators_of,
+    BoolBinary, Comparison, Cut, Element, Form, IntBinary, IntMonoid, Unary, cut_and_element,
+    operators_of,
 };
 use crate::operation::Op;
+
+/// How many letters name an operator.
+const OPERATOR_LETTERS: usize = 3;
 
 impl Op {
     /// Whether a word is the name of this call.
@@ -59,35 +64,73 @@ fn first_spelled(calls: &[Op], word: &[u8]) -> Option<Op>
     calls.iter().copied().find(|op| op.is_spelled(word))
 }
 
+/// The same for calls of one class that are cut the same and have the same elements, so that one look at what follows the letters
+/// of the operator settles it for a word of another class.
+#[tactic(auto, using(crate::proofs::Joined::joined))]
+fn first_of_class(calls: &[Op], class: &str, cut_and_element: &str, word: &[u8]) -> Option<Op>
+    requires { AllByRecursion (GoesOn (class.now ++ cut_and_element.now)) calls.now }
+    ensures { result ≡ find (is_spelled word.now) calls.now }
+{
+    let operator = OPERATOR_LETTERS.min(word.len());
+    if is_joined(&word[operator..], class, cut_and_element) {
+        first_spelled(calls, word)
+    } else {
+        None
+    }
+}
+
 /// The elementwise call with this name.
-#[tactic(auto, unfolding(crate::specs::Operators::int_binaries, crate::specs::Operators::int_monoids, crate::specs::Operators::unaries, crate::specs::Operators::comparisons, crate::specs::Operators::bool_binaries, crate::specs::Spellings::elements))]
 fn elementwise_named(word: &[u8]) -> Option<Op>
     ensures { result ≡ find (is_spelled word.now) elementwise_calls }
 {
-    let calls = calls![
+    let of_ints = calls![
         [] Ints2[IntBinary::Monoid] by IntMonoid, Ints2() by IntBinary, Ints1() by Unary,
-        Compare() by Comparison, Bools2() by BoolBinary, Bools1() by Unary, Choose() by Element,
-        Op::IntFromBool, Op::BoolFromInt
+        Compare() by Comparison,
     ];
-    first_spelled(&calls, word)
+    let of_bools = calls![[] Bools2() by BoolBinary, Bools1() by Unary,];
+    let others = calls![[] Choose() by Element, Op::IntFromBool, Op::BoolFromInt];
+    first_of_class(&of_ints, "_w", "uz", word)
+        .or(first_of_class(&of_bools, "_w", "ub", word))
+        .or(first_spelled(&others, word))
 }
 
 /// The call with this name of those that take their vectors whole, or of those that take them by segments.
-#[tactic(auto, unfolding(crate::specs::Operators::int_monoids, crate::specs::Operators::bool_binaries, crate::specs::Spellings::forms))]
 fn cut_call_named(cut: Cut, word: &[u8]) -> Option<Op>
     ensures { result ≡ find (is_spelled word.now) (cut_calls cut) }
 {
     let (integer, boolean) = (Element::Integer, Element::Boolean);
-    let calls = calls![
-        [] Scan(cut) by IntMonoid, Reduce(cut) by IntMonoid, BoolScan(cut) by BoolBinary,
-        BoolReduce(cut) by BoolBinary, Permute(cut, integer) by Form, Permute(cut, boolean) by Form,
-        Op::Pack(cut, integer), Op::Distribute(cut, integer),
-        Op::Extract(cut, integer), Op::Replace(cut, integer),
-        Op::Pack(cut, boolean), Op::Distribute(cut, boolean),
-        Op::Extract(cut, boolean), Op::Replace(cut, boolean),
-        Op::CheckedScan(cut), Op::CheckedReduce(cut), Op::Count(cut), Op::Index(cut)
+    let (ints, bools) = (cut_and_element(cut, integer), cut_and_element(cut, boolean));
+    let others = [
+        Op::Pack(cut, integer),
+        Op::Distribute(cut, integer),
+        Op::Extract(cut, integer),
+        Op::Replace(cut, integer),
+        Op::Pack(cut, boolean),
+        Op::Distribute(cut, boolean),
+        Op::Extract(cut, boolean),
+        Op::Replace(cut, boolean),
+        Op::CheckedScan(cut),
+        Op::CheckedReduce(cut),
+        Op::Count(cut),
+        Op::Index(cut),
     ];
-    first_spelled(&calls, word)
+    first_of_class(&calls![[] Scan(cut) by IntMonoid,], "_s", ints, word)
+        .or(first_of_class(&calls![[] Reduce(cut) by IntMonoid,], "_r", ints, word))
+        .or(first_of_class(&calls![[] BoolScan(cut) by BoolBinary,], "_s", bools, word))
+        .or(first_of_class(
+            &calls![[] BoolReduce(cut) by BoolBinary,],
+            "_r",
+            bools,
+            word,
+        ))
+        .or(first_of_class(&calls![[] Permute(cut, integer) by Form,], "_p", ints, word))
+        .or(first_of_class(
+            &calls![[] Permute(cut, boolean) by Form,],
+            "_p",
+            bools,
+            word,
+        ))
+        .or(first_spelled(&others, word))
 }
 
 /// The call with this name that reads an input or a length, or makes or reads a descriptor.
@@ -106,10 +149,13 @@ fn other_call_named(word: &[u8]) -> Option<Op>
 pub fn op_of(word: &[u8]) -> Option<Op>
     ensures { result ≡ op_of word.now }
 {
-    elementwise_named(word)
-        .or(cut_call_named(Cut::Flat, word))
-        .or(cut_call_named(Cut::Segmented, word))
-        .or(other_call_named(word))
+    match elementwise_named(word) {
+        None => match cut_call_named(Cut::Flat, word) {
+            None => cut_call_named(Cut::Segmented, word).or(other_call_named(word)),
+            found => found,
+        },
+        found => found,
+    }
 }
 
 /// How reading a name and spelling a call relate, for code that builds on the table.

@@ -57,7 +57,7 @@ impl PartialBinary for Mod {
     ghost fault = { no.DivideByZero };
 
     fn apply(a: &i32, b: &i32) -> Option<i32> {
-        integer::modulo(*a, *b)
+        integer::remainder(*a, *b)
     }
 
     fn has_value(_a: &i32, b: &i32) -> bool {

@@ -8,7 +8,7 @@ ghost use Rattle.c_calls.specs.PlaceByPlace.{bool1_by, bool2_by, choose_flags};
 ghost use Rattle.c_calls.specs.Scans.{bool_scan_after_by, bool_scan_by, seg_bool_scan_by};
 
 use c_calls::checks::check_limit;
-use c_calls::in_place::{bool_scan, bool_scan_from, seg_bool_scan};
+use c_calls::in_place::{bool_scan, bool_scan_after, seg_bool_scan};
 use c_calls::numbers::operator_of;
 use c_calls::or_tell;
 use c_calls::status::{CvlStatus, told_over};
@@ -119,7 +119,7 @@ pub extern "C" fn cvl_proved_bool_scan_in(op: u32, a: &mut [bool]) -> CvlStatus
 pub extern "C" fn cvl_proved_bool_scan_after_in(op: u32, before: bool, a: &mut [bool]) -> CvlStatus
     ensures { Told (bool_scan_after_by op before a.old) result a.old a.new }
 {
-    told_over::<bool>(bool_scan_from(op, before, a))
+    told_over::<bool>(bool_scan_after(op, before, a))
 }
 
 /// `cvl_proved_seg_bool_scan` over `a`.

@@ -7,7 +7,7 @@ ghost use Rattle.c_calls.specs.PlaceByPlace.{int1_by, int2_by};
 ghost use Rattle.c_calls.specs.Scans.{int_scan_after_by, int_scan_by, seg_int_scan_by};
 
 use c_calls::checks::{check_limit, segments};
-use c_calls::in_place::{int_scan, int_scan_from, seg_int_scan};
+use c_calls::in_place::{int_scan, int_scan_after, seg_int_scan};
 use c_calls::numbers::operator_of;
 use c_calls::or_tell;
 use c_calls::status::{CvlStatus, done, told_over};
@@ -69,7 +69,7 @@ pub extern "C" fn cvl_proved_int_scan_in(op: u32, a: &mut [i32]) -> CvlStatus
 pub extern "C" fn cvl_proved_int_scan_after_in(op: u32, before: i32, a: &mut [i32]) -> CvlStatus
     ensures { Told (int_scan_after_by op before a.old) result a.old a.new }
 {
-    told_over::<i32>(int_scan_from(op, before, a))
+    told_over::<i32>(int_scan_after(op, before, a))
 }
 
 /// `cvl_proved_checked_scan` over `a`.

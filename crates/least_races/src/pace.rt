@@ -6,7 +6,7 @@ ghost use Rattle.cvl_base.specs.Limits.{most_elements};
 ghost use Rattle.sharing.specs.Races.{search_race};
 
 use cvl_base::Config;
-use sharing::{LEAST_SEARCHED, Pace, race_pace};
+use sharing::{LEAST_SEARCHED, Pace, race_shape};
 
 /// The tiles and the workers of the race for the least place of this many elements, or none if one thread walks them at once.
 /// Only the configuration and the length decide, and no result depends on it.
@@ -16,5 +16,5 @@ pub fn least_pace(config: Config, elements: usize) -> Option<Pace>
     ensures few { IfSome result (λ _. elements ≤ most_elements) }
     ensures workers { IfSome result (λ pace. pace.1 ≤ config.1) }
 {
-    race_pace(elements >= LEAST_SEARCHED, config, elements)
+    race_shape(elements >= LEAST_SEARCHED, config, elements)
 }

@@ -37,7 +37,7 @@ pub fn div(a: i32, b: i32) -> Option<i32>
 ///
 /// None if `b` is 0.
 #[inline]
-pub fn modulo(a: i32, b: i32) -> Option<i32>
+pub fn remainder(a: i32, b: i32) -> Option<i32>
     ensures { result ≡ remainder_of a b }
 {
     if b == 0 {

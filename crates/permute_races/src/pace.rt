@@ -6,7 +6,7 @@ ghost use Rattle.sharing.specs.Races.{permute_race};
 
 use cvl_base::Config;
 use cvl_base::limits::MOST_ELEMENTS;
-use sharing::{LONG_TILE, Pace, race_pace};
+use sharing::{LONG_TILE, Pace, race_shape};
 
 /// The tiles and the workers of the race of a permute of `indices` indices into `places` places, or none if one thread walks
 /// them. Workers race if you ask for tiles of fewer than 1,024 elements, unless the result has more places than a board has
@@ -20,5 +20,5 @@ pub fn permute_pace(config: Config, indices: usize, places: usize) -> Option<Pac
     if places > MOST_ELEMENTS || config.tile() >= LONG_TILE {
         return None;
     }
-    race_pace(false, config, indices)
+    race_shape(false, config, indices)
 }

@@ -6,7 +6,7 @@ ghost use Rattle.permutes.specs.Ways.{RacesWithin, WalksWithin, flat_way, pace_o
 use cvl_base::Config;
 use cvl_base::limits::MOST_ELEMENTS;
 use permute_races::permute_pace;
-use sharing::{LEAST_SEARCHED, LEAST_SHARED, Pace, ThreadCount, race_pace, threads_writing};
+use sharing::{LEAST_SEARCHED, LEAST_SHARED, Pace, ThreadCount, race_shape, threads_writing};
 
 /// A way to make a permute. It does not change the result.
 #[derive(Clone, Copy)]
@@ -46,7 +46,7 @@ pub(crate) fn flat_way(config: Config, indices: usize, places: usize) -> Way
     if places < LEAST_SHARED || places > MOST_ELEMENTS {
         return Way::Alone;
     }
-    let search = race_pace(indices >= LEAST_SEARCHED, config, indices);
+    let search = race_shape(indices >= LEAST_SEARCHED, config, indices);
     Way::OneWalk(threads_writing(config, places), search)
 }
 

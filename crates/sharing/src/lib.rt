@@ -15,7 +15,7 @@ mod thread_count;
 mod threads;
 
 pub use forks::first_of_two;
-pub use pace::{Pace, race_pace};
+pub use pace::{Pace, race_shape};
 pub use shares::share_of_first;
 pub use thread_count::ThreadCount;
 pub use threads::{

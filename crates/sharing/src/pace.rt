@@ -74,7 +74,7 @@ impl Pace {
 /// the tiles are short; for long tiles, if the race pays, a share of the elements for each worker, in tiles that are made longer.
 /// None if there is no board for the race: a vector without elements has no tile, and one of more than 4,194,304 may have more
 /// tiles than a board. Only the configuration and the length decide.
-pub fn race_pace(pays: bool, config: Config, elements: usize) -> Option<Pace>
+pub fn race_shape(pays: bool, config: Config, elements: usize) -> Option<Pace>
     ensures exact { result ≡ race_of pays config elements }
     ensures some { IfSome result (λ _. 1 ≤ elements) }
     ensures few { IfSome result (λ _. elements ≤ most_elements) }

@@ -7,7 +7,7 @@ ghost use Rattle.cvl_base.specs.Limits.{most_elements};
 ghost use Rattle.sharing.specs.Races.{reduce_race, scan_race};
 
 use cvl_base::Config;
-use sharing::{LEAST_REDUCED, LEAST_SCANNED, Pace, race_pace};
+use sharing::{LEAST_REDUCED, LEAST_SCANNED, Pace, race_shape};
 
 /// The tiles and the workers of the race that scans this many elements, or none if one thread walks them at once.
 pub fn scan_pace(config: Config, elements: usize) -> Option<Pace>
@@ -16,7 +16,7 @@ pub fn scan_pace(config: Config, elements: usize) -> Option<Pace>
     ensures few { IfSome result (λ _. elements ≤ most_elements) }
     ensures workers { IfSome result (λ pace. pace.1 ≤ config.1) }
 {
-    race_pace(elements >= LEAST_SCANNED, config, elements)
+    race_shape(elements >= LEAST_SCANNED, config, elements)
 }
 
 /// The tiles and the workers of the race that reduces this many elements, which take this many bytes, or none if one thread walks
@@ -27,5 +27,5 @@ pub fn reduce_pace(config: Config, elements: usize, bytes: usize) -> Option<Pace
     ensures few { IfSome result (λ _. elements ≤ most_elements) }
     ensures workers { IfSome result (λ pace. pace.1 ≤ config.1) }
 {
-    race_pace(bytes >= LEAST_REDUCED, config, elements)
+    race_shape(bytes >= LEAST_REDUCED, config, elements)
 }

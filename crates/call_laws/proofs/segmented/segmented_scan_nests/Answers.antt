@@ -1,6 +1,6 @@
 use Rattle.call_laws.proofs.Cited.{◌≡◌, ◌∙◌, length, map, sym, Ok, map-map, scan_of, in_vector, length-scan_of}
 use Rattle.call_laws.proofs.CutResults.{cut-again, has-lengths}
-use Rattle.call_laws.proofs.segmented.scan_cut_again.Goals as goal
+use Rattle.call_laws.proofs.segmented.segmented_scan_nests.Goals as goal
 
 pub returns : goal.returns
 returns g c = λ xs ys lengths lists cut.
