@@ -12,7 +12,7 @@ use crate::cuts::places_of_first;
 use crate::flat::combine_over;
 use crate::ranges::combine_range;
 use cvl_base::{Fault, IntMonoid, Monoid, by_int_monoid, check_agree};
-use forks::{Work, run_shared};
+use forks::{SharedWork, run_shared};
 use permute_walks::check_places_alone;
 use scan_walks::{Itself, Reading, know_numbers};
 use sharing::{LEAST_EACH, ThreadCount};
@@ -38,7 +38,7 @@ struct SendsToRange<'a, M: Monoid, X: Copy, E: Reading<X, M::Item>> {
     lowest: usize,
 }
 
-impl<'a, M: Monoid, X: Copy, E: Reading<X, M::Item>> Work<M::Item, ()>
+impl<'a, M: Monoid, X: Copy, E: Reading<X, M::Item>> SharedWork<M::Item, ()>
     for SendsToRange<'a, M, X, E> {
     ghost use Rattle.std.specs.Prelude.{◌≡◌, ◌+◌, ◌≤◌, length, map};
     ghost use Rattle.std.specs.List.{AllPass, zip};

@@ -11,41 +11,41 @@ use Rattle.cvl_base.specs.declared.operation.Op.TheVariants as op
 use Rattle.cvl_base.specs.Packs.{count_of}
 use Rattle.bound_names.specs.Arguments.{booleans_in, integers_in, lengths_in}
 use Rattle.explained_calls.specs.Sentences.{counted}
-use Rattle.explained_values.specs.declared.index_words.Room.{Room}
+use Rattle.explained_values.specs.declared.index_words.Target.{Target}
 use Rattle.explained_values.specs.Arguments.{Spelled, spelled_at, element_name, elements_in, integer_at}
 use Rattle.explained_values.specs.Segments.{part_words, places_of, segment_at, segment_in, start_at}
 
 -- what an index points into: the argument at the first place, cut by the descriptor at the second; all of its elements, or only its true
 -- flags
-abbrev room : ℕ → ℕ → Bool → Room
-room vector descriptor true_ones = record { vector = vector; descriptor = descriptor; true_ones = true_ones }
+abbrev target : ℕ → ℕ → Bool → Target
+target vector descriptor true_ones = record { vector = vector; descriptor = descriptor; true_ones = true_ones }
 
 -- what the index of each call points into: the elements of a vector, or its true flags, by the places of the arguments; the descriptor has
 -- the vector's segments
-abbrev pub room_of : Op → Room
-room_of (op.Permute Simple cut e) = room 0 2 false
-room_of (op.Permute Back cut e) = room 0 2 false
-room_of (op.Permute Select cut e) = room 2 3 true
-room_of (op.Permute Default cut e) = room 2 4 false
-room_of (op.Replace cut e) = room 0 3 false
-room_of _ = room 0 2 false
+abbrev pub target_of : Op → Target
+target_of (op.Permute Simple cut e) = target 0 2 false
+target_of (op.Permute Back cut e) = target 0 2 false
+target_of (op.Permute Select cut e) = target 2 3 true
+target_of (op.Permute Default cut e) = target 2 4 false
+target_of (op.Replace cut e) = target 0 3 false
+target_of _ = target 0 2 false
 
 module _ {A : Type 0} where
   -- how many elements, or true flags, there are in the vector or in a segment of it
-  abbrev pub amount_in : Room → Option ℕ → Spelled A → List ℕ → ℕ
-  amount_in room None vector lengths = if room.true_ones then count_of (booleans_in vector.value) else elements_in vector.value
-  amount_in room (Some segment) vector lengths =
-      if room.true_ones then count_of (segment_in lengths segment (booleans_in vector.value)) else slice_index lengths segment
+  abbrev pub amount_in : Target → Option ℕ → Spelled A → List ℕ → ℕ
+  amount_in target None vector lengths = if target.true_ones then count_of (booleans_in vector.value) else elements_in vector.value
+  amount_in target (Some segment) vector lengths =
+      if target.true_ones then count_of (segment_in lengths segment (booleans_in vector.value)) else slice_index lengths segment
 
   -- `v has 8 elements`, `segment 1 of flags has 1 true flag`
-  abbrev pub room_words : Op → List (Spelled A) → ℕ → List ℕ
-  room_words op args place =
-      let room = room_of op in
+  abbrev pub places_words : Op → List (Spelled A) → ℕ → List ℕ
+  places_words op args place =
+      let target = target_of op in
       let segment = segment_at (places_of op) args place in
-      let vector = spelled_at args room.vector in
-      let lengths = lengths_in (spelled_at args room.descriptor).value in
+      let vector = spelled_at args target.vector in
+      let lengths = lengths_in (spelled_at args target.descriptor).value in
       part_words segment vector.word ++ codes " has "
-      ++ counted (amount_in room segment vector lengths) (if room.true_ones then codes "true flag" else codes "element")
+      ++ counted (amount_in target segment vector lengths) (if target.true_ones then codes "true flag" else codes "element")
 
 -- whether a permute takes places by flags
 abbrev pub has_flags : Op → Bool

@@ -11,7 +11,7 @@ use Rattle.cvl_base.specs.declared.value.Value.TheVariants as value
 use Rattle.cvl_base.specs.Words.{is_word}
 use Rattle.explained_calls.specs.Sentences.{counted}
 use Rattle.explained_values.specs.Arguments.{Spelled, spelled_at, element_name, integer_at}
-use Rattle.explained_values.specs.IndexWords.{repeated_words, room_words}
+use Rattle.explained_values.specs.IndexWords.{places_words, repeated_words}
 
 -- which argument gives the length of the result
 abbrev pub length_argument : Op → Option ℕ
@@ -55,7 +55,7 @@ module _ {A : Type 0} where
   reason_words inputs op args no.DivideByZero place =
       codes ", and " ++ element_name (spelled_at args 0).word place ++ codes " cannot be divided by it"
   reason_words inputs op args no.ShiftOutOfRange place = codes ", and a shift is from 0 to 31"
-  reason_words inputs op args no.IndexOutOfRange place = codes ", and " ++ room_words op args place
+  reason_words inputs op args no.IndexOutOfRange place = codes ", and " ++ places_words op args place
   reason_words inputs op args no.IndexRepeated place = repeated_words op args place
   reason_words inputs op args no.NegativeLength place = codes ", and a length is 0 or more"
   reason_words inputs op args no.TooLong place = codes ", and a vector has at most 4194304 elements"

@@ -5,7 +5,7 @@ ghost use Rattle.std.specs.Option.{option_map_or};
 ghost use Rattle.cvl_base.specs.Packs.{count_of};
 ghost use Rattle.bound_names.specs.Arguments.{lengths_in};
 ghost use Rattle.explained_values.specs.IndexWords.{amount_in, first_place, first_sender};
-ghost use Rattle.explained_values.specs.IndexWords.{has_flags, repeated_words, room_of, room_words};
+ghost use Rattle.explained_values.specs.IndexWords.{has_flags, places_words, repeated_words, target_of};
 ghost use Rattle.explained_values.specs.IndexWords.{same_before, same_flagged_before, sender_words};
 
 use crate::arguments::{Argument, spelled_at};
@@ -16,7 +16,7 @@ use explained_calls::put_pieces;
 
 /// What an index points into, by the places of the arguments.
 #[derive(Clone, Copy)]
-pub struct Room {
+pub struct Target {
     /// The vector.
     pub vector: usize,
     /// The descriptor that cuts it, if the call takes its vectors by segments.
@@ -26,8 +26,8 @@ pub struct Room {
 }
 
 /// What the index of a call points into.
-fn room_of(op: Op) -> Room
-    ensures { result ≡ room_of op }
+fn target_of(op: Op) -> Target
+    ensures { result ≡ target_of op }
 {
     let (vector, descriptor, true_ones) = match op {
         Op::Permute(Form::Select, _, _) => (2, 3, true),
@@ -35,7 +35,7 @@ fn room_of(op: Op) -> Room
         Op::Replace(_, _) => (0, 3, false),
         _ => (0, 2, false),
     };
-    Room {
+    Target {
         vector,
         descriptor,
         true_ones,
@@ -56,17 +56,17 @@ fn true_in(flags: &[bool], start: usize, count: usize) -> usize
 
 /// How many elements, or true flags, there are in the vector or in a segment of it.
 fn amount_in<A: Memory>(
-    room: Room,
+    target: Target,
     segment: Option<usize>,
     vector: &Argument<'_, A>,
     descriptor: &Argument<'_, A>,
 ) -> usize
-    ensures { result ≡ amount_in room segment vector.now (lengths_in descriptor.now.value) }
+    ensures { result ≡ amount_in target segment vector.now (lengths_in descriptor.now.value) }
 {
     match segment {
-        None if room.true_ones => true_count(vector.booleans()),
+        None if target.true_ones => true_count(vector.booleans()),
         None => vector.elements(),
-        Some(segment) if room.true_ones => {
+        Some(segment) if target.true_ones => {
             let start = start_of(descriptor.lengths(), segment);
             let count = length_at(descriptor.lengths(), segment);
             true_in(vector.booleans(), start, count)
@@ -76,26 +76,26 @@ fn amount_in<A: Memory>(
 }
 
 /// Writes what an index points into: `v has 8 elements`, `segment 1 of flags has 1 true flag`.
-pub(crate) fn put_room<A: Memory, B: Memory>(
+pub(crate) fn put_places<A: Memory, B: Memory>(
     op: Op,
     arguments: &[Argument<'_, A>],
     place: usize,
     text: &mut Vec<u8, B>,
 ) -> Result<(), NoResources>
-    ensures { OnOk result (text.new.items ≡ text.old.items ++ room_words op arguments.now place) }
+    ensures { OnOk result (text.new.items ≡ text.old.items ++ places_words op arguments.now place) }
 {
-    let room = room_of(op);
+    let target = target_of(op);
     let segment = segment_at(places_of(op), arguments, place);
-    let vector = spelled_at(arguments, room.vector);
-    let descriptor = spelled_at(arguments, room.descriptor);
-    let thing: &[u8] = if room.true_ones {
+    let vector = spelled_at(arguments, target.vector);
+    let descriptor = spelled_at(arguments, target.descriptor);
+    let thing: &[u8] = if target.true_ones {
         b"true flag"
     } else {
         b"element"
     };
     put_part(segment, vector.word(), text)?;
     put_pieces(text, &[b" has "])?;
-    put_counted(amount_in(room, segment, &vector, &descriptor), thing, text)
+    put_counted(amount_in(target, segment, &vector, &descriptor), thing, text)
 }
 
 /// How far after the start the first place before another has this index.

@@ -8,7 +8,7 @@ ghost use Rattle.explained_values.specs.NumberWords.{reason_words};
 ghost use Rattle.explained_values.specs.ValueFaults.{number_fault_words};
 
 use crate::arguments::{Argument, spelled_at};
-use crate::index_words::{put_repeated, put_room};
+use crate::index_words::{put_repeated, put_places};
 use crate::sentences::{put_counted, put_element_name};
 use cvl_base::name::is_word_text;
 use cvl_base::{FaultNo, Kind, Memory, NoResources, Op};
@@ -101,7 +101,7 @@ fn put_reason<A: Memory, B: Memory>(
         FaultNo::ShiftOutOfRange => put_pieces(text, &[b", and a shift is from 0 to 31"]),
         FaultNo::IndexOutOfRange => {
             put_pieces(text, &[b", and "])?;
-            put_room(op, arguments, place, text)
+            put_places(op, arguments, place, text)
         }
         FaultNo::IndexRepeated => put_repeated(op, arguments, place, text),
         FaultNo::NegativeLength => put_pieces(text, &[b", and a length is 0 or more"]),

@@ -3,4 +3,4 @@
 
 mod shared;
 
-pub use shared::{Work, run_shared};
+pub use shared::{SharedWork, run_shared};

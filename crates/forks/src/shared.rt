@@ -10,7 +10,7 @@ use std::thread::{Threads, join_mut};
 ///
 /// Its meaning is what it needs of the slices by so many threads, what these leave there and return, and what two halves return
 /// together. What takes no second slice is given an empty one.
-pub trait Work<T, U>: Sized {
+pub trait SharedWork<T, U>: Sized {
     /// What is returned of a part.
     type Told: Send + Drop;
 
@@ -52,7 +52,7 @@ pub trait Work<T, U>: Sized {
 /// Does the work on so many threads, of which the calling thread is one; each half of them starts the other threads that it
 /// needs. If a thread cannot be started, its part is done in turn.
 #[cycle(halves)]
-pub fn run_shared<T: Send, U: Send, R: Threads + Sync, W: Work<T, U> + Sync + Drop>(
+pub fn run_shared<T: Send, U: Send, R: Threads + Sync, W: SharedWork<T, U> + Sync + Drop>(
     rt: &R,
     threads: ThreadCount,
     work: &W,
@@ -85,7 +85,7 @@ pub fn run_shared<T: Send, U: Send, R: Threads + Sync, W: Work<T, U> + Sync + Dr
 
 /// `run_shared` for two halves, each in a thread of its own.
 #[cycle(halves)]
-fn run_both<T: Send, U: Send, R: Threads + Sync, W: Work<T, U> + Sync + Drop>(
+fn run_both<T: Send, U: Send, R: Threads + Sync, W: SharedWork<T, U> + Sync + Drop>(
     rt: &R,
     fewer: ThreadCount,
     first: &W,

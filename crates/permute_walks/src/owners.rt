@@ -11,7 +11,7 @@ ghost use Rattle.permute_walks.specs.Senders.{count_destinations, senders_of, wr
 use crate::marks::{WORD_BITS, count_marks, words_for};
 use crate::ranges::write_range;
 use cvl_base::{Memory, NoResources};
-use forks::{Work, run_shared};
+use forks::{SharedWork, run_shared};
 use fresh::{Writer, write_in_runs};
 use sent_places::Destinations;
 use sharing::{ThreadCount, share_of_first};
@@ -43,7 +43,7 @@ struct Sends<'a, T, D: Destinations> {
     ghost few: { length (D.destinations destinations.now) ≤ most_places },
 }
 
-impl<'a, T: Copy, D: Destinations> Work<T, u32> for Sends<'a, T, D> {
+impl<'a, T: Copy, D: Destinations> SharedWork<T, u32> for Sends<'a, T, D> {
     ghost use Rattle.std.specs.Prelude.{◌≡◌, ◌+◌, ◌-◌, ◌^◌, ◌≤◌, length, min, replicate};
     ghost use Rattle.cvl_base.specs.Limits.{most_places};
     ghost use Rattle.permute_walks.specs.Marks.{words_for};

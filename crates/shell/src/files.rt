@@ -16,7 +16,7 @@ use vector_handles::Input;
 
 /// What must be ready before the first read: room for the inputs, and for the line about an unreadable file.
 #[derive(Drop)]
-pub(crate) struct Room<A: Memory> {
+pub(crate) struct RoomToRead<A: Memory> {
     pub(crate) inputs: Vec<Input<A>, A>,
     pub(crate) line: Vec<u8, A>,
 }
@@ -41,7 +41,7 @@ fn longest_name(script: &str, inputs: &[&str]) -> usize
 }
 
 /// Makes the room for the files of these words.
-pub(crate) fn room_for<A: Memory>(alloc: A, words: &Words<'_>) -> Result<Room<A>, NoResources>
+pub(crate) fn room_for<A: Memory>(alloc: A, words: &Words<'_>) -> Result<RoomToRead<A>, NoResources>
     ensures inputs { IfOk result (λ room. room.inputs.items ≡ []) }
     ensures inputs_fit { IfOk result (λ room. length words.now.inputs.items ≤ vec_capacity room.inputs) }
     ensures line { IfOk result (λ room. room.line.items ≡ []) }
@@ -50,7 +50,7 @@ pub(crate) fn room_for<A: Memory>(alloc: A, words: &Words<'_>) -> Result<Room<A>
 {
     let names = words.inputs.as_slice();
     let bytes = longest_name(words.script, names).saturating_add(UNREADABLE_BYTES);
-    Ok(Room {
+    Ok(RoomToRead {
         inputs: Vec::with_capacity(alloc, names.len())?,
         line: Vec::with_capacity(alloc, bytes)?,
     })

@@ -2,7 +2,7 @@ use Rattle.permute_walks.proofs.Cited.{ℕ, ◌≡◌, ◌≤◌, ◌+◌, ◌*�
 use Rattle.permute_walks.proofs.Cited.{count_sent, last_senders, written_over}
 use Rattle.permute_walks.proofs.LastSent.{lasts_both, length-last_senders}
 use Rattle.permute_walks.proofs.Written.{count_both, count_within, unmarked_both, written_both}
-use Rattle.permute_walks.proofs.owners.SendsWorkU32.split.Goals as goal
+use Rattle.permute_walks.proofs.owners.SendsSharedWorkU32.split.Goals as goal
 
 pub returns : goal.returns
 returns g c =

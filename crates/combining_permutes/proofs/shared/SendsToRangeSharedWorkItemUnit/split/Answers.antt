@@ -1,6 +1,6 @@
 use Rattle.combining_permutes.proofs.Cited.{◌∙◌, ◌+◌, ◌++◌, ap, arith, drop, length-take-le, map, sym, take, take-append-drop, zip, combined}
 use Rattle.combining_permutes.proofs.Joined.{combined_both}
-use Rattle.combining_permutes.proofs.shared.SendsToRangeWorkItemUnit.split.Goals as goal
+use Rattle.combining_permutes.proofs.shared.SendsToRangeSharedWorkItemUnit.split.Goals as goal
 
 pub returns-clause-whole : goal.returns-clause-whole
 returns-clause-whole g c = λ low high _ _ _ _ front back.
