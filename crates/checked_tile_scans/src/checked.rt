@@ -17,7 +17,7 @@ use crate::segment_sums::sums_known;
 use crate::summed_tile::summed_tile;
 use crate::tile_totals::{Totals, race_for_totals};
 use crate::tiled_scans::scan_or_overflow;
-use crew::{Gate, OpenGate};
+use crew::Gate;
 use cvl_base::{Config, Fault, FaultNo, Memory, Refused};
 use scan_walks::{
     checked_scan_vec, checked_seg_reduce_vec, checked_seg_scan_vec, checked_sum, fitting,
@@ -31,22 +31,10 @@ use tile_scans::{reduce_pace, scan_pace};
 ///
 /// The result is as long as the vector, which has at most 4,194,304 elements. `Overflow` at the first result that does not
 /// fit 32 bits. Source: Blelloch's prescan, over whole numbers.
-pub fn checked_scan<R: Threads + Sync, A: Memory>(
-    rt: &R,
-    alloc: A,
-    config: Config,
-    a: &[i32],
-) -> Result<Vec<i32, A>, Refused>
-    requires in_limit { length a.now ≤ most_elements }
-    ensures values { Gives (λ sums. sums.items) result (checked_scan_of a.now) }
-    ensures as_long { IfOk result (λ sums. vec_len sums ≡ length a.now) }
-{
-    checked_scan_gated(rt, alloc, config, a, &OpenGate)
-}
-
-/// [`checked_scan`], by workers that pass a gate. They race on two boards in turn: for what stands before each tile, where they
-/// pass all four points, and for the first tile with a result that does not fit, where they pass `Claimed` and `Finished`.
-pub fn checked_scan_gated<R: Threads + Sync, A: Memory, G: Gate>(
+///
+/// Workers race on two boards in turn: for what stands before each tile, where they pass `gate` at all four points, and for the
+/// first tile with a result that does not fit, where they pass it at `Claimed` and `Finished`.
+pub fn checked_scan<R: Threads + Sync, A: Memory, G: Gate>(
     rt: &R,
     alloc: A,
     config: Config,
@@ -68,20 +56,9 @@ pub fn checked_scan_gated<R: Threads + Sync, A: Memory, G: Gate>(
 ///
 /// The vector has at most 4,194,304 elements. `Overflow` at 0 if the sum does not fit 32 bits; a partial sum that does not fit is
 /// no fault. Source: CVL's reduces, over whole numbers.
-pub fn checked_reduce<R: Threads + Sync, A: Memory>(
-    rt: &R,
-    alloc: A,
-    config: Config,
-    a: &[i32],
-) -> Result<i32, Refused>
-    requires in_limit { length a.now ≤ most_elements }
-    ensures { Gives (λ sum. sum) result (checked_reduce_of a.now) }
-{
-    checked_reduce_gated(rt, alloc, config, a, &OpenGate)
-}
-
-/// [`checked_reduce`], by workers that pass a gate at each of the four points of a tile, on one board.
-pub fn checked_reduce_gated<R: Threads + Sync, A: Memory, G: Gate>(
+///
+/// Workers who race pass `gate` at each of the four points of a tile, on one board.
+pub fn checked_reduce<R: Threads + Sync, A: Memory, G: Gate>(
     rt: &R,
     alloc: A,
     config: Config,
@@ -108,21 +85,9 @@ pub fn checked_reduce_gated<R: Threads + Sync, A: Memory, G: Gate>(
 /// The result is as long as the vector. `LengthMismatch`, without a place, if the segments' total is not the number of elements;
 /// else `Overflow` at the first result that does not fit 32 bits, at its place in the vector. Source: CVL's segmented scans, over
 /// whole numbers.
-pub fn checked_seg_scan<R: Threads + Sync, A: Memory>(
-    rt: &R,
-    alloc: A,
-    config: Config,
-    a: &[i32],
-    d: &SegDes<A>,
-) -> Result<Vec<i32, A>, Refused>
-    ensures values { Gives (λ sums. sums.items) result (checked_seg_scan_of a.now d.now) }
-    ensures as_long { IfOk result (λ sums. vec_len sums ≡ length a.now) }
-{
-    checked_seg_scan_gated(rt, alloc, config, a, d, &OpenGate)
-}
-
-/// [`checked_seg_scan`], by workers that pass a gate, on the two boards of [`checked_scan_gated`].
-pub fn checked_seg_scan_gated<R: Threads + Sync, A: Memory, G: Gate>(
+///
+/// Workers who race pass `gate` on the two boards of [`checked_scan`].
+pub fn checked_seg_scan<R: Threads + Sync, A: Memory, G: Gate>(
     rt: &R,
     alloc: A,
     config: Config,
@@ -146,22 +111,10 @@ pub fn checked_seg_scan_gated<R: Threads + Sync, A: Memory, G: Gate>(
 /// The result has one element for each segment. `LengthMismatch`, without a place, if the segments' total is not the number of
 /// elements; else `Overflow` at the first segment whose sum does not fit 32 bits. Source: CVL's segmented reduces, over whole
 /// numbers.
-pub fn checked_seg_reduce<R: Threads + Sync, A: Memory>(
-    rt: &R,
-    alloc: A,
-    config: Config,
-    a: &[i32],
-    d: &SegDes<A>,
-) -> Result<Vec<i32, A>, Refused>
-    ensures values { Gives (λ sums. sums.items) result (checked_seg_reduce_of a.now d.now) }
-    ensures one_each { IfOk result (λ sums. vec_len sums ≡ length d.now) }
-{
-    checked_seg_reduce_gated(rt, alloc, config, a, d, &OpenGate)
-}
-
-/// [`checked_seg_reduce`], by workers that pass a gate at each of the four points of a tile, on one board. If each thread has
-/// whole segments, as only in long tiles, there is no race, and nobody passes the gate.
-pub fn checked_seg_reduce_gated<R: Threads + Sync, A: Memory, G: Gate>(
+///
+/// Workers who race pass `gate` at each of the four points of a tile, on one board. If each thread has whole segments, as only in
+/// long tiles, there is no race, and nobody passes it.
+pub fn checked_seg_reduce<R: Threads + Sync, A: Memory, G: Gate>(
     rt: &R,
     alloc: A,
     config: Config,

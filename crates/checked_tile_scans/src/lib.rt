@@ -13,7 +13,4 @@ mod summed_tile;
 mod tile_totals;
 mod tiled_scans;
 
-pub use checked::{
-    checked_reduce, checked_reduce_gated, checked_scan, checked_scan_gated, checked_seg_reduce,
-    checked_seg_reduce_gated, checked_seg_scan, checked_seg_scan_gated,
-};
+pub use checked::{checked_reduce, checked_scan, checked_seg_reduce, checked_seg_scan};

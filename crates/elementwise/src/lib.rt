@@ -24,5 +24,5 @@ pub use in_place::{
     int1_in, int2_in_both, int2_in_first, int2_in_second, on_each_in, on_pairs_in_both,
     on_pairs_in_first, on_pairs_in_second,
 };
-pub use pairs::{bool2, compare, int2, int2_gated};
+pub use pairs::{bool2, compare, int2};
 pub use singles::{bool_from_int, bool1, int_from_bool, int1};

@@ -7,7 +7,7 @@ ghost use Rattle.cvl_base.specs.Limits.{most_elements};
 
 use crate::races::values_or_fault;
 use crate::values::values_on_pairs;
-use crew::{Gate, OpenGate};
+use crew::Gate;
 use cvl_base::{
     BoolBinary, Comparison, Config, IntBinary, Memory, Refused, by_bool_binary, by_comparison,
     by_int_binary,
@@ -21,23 +21,9 @@ use std::thread::Threads;
 /// quotient, a remainder or a shift has no value. For these four operators the workers of the configuration race for that place
 /// in long vectors, and no more threads write the result. For the others `rayon` shares long vectors among threads, whatever the
 /// number of workers. Source: CVL's elementwise calls.
-pub fn int2<R: Threads + Sync, A: Memory>(
-    rt: &R,
-    alloc: A,
-    config: Config,
-    op: IntBinary,
-    a: &[i32],
-    b: &[i32],
-) -> Result<Vec<i32, A>, Refused>
-    requires in_limit { length a.now ≤ most_elements }
-    ensures values { Gives (λ v. v.items) result (ints2_of op a.now b.now) }
-    ensures as_long { IfOk result (λ v. vec_len v ≡ length a.now) }
-{
-    int2_gated(rt, alloc, config, op, a, b, &OpenGate)
-}
-
-/// [`int2`], by workers that pass a gate at `Claimed` and `Finished` of each tile for which they race.
-pub fn int2_gated<R: Threads + Sync, A: Memory, G: Gate>(
+///
+/// Workers who race for the first fault pass `gate` at `Claimed` and `Finished` of each tile.
+pub fn int2<R: Threads + Sync, A: Memory, G: Gate>(
     rt: &R,
     alloc: A,
     config: Config,

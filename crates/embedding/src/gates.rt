@@ -3,7 +3,7 @@
 use crew::{Gate, Point};
 use cvl_base::monoids::Add;
 use cvl_base::{Config, Memory, Refused};
-use scan_ops::scan_gated;
+use scan_ops::scan;
 use std::sync::atomic::{AtomicU64, Ordering};
 use std::thread::Threads;
 
@@ -30,6 +30,6 @@ pub fn scan_and_tiles<R: Threads + Sync, A: Memory>(
     let gate = Finished {
         tiles: AtomicU64::new(0),
     };
-    let sums = scan_gated::<_, _, Add, _>(rt, alloc, config, &[3, 1, 7, 0, 4], &gate)?;
+    let sums = scan::<_, _, Add, _>(rt, alloc, config, &[3, 1, 7, 0, 4], &gate)?;
     Ok((sums, gate.tiles.load(Ordering::SeqCst)))
 }

@@ -1,5 +1,6 @@
 //! Kernels, on vectors of the caller's own.
 
+use crew::OpenGate;
 use cvl_base::{Config, IntBinary, IntMonoid, Memory, Refused};
 use elementwise::int2;
 use scan_ops::seg_int_reduce;
@@ -14,7 +15,8 @@ pub fn sums<R: Threads + Sync, A: Memory>(
 ) -> Result<Vec<i32, A>, Refused> {
     let a = [3, 1, 7, 0, 4];
     let b = [1, 1, 1, 1, 1];
-    int2(rt, alloc, config, IntBinary::Monoid(IntMonoid::Add), &a, &b)
+    let add = IntBinary::Monoid(IntMonoid::Add);
+    int2(rt, alloc, config, add, &a, &b, &OpenGate)
 }
 
 /// The sum of each row of a ragged table, whose rows are segments.
@@ -24,5 +26,13 @@ pub fn sums_of_segments<R: Threads + Sync, A: Memory>(
     config: Config,
 ) -> Result<Vec<i32, A>, Refused> {
     let rows = SegDes::from_lengths(alloc, &[0, 2, 0, 3, 0])?;
-    seg_int_reduce(rt, alloc, config, IntMonoid::Add, &[5, 1, 7, 7, 1], &rows)
+    seg_int_reduce(
+        rt,
+        alloc,
+        config,
+        IntMonoid::Add,
+        &[5, 1, 7, 7, 1],
+        &rows,
+        &OpenGate,
+    )
 }

@@ -95,7 +95,11 @@ pub(crate) fn put_places<A: Memory, B: Memory>(
     };
     put_part(segment, vector.word(), text)?;
     put_pieces(text, &[b" has "])?;
-    put_counted(amount_in(target, segment, &vector, &descriptor), thing, text)
+    put_counted(
+        amount_in(target, segment, &vector, &descriptor),
+        thing,
+        text,
+    )
 }
 
 /// How far after the start the first place before another has this index.

@@ -8,7 +8,7 @@ ghost use Rattle.explained_values.specs.NumberWords.{reason_words};
 ghost use Rattle.explained_values.specs.ValueFaults.{number_fault_words};
 
 use crate::arguments::{Argument, spelled_at};
-use crate::index_words::{put_repeated, put_places};
+use crate::index_words::{put_places, put_repeated};
 use crate::sentences::{put_counted, put_element_name};
 use cvl_base::name::is_word_text;
 use cvl_base::{FaultNo, Kind, Memory, NoResources, Op};

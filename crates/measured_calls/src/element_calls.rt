@@ -2,6 +2,7 @@
 
 use crate::timing::{Answer, Bench, Case, Family, flags, ints, measure_cases};
 use crate::vectors::Shape;
+use crew::OpenGate;
 use cvl_base::limits::MOST_ELEMENTS;
 use cvl_base::{BoolBinary, Comparison, IntBinary, IntMonoid, Unary};
 use elementwise::{bool_from_int, bool1, bool2, compare, int_from_bool, int1, int2, select};
@@ -25,12 +26,15 @@ pub fn call<R: Threads + Sync>(bench: &Bench<'_, R>, case: &Case<'_>) -> Option<
     Some(match case.number {
         0 => {
             let add = IntBinary::Monoid(IntMonoid::Add);
-            ints("sum", int2(rt, alloc, config, add, a, b))
+            ints("sum", int2(rt, alloc, config, add, a, b, &OpenGate))
         }
-        1 => ints("quotient", int2(rt, alloc, config, IntBinary::Div, a, b)),
+        1 => ints(
+            "quotient",
+            int2(rt, alloc, config, IntBinary::Div, a, b, &OpenGate),
+        ),
         2 => ints(
             "left shift",
-            int2(rt, alloc, config, IntBinary::Lsh, a, shifts),
+            int2(rt, alloc, config, IntBinary::Lsh, a, shifts, &OpenGate),
         ),
         3 => flags(
             "greater",

@@ -3,6 +3,7 @@
 use crate::LENGTHS;
 use crate::timing::{Answer, Bench, Case, Family, ints, measure_cases};
 use crate::vectors::Shape;
+use crew::OpenGate;
 use cvl_base::limits::MOST_ELEMENTS;
 use pack_dist::{
     count_true, distribute, index, pack, seg_count, seg_distribute, seg_index, seg_pack,
@@ -26,14 +27,17 @@ pub fn call<R: Threads + Sync>(bench: &Bench<'_, R>, case: &Case<'_>) -> Option<
     let first = firsts.first().copied().unwrap_or(0);
     let count = flags.len() as i32;
     Some(match case.number {
-        0 => ints("pack", pack(rt, alloc, config, xs, flags)),
+        0 => ints("pack", pack(rt, alloc, config, xs, flags, &OpenGate)),
         1 => ("count", i32::try_from(count_true(flags)).ok()),
         2 => ints("distribute", distribute(rt, alloc, config, first, count)),
         3 => ints("index", index(rt, alloc, config, first, first, count)),
-        4 => ints("count by segments", seg_count(rt, alloc, config, flags, d)),
+        4 => ints(
+            "count by segments",
+            seg_count(rt, alloc, config, flags, d, &OpenGate),
+        ),
         5 => (
             "pack by segments",
-            match seg_pack(rt, alloc, config, xs, flags, d) {
+            match seg_pack(rt, alloc, config, xs, flags, d, &OpenGate) {
                 Ok((packed, _lengths)) => packed.last().copied(),
                 Err(_) => None,
             },

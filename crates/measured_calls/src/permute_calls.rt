@@ -3,6 +3,7 @@
 use crate::LENGTHS;
 use crate::timing::{Answer, Bench, Case, Family, ints, measure_cases};
 use crate::vectors::Shape;
+use crew::OpenGate;
 use cvl_base::limits::MOST_ELEMENTS;
 use permutes::{back, default_into, select, simple};
 use segmented_permutes::{seg_back, seg_default_into, seg_select, seg_simple};
@@ -27,25 +28,31 @@ pub fn call<R: Threads + Sync>(bench: &Bench<'_, R>, case: &Case<'_>) -> Option<
         return None;
     }
     let (name, answer) = match case.number {
-        0 => ("simple", simple(rt, alloc, config, xs, is)),
-        1 => ("back", back(rt, alloc, config, xs, is)),
-        2 => ("select of half", select(rt, alloc, config, xs, is, chosen)),
-        3 => ("default", default_into(rt, alloc, config, xs, is, defaults)),
+        0 => ("simple", simple(rt, alloc, config, xs, is, &OpenGate)),
+        1 => ("back", back(rt, alloc, config, xs, is, &OpenGate)),
+        2 => (
+            "select of half",
+            select(rt, alloc, config, xs, is, chosen, &OpenGate),
+        ),
+        3 => (
+            "default",
+            default_into(rt, alloc, config, xs, is, defaults, &OpenGate),
+        ),
         4 => (
             "simple by segments",
-            seg_simple(rt, alloc, config, xs, is, d),
+            seg_simple(rt, alloc, config, xs, is, d, &OpenGate),
         ),
         5 => (
             "back by segments",
-            seg_back(rt, alloc, config, xs, is, d, d),
+            seg_back(rt, alloc, config, xs, is, d, d, &OpenGate),
         ),
         6 => (
             "select of half by segments",
-            seg_select(rt, alloc, config, xs, is, chosen, d),
+            seg_select(rt, alloc, config, xs, is, chosen, d, &OpenGate),
         ),
         7 => (
             "default by segments",
-            seg_default_into(rt, alloc, config, xs, is, defaults, d, d),
+            seg_default_into(rt, alloc, config, xs, is, defaults, d, d, &OpenGate),
         ),
         _ => return None,
     };

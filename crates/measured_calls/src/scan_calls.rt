@@ -3,6 +3,7 @@
 use crate::LENGTHS;
 use crate::timing::{Answer, Bench, Case, Family, ints, measure_cases};
 use crate::vectors::Shape;
+use crew::OpenGate;
 use cvl_base::IntMonoid;
 use cvl_base::limits::MOST_ELEMENTS;
 use scan_ops::{
@@ -25,28 +26,34 @@ pub fn call<R: Threads + Sync>(bench: &Bench<'_, R>, case: &Case<'_>) -> Option<
         return None;
     }
     Some(match case.number {
-        0 => ints("scan of sums", int_scan(rt, alloc, config, add, a)),
-        1 => ("sum", int_reduce(rt, alloc, config, add, a).ok()),
+        0 => ints(
+            "scan of sums",
+            int_scan(rt, alloc, config, add, a, &OpenGate),
+        ),
+        1 => ("sum", int_reduce(rt, alloc, config, add, a, &OpenGate).ok()),
         2 => ints(
             "checked scan of sums",
-            checked_scan(rt, alloc, config, small),
+            checked_scan(rt, alloc, config, small, &OpenGate),
         ),
-        3 => ("checked sum", checked_reduce(rt, alloc, config, small).ok()),
+        3 => (
+            "checked sum",
+            checked_reduce(rt, alloc, config, small, &OpenGate).ok(),
+        ),
         4 => ints(
             "scan of sums by segments",
-            seg_int_scan(rt, alloc, config, add, a, d),
+            seg_int_scan(rt, alloc, config, add, a, d, &OpenGate),
         ),
         5 => ints(
             "sums by segments",
-            seg_int_reduce(rt, alloc, config, add, a, d),
+            seg_int_reduce(rt, alloc, config, add, a, d, &OpenGate),
         ),
         6 => ints(
             "checked scan of sums by segments",
-            checked_seg_scan(rt, alloc, config, small, d),
+            checked_seg_scan(rt, alloc, config, small, d, &OpenGate),
         ),
         7 => ints(
             "checked sums by segments",
-            checked_seg_reduce(rt, alloc, config, small, d),
+            checked_seg_reduce(rt, alloc, config, small, d, &OpenGate),
         ),
         _ => return None,
     })

@@ -9,7 +9,7 @@ ghost use Rattle.cvl_base.specs.Packs.{count_of};
 ghost use Rattle.cvl_base.specs.SegmentedCalls.{seg_count_of};
 ghost use Rattle.pack_dist.specs.Kept.{counts_before};
 
-use crew::{Gate, OpenGate};
+use crew::Gate;
 use cvl_base::monoid::know_laws;
 use cvl_base::monoids::Add;
 use cvl_base::{Config, Memory, NoResources, Refused, true_count};
@@ -17,7 +17,7 @@ use scan_walks::Reading;
 use segdes::SegDes;
 use sharing::Pace;
 use std::thread::Threads;
-use tile_scans::{befores_of_readings, seg_reduce_readings_gated};
+use tile_scans::{befores_of_readings, seg_reduce_readings};
 
 /// Reads a true flag as 1 and a false one as 0, so that the sum of flags is their count.
 struct Ones;
@@ -60,25 +60,9 @@ pub(crate) fn counts_before<R: Threads + Sync, A: Memory, G: Gate>(
 ///
 /// The result has one number for each segment, even if empty, and you can make it a descriptor. `LengthMismatch`, without a
 /// place, if the segments' total is not the number of flags. Source: CVL's segmented count.
-pub fn seg_count<R: Threads + Sync, A: Memory>(
-    rt: &R,
-    alloc: A,
-    config: Config,
-    flags: &[bool],
-    d: &SegDes<A>,
-) -> Result<Vec<i32, A>, Refused>
-    requires few { length d.now ≤ most_elements }
-    requires in_limit { sum d.now ≤ most_elements }
-    ensures values { Gives (λ counts. map unsigned_abs counts.items) result
-        (seg_count_of flags.now d.now) }
-    ensures lengths { IfOk result (λ counts. AreLengths counts.items) }
-    ensures one_each { IfOk result (λ counts. vec_len counts ≡ length d.now) }
-{
-    seg_count_gated(rt, alloc, config, flags, d, &OpenGate)
-}
-
-/// [`seg_count`], by workers that pass a gate at each point of their way through a tile.
-pub fn seg_count_gated<R: Threads + Sync, A: Memory, G: Gate>(
+///
+/// Workers who race pass `gate` at each point of their way through a tile.
+pub fn seg_count<R: Threads + Sync, A: Memory, G: Gate>(
     rt: &R,
     alloc: A,
     config: Config,
@@ -93,5 +77,5 @@ pub fn seg_count_gated<R: Threads + Sync, A: Memory, G: Gate>(
     ensures lengths { IfOk result (λ counts. AreLengths counts.items) }
     ensures one_each { IfOk result (λ counts. vec_len counts ≡ length d.now) }
 {
-    seg_reduce_readings_gated::<R, A, Add, bool, Ones, G>(rt, alloc, config, flags, d, gate)
+    seg_reduce_readings::<R, A, Add, bool, Ones, G>(rt, alloc, config, flags, d, gate)
 }

@@ -16,12 +16,10 @@ mod replaces;
 mod segment_packs;
 mod writes;
 
-pub use counts::{count_true, seg_count, seg_count_gated};
+pub use counts::{count_true, seg_count};
 pub use distributes::{distribute, distribute_over, seg_distribute, seg_distribute_over};
 pub use extracts::{extract, seg_extract};
 pub use indexes::{index, index_over, seg_index, seg_index_over};
-pub use packs::{pack, pack_gated, pack_over};
+pub use packs::{pack, pack_over};
 pub use replaces::{replace, seg_replace};
-pub use segment_packs::{
-    packed_descriptor_gated, seg_pack, seg_pack_values_gated, seg_pack_values_over,
-};
+pub use segment_packs::{packed_descriptor, seg_pack, seg_pack_values, seg_pack_values_over};

@@ -11,7 +11,7 @@ ghost use Rattle.pack_dist.specs.Kept.{kept_of};
 use crate::counts::counts_before;
 use crate::kept_blocks::push_kept;
 use crate::kept_tiles::{Kept, write_kept_tiles};
-use crew::{Gate, OpenGate};
+use crew::Gate;
 use cvl_base::{Config, Fault, FaultNo, Memory, NoResources, Refused, check_agree, true_count};
 use fresh::{Room, Run, fill_slice};
 use std::thread::Threads;
@@ -21,22 +21,9 @@ use tile_scans::scan_pace;
 ///
 /// There are at most 2,147,483,647 flags. `LengthMismatch`, without a place, if there aren't as many flags as elements. Source:
 /// CVL's pack.
-pub fn pack<T: Copy + Send + Sync, R: Threads + Sync, A: Memory>(
-    rt: &R,
-    alloc: A,
-    config: Config,
-    values: &[T],
-    flags: &[bool],
-) -> Result<Vec<T, A>, Refused>
-    requires few { length flags.now ≤ most_places }
-    ensures values { Gives (λ v. v.items) result (pack_of values.now flags.now) }
-    ensures no_longer { IfOk result (λ v. vec_len v ≤ length values.now) }
-{
-    pack_gated(rt, alloc, config, values, flags, &OpenGate)
-}
-
-/// [`pack`], by workers that pass a gate at each point of their way through a tile of the flags.
-pub fn pack_gated<T: Copy + Send + Sync, R: Threads + Sync, A: Memory, G: Gate>(
+///
+/// Workers who race pass `gate` at each point of their way through a tile of the flags.
+pub fn pack<T: Copy + Send + Sync, R: Threads + Sync, A: Memory, G: Gate>(
     rt: &R,
     alloc: A,
     config: Config,

@@ -5,7 +5,7 @@ ghost use Rattle.cvl_base.specs.Gives.{Gives};
 ghost use Rattle.cvl_base.specs.Limits.{most_elements};
 ghost use Rattle.cvl_base.specs.Permutes.{back_of};
 
-use crew::{Gate, OpenGate};
+use crew::Gate;
 use cvl_base::{Config, Memory, Refused};
 use permute_races::{check_indices_raced, permute_pace};
 use permute_walks::{ElementsTaken, take_in_runs, take_nothing};
@@ -16,23 +16,9 @@ use std::thread::Threads;
 ///
 /// The result is as long as the index. An index that is no place of the source is `IndexOutOfRange` at its place; an index may
 /// repeat. Source: CVL's back permute.
-pub fn back<T: Copy + Send + Sync, R: Threads + Sync, A: Memory>(
-    rt: &R,
-    alloc: A,
-    config: Config,
-    source: &[T],
-    index: &[i32],
-) -> Result<Vec<T, A>, Refused>
-    requires in_limit { length index.now ≤ most_elements }
-    ensures values { Gives (λ v. v.items) result (back_of source.now index.now) }
-    ensures as_long { IfOk result (λ v. vec_len v ≡ length index.now) }
-{
-    back_gated(rt, alloc, config, source, index, &OpenGate)
-}
-
-/// `back` with a gate for workers who race for the first bad index. Each passes it at `Claimed` and `Finished` of each of its
-/// tiles.
-pub fn back_gated<T: Copy + Send + Sync, R: Threads + Sync, A: Memory, G: Gate>(
+///
+/// Workers who race for the first bad index pass `gate` at `Claimed` and `Finished` of each tile.
+pub fn back<T: Copy + Send + Sync, R: Threads + Sync, A: Memory, G: Gate>(
     rt: &R,
     alloc: A,
     config: Config,

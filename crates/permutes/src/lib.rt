@@ -24,8 +24,8 @@ mod second_walk;
 mod sends;
 mod ways;
 
-pub use backs::{back, back_gated};
+pub use backs::back;
 pub use permutes_over::{back_over, default_into_over, select_over, simple_over};
 pub use second_walk::{elements_of_senders, elements_of_senders_over};
-pub use sends::{default_into, default_into_gated, select, select_gated, simple, simple_gated};
+pub use sends::{default_into, select, simple};
 pub use ways::{Way, segment_way};

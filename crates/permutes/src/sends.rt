@@ -7,7 +7,7 @@ ghost use Rattle.cvl_base.specs.Limits.{most_elements};
 ghost use Rattle.cvl_base.specs.Permutes.{default_of, select_of, simple_of};
 
 use crate::one_or_two_walks::permuted;
-use crew::{Gate, OpenGate};
+use crew::Gate;
 use cvl_base::{Config, Memory, Refused, check_agree, true_count};
 use permute_walks::{AllDestinations, Before, FlaggedDestinations};
 use std::thread::Threads;
@@ -17,23 +17,9 @@ use std::thread::Threads;
 /// Source, index and result have the same length, else `LengthMismatch`, without a place. An index that is no place of the result
 /// is `IndexOutOfRange` at its place, and one that an earlier place already has is `IndexRepeated` at the later place. The first
 /// bad place is reported. Source: CVL's permute.
-pub fn simple<T: Copy + Send + Sync, R: Threads + Sync, A: Memory>(
-    rt: &R,
-    alloc: A,
-    config: Config,
-    source: &[T],
-    index: &[i32],
-) -> Result<Vec<T, A>, Refused>
-    requires in_limit { length index.now ≤ most_elements }
-    ensures values { Gives (λ v. v.items) result (simple_of source.now index.now) }
-    ensures as_long { IfOk result (λ v. vec_len v ≡ length index.now) }
-{
-    simple_gated(rt, alloc, config, source, index, &OpenGate)
-}
-
-/// `simple` with a gate for workers who race, for the senders and then for the first bad place. Each passes it at `Claimed` and
-/// `Finished` of each of its tiles.
-pub fn simple_gated<T: Copy + Send + Sync, R: Threads + Sync, A: Memory, G: Gate>(
+///
+/// Workers who race, for the senders and then for the first bad place, pass `gate` at `Claimed` and `Finished` of each tile.
+pub fn simple<T: Copy + Send + Sync, R: Threads + Sync, A: Memory, G: Gate>(
     rt: &R,
     alloc: A,
     config: Config,
@@ -56,24 +42,9 @@ pub fn simple_gated<T: Copy + Send + Sync, R: Threads + Sync, A: Memory, G: Gate
 /// Source, index and flags have the same length, else `LengthMismatch`, without a place; the result has one place for each true
 /// flag. The faults are those of `simple`, at places whose flag is true; no other index is checked. Source: this library's
 /// profile of CVL's select permute.
-pub fn select<T: Copy + Send + Sync, R: Threads + Sync, A: Memory>(
-    rt: &R,
-    alloc: A,
-    config: Config,
-    source: &[T],
-    index: &[i32],
-    flags: &[bool],
-) -> Result<Vec<T, A>, Refused>
-    requires in_limit { length index.now ≤ most_elements }
-    ensures values { Gives (λ v. v.items) result (select_of source.now index.now flags.now) }
-    ensures in_length { IfOk result (λ v. vec_len v ≤ length index.now) }
-{
-    select_gated(rt, alloc, config, source, index, flags, &OpenGate)
-}
-
-/// `select` with a gate for workers who race, for the senders and then for the first bad place. Each passes it at `Claimed` and
-/// `Finished` of each of its tiles.
-pub fn select_gated<T: Copy + Send + Sync, R: Threads + Sync, A: Memory, G: Gate>(
+///
+/// Workers who race, for the senders and then for the first bad place, pass `gate` at `Claimed` and `Finished` of each tile.
+pub fn select<T: Copy + Send + Sync, R: Threads + Sync, A: Memory, G: Gate>(
     rt: &R,
     alloc: A,
     config: Config,
@@ -98,24 +69,9 @@ pub fn select_gated<T: Copy + Send + Sync, R: Threads + Sync, A: Memory, G: Gate
 ///
 /// Source and index have the same length, else `LengthMismatch`, without a place; the result is as long as the defaults. Faults
 /// are those of `simple`. Source: this library's profile of CVL's default permute.
-pub fn default_into<T: Copy + Send + Sync, R: Threads + Sync, A: Memory>(
-    rt: &R,
-    alloc: A,
-    config: Config,
-    source: &[T],
-    index: &[i32],
-    defaults: &[T],
-) -> Result<Vec<T, A>, Refused>
-    requires in_limit { length index.now ≤ most_elements }
-    ensures values { Gives (λ v. v.items) result (default_of source.now index.now defaults.now) }
-    ensures as_long { IfOk result (λ v. vec_len v ≡ length defaults.now) }
-{
-    default_into_gated(rt, alloc, config, source, index, defaults, &OpenGate)
-}
-
-/// `default_into` with a gate for workers who race, for the senders and then for the first bad place. Each passes it at `Claimed`
-/// and `Finished` of each of its tiles.
-pub fn default_into_gated<T: Copy + Send + Sync, R: Threads + Sync, A: Memory, G: Gate>(
+///
+/// Workers who race, for the senders and then for the first bad place, pass `gate` at `Claimed` and `Finished` of each tile.
+pub fn default_into<T: Copy + Send + Sync, R: Threads + Sync, A: Memory, G: Gate>(
     rt: &R,
     alloc: A,
     config: Config,

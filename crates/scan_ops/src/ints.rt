@@ -5,31 +5,19 @@ ghost use Rattle.cvl_base.specs.Gives.{Gives};
 ghost use Rattle.cvl_base.specs.Scans.{int_join_of, int_reduce_of, int_scan_of, int_unit_of};
 ghost use Rattle.cvl_base.specs.SegmentedCalls.{seg_reduce_of, seg_scan_of};
 
-use crew::{Gate, OpenGate};
+use crew::Gate;
 use cvl_base::{Config, IntMonoid, Memory, NoResources, Refused, by_int_monoid};
 use scan_walks::know_numbers;
 use segdes::SegDes;
 use std::thread::Threads;
-use tile_scans::{reduce_gated, scan_gated, seg_reduce_gated, seg_scan_gated};
+use tile_scans::{reduce, scan, seg_reduce, seg_scan};
 
 /// The exclusive scan by an operator of the table: `add_suz` and its like.
 ///
 /// The result is as long as the vector. Source: CVL's scans.
-pub fn int_scan<R: Threads + Sync, A: Memory>(
-    rt: &R,
-    alloc: A,
-    config: Config,
-    op: IntMonoid,
-    a: &[i32],
-) -> Result<Vec<i32, A>, NoResources>
-    ensures values { IfOk result (λ sums. sums.items ≡ int_scan_of op a.now) }
-    ensures as_long { IfOk result (λ sums. vec_len sums ≡ length a.now) }
-{
-    int_scan_gated(rt, alloc, config, op, a, &OpenGate)
-}
-
-/// The same as [`int_scan`], by workers that pass a gate at each point of their way through a tile.
-pub fn int_scan_gated<R: Threads + Sync, A: Memory, G: Gate>(
+///
+/// Workers who race pass `gate` at each point of their way through a tile.
+pub fn int_scan<R: Threads + Sync, A: Memory, G: Gate>(
     rt: &R,
     alloc: A,
     config: Config,
@@ -41,26 +29,15 @@ pub fn int_scan_gated<R: Threads + Sync, A: Memory, G: Gate>(
     ensures as_long { IfOk result (λ sums. vec_len sums ≡ length a.now) }
 {
     know_numbers(a);
-    by_int_monoid!(op, scan_gated::<R, A, _, G>(rt, alloc, config, a, gate))
+    by_int_monoid!(op, scan::<R, A, _, G>(rt, alloc, config, a, gate))
 }
 
 /// The elements joined by an operator of the table, and its identity where there are none.
 ///
 /// Source: CVL's reduces.
-pub fn int_reduce<R: Threads + Sync, A: Memory>(
-    rt: &R,
-    alloc: A,
-    config: Config,
-    op: IntMonoid,
-    a: &[i32],
-) -> Result<i32, NoResources>
-    ensures { IfOk result (λ sum. sum ≡ int_reduce_of op a.now) }
-{
-    int_reduce_gated(rt, alloc, config, op, a, &OpenGate)
-}
-
-/// The same as [`int_reduce`], by workers that pass a gate at each point of their way through a tile.
-pub fn int_reduce_gated<R: Threads + Sync, A: Memory, G: Gate>(
+///
+/// Workers who race pass `gate` at each point of their way through a tile.
+pub fn int_reduce<R: Threads + Sync, A: Memory, G: Gate>(
     rt: &R,
     alloc: A,
     config: Config,
@@ -71,30 +48,16 @@ pub fn int_reduce_gated<R: Threads + Sync, A: Memory, G: Gate>(
     ensures { IfOk result (λ sum. sum ≡ int_reduce_of op a.now) }
 {
     know_numbers(a);
-    by_int_monoid!(op, reduce_gated::<R, A, _, G>(rt, alloc, config, a, gate))
+    by_int_monoid!(op, reduce::<R, A, _, G>(rt, alloc, config, a, gate))
 }
 
 /// The exclusive scan of each segment by an operator of the table.
 ///
 /// The result is as long as the vector. LengthMismatch, without a place, where the segments' total is not the number of
 /// elements. Source: CVL's segmented scans.
-pub fn seg_int_scan<R: Threads + Sync, A: Memory>(
-    rt: &R,
-    alloc: A,
-    config: Config,
-    op: IntMonoid,
-    a: &[i32],
-    d: &SegDes<A>,
-) -> Result<Vec<i32, A>, Refused>
-    ensures values { Gives (λ sums. sums.items) result
-        (seg_scan_of (int_join_of op) (int_unit_of op) a.now d.now) }
-    ensures as_long { IfOk result (λ sums. vec_len sums ≡ length a.now) }
-{
-    seg_int_scan_gated(rt, alloc, config, op, a, d, &OpenGate)
-}
-
-/// The same as [`seg_int_scan`], by workers that pass a gate at each point of their way through a tile.
-pub fn seg_int_scan_gated<R: Threads + Sync, A: Memory, G: Gate>(
+///
+/// Workers who race pass `gate` at each point of their way through a tile.
+pub fn seg_int_scan<R: Threads + Sync, A: Memory, G: Gate>(
     rt: &R,
     alloc: A,
     config: Config,
@@ -108,33 +71,16 @@ pub fn seg_int_scan_gated<R: Threads + Sync, A: Memory, G: Gate>(
     ensures as_long { IfOk result (λ sums. vec_len sums ≡ length a.now) }
 {
     know_numbers(a);
-    by_int_monoid!(
-        op,
-        seg_scan_gated::<R, A, _, G>(rt, alloc, config, a, d, gate)
-    )
+    by_int_monoid!(op, seg_scan::<R, A, _, G>(rt, alloc, config, a, d, gate))
 }
 
 /// For each segment its elements joined by an operator of the table, and the operator's identity where it is empty.
 ///
 /// The result has one element for each segment. LengthMismatch, without a place, where the segments' total is not the
 /// number of elements. Source: CVL's segmented reduces.
-pub fn seg_int_reduce<R: Threads + Sync, A: Memory>(
-    rt: &R,
-    alloc: A,
-    config: Config,
-    op: IntMonoid,
-    a: &[i32],
-    d: &SegDes<A>,
-) -> Result<Vec<i32, A>, Refused>
-    ensures values { Gives (λ sums. sums.items) result
-        (seg_reduce_of (int_join_of op) (int_unit_of op) a.now d.now) }
-    ensures one_each { IfOk result (λ sums. vec_len sums ≡ length d.now) }
-{
-    seg_int_reduce_gated(rt, alloc, config, op, a, d, &OpenGate)
-}
-
-/// The same as [`seg_int_reduce`], by workers that pass a gate at each point of their way through a tile.
-pub fn seg_int_reduce_gated<R: Threads + Sync, A: Memory, G: Gate>(
+///
+/// Workers who race pass `gate` at each point of their way through a tile.
+pub fn seg_int_reduce<R: Threads + Sync, A: Memory, G: Gate>(
     rt: &R,
     alloc: A,
     config: Config,
@@ -148,8 +94,5 @@ pub fn seg_int_reduce_gated<R: Threads + Sync, A: Memory, G: Gate>(
     ensures one_each { IfOk result (λ sums. vec_len sums ≡ length d.now) }
 {
     know_numbers(a);
-    by_int_monoid!(
-        op,
-        seg_reduce_gated::<R, A, _, G>(rt, alloc, config, a, d, gate)
-    )
+    by_int_monoid!(op, seg_reduce::<R, A, _, G>(rt, alloc, config, a, d, gate))
 }

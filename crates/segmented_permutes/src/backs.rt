@@ -8,7 +8,7 @@ ghost use Rattle.segmented_permutes.specs.Backs.{outside_from};
 
 use crate::back_segments::SegmentsTaken;
 use crate::flat_indices::flat_indices;
-use crew::{Gate, OpenGate};
+use crew::Gate;
 use cvl_base::{Config, Memory, Refused, check_agree};
 use permute_races::{check_indices_raced, permute_pace};
 use permute_walks::{take_in_runs, take_nothing};
@@ -49,28 +49,9 @@ fn check_indices_raced_by_segments<R: Threads + Sync, A: Memory, G: Gate>(
 /// have the same number of segments, else `LengthMismatch`, without a place. The result is as long as the index. An index counts
 /// from the start of its segment of the source; one that is no place of that is `IndexOutOfRange` at its place in the whole
 /// index; an index may repeat. Source: CVL's segmented back permute.
-pub fn seg_back<T: Copy + Send + Sync, R: Threads + Sync, A: Memory>(
-    rt: &R,
-    alloc: A,
-    config: Config,
-    source: &[T],
-    index: &[i32],
-    source_d: &SegDes<A>,
-    index_d: &SegDes<A>,
-) -> Result<Vec<T, A>, Refused>
-    requires in_limit { length index.now ≤ most_elements }
-    ensures values { Gives (λ v. v.items) result
-        (seg_back_of source.now index.now source_d.now index_d.now) }
-    ensures as_long { IfOk result (λ v. vec_len v ≡ length index.now) }
-{
-    seg_back_gated(
-        rt, alloc, config, source, index, source_d, index_d, &OpenGate,
-    )
-}
-
-/// `seg_back` with a gate for workers who race for the first bad index. Each passes it at `Claimed` and `Finished` of each of its
-/// tiles.
-pub fn seg_back_gated<T: Copy + Send + Sync, R: Threads + Sync, A: Memory, G: Gate>(
+///
+/// Workers who race for the first bad index pass `gate` at `Claimed` and `Finished` of each tile.
+pub fn seg_back<T: Copy + Send + Sync, R: Threads + Sync, A: Memory, G: Gate>(
     rt: &R,
     alloc: A,
     config: Config,

@@ -24,9 +24,6 @@ mod segment_gathers;
 mod segments_over;
 mod sends;
 
-pub use backs::{seg_back, seg_back_gated};
+pub use backs::seg_back;
 pub use segments_over::{seg_back_over, seg_default_into_over, seg_select_over, seg_simple_over};
-pub use sends::{
-    seg_default_into, seg_default_into_gated, seg_select, seg_select_gated, seg_simple,
-    seg_simple_gated,
-};
+pub use sends::{seg_default_into, seg_select, seg_simple};

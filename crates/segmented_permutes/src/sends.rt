@@ -8,7 +8,7 @@ ghost use Rattle.cvl_base.specs.SegmentedCalls.{seg_default_of, seg_select_of, s
 
 use crate::first_walk::{flagged_segment_senders, segment_senders};
 use crate::one_walk::permuted_in_one;
-use crew::{Gate, OpenGate};
+use crew::Gate;
 use cvl_base::{Config, Memory, Refused, check_agree, true_count};
 use permute_walks::Before;
 use permutes::elements_of_senders;
@@ -22,24 +22,9 @@ use std::thread::Threads;
 /// the start of its segment; one that is no place of it is `IndexOutOfRange`, and one that an earlier place of the segment
 /// already has is `IndexRepeated` at the later place. The first bad place is reported, as a place of the whole index. Source:
 /// CVL's segmented permute.
-pub fn seg_simple<T: Copy + Send + Sync, R: Threads + Sync, A: Memory>(
-    rt: &R,
-    alloc: A,
-    config: Config,
-    source: &[T],
-    index: &[i32],
-    d: &SegDes<A>,
-) -> Result<Vec<T, A>, Refused>
-    requires in_limit { length index.now ≤ most_elements }
-    ensures values { Gives (λ v. v.items) result (seg_simple_of source.now index.now d.now) }
-    ensures in_length { IfOk result (λ v. vec_len v ≤ length index.now) }
-{
-    seg_simple_gated(rt, alloc, config, source, index, d, &OpenGate)
-}
-
-/// `seg_simple` with a gate for workers who race, for the senders and then for the first bad place. Each passes it at `Claimed`
-/// and `Finished` of each of its tiles.
-pub fn seg_simple_gated<T: Copy + Send + Sync, R: Threads + Sync, A: Memory, G: Gate>(
+///
+/// Workers who race, for the senders and then for the first bad place, pass `gate` at `Claimed` and `Finished` of each tile.
+pub fn seg_simple<T: Copy + Send + Sync, R: Threads + Sync, A: Memory, G: Gate>(
     rt: &R,
     alloc: A,
     config: Config,
@@ -73,26 +58,9 @@ pub fn seg_simple_gated<T: Copy + Send + Sync, R: Threads + Sync, A: Memory, G: 
 /// Source, index and flags are as long as the segments together, else `LengthMismatch`, without a place. A segment of the result
 /// has one place for each of its true flags. The faults are those of `seg_simple`, at places whose flag is true; no other index
 /// is checked. Source: this library's profile of CVL's segmented select permute.
-pub fn seg_select<T: Copy + Send + Sync, R: Threads + Sync, A: Memory>(
-    rt: &R,
-    alloc: A,
-    config: Config,
-    source: &[T],
-    index: &[i32],
-    flags: &[bool],
-    d: &SegDes<A>,
-) -> Result<Vec<T, A>, Refused>
-    requires in_limit { length index.now ≤ most_elements }
-    ensures values { Gives (λ v. v.items) result
-        (seg_select_of source.now index.now flags.now d.now) }
-    ensures in_length { IfOk result (λ v. vec_len v ≤ length index.now) }
-{
-    seg_select_gated(rt, alloc, config, source, index, flags, d, &OpenGate)
-}
-
-/// `seg_select` with a gate for workers who race, for the senders and then for the first bad place. Each passes it at `Claimed`
-/// and `Finished` of each of its tiles.
-pub fn seg_select_gated<T: Copy + Send + Sync, R: Threads + Sync, A: Memory, G: Gate>(
+///
+/// Workers who race, for the senders and then for the first bad place, pass `gate` at `Claimed` and `Finished` of each tile.
+pub fn seg_select<T: Copy + Send + Sync, R: Threads + Sync, A: Memory, G: Gate>(
     rt: &R,
     alloc: A,
     config: Config,
@@ -128,29 +96,9 @@ pub fn seg_select_gated<T: Copy + Send + Sync, R: Threads + Sync, A: Memory, G: 
 /// descriptors have the same number of segments, else `LengthMismatch`, without a place. The result is as long as the defaults.
 /// The faults are those of `seg_simple`, for an index into the segment of the defaults. Source: this library's profile of CVL's
 /// segmented default permute.
-pub fn seg_default_into<T: Copy + Send + Sync, R: Threads + Sync, A: Memory>(
-    rt: &R,
-    alloc: A,
-    config: Config,
-    source: &[T],
-    index: &[i32],
-    defaults: &[T],
-    source_d: &SegDes<A>,
-    default_d: &SegDes<A>,
-) -> Result<Vec<T, A>, Refused>
-    requires in_limit { length index.now ≤ most_elements }
-    ensures values { Gives (λ v. v.items) result
-        (seg_default_of source.now index.now defaults.now source_d.now default_d.now) }
-    ensures as_long { IfOk result (λ v. vec_len v ≡ length defaults.now) }
-{
-    seg_default_into_gated(
-        rt, alloc, config, source, index, defaults, source_d, default_d, &OpenGate,
-    )
-}
-
-/// `seg_default_into` with a gate for workers who race, for the senders and then for the first bad place. Each passes it at
-/// `Claimed` and `Finished` of each of its tiles.
-pub fn seg_default_into_gated<T: Copy + Send + Sync, R: Threads + Sync, A: Memory, G: Gate>(
+///
+/// Workers who race, for the senders and then for the first bad place, pass `gate` at `Claimed` and `Finished` of each tile.
+pub fn seg_default_into<T: Copy + Send + Sync, R: Threads + Sync, A: Memory, G: Gate>(
     rt: &R,
     alloc: A,
     config: Config,

@@ -12,6 +12,7 @@ use permutes::simple_over;
 use recipes::{line_of_sight, sparse_matvec};
 use scan_ops::{reduce, scan, seg_reduce, seg_scan};
 use segdes::SegDes;
+use shell::OpenGate;
 use std::thread::Threads;
 
 /// A call.
@@ -48,7 +49,7 @@ fn packed<R: Threads + Sync, A: Memory>(
     requires in_limit { sum d.now ≤ most_elements }
 {
     let flags = &[true, false, true, true, false];
-    let (mut values, lengths) = seg_pack(rt, heap, config, XS, flags, d)?;
+    let (mut values, lengths) = seg_pack(rt, heap, config, XS, flags, d, &OpenGate)?;
     values.extend_from_slice(lengths.lengths())?;
     Ok(values)
 }
@@ -87,10 +88,12 @@ pub fn answer_of<R: Threads + Sync, A: Memory>(
     let config = Config::new(1, 3).unwrap();
     let d = SegDes::from_lengths(heap, &[2, 0, 3])?;
     match call {
-        Call::Scan => Ok(scan::<R, A, Add>(rt, heap, config, XS)?),
-        Call::Reduce => Ok(vec![in heap; reduce::<R, A, Add>(rt, heap, config, XS)?]?),
-        Call::SegScan => seg_scan::<R, A, Add>(rt, heap, config, XS, &d),
-        Call::SegReduce => seg_reduce::<R, A, Add>(rt, heap, config, XS, &d),
+        Call::Scan => Ok(scan::<R, A, Add, OpenGate>(rt, heap, config, XS, &OpenGate)?),
+        Call::Reduce => Ok(vec![in heap;
+            reduce::<R, A, Add, OpenGate>(rt, heap, config, XS, &OpenGate)?,
+        ]?),
+        Call::SegScan => seg_scan::<R, A, Add, OpenGate>(rt, heap, config, XS, &d, &OpenGate),
+        Call::SegReduce => seg_reduce::<R, A, Add, OpenGate>(rt, heap, config, XS, &d, &OpenGate),
         Call::SimpleOver => over(heap),
         Call::SegPack => packed(rt, heap, config, &d),
         Call::Product => product(rt, heap, config),

@@ -27,6 +27,6 @@ mod tiled;
 pub use pace::{reduce_pace, scan_pace};
 pub use race::race_for_befores;
 pub use readings::befores_of_readings;
-pub use reduces::{reduce, reduce_gated, seg_reduce, seg_reduce_gated, seg_reduce_readings_gated};
-pub use scans::{scan, scan_gated, scan_readings_gated, seg_scan, seg_scan_gated};
+pub use reduces::{reduce, seg_reduce, seg_reduce_readings};
+pub use scans::{scan, scan_readings, seg_scan};
 pub use scans_after_befores::scan_after_befores;

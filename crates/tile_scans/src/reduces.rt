@@ -10,7 +10,7 @@ use crate::known_befores::KnownBefores;
 use crate::pace::reduce_pace;
 use crate::race::race_for_befores;
 use crate::tiled::Tiled;
-use crew::{Gate, OpenGate};
+use crew::Gate;
 use cvl_base::monoid::know_laws;
 use cvl_base::{Config, Memory, NoResources, Packed, Refused};
 use scan_walks::{Itself, Reading, seg_reduce_vec, sum_from};
@@ -21,22 +21,9 @@ use std::thread::Threads;
 /// The elements joined from left to right, and the unit where there are none.
 ///
 /// The elements must be items of the monoid. Source: CVL's reduces.
-pub fn reduce<R: Threads + Sync, A: Memory, M: Packed + Send + Sync>(
-    rt: &R,
-    alloc: A,
-    config: Config,
-    a: &[M::Item],
-) -> Result<M::Item, NoResources>
-where
-    M::Item: Send + Sync,
-    requires items { AllPass M.is_item a.now }
-    ensures { IfOk result (λ sum. sum ≡ fold_of M.join M.unit a.now) }
-{
-    reduce_gated::<R, A, M, OpenGate>(rt, alloc, config, a, &OpenGate)
-}
-
-/// The same as [`reduce`], by workers that pass a gate at each point of their way through a tile.
-pub fn reduce_gated<R: Threads + Sync, A: Memory, M: Packed + Send + Sync, G: Gate>(
+///
+/// Workers who race pass `gate` at each point of their way through a tile.
+pub fn reduce<R: Threads + Sync, A: Memory, M: Packed + Send + Sync, G: Gate>(
     rt: &R,
     alloc: A,
     config: Config,
@@ -66,24 +53,9 @@ where
 ///
 /// The elements must be items of the monoid. The result has one element for each segment. LengthMismatch, without a
 /// place, where the segments' total is not the number of elements. Source: CVL's segmented reduces.
-pub fn seg_reduce<R: Threads + Sync, A: Memory, M: Packed + Send + Sync>(
-    rt: &R,
-    alloc: A,
-    config: Config,
-    a: &[M::Item],
-    d: &SegDes<A>,
-) -> Result<Vec<M::Item, A>, Refused>
-where
-    M::Item: Send + Sync,
-    requires items { AllPass M.is_item a.now }
-    ensures values { Gives (λ sums. sums.items) result (seg_reduce_of M.join M.unit a.now d.now) }
-    ensures one_each { IfOk result (λ sums. vec_len sums ≡ length d.now) }
-{
-    seg_reduce_gated::<R, A, M, OpenGate>(rt, alloc, config, a, d, &OpenGate)
-}
-
-/// The same as [`seg_reduce`], by workers that pass a gate at each point of their way through a tile.
-pub fn seg_reduce_gated<R: Threads + Sync, A: Memory, M: Packed + Send + Sync, G: Gate>(
+///
+/// Workers who race pass `gate` at each point of their way through a tile.
+pub fn seg_reduce<R: Threads + Sync, A: Memory, M: Packed + Send + Sync, G: Gate>(
     rt: &R,
     alloc: A,
     config: Config,
@@ -97,7 +69,7 @@ where
     ensures values { Gives (λ sums. sums.items) result (seg_reduce_of M.join M.unit a.now d.now) }
     ensures one_each { IfOk result (λ sums. vec_len sums ≡ length d.now) }
 {
-    seg_reduce_readings_gated::<R, A, M, M::Item, Itself, G>(rt, alloc, config, a, d, gate)
+    seg_reduce_readings::<R, A, M, M::Item, Itself, G>(rt, alloc, config, a, d, gate)
 }
 
 /// For each segment what its elements are read as, joined from left to right, and the unit where it is empty. The workers pass
@@ -105,7 +77,7 @@ where
 ///
 /// The elements must be read as items of the monoid. The result has one element for each segment. LengthMismatch, without
 /// a place, where the segments' total is not the number of elements. Source: CVL's segmented reduces.
-pub fn seg_reduce_readings_gated<R, A, M, X, E, G>(
+pub fn seg_reduce_readings<R, A, M, X, E, G>(
     rt: &R,
     alloc: A,
     config: Config,

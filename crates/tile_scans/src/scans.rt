@@ -9,7 +9,7 @@ ghost use Rattle.cvl_base.specs.SegmentedCalls.{seg_scan_of};
 use crate::pace::scan_pace;
 use crate::race::race_for_befores;
 use crate::tiled::Tiled;
-use crew::{Gate, OpenGate};
+use crew::Gate;
 use cvl_base::monoid::know_laws;
 use cvl_base::{Config, Memory, NoResources, Packed, Refused};
 use scan_walks::{Itself, Reading, scan_vec, seg_scan_vec};
@@ -20,23 +20,9 @@ use std::thread::Threads;
 /// unit at place 0.
 ///
 /// The elements must be items of the monoid. The result is as long as they are. Source: Blelloch's prescan.
-pub fn scan<R: Threads + Sync, A: Memory, M: Packed + Send + Sync>(
-    rt: &R,
-    alloc: A,
-    config: Config,
-    a: &[M::Item],
-) -> Result<Vec<M::Item, A>, NoResources>
-where
-    M::Item: Send + Sync,
-    requires items { AllPass M.is_item a.now }
-    ensures values { IfOk result (λ sums. sums.items ≡ scan_of M.join M.unit a.now) }
-    ensures as_long { IfOk result (λ sums. vec_len sums ≡ length a.now) }
-{
-    scan_gated::<R, A, M, OpenGate>(rt, alloc, config, a, &OpenGate)
-}
-
-/// The same as [`scan`], by workers that pass a gate at each point of their way through a tile.
-pub fn scan_gated<R: Threads + Sync, A: Memory, M: Packed + Send + Sync, G: Gate>(
+///
+/// Workers who race pass `gate` at each point of their way through a tile.
+pub fn scan<R: Threads + Sync, A: Memory, M: Packed + Send + Sync, G: Gate>(
     rt: &R,
     alloc: A,
     config: Config,
@@ -49,14 +35,14 @@ where
     ensures values { IfOk result (λ sums. sums.items ≡ scan_of M.join M.unit a.now) }
     ensures as_long { IfOk result (λ sums. vec_len sums ≡ length a.now) }
 {
-    scan_readings_gated::<R, A, M, M::Item, Itself, G>(rt, alloc, config, a, gate)
+    scan_readings::<R, A, M, M::Item, Itself, G>(rt, alloc, config, a, gate)
 }
 
 /// The exclusive scan of what the elements are read as: element `k` of the result joins the items of the elements before
 /// place `k`, from left to right, and is the unit at place 0. The workers pass a gate at each point of their way through a tile.
 ///
 /// The elements must be read as items of the monoid. The result is as long as they are. Source: Blelloch's prescan.
-pub fn scan_readings_gated<R, A, M, X, E, G>(
+pub fn scan_readings<R, A, M, X, E, G>(
     rt: &R,
     alloc: A,
     config: Config,
@@ -90,24 +76,9 @@ where
 ///
 /// The elements must be items of the monoid. The result is as long as they are. LengthMismatch, without a place, where
 /// the segments' total is not the number of elements. Source: Blelloch's segmented scans.
-pub fn seg_scan<R: Threads + Sync, A: Memory, M: Packed + Send + Sync>(
-    rt: &R,
-    alloc: A,
-    config: Config,
-    a: &[M::Item],
-    d: &SegDes<A>,
-) -> Result<Vec<M::Item, A>, Refused>
-where
-    M::Item: Send + Sync,
-    requires items { AllPass M.is_item a.now }
-    ensures values { Gives (λ sums. sums.items) result (seg_scan_of M.join M.unit a.now d.now) }
-    ensures as_long { IfOk result (λ sums. vec_len sums ≡ length a.now) }
-{
-    seg_scan_gated::<R, A, M, OpenGate>(rt, alloc, config, a, d, &OpenGate)
-}
-
-/// The same as [`seg_scan`], by workers that pass a gate at each point of their way through a tile.
-pub fn seg_scan_gated<R: Threads + Sync, A: Memory, M: Packed + Send + Sync, G: Gate>(
+///
+/// Workers who race pass `gate` at each point of their way through a tile.
+pub fn seg_scan<R: Threads + Sync, A: Memory, M: Packed + Send + Sync, G: Gate>(
     rt: &R,
     alloc: A,
     config: Config,

@@ -9,7 +9,7 @@ use crate::asked::Asked;
 use bound_names::Bound;
 use crew::Gate;
 use cvl_base::{BoolBinary, Comparison, Element, IntBinary, Memory, Unary};
-use elementwise::{bool_from_int, bool1, bool2, compare, int_from_bool, int1, int2_gated, select};
+use elementwise::{bool_from_int, bool1, bool2, compare, int_from_bool, int1, int2, select};
 use std::thread::Threads;
 
 impl<R: Threads + Sync, A: Memory> Asked<'_, '_, R, A> {
@@ -22,7 +22,7 @@ impl<R: Threads + Sync, A: Memory> Asked<'_, '_, R, A> {
             self.operands.first.integers(),
             self.operands.second.integers(),
         );
-        bound_integers(int2_gated(self.rt, self.alloc, self.config, operator, a, b, gate))
+        bound_integers(int2(self.rt, self.alloc, self.config, operator, a, b, gate))
     }
 
     /// An operator on an integer vector.

@@ -14,9 +14,7 @@ use crate::asked::Asked;
 use bound_names::Bound;
 use crew::Gate;
 use cvl_base::{Cut, Element, Memory, Refused, Value};
-use pack_dist::{
-    count_true, pack_gated, packed_descriptor_gated, seg_count_gated, seg_pack_values_gated,
-};
+use pack_dist::{count_true, pack, packed_descriptor, seg_count, seg_pack_values};
 use std::thread::Threads;
 
 impl<R: Threads + Sync, A: Memory> Asked<'_, '_, R, A> {
@@ -42,7 +40,7 @@ impl<R: Threads + Sync, A: Memory> Asked<'_, '_, R, A> {
             Cut::Flat => { Ok(Bound::of_value(Value::Integer(count_true(flags)))) }
             Cut::Segmented => {
                 let d = self.operands.second.descriptor();
-                let counts = seg_count_gated(self.rt, self.alloc, self.config, flags, d, gate)?;
+                let counts = seg_count(self.rt, self.alloc, self.config, flags, d, gate)?;
                 Ok(Bound::from_integers(counts))
             }
         }
@@ -75,10 +73,10 @@ impl<R: Threads + Sync, A: Memory> Asked<'_, '_, R, A> {
         let (rt, alloc, config) = (self.rt, self.alloc, self.config);
         let flags = self.operands.second.booleans();
         match cut {
-            Cut::Flat => pack_gated(rt, alloc, config, values, flags, gate),
+            Cut::Flat => pack(rt, alloc, config, values, flags, gate),
             Cut::Segmented => {
                 let d = self.operands.third.descriptor();
-                seg_pack_values_gated(rt, alloc, config, values, flags, d, gate)
+                seg_pack_values(rt, alloc, config, values, flags, d, gate)
             }
         }
     }
@@ -90,7 +88,7 @@ impl<R: Threads + Sync, A: Memory> Asked<'_, '_, R, A> {
     {
         let flags = self.operands.first.booleans();
         let d = self.operands.second.descriptor();
-        let packed = packed_descriptor_gated(self.rt, self.alloc, self.config, flags, d, gate)?;
+        let packed = packed_descriptor(self.rt, self.alloc, self.config, flags, d, gate)?;
         Ok(Bound::from_descriptor(self.alloc, packed)?)
     }
 }

@@ -13,10 +13,8 @@ use crate::answers::{Answer, bound_booleans, bound_integers};
 use crate::asked::Asked;
 use crew::Gate;
 use cvl_base::{Cut, Element, Form, Memory, Refused};
-use permutes::{back_gated, default_into_gated, select_gated, simple_gated};
-use segmented_permutes::{
-    seg_back_gated, seg_default_into_gated, seg_select_gated, seg_simple_gated,
-};
+use permutes::{back, default_into, select, simple};
+use segmented_permutes::{seg_back, seg_default_into, seg_select, seg_simple};
 use std::thread::Threads;
 
 impl<R: Threads + Sync, A: Memory> Asked<'_, '_, R, A> {
@@ -65,35 +63,33 @@ impl<R: Threads + Sync, A: Memory> Asked<'_, '_, R, A> {
         let index = operands.second.integers_if_any();
         match cut {
             Cut::Flat => match form {
-                Form::Simple => simple_gated(rt, alloc, config, source, index, gate),
-                Form::Back => back_gated(rt, alloc, config, source, index, gate),
+                Form::Simple => simple(rt, alloc, config, source, index, gate),
+                Form::Back => back(rt, alloc, config, source, index, gate),
                 Form::Select => {
                     let flags = operands.third.booleans();
-                    select_gated(rt, alloc, config, source, index, flags, gate)
+                    select(rt, alloc, config, source, index, flags, gate)
                 }
-                Form::Default => {
-                    default_into_gated(rt, alloc, config, source, index, defaults, gate)
-                }
+                Form::Default => { default_into(rt, alloc, config, source, index, defaults, gate) }
             },
             Cut::Segmented => match form {
                 Form::Simple => {
                     let d = operands.third.descriptor();
-                    seg_simple_gated(rt, alloc, config, source, index, d, gate)
+                    seg_simple(rt, alloc, config, source, index, d, gate)
                 }
                 Form::Back => {
                     let source_d = operands.third.descriptor();
                     let index_d = operands.fourth.descriptor();
-                    seg_back_gated(rt, alloc, config, source, index, source_d, index_d, gate)
+                    seg_back(rt, alloc, config, source, index, source_d, index_d, gate)
                 }
                 Form::Select => {
                     let flags = operands.third.booleans();
                     let d = operands.fourth.descriptor();
-                    seg_select_gated(rt, alloc, config, source, index, flags, d, gate)
+                    seg_select(rt, alloc, config, source, index, flags, d, gate)
                 }
                 Form::Default => {
                     let source_d = operands.fourth.descriptor();
                     let default_d = operands.fifth.descriptor();
-                    seg_default_into_gated(
+                    seg_default_into(
                         rt, alloc, config, source, index, defaults, source_d, default_d, gate,
                     )
                 }

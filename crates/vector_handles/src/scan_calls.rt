@@ -10,9 +10,8 @@ use bound_names::Bound;
 use crew::Gate;
 use cvl_base::{BoolBinary, Cut, IntMonoid, Memory, Value};
 use scan_ops::{
-    bool_reduce_gated, bool_scan_gated, checked_reduce_gated, checked_scan_gated,
-    checked_seg_reduce_gated, checked_seg_scan_gated, int_reduce_gated, int_scan_gated,
-    seg_bool_reduce_gated, seg_bool_scan_gated, seg_int_reduce_gated, seg_int_scan_gated,
+    bool_reduce, bool_scan, checked_reduce, checked_scan, checked_seg_reduce, checked_seg_scan,
+    int_reduce, int_scan, seg_bool_reduce, seg_bool_scan, seg_int_reduce, seg_int_scan,
 };
 use std::thread::Threads;
 
@@ -26,12 +25,12 @@ impl<R: Threads + Sync, A: Memory> Asked<'_, '_, R, A> {
         let a = self.operands.first.integers();
         match cut {
             Cut::Flat => {
-                let sums = int_scan_gated(rt, alloc, config, operator, a, gate)?;
+                let sums = int_scan(rt, alloc, config, operator, a, gate)?;
                 Ok(Bound::from_integers(sums))
             }
             Cut::Segmented => {
                 let d = self.operands.second.descriptor();
-                bound_integers(seg_int_scan_gated(rt, alloc, config, operator, a, d, gate))
+                bound_integers(seg_int_scan(rt, alloc, config, operator, a, d, gate))
             }
         }
     }
@@ -45,12 +44,12 @@ impl<R: Threads + Sync, A: Memory> Asked<'_, '_, R, A> {
         let a = self.operands.first.integers();
         match cut {
             Cut::Flat => {
-                let sum = int_reduce_gated(rt, alloc, config, operator, a, gate)?;
+                let sum = int_reduce(rt, alloc, config, operator, a, gate)?;
                 Ok(Bound::of_value(Value::Integer(sum)))
             }
             Cut::Segmented => {
                 let d = self.operands.second.descriptor();
-                bound_integers(seg_int_reduce_gated(rt, alloc, config, operator, a, d, gate))
+                bound_integers(seg_int_reduce(rt, alloc, config, operator, a, d, gate))
             }
         }
     }
@@ -64,12 +63,12 @@ impl<R: Threads + Sync, A: Memory> Asked<'_, '_, R, A> {
         let a = self.operands.first.booleans();
         match cut {
             Cut::Flat => {
-                let sums = bool_scan_gated(rt, alloc, config, operator, a, gate)?;
+                let sums = bool_scan(rt, alloc, config, operator, a, gate)?;
                 Ok(Bound::from_booleans(sums))
             }
             Cut::Segmented => {
                 let d = self.operands.second.descriptor();
-                bound_booleans(seg_bool_scan_gated(rt, alloc, config, operator, a, d, gate))
+                bound_booleans(seg_bool_scan(rt, alloc, config, operator, a, d, gate))
             }
         }
     }
@@ -83,12 +82,12 @@ impl<R: Threads + Sync, A: Memory> Asked<'_, '_, R, A> {
         let a = self.operands.first.booleans();
         match cut {
             Cut::Flat => {
-                let sum = bool_reduce_gated(rt, alloc, config, operator, a, gate)?;
+                let sum = bool_reduce(rt, alloc, config, operator, a, gate)?;
                 Ok(Bound::of_value(Value::Boolean(sum)))
             }
             Cut::Segmented => {
                 let d = self.operands.second.descriptor();
-                bound_booleans(seg_bool_reduce_gated(rt, alloc, config, operator, a, d, gate))
+                bound_booleans(seg_bool_reduce(rt, alloc, config, operator, a, d, gate))
             }
         }
     }
@@ -101,10 +100,10 @@ impl<R: Threads + Sync, A: Memory> Asked<'_, '_, R, A> {
         let (rt, alloc, config) = (self.rt, self.alloc, self.config);
         let a = self.operands.first.integers();
         match cut {
-            Cut::Flat => bound_integers(checked_scan_gated(rt, alloc, config, a, gate)),
+            Cut::Flat => bound_integers(checked_scan(rt, alloc, config, a, gate)),
             Cut::Segmented => {
                 let d = self.operands.second.descriptor();
-                bound_integers(checked_seg_scan_gated(rt, alloc, config, a, d, gate))
+                bound_integers(checked_seg_scan(rt, alloc, config, a, d, gate))
             }
         }
     }
@@ -118,12 +117,12 @@ impl<R: Threads + Sync, A: Memory> Asked<'_, '_, R, A> {
         let a = self.operands.first.integers();
         match cut {
             Cut::Flat => {
-                let sum = checked_reduce_gated(rt, alloc, config, a, gate)?;
+                let sum = checked_reduce(rt, alloc, config, a, gate)?;
                 Ok(Bound::of_value(Value::Integer(sum)))
             }
             Cut::Segmented => {
                 let d = self.operands.second.descriptor();
-                bound_integers(checked_seg_reduce_gated(rt, alloc, config, a, d, gate))
+                bound_integers(checked_seg_reduce(rt, alloc, config, a, d, gate))
             }
         }
     }

@@ -4,7 +4,7 @@
 //!
 //! ```text
 //! let gate = Watch::new(rt.alloc(), Race::Scan, 4, 2, Holds::UntilOthers(Point::Claimed(0)))?;
-//! let sums = scan_gated::<_, _, Add, _>(&rt, rt.alloc(), Config::new(1, 2)?, &[3, 1, 7, 0], &gate)?;
+//! let sums = scan::<_, _, Add, _>(&rt, rt.alloc(), Config::new(1, 2)?, &[3, 1, 7, 0], &gate)?;
 //! assert!(rt; gate.saw_all());
 //! ```
 //!

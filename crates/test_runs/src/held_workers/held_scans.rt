@@ -4,7 +4,7 @@ use crew::Point;
 use cvl_base::Config;
 use cvl_base::monoids::Add;
 use refusing_memory::Refusing;
-use scan_ops::scan_gated;
+use scan_ops::scan;
 use std::test::Fail;
 use watching_gate::{Holds, Race, Watch};
 
@@ -48,7 +48,7 @@ fn held_at_each_point(rt: HostRuntime) -> Result<(), Fail> {
     for (tile, tiles, holds) in ROWS {
         let gate = Watch::new(rt.alloc(), Race::Scan, tiles, 2, holds)?;
         let config = Config::new(tile, 2)?;
-        let sums = scan_gated::<_, _, Add, _>(
+        let sums = scan::<_, _, Add, _>(
             &rt,
             &heap,
             config,

@@ -7,7 +7,7 @@ use crew::{Gate, Point};
 use cvl_base::Config;
 use cvl_base::monoids::Add;
 use refusing_memory::Refusing;
-use scan_ops::{Reading, scan_readings_gated, seg_reduce_readings_gated};
+use scan_ops::{Reading, scan_readings, seg_reduce_readings};
 use segdes::SegDes;
 use std::sync::atomic::{AtomicU64, Ordering};
 use std::test::Fail;
@@ -137,12 +137,12 @@ fn read_before_each_point(rt: HostRuntime) -> Result<(), Fail> {
         let elements = elements(&reads);
         let config = Config::new(1, workers)?;
         let (sums, right) = if reduces {
-            let sums = seg_reduce_readings_gated::<_, _, Add, _, Counting, _>(
+            let sums = seg_reduce_readings::<_, _, Add, _, Counting, _>(
                 &rt, &heap, config, &elements, &d, &gate,
             )?;
             (sums, [3, 1, 7, 0])
         } else {
-            let sums = scan_readings_gated::<_, _, Add, _, Counting, _>(
+            let sums = scan_readings::<_, _, Add, _, Counting, _>(
                 &rt, &heap, config, &elements, &gate,
             )?;
             (sums, [0, 3, 4, 11])

@@ -1,9 +1,0 @@
-use Rattle.pack_dist.proofs.Cited.{arith}
-use Rattle.pack_dist.proofs.Segments.{reduced}
-use Rattle.pack_dist.proofs.counts.seg_count_gated.Goals as goal
-
-pub returns : goal.returns
-returns g c =
-    let sums = c.seg_reduce_readings_gated in
-    let counted = reduced (λ v. v.items) c.args.flags.now c.args.d.now (omega arith) (omega arith) sums.result sums.ensures.values in
-    record { values = counted.0; lengths = counted.1; one_each = sums.ensures.one_each }
