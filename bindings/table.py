@@ -197,7 +197,7 @@ CUTS = {
     "lengths": Cut(
         "the lengths are cut; the parts' totals are added",
         OverRanks("lengths", "the ranks' totals are added", named=True),
-        "lengths",
+        "steps",
     ),
     "seg_scan": Cut(IN_SEGMENTS, OverRanks("seg_scan", BEFORE), "seg_scan"),
     "seg_checked_scan": Cut(IN_SEGMENTS, OverRanks("seg_checked_scan", BEFORE), "seg_checked_scan"),
@@ -439,6 +439,11 @@ def copied(name, extent="n"):
 def sums(name, extent="n"):
     """Sums of 64 bits."""
     return Operand(name, "reads", "sums", extent, False)
+
+
+def sizes(name, extent="n"):
+    """Lengths of parts, as sizes."""
+    return Operand(name, "reads", "sizes", extent, False)
 
 
 def numbers(name, extent="n"):
@@ -3020,6 +3025,15 @@ BETWEEN = (
         faults=(NO_ROOM,),
         over_ranks=NO_PARTS,
     ),
+    family(
+        "part_total",
+        "between steps",
+        (sizes("sizes"), told("total")),
+        "The sum of the lengths of the parts, if a vector may be so long.",
+        limit=None,
+        faults=(),
+        over_ranks=NO_PARTS,
+    ),
 )
 
 
@@ -3045,6 +3059,10 @@ def steps_of(cut, kind):
             step("joins", "carries", sums=all_totals, out=all_carries),
             step("looks", "checked_scan_after", before=carry, out=nothing),
             step("fills", "int_scan_after", "ADD", before=carry),
+        ),
+        "lengths": (
+            step("tells", "make_descriptor", total=("KEPT", "PART")),
+            step("joins", "part_total", sizes=("KEPT", "NONE")),
         ),
         "pack": (
             step("tells", "count", out=("COUNTS", "PART")),

@@ -216,17 +216,6 @@ CvlPiece cvl_piece(const CvlWork *w, size_t k) {
     return p;
 }
 
-bool cvl_lengths_in_parts(const CvlPool *pool, CvlWork *w) {
-    size_t sum = 0;
-    w->lengths = w->in[CVL_AS_LENGTHS].at, w->segments = w->in[CVL_AS_LENGTHS].number;
-    if (!cvl_step(pool, w, CVL_READS, lengths_part)) return 0;
-    for (size_t k = 0; k < w->parts; k++) sum += w->counts[k];
-    if (sum > CVL_MOST_ELEMENTS) return 0;
-    *cvl_told_at(w) = sum;
-    w->told = cvl_done();
-    return 1;
-}
-
 /* ---- flags that are neither 0 nor 1: looked at in parts, and copied at once ---- */
 
 size_t cvl_part_from(const CvlWork *w, size_t len, size_t k) {

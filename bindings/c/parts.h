@@ -183,7 +183,6 @@ CVL_HIDDEN CvlPiece cvl_piece(const CvlWork *w, size_t k);
 /*@ requires w->parts <= CVL_MOST_PARTS;
     assigns *w, rooms, made; */
 CVL_HIDDEN bool cvl_steps_in_parts(const CvlPool *pool, CvlWork *w);
-CVL_HIDDEN bool cvl_lengths_in_parts(const CvlPool *pool, CvlWork *w);
 /*@ assigns *w, rooms, kept, made;
     ensures !\result ==> rooms == \old(rooms); */
 CVL_HIDDEN bool cvl_ranges_in_parts(const CvlPool *pool, CvlWork *w);

@@ -260,6 +260,7 @@ TYPES = {
     "&[Placed]": "const CvlPlaced *",
     "&mut [Placed]": "CvlPlaced *",
     "&[i64]": "const int64_t *",
+    "&[usize]": "const size_t *",
     "&mut [i64]": "int64_t *",
     "&mut [usize]": "size_t *",
     "&mut i32": "int32_t *",

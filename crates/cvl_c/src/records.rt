@@ -4,9 +4,10 @@ ghost use Rattle.std.specs.Prelude.{◌≡◌, Ok, length};
 ghost use Rattle.c_calls.specs.Told.{RoomTold, Told};
 ghost use Rattle.part_records.specs.Carries.{carried_total_of, carries_of};
 ghost use Rattle.part_records.specs.Places.{fitted, layout, layout_by, layout_or};
+ghost use Rattle.part_records.specs.Totals.{total_within};
 
 use c_calls::status::{CvlStatus, told_one, told_over};
-use part_records::{carried_total, carries, part_places};
+use part_records::{carried_total, carries, part_places, part_total};
 
 /// What stands before each part of a checked scan: the sum of those before it, in 64 bits.
 #[unsafe(no_mangle)]
@@ -37,4 +38,12 @@ pub extern "C" fn cvl_proved_part_places(
     ensures told { layout out.new count.new ≡ layout_or (layout out.old count.old) (layout_by (length out.old) counts.now) }
 {
     told_one(part_places(counts, room, out, count), &mut ())
+}
+
+/// What the lengths of all parts add up to, if a vector may be so long.
+#[unsafe(no_mangle)]
+pub extern "C" fn cvl_proved_part_total(sizes: &[usize], total: &mut usize) -> CvlStatus
+    ensures { Told (total_within sizes.now) result total.old total.new }
+{
+    told_one(part_total(sizes), total)
 }

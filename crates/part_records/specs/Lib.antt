@@ -1,2 +1,3 @@
 pub mod Carries
 pub mod Places
+pub mod Totals

@@ -3,6 +3,8 @@
 
 pub mod places;
 pub mod sums;
+pub mod totals;
 
 pub use places::part_places;
 pub use sums::{carried_total, carries};
+pub use totals::part_total;

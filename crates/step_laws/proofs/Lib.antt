@@ -4,6 +4,7 @@ pub mod Carried
 pub mod CheckedScans
 pub mod Counted
 pub mod Fitting
+pub mod Measured
 pub mod Operators
 pub mod Packed
 pub mod Parted

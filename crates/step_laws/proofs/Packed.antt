@@ -1,5 +1,5 @@
 -- Packs by steps.
-use Rattle.std.proofs.Common.{◌≡◌, ◌≢◌, ◌+◌, ◌-◌, ◌++◌, ◌<◌, ◌≤◌, ◌∙◌, ℕ, ℤ, pos, Bool, true, false, not, List, [], ◌∷◌, length, length-append, map, sum, take, drop, Result, Ok, Err}
+use Rattle.std.proofs.Common.{◌≡◌, ◌≢◌, ◌+◌, ◌-◌, ◌++◌, ◌<◌, ◌≤◌, ◌∙◌, ℕ, ℤ, pos, Bool, true, false, not, List, [], ◌∷◌, length, length-append, map, sum, take, drop, Ok, Err}
 use Rattle.std.proofs.Common.{refl, sym, ap, arith, subst, All, cond, ⊎_elim, unsigned_abs, eqb}
 use mathlib.Core.List.{map-map}
 use Rattle.std.proofs.lemmas.Bool.{cases_lt, eq-eqb, le-ltb, lt-ltb}
@@ -12,7 +12,6 @@ use Rattle.std.specs.List.{AllZip, zip}
 use Rattle.cvl_base.proofs.Descriptors.{abs_pos}
 use Rattle.cvl_base.proofs.Elementwise.{if_as_long-fits}
 use Rattle.cvl_base.proofs.Lists.{sum-cons}
-use Rattle.cvl_base.specs.declared.fault.Fault.{Fault}
 use Rattle.cvl_base.specs.declared.fault.FaultNo.TheVariants as no
 use Rattle.cvl_base.specs.Descriptors.{descriptor_within}
 use Rattle.cvl_base.specs.Faults.{fault}

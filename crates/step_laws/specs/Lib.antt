@@ -1,6 +1,7 @@
 pub mod CheckedSteps
 pub mod CountSteps
 pub mod FlatSteps
+pub mod LengthSteps
 pub mod Looks
 pub mod PackSteps
 pub mod Parts

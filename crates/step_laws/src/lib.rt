@@ -5,6 +5,7 @@
 
 pub mod checked_sums;
 pub mod counts;
+pub mod descriptors;
 pub mod packs;
 pub mod places;
 pub mod scans;

@@ -1,4 +1,4 @@
-use Rattle.std.proofs.Common.{◌≡◌, ◌∙◌, List, length, ap, sym}
+use Rattle.std.proofs.Common.{◌∙◌, ap, sym}
 use Rattle.cvl_base.proofs.Elementwise.{if_as_long-fits}
 use Rattle.cvl_base.specs.Gives.{◌>>=◌}
 use Rattle.cvl_base.specs.Packs.{pack_of}
