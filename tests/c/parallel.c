@@ -536,6 +536,21 @@ static void within_a_region(void) {
 static void within_a_region(void) {}
 #endif
 
+/* Lengths that are too long together, though those of each part are not; and with one element fewer as long as a vector may be. */
+static void add_up_lengths(CvlThreads *threads) {
+    enum { COUNT = 1 << 20, EACH = 2048, BEFORE = 77 };
+    int32_t *lengths = (int32_t *)room_for(COUNT, sizeof *lengths);
+    size_t total = BEFORE;
+    for (size_t k = 0; k < COUNT; k++) lengths[k] = EACH;
+    pool = cvl_pool_posix(threads);
+    pool.parts = MOST_PARTS;
+    if (cvl_make_descriptor_on(&pool, BY(lengths, COUNT), &total).number != CVL_TOO_LONG || total != BEFORE) failed++;
+    lengths[COUNT / 2]--;
+    if (cvl_make_descriptor_on(&pool, BY(lengths, COUNT), &total).number != CVL_DONE || total != CVL_MOST_ELEMENTS) failed++;
+    calls += 2, faults++;
+    free(lengths);
+}
+
 int main(int words, char **word) {
     static const size_t lengths[] = {1000, 300000, 70000, 600000, 1000, 1000, 70000, 70000};
     enum { LONG = sizeof lengths / sizeof *lengths };
@@ -552,6 +567,7 @@ int main(int words, char **word) {
             let_go();
         }
     }
+    add_up_lengths(threads[MOST_THREADS - 1]);
     for (size_t k = 0; k < MOST_THREADS; k++) cvl_threads_stop(threads[k]);
     printf(
         "%d rows, %ld calls in parts, %ld of them with a fault, %ld not as the plain call\n", (int)ROWS, calls, faults, failed);
