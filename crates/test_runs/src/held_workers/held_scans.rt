@@ -48,13 +48,7 @@ fn held_at_each_point(rt: HostRuntime) -> Result<(), Fail> {
     for (tile, tiles, holds) in ROWS {
         let gate = Watch::new(rt.alloc(), Race::Scan, tiles, 2, holds)?;
         let config = Config::new(tile, 2)?;
-        let sums = scan::<_, _, Add, _>(
-            &rt,
-            &heap,
-            config,
-            &[3, 1, 7, 0, 4, 1, 6, 3],
-            &gate,
-        )?;
+        let sums = scan::<_, _, Add, _>(&rt, &heap, config, &[3, 1, 7, 0, 4, 1, 6, 3], &gate)?;
         assert!(rt; sums.as_slice() == right.as_slice(), "in {tiles} tiles");
         assert!(rt; gate.saw_all(), "in {tiles} tiles");
     }
