@@ -199,7 +199,14 @@ def call_differences(calls):
             yield f"{name} has the operator {row.operator}, which is none of {row.family.name}"
 
 
-READ_AS = {"ints": ("&[i32]",), "flags": ("&[u8]", "&[bool]"), "bytes": ("&[u8]",), "text": ("&[u8]",), "sums": ("&[i64]",), "sizes": ("&[usize]",)}
+READ_AS = {
+    "ints": ("&[i32]",),
+    "flags": ("&[u8]", "&[bool]"),
+    "bytes": ("&[u8]",),
+    "text": ("&[u8]",),
+    "sums": ("&[i64]",),
+    "sizes": ("&[usize]",),
+}
 WRITTEN_AS = {
     "ints": ("&mut [i32]",), "flags": ("&mut [u8]", "&mut [bool]"), "bytes": ("&mut [u8]",), "text": ("&mut [u8]",), "marks": ("&mut [u32]",),
     "sums": ("&mut [i64]",), "sizes": ("&mut [usize]",),
