@@ -29,6 +29,14 @@ PACKAGES = {
 }
 
 
+# what every running system has, in each command's own namespace: ranks of MPI share memory in the second, and look for networks in the
+# third
+MOUNTS = (
+    'mount -t proc proc "$0/proc" && mkdir -p "$0/dev/shm" && mount -t tmpfs -o mode=1777 tmpfs "$0/dev/shm" && '
+    'mount -t sysfs -o ro sysfs "$0/sys"'
+)
+
+
 class Failed(Exception):
     """A command in a root that did not do what it should."""
 
@@ -50,7 +58,7 @@ class Root:
             "--kill-child",
             "sh",
             "-c",
-            'mount -t proc proc "$0/proc" && exec chroot --userspec="$1" "$0" sh -c "$2"',
+            f'{MOUNTS} && exec chroot --userspec="$1" "$0" sh -c "$2"',
         ]
         told = subprocess.run(
             [*words, self.folder, f"{user}:", said], capture_output=True, text=True, env=known, stdin=subprocess.DEVNULL
