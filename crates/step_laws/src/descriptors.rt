@@ -11,8 +11,8 @@ ghost use Rattle.c_calls.specs.Told.{Told, done};
 
 use call_laws::descriptors::descriptor_in_parts;
 
-/// A descriptor by steps: each part adds up its lengths, and then, once, the sums are added up, which has to be the length of a
-/// vector. Then no length of the whole is negative, and what is told is the total of the whole.
+/// A descriptor by steps: each part adds up its lengths, and then a step that is made once adds up the parts' totals. If neither
+/// finds a fault, all numbers are lengths, and the sum of the totals is the total of all of them.
 pub fn descriptors_by_steps()
     ensures { (start measured : List (Part ℤ ℕ ℤ)) (before now : ℕ) → length (elements_of start) ≤ most_places →
         InParts Measures start measured → Told (total_within (told_of measured)) done before now →
