@@ -28,25 +28,31 @@ forms = Simple ∷ Back ∷ Select ∷ Default ∷ []
 unfoldable pub elements : List Element
 elements = Integer ∷ Boolean ∷ []
 
--- the calls, family by family: those that work place by place
+-- the calls, those of one class together: first those that work place by place, on integers and on booleans
 abbrev pub elementwise_calls : List Op
 elementwise_calls =
-    map Ints2 int_binaries ++ map Ints1 unaries ++ map Compare comparisons
-    ++ map Bools2 bool_binaries ++ map Bools1 unaries ++ map Choose elements
-    ++ IntFromBool ∷ BoolFromInt ∷ []
+    (map Ints2 int_binaries ++ map Ints1 unaries ++ map Compare comparisons ++ Choose Integer ∷ BoolFromInt ∷ [])
+    ++ map Bools2 bool_binaries ++ map Bools1 unaries ++ Choose Boolean ∷ IntFromBool ∷ []
 
--- those that hold packed, copied, picked or changed elements, integers or booleans
+-- those that copy, pick or change single elements
 abbrev pub element_calls : Cut → Element → List Op
-element_calls cut element = Pack cut element ∷ Distribute cut element ∷ Extract cut element ∷ Replace cut element ∷ []
+element_calls cut element = Distribute cut element ∷ Extract cut element ∷ Replace cut element ∷ []
+
+-- the others on integers that take their vectors whole, or that take them by segments
+abbrev pub int_calls : Cut → List Op
+int_calls cut =
+    (map (λ o. Scan o cut) int_monoids ++ CheckedScan cut ∷ []) ++ (map (λ o. Reduce o cut) int_monoids ++ CheckedReduce cut ∷ [])
+    ++ map (λ form. Permute form cut Integer) forms ++ element_calls cut Integer ++ Pack cut Integer ∷ Index cut ∷ []
+
+-- and on booleans
+abbrev pub bool_calls : Cut → List Op
+bool_calls cut =
+    map (λ o. BoolScan o cut) bool_binaries ++ map (λ o. BoolReduce o cut) bool_binaries
+    ++ map (λ form. Permute form cut Boolean) forms ++ element_calls cut Boolean ++ Pack cut Boolean ∷ Count cut ∷ []
 
 -- all that take their vectors whole, or all that take them by segments
 abbrev pub cut_calls : Cut → List Op
-cut_calls cut =
-    map (λ o. Scan o cut) int_monoids ++ map (λ o. Reduce o cut) int_monoids
-    ++ map (λ o. BoolScan o cut) bool_binaries ++ map (λ o. BoolReduce o cut) bool_binaries
-    ++ map (λ form. Permute form cut Integer) forms ++ map (λ form. Permute form cut Boolean) forms
-    ++ element_calls cut Integer ++ element_calls cut Boolean
-    ++ CheckedScan cut ∷ CheckedReduce cut ∷ Count cut ∷ Index cut ∷ []
+cut_calls cut = int_calls cut ++ bool_calls cut
 
 -- those that read an input or a length, or that make and read descriptors
 abbrev pub other_calls : List Op

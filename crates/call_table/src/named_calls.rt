@@ -4,7 +4,8 @@ ghost use Rattle.std.specs.Prelude.{◌≡◌, ◌≢◌, ◌++◌, ℕ, List, S
 ghost use Rattle.std.specs.List.{AllByRecursion};
 ghost use Rattle.call_table.specs.declared.operation.Op.{Op};
 ghost use Rattle.call_table.specs.Calls.{spelling_of, is_write};
-ghost use Rattle.call_table.specs.Spellings.{GoesOn, is_spelled, elementwise_calls, cut_calls, other_calls, op_of};
+ghost use Rattle.call_table.specs.Spellings.{GoesOn, bool_calls, cut_calls, elementwise_calls, int_calls};
+ghost use Rattle.call_table.specs.Spellings.{is_spelled, op_of, other_calls};
 
 use crate::families::{
     BoolBinary, Comparison, Cut, Element, Form, IntBinary, IntMonoid, Unary, cut_and_element,
@@ -85,52 +86,61 @@ fn elementwise_named(word: &[u8]) -> Option<Op>
 {
     let of_ints = calls![
         [] Ints2[IntBinary::Monoid] by IntMonoid, Ints2() by IntBinary, Ints1() by Unary,
-        Compare() by Comparison,
+        Compare() by Comparison, Op::Choose(Element::Integer), Op::BoolFromInt
     ];
-    let of_bools = calls![[] Bools2() by BoolBinary, Bools1() by Unary,];
-    let others = calls![[] Choose() by Element, Op::IntFromBool, Op::BoolFromInt];
-    first_of_class(&of_ints, "_w", "uz", word)
-        .or(first_of_class(&of_bools, "_w", "ub", word))
-        .or(first_spelled(&others, word))
+    let of_bools = calls![
+        [] Bools2() by BoolBinary, Bools1() by Unary,
+        Op::Choose(Element::Boolean), Op::IntFromBool
+    ];
+    first_of_class(&of_ints, "_w", "uz", word).or(first_of_class(&of_bools, "_w", "ub", word))
+}
+
+/// Those of these calls that copy, pick or change single elements, whole or by segments.
+macro_rules! element_calls {
+    ($cut:expr, $element:expr) => {
+        [Op::Distribute($cut, $element), Op::Extract($cut, $element), Op::Replace($cut, $element)]
+    };
+}
+
+/// The other call on integers with this name, of those that take their vectors whole, or of those that take them by segments.
+fn int_call_named(cut: Cut, word: &[u8]) -> Option<Op>
+    ensures { result ≡ find (is_spelled word.now) (int_calls cut) }
+{
+    let integer = Element::Integer;
+    let letters = cut_and_element(cut, integer);
+    let scans = calls![[] Scan(cut) by IntMonoid, Op::CheckedScan(cut)];
+    let reduces = calls![[] Reduce(cut) by IntMonoid, Op::CheckedReduce(cut)];
+    let permutes = calls![[] Permute(cut, integer) by Form,];
+    let others = [Op::Pack(cut, integer), Op::Index(cut)];
+    first_of_class(&scans, "_s", letters, word)
+        .or(first_of_class(&reduces, "_r", letters, word))
+        .or(first_of_class(&permutes, "_p", letters, word))
+        .or(first_of_class(&element_calls!(cut, integer), "_v", letters, word))
+        .or(first_of_class(&others, "_l", letters, word))
+}
+
+/// The same on booleans.
+fn bool_call_named(cut: Cut, word: &[u8]) -> Option<Op>
+    ensures { result ≡ find (is_spelled word.now) (bool_calls cut) }
+{
+    let boolean = Element::Boolean;
+    let letters = cut_and_element(cut, boolean);
+    let scans = calls![[] BoolScan(cut) by BoolBinary,];
+    let reduces = calls![[] BoolReduce(cut) by BoolBinary,];
+    let permutes = calls![[] Permute(cut, boolean) by Form,];
+    let others = [Op::Pack(cut, boolean), Op::Count(cut)];
+    first_of_class(&scans, "_s", letters, word)
+        .or(first_of_class(&reduces, "_r", letters, word))
+        .or(first_of_class(&permutes, "_p", letters, word))
+        .or(first_of_class(&element_calls!(cut, boolean), "_v", letters, word))
+        .or(first_of_class(&others, "_l", letters, word))
 }
 
 /// The call with this name of those that take their vectors whole, or of those that take them by segments.
 fn cut_call_named(cut: Cut, word: &[u8]) -> Option<Op>
     ensures { result ≡ find (is_spelled word.now) (cut_calls cut) }
 {
-    let (integer, boolean) = (Element::Integer, Element::Boolean);
-    let (ints, bools) = (cut_and_element(cut, integer), cut_and_element(cut, boolean));
-    let others = [
-        Op::Pack(cut, integer),
-        Op::Distribute(cut, integer),
-        Op::Extract(cut, integer),
-        Op::Replace(cut, integer),
-        Op::Pack(cut, boolean),
-        Op::Distribute(cut, boolean),
-        Op::Extract(cut, boolean),
-        Op::Replace(cut, boolean),
-        Op::CheckedScan(cut),
-        Op::CheckedReduce(cut),
-        Op::Count(cut),
-        Op::Index(cut),
-    ];
-    first_of_class(&calls![[] Scan(cut) by IntMonoid,], "_s", ints, word)
-        .or(first_of_class(&calls![[] Reduce(cut) by IntMonoid,], "_r", ints, word))
-        .or(first_of_class(&calls![[] BoolScan(cut) by BoolBinary,], "_s", bools, word))
-        .or(first_of_class(
-            &calls![[] BoolReduce(cut) by BoolBinary,],
-            "_r",
-            bools,
-            word,
-        ))
-        .or(first_of_class(&calls![[] Permute(cut, integer) by Form,], "_p", ints, word))
-        .or(first_of_class(
-            &calls![[] Permute(cut, boolean) by Form,],
-            "_p",
-            bools,
-            word,
-        ))
-        .or(first_spelled(&others, word))
+    int_call_named(cut, word).or(bool_call_named(cut, word))
 }
 
 /// The call with this name that reads an input or a length, or makes or reads a descriptor.

@@ -36,7 +36,8 @@ macro_rules! row {
     };
 }
 
-/// The call's row.
+/// The call's row; inline, so that who reads a name does not make the rest.
+#[inline]
 pub(crate) fn row_of(op: Op) -> Row
     ensures name { bytes_of result.name ≡ spelling_of op }
     ensures operands { result.operands.now ≡ operands_of op }
