@@ -9,6 +9,7 @@ import subprocess
 import tempfile
 
 import generated
+import mixed_builds
 import proved
 import table
 
@@ -68,7 +69,9 @@ def joined(work, made, objects, public):
     whole, names = work / "cvl.o", work / "public"
     run(*program("LD"), "-r", "-z", "noexecstack", "-o", whole, "--whole-archive", *objects, "--no-whole-archive", *kit_parts())
     names.write_text("".join(f"{name}\n" for name in public))
-    run(*program("OBJCOPY"), f"--keep-global-symbols={names}", whole)
+    # each walk begins with a line of the cache: short segments take up to 1.6 times as long from one place of code to another, and so the
+    # same walk takes as long in each library
+    run(*program("OBJCOPY"), f"--keep-global-symbols={names}", "--set-section-alignment=.text.*=64", whole)
     made.unlink(missing_ok=True)
     # no times and no owners, so that the same build gives the same bytes
     run(*program("AR"), "rcsD", made, whole)
@@ -106,13 +109,15 @@ def compiled(work, written, flags=()):
     return [*found]
 
 
-def library(folder, archive, flags=()):
-    """The whole library as an archive in the folder, of which other objects see the names of the headers alone."""
+def library(folder, archive, flags=(), usual=None):
+    """The whole library as an archive in the folder, of which other objects see the names of the headers alone. With the usual
+    archive of the exports it has those from it that the other one makes slower."""
     with tempfile.TemporaryDirectory() as work:
         work = pathlib.Path(work)
         written = generated.below(work / "written")
         public = (written / "bindings/c/public").read_text().split()
-        return joined(work, folder / "libcvl.a", [archive, *compiled(work, written, flags)], public)
+        exports = mixed_builds.mixed(work, archive, usual) if usual else [archive]
+        return joined(work, folder / "libcvl.a", [*exports, *compiled(work, written, flags)], public)
 
 
 def for_processor(cpu):

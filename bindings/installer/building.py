@@ -129,10 +129,10 @@ class Build:
         self.crates.build_over_gate(made, cpu)
         return made
 
-    def _library_for(self, cpu, work):
+    def _library_for(self, cpu, work, usual):
         folder = work / archive.for_processor(cpu)
         folder.mkdir(parents=True, exist_ok=True)
-        archive.shared(archive.library(folder, self.exports_for(cpu, folder), [f"-march={cpu}"]))
+        archive.shared(archive.library(folder, self.exports_for(cpu, folder), [f"-march={cpu}"], usual))
 
     def run(self, work):
         """The program and the library, in the folder `work`."""
@@ -140,5 +140,7 @@ class Build:
         if work / "cvl" != pathlib.Path(program):
             shutil.copy(program, work / "cvl")
         archive.shared(archive.library(work, exports, [f"-march={self.cpu}"] if self.cpu else []))
+        # an archive for other processors may be built over this one
+        exports = shutil.copy(exports, work / "usual.a") if self.also else exports
         for cpu in self.also:
-            self._library_for(cpu, work)
+            self._library_for(cpu, work, exports)

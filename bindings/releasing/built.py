@@ -109,8 +109,8 @@ class Built:
                 for cpu in (USUAL, *OWN):
                     folder = made / archive.for_processor(cpu) if cpu else made
                     folder.mkdir(parents=True)
-                    flags = [f"-march={cpu}"] if cpu else []
-                    archive.shared(archive.library(folder, self.given["exports", cpu], flags))
+                    flags, usual = ([f"-march={cpu}"], self.given["exports", USUAL]) if cpu else ([], None)
+                    archive.shared(archive.library(folder, self.given["exports", cpu], flags, usual))
         return made / "libcvl.a"
 
     def shared(self):

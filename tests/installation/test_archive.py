@@ -3,6 +3,7 @@ made for it, without the kit, in a second."""
 
 import os
 import pathlib
+import subprocess
 import sys
 import unittest
 from unittest import mock
@@ -13,6 +14,7 @@ sys.path.insert(0, str(TOP / "bindings"))
 
 import archive
 import generated
+import mixed_builds
 import proved
 from installer import building
 from trees import Tree
@@ -250,6 +252,38 @@ class ForACpu(Tree):
             self.assertEqual(sorted(os.path.basename(words[words.index("-c") + 1]) for words in compiled), sources)
             for words in compiled:
                 self.assertEqual([word for word in words if word.startswith("-march")], [f"-march={cpu}"] if cpu else [])
+
+
+class Mixed(Tree):
+    """A library for newer processors, which has those exports from the usual build that are slower by its own."""
+
+    def built(self, name, answer, exports=("added", "seg_added")):
+        """An archive of exports that answer a number, by a function that each archive has under the same name."""
+        calls = "".join(f"int cvl_proved_{export}(void) {{ return answer(); }}\n" for export in exports)
+        source = self.write(f"{name}.c", f"int answer(void) {{ return {answer}; }}\n{calls}")
+        archive.run("cc", "-c", "-o", source.with_suffix(".o"), source)
+        archive.run("ar", "rcs", source.with_suffix(".a"), source.with_suffix(".o"))
+        return source.with_suffix(".a")
+
+    def mixed(self, own, usual):
+        (self.top / "work").mkdir()
+        with mock.patch.object(archive, "kit_parts", lambda: []):
+            return mixed_builds.mixed(self.top / "work", own, usual)
+
+    def test_each_export_is_of_one_build(self):
+        found = self.mixed(self.built("own", 3), self.built("usual", 2))
+        main = self.write(
+            "main.c",
+            "int cvl_proved_added(void), cvl_proved_seg_added(void);\n"
+            "int main(void) { return 10 * cvl_proved_added() + cvl_proved_seg_added(); }\n",
+        )
+        archive.run("cc", "-o", self.top / "main", main, *found)
+        self.assertEqual(subprocess.run([self.top / "main"]).returncode, 32)
+        self.assertEqual([archive.symbols(path) for path in found], [{"cvl_proved_seg_added"}, {"cvl_proved_added"}])
+
+    def test_builds_of_other_revisions_are_refused(self):
+        with self.assertRaisesRegex(SystemExit, "do not have the same exports"):
+            self.mixed(self.built("own", 3), self.built("usual", 2, ["added"]))
 
 
 class Words(unittest.TestCase):

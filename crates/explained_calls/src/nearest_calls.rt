@@ -6,8 +6,8 @@ ghost use Rattle.explained_calls.specs.Nearest.{call_names, near};
 use crate::known_words::near;
 use cvl_base::{Memory, NoResources};
 
-/// The name of the call nearest to a word, if it is near. Names are compared class by class: first the elementwise calls, then those
-/// on whole vectors, then those by segments, and then the others; of each, those on integers come first.
+/// The name of the call nearest to a word, if it is near. Names are compared class by class: first the elementwise calls, then
+/// those on whole vectors, then those by segments, and then the others; of each, those on integers come first.
 #[rattlefmt::skip]
 #[tactic(auto, unfolding(call_table::specs::Operators::int_binaries, call_table::specs::Operators::int_monoids, call_table::specs::Operators::unaries, call_table::specs::Operators::comparisons, call_table::specs::Operators::bool_binaries, call_table::specs::Spellings::elements, call_table::specs::Spellings::forms))]
 pub(crate) fn near_call<A: Memory>(
