@@ -9,6 +9,7 @@ use Rattle.segment_parts.specs.Carries.{before_each}
 
 pub length-before_each : {Item : Type 0} (join : Item → Item → Item) (unit : Item) (starts : List Bool) (told : List Item) → length starts ≡ length told
     → length (before_each join unit starts told) ≡ length told
+unfolding before_each
 length-before_each join unit starts told same =
     length-map (scan_of (seg_join join) (seg_unit unit) (zip starts told)) (λ p. p.1)
     ∙ length-scan_of (seg_join join) (seg_unit unit) (zip starts told) ∙ omega (arith, length-zip starts told, same)

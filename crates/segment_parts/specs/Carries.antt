@@ -9,7 +9,7 @@ use Rattle.cvl_base.specs.SegmentMonoid.{seg_join, seg_unit}
 
 module _ {Item : Type 0} (join : Item → Item → Item) (unit : Item) where
   -- each part's pair is whether a segment starts in it and what its elements since its last start join to: the values of the pairs' scan
-  abbrev pub before_each : List Bool → List Item → List Item
+  unfoldable pub before_each : List Bool → List Item → List Item
   before_each starts told = map (λ p. p.1) (scan_of (seg_join join) (seg_unit unit) (zip starts told))
 
   -- the same, if both lists are equally long

@@ -2,6 +2,7 @@ use Rattle.std.proofs.Common.{◌<◌, ◌∙◌, ap, arith, length, map, sym, t
 use Rattle.std.proofs.lemmas.Slice.Zip.{length-zip}
 use Rattle.cvl_base.specs.Folds.{scan_of}
 use Rattle.cvl_base.specs.SegmentMonoid.{seg_join, seg_unit}
+use Rattle.segment_parts.specs.Carries.{before_each}
 use Rattle.segment_parts.proofs.Carried.{carried_more, written_more}
 use Rattle.segment_parts.proofs.carries.write_carries.Goals as goal
 
@@ -18,6 +19,7 @@ loop-k-preserved g c =
     }
 
 pub returns : goal.returns
+unfolding before_each
 returns g c =
     let m = g.M.Monoid in let pairs = zip c.args.starts.now c.args.told.now in let k = c.loop-k.k in
     sym (take_all k c.loop-k.out (omega (arith, c.requires.room))) ∙ c.loop-k.invariant.written
