@@ -1,4 +1,5 @@
-//! Scans of parts, and what stands before each part, by the number of an operator: `UnknownCall`, without a place, if none has it.
+//! Scans of parts, and what stands before each part, by the number of an operator: `UnknownCall`, without a place, if none has
+//! it.
 //!
 //! A part has at most 2,147,483,647 elements, else `TooLong`, without a place; then its lengths are checked, as
 //! [`segments`] says.
