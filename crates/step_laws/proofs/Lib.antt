@@ -8,6 +8,8 @@ pub mod Measured
 pub mod Operators
 pub mod Packed
 pub mod Parted
+pub mod PieceScans
 pub mod PlaceByPlace
 pub mod Scanned
+pub mod SegScanned
 pub mod Valued

@@ -5,5 +5,7 @@ pub mod LengthSteps
 pub mod Looks
 pub mod PackSteps
 pub mod Parts
+pub mod Pieces
 pub mod PlaceSteps
+pub mod SegmentSteps
 pub mod Steps

@@ -9,3 +9,4 @@ pub mod descriptors;
 pub mod packs;
 pub mod places;
 pub mod scans;
+pub mod seg_scans;
