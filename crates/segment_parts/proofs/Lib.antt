@@ -1,2 +1,2 @@
 pub mod Carried
-pub mod Pieces
+pub mod Scanned

@@ -16,13 +16,13 @@ use Rattle.operators.proofs.FoldLaws.{fold_from, fold_of_is_item, scan_of-cons}
 use Rattle.operators.specs.Booleans.{either}
 use Rattle.scan_walks.specs.Ranges.{scans_of}
 use Rattle.segment_parts.specs.Carries.{before_each}
-use Rattle.segment_parts.specs.Parts.{piece_scans_of}
+use Rattle.segment_parts.specs.Parts.{scans_in_part}
 use Rattle.step_laws.specs.Pieces.{IsPiece, MayPrecede, Piece, if_some, segments_in, since_start, tail_of}
 
 module _ {Item : Type 0} (join : Item → Item → Item) (unit : Item) where
   -- the scans of a piece's head, of its segments and of its tail
   abbrev pub scans_in : Item → Piece Item → List Item
-  scans_in before p = piece_scans_of join unit before p.head p.lengths p.elements
+  scans_in before p = scans_in_part join unit before p.head p.lengths p.elements
 
   -- what a piece tells
   abbrev pub tells : Piece Item → Item

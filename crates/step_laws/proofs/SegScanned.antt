@@ -28,7 +28,7 @@ use Rattle.cvl_base.specs.Monoid.{MonoidLaws}
 use Rattle.cvl_base.specs.Nests.{cut_of, nest}
 use Rattle.cvl_base.specs.SegmentedCalls.{seg_scan_of}
 use Rattle.segdes.proofs.Checked.{lengths_made}
-use Rattle.segment_parts.proofs.Pieces.{length-piece_scans, part-fits}
+use Rattle.segment_parts.proofs.Scanned.{length-scans_in_part, part-fits}
 use Rattle.segment_parts.specs.Carries.{before_each, seg_carries_of}
 use Rattle.segment_parts.specs.Parts.{part_scan_of}
 use Rattle.c_calls.specs.Calls.{by_operator, by_segments, in_limit, lengths_of}
@@ -154,7 +154,7 @@ module _ {Operator Item : Type 0} {is_item : Item → Bool} (unit : Operator →
   scans_own o p = scans_in (join o) (unit o) p.before p.piece
 
   length-own : (o : Operator) (p : SegPart Item) → Fits p → length (scans_own o p) ≡ length p.room
-  length-own o p fit = length-piece_scans (join o) (unit o) p.before p.piece.head p.piece.lengths p.piece.elements fit.enough ∙ sym fit.room
+  length-own o p fit = length-scans_in_part (join o) (unit o) p.before p.piece.head p.piece.lengths p.piece.elements fit.enough ∙ sym fit.room
 
   writes-own : (o : Operator) (own left : SegPart Item) → Scans (Ok o) own left → Fits own → left.room ≡ scans_own o own
   writes-own o own left does fit =

@@ -77,18 +77,21 @@ IntSegScans op own left =
     × RoomTold (part_int_scan_by op own.before own.piece.head (map pos own.piece.lengths) own.piece.elements) status own.room left.room)
     × FillsAlone own left
 
--- ---- booleans, whose bytes are reduced as they come
+-- ---- booleans
 
+-- the same of booleans, whose bytes are reduced as they come
 abbrev pub BoolSegReduces : ℕ → SegPart Bool → SegPart Bool → Type 0
 BoolSegReduces op own left =
     ((bytes : List ℕ) × (flags_of bytes ≡ since_start own.piece) × Told (bool_reduce_by op bytes) done own.told left.told)
     × TellsAlone own left
 
+-- once: what stands before each part
 abbrev pub BoolSegCarries : ℕ → List (SegPart Bool) → List (SegPart Bool) → Type 0
 BoolSegCarries op parts left =
     RoomTold (bool_carries_by op (starts_of parts) (told_of parts)) done (befores_of parts) (befores_of left)
     × AllZip CarriesAlone parts left
 
+-- a part scans its elements after what stands before them, whatever it answers
 abbrev pub BoolSegScans : ℕ → SegPart Bool → SegPart Bool → Type 0
 BoolSegScans op own left =
     ((status : CvlStatus)

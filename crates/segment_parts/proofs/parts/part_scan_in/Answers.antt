@@ -2,7 +2,7 @@ use Rattle.std.proofs.Common.{◌≡◌, ◌∙◌, ap, drop, take}
 use Rattle.cvl_base.specs.Folds.{scan_of}
 use Rattle.cvl_base.specs.SegmentedCalls.{seg_scan_of}
 use Rattle.range_walks.specs.Ranges.{scans_of}
-use Rattle.segment_parts.proofs.Pieces.{put_together, whole-scans, writes, written}
+use Rattle.segment_parts.proofs.Scanned.{put_together, whole-scans, writes, written}
 use Rattle.segment_parts.proofs.parts.part_scan_in.Goals as goal
 
 pub returns : goal.returns

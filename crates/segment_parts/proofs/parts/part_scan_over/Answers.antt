@@ -5,17 +5,17 @@ use Rattle.cvl_base.proofs.Rooms.{differs, fits, told}
 use Rattle.cvl_base.specs.Folds.{scan_of}
 use Rattle.cvl_base.specs.Rooms.{in_room}
 use Rattle.operators.proofs.FoldLaws.{length-scan_of}
-use Rattle.segment_parts.specs.Parts.{piece_scans_of}
-use Rattle.segment_parts.proofs.Pieces.{fills, fills_whole, length-piece_scans, part-fits, put_together, writes}
+use Rattle.segment_parts.specs.Parts.{scans_in_part}
+use Rattle.segment_parts.proofs.Scanned.{fills, fills_whole, length-scans_in_part, part-fits, put_together, writes}
 use Rattle.segment_parts.proofs.parts.part_scan_over.Goals as goal
 
 pub returns-in_err-check_agree : goal.returns-in_err-check_agree
 returns-in_err-check_agree g c =
     let m = g.M.Monoid in let a = c.args.a.now in let d = c.args.lengths.now in let room = length c.args.out.now in let enough = c.in_ok-check_fits.ensures in
-    let scans = piece_scans_of m.join m.unit c.args.before c.args.head d a in
+    let scans = scans_in_part m.join m.unit c.args.before c.args.head d a in
     told _ c.from_residual-in_err-check_agree.result c.in_err-check_agree.field-0.0 c.args.out.now c.from_residual-in_err-check_agree.ensures.1
     (ap (in_room room) (part-fits m.join m.unit c.args.before c.args.head d a enough)
-    ∙ differs room scans (λ same. c.in_err-check_agree.ensures.1 (sym (length-piece_scans m.join m.unit c.args.before c.args.head d a enough) ∙ same))
+    ∙ differs room scans (λ same. c.in_err-check_agree.ensures.1 (sym (length-scans_in_part m.join m.unit c.args.before c.args.head d a enough) ∙ same))
     ∙ ap Err (sym c.in_err-check_agree.ensures.0))
 
 pub scan_over-requires-clause-items : goal.scan_over-requires-clause-items
@@ -79,7 +79,7 @@ returns g c =
     let is_behind : behind ≡ drop n (drop head a) = c.split_at-2.ensures.back ∙ ap (drop n) c.split_at.ensures.back in
     let together = put_together m.join m.unit before head d a enough n total c.scan_over.new.out c.seg_scan_over.new.out c.scan_over-2.new.out
     (one.1 ∙ ap (scan_of m.join before) c.split_at.ensures.front) two.1 (three.1 ∙ (λ i. scan_of m.join (c.unit.ensures i) (is_behind i))) in
-    let scans = piece_scans_of m.join m.unit before head d a in
-    let fit : length scans ≡ length out = length-piece_scans m.join m.unit before head d a enough ∙ c.in_ok-check_agree.ensures in
+    let scans = scans_in_part m.join m.unit before head d a in
+    let fit : length scans ≡ length out = length-scans_in_part m.join m.unit before head d a enough ∙ c.in_ok-check_agree.ensures in
     writes _ c.scan_over-2.result out _
     (ap (in_room (length out)) (part-fits m.join m.unit before head d a enough) ∙ fits (length out) scans fit ∙ sym (part-fits m.join m.unit before head d a enough) ∙ together) three.0

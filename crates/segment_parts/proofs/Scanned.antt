@@ -1,16 +1,15 @@
--- The scans of a part's pieces: how many elements they have, where the part has enough, and what the walks over the pieces have written.
-use Rattle.std.proofs.Common.{rules, ◌≡◌, append_assoc, ◌+◌, ◌<◌, ◌≤◌, ◌∙◌, ℕ, List, [], ◌∷◌, ◌++◌, length, map, take, drop, Result, Ok, Err, refl, sym, ap}
+-- The scans in a part: how many elements they have, where the part has enough, and what the walks over its head, its segments and its
+-- tail have written.
+use Rattle.std.proofs.Common.{rules, ◌≡◌, append_assoc, ◌+◌, ◌≤◌, ◌∙◌, ℕ, List, [], ◌∷◌, ◌++◌, length, map, take, drop, Result, Ok, Err, refl, sym, ap}
 use Rattle.std.proofs.Common.{arith, subst, drop-drop, length-append, length-drop}
 use Rattle.std.specs.Prelude.{sum}
 use Rattle.std.specs.Result.{result_ok}
-use Rattle.std.proofs.lemmas.Bool.{le-ltb, lt-ltb}
+use Rattle.std.proofs.lemmas.Bool.{le-ltb}
 use Rattle.std.proofs.lemmas.List.{drop-take, length-take-le, take-take}
 use Rattle.std.proofs.lemmas.Option.{none-some, same_Some}
 use Rattle.cvl_base.proofs.Lists.{sum-cons}
 use Rattle.cvl_base.proofs.Rooms.{fits}
 use Rattle.cvl_base.specs.declared.fault.Fault.{Fault}
-use Rattle.cvl_base.specs.declared.fault.FaultNo.TheVariants as no
-use Rattle.cvl_base.specs.Faults.{fault}
 use Rattle.cvl_base.specs.Folds.{scan_of}
 use Rattle.cvl_base.specs.Lists.{joined}
 use Rattle.cvl_base.specs.Nests.{cut_of}
@@ -20,7 +19,7 @@ use Rattle.range_walks.proofs.Segments.{length-scans_of}
 use Rattle.scan_walks.proofs.Segmented.{seg_scan-fits}
 use Rattle.cvl_base.specs.SegmentedCalls.{seg_scan_of}
 use Rattle.range_walks.specs.Ranges.{scans_of}
-use Rattle.segment_parts.specs.Parts.{part_scan_of, piece_scans_of}
+use Rattle.segment_parts.specs.Parts.{part_scan_of, scans_in_part}
 
 -- segments are cut from the front of a list that is longer than they are
 pub cut-front : {X : Type 0} (lengths : List ℕ) (xs : List X) → cut_of lengths (take (sum lengths) xs) ≡ cut_of lengths xs
@@ -28,11 +27,8 @@ cut-front [] xs = refl
 cut-front (n ∷ ns) xs = search (rules, sum-cons, take-take, drop-take, cut-front ns (drop n xs))
 
 module _ {Item : Type 0} (join : Item → Item → Item) (unit before : Item) (head : ℕ) (lengths : List ℕ) (xs : List Item) where
-  pub part-fits : head + sum lengths ≤ length xs → part_scan_of join unit before head lengths xs ≡ Ok (piece_scans_of join unit before head lengths xs)
+  pub part-fits : head + sum lengths ≤ length xs → part_scan_of join unit before head lengths xs ≡ Ok (scans_in_part join unit before head lengths xs)
   part-fits enough = rw (le-ltb (length xs) (head + sum lengths) enough) refl
-
-  pub part-misfits : length xs < head + sum lengths → part_scan_of join unit before head lengths xs ≡ Err (fault no.LengthMismatch)
-  part-misfits few = rw (lt-ltb (length xs) (head + sum lengths) few) refl
 
   front-scans : scans_of join unit lengths (take (sum lengths) (drop head xs)) ≡ scans_of join unit lengths (drop head xs)
   front-scans = ap (λ segments. joined (map (scan_of join unit) segments)) (cut-front lengths (drop head xs))
@@ -42,8 +38,8 @@ module _ {Item : Type 0} (join : Item → Item → Item) (unit before : Item) (h
       let cut : length (take (sum lengths) (drop head xs)) ≡ sum lengths = length-take-le (sum lengths) (drop head xs) (omega (arith, enough, length-drop head xs)) in
       ap length (sym front-scans) ∙ length-scans_of join unit lengths (take (sum lengths) (drop head xs)) (omega (arith, cut)) ∙ cut
 
-  pub length-piece_scans : head + sum lengths ≤ length xs → length (piece_scans_of join unit before head lengths xs) ≡ length xs
-  length-piece_scans enough =
+  pub length-scans_in_part : head + sum lengths ≤ length xs → length (scans_in_part join unit before head lengths xs) ≡ length xs
+  length-scans_in_part enough =
       let front = scan_of join before (take head xs) in
       let whole = scans_of join unit lengths (drop head xs) in
       let behind = scan_of join unit (drop (head + sum lengths) xs) in
@@ -61,7 +57,7 @@ module _ {Item : Type 0} (join : Item → Item → Item) (unit before : Item) (h
         seg_scan-fits join unit (take n (drop head xs)) lengths (sym total ∙ sym cut)
         ∙ ap (λ k. Ok (scans_of join unit lengths (take k (drop head xs)))) total ∙ ap Ok front-scans
 
-    -- the scans of the three pieces are the part's
+    -- the three scans, one behind the other, are the part's
     pub put_together : (front whole behind : List Item) → front ≡ scan_of join before (take head xs) → whole ≡ scans_of join unit lengths (drop head xs)
         → behind ≡ scan_of join unit (drop n (drop head xs)) → part_scan_of join unit before head lengths xs ≡ Ok (front ++ (whole ++ behind))
     put_together front whole behind is_front is_whole is_behind =
