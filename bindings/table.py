@@ -199,7 +199,7 @@ CUTS = {
         OverRanks("lengths", "the ranks' totals are added", named=True),
         "steps",
     ),
-    "seg_scan": Cut(IN_SEGMENTS, OverRanks("seg_scan", BEFORE), "seg_scan"),
+    "seg_scan": Cut(IN_SEGMENTS, OverRanks("seg_scan", BEFORE), "steps"),
     "seg_checked_scan": Cut(IN_SEGMENTS, OverRanks("seg_checked_scan", BEFORE), "seg_checked_scan"),
     "seg_reduce": Cut(PIECES, OverRanks("seg_reduce", JOINED_AT_START), "seg_reduce"),
     "seg_checked_reduce": Cut(PIECES, OverRanks("seg_checked_reduce", JOINED_AT_START), "seg_checked_reduce"),
@@ -246,7 +246,7 @@ STEPS = (
 )
 
 # The families that steps of other calls in parts make.
-STEP_FAMILIES = ("int_scan_after", "bool_scan_after", "seg_int_scan", "seg_bool_scan")
+STEP_FAMILIES = ("int_scan_after", "seg_int_scan")
 
 # A step of a call in parts.
 #
@@ -2996,11 +2996,11 @@ def step(kind, calls=None, operator=None, **operands):
     return Step(kind, calls, operator, operands)
 
 
-# The families that are made once between two steps, of what all parts told; no program calls them.
-BETWEEN = (
+# The families that only steps of calls in parts make: of a part, or once, of what all parts told. No program calls them.
+IN_STEPS = (
     family(
         "carries",
-        "between steps",
+        "in steps",
         (sums("sums"), room("sums")),
         "For each part the sum in 64 bits of those before it.",
         limit=None,
@@ -3009,7 +3009,7 @@ BETWEEN = (
     ),
     family(
         "carried_total",
-        "between steps",
+        "in steps",
         (sums("sums"), single("int")),
         "What the sums of the parts add up to, if it fits 32 bits.",
         limit=None,
@@ -3018,7 +3018,7 @@ BETWEEN = (
     ),
     family(
         "part_places",
-        "between steps",
+        "in steps",
         (ints("counts"), value("room", "size"), room("sizes"), told()),
         "Where each part's elements go in a room of so many places, at last where they end, and how many they are.",
         limit=None,
@@ -3027,11 +3027,32 @@ BETWEEN = (
     ),
     family(
         "part_total",
-        "between steps",
+        "in steps",
         (sizes("sizes"), told("total")),
         "The sum of the lengths of the parts, if a vector may be so long.",
         limit=None,
         faults=(),
+        over_ranks=NO_PARTS,
+    ),
+    *twins(
+        ("int_carries", "bool_carries"),
+        "in steps",
+        lambda kind: (copied("starts"), items(kind, "told"), room(kind)),
+        "For each part what its first elements go on from: what the parts since the last start of a segment tell, joined.",
+        operators=joining,
+        limit=None,
+        faults=(),
+        over_ranks=NO_PARTS,
+    ),
+    *twins(
+        ("part_int_scan", "part_bool_scan"),
+        "in steps",
+        lambda kind: (value("before", one(kind)), value("head", "size"), lengths(), items(kind, "a"), room(kind)),
+        "The scan of a part: of its first `head` elements after `before`, of its whole segments, and of what it has of another.",
+        operators=joining,
+        limit=None,
+        in_place=(("a",),),
+        faults=(SUM_OF_N,),
         over_ranks=NO_PARTS,
     ),
 )
@@ -3051,6 +3072,11 @@ def steps_of(cut, kind):
             step("tells", f"{kind}_reduce", out=each_sum),
             step("joins", f"{kind}_scan", a=all_sums, out=all_before),
             step("fills", f"{kind}_scan_after", before=before),
+        ),
+        "seg_scan": (
+            step("tells", f"{kind}_reduce", a=("A", "LAST"), out=each_sum),
+            step("joins", f"{kind}_carries", starts=("STARTS", "NONE"), told=all_sums, out=all_before),
+            step("fills", f"part_{kind}_scan", before=before, head=("LENGTHS", "HEAD"), lengths=("LENGTHS", "WHOLE")),
         ),
         "count": (step("tells", "count", out=each_sum), step("joins", "int_reduce", "ADD", a=all_sums)),
         "checked_reduce": (step("tells", "exact_sum", out=each_total), step("joins", "carried_total", sums=all_totals)),

@@ -127,21 +127,6 @@ static bool cut_at_white(const CvlPool *pool, CvlWork *w, const char *text, size
 
 /* ---- segments: the elements are cut, and each part finds the segments that start in it ---- */
 
-/* Elements that are cut, the lengths of their segments, and the first segment that starts in each part. */
-/*@ predicate has_segments{L}(CvlWork *w) =
-      0 < w->parts <= CVL_MOST_PARTS && w->from[w->parts] <= CVL_MOST_ELEMENTS && w->segments <= CVL_MOST_ELEMENTS &&
-      is_cut(&w->from[0], w->parts, w->from[w->parts]) && is_segments(w->lengths, w->segments, w->from[w->parts]) &&
-      \valid_read(w->lengths + (0 .. w->segments - 1)) && \separated(w->lengths + (0 .. w->segments - 1), w);
-
-    predicate knows_first{L}(CvlWork *w, integer k) =
-      is_first(w->lengths, w->segments, w->from[k], w->first[k]) && w->start[k] == start_of(w->lengths, w->first[k]);
-
-    predicate knows_starts{L}(CvlWork *w) =
-      w->first[0] == 0 && w->first[w->parts] == w->segments && w->start[w->parts] == w->from[w->parts] &&
-      (\forall integer k; 0 <= k <= w->parts ==> 0 <= w->first[k] <= w->segments) &&
-      (\forall integer k; 0 <= k <= w->parts ==> w->from[k] <= w->start[k] == start_of(w->lengths, w->first[k])) &&
-      (\forall integer k, s; 0 <= k < w->parts && 0 <= s < w->first[k] ==> start_of(w->lengths, s) < w->from[k]); */
-
 /* The lengths, cut into parts of their own, and how many elements each of these has. */
 /*@ requires \valid(w) && k < w->parts <= CVL_MOST_PARTS && w->segments <= CVL_MOST_ELEMENTS;
     requires \valid_read(w->lengths + (0 .. w->segments - 1)) && \separated(w->lengths + (0 .. w->segments - 1), w);
@@ -183,7 +168,9 @@ static bool cut_segments(const CvlPool *pool, CvlWork *w, size_t n, CvlSlot leng
     for (size_t k = 0; k < w->parts; k++) w->other[k + 1] = w->other[k] + w->counts[k];
     if (w->other[w->parts] != n) return 0;
     w->first[w->parts] = lengths.number, w->start[w->parts] = n;
-    return cvl_step(pool, w, CVL_READS, start_part);
+    if (!cvl_step(pool, w, CVL_READS, start_part)) return 0;
+    for (size_t k = 0; k < w->parts; k++) w->starts[k] = w->first[k + 1] > w->first[k];
+    return 1;
 }
 
 bool cvl_cut(const CvlPool *pool, CvlWork *w, const CvlRow *row, const CvlSlot *s) {
@@ -195,14 +182,6 @@ bool cvl_cut(const CvlPool *pool, CvlWork *w, const CvlRow *row, const CvlSlot *
     return cut_evenly(pool, w, n, row->least, row->each) && runs_all(pool, w);
 }
 
-/*@ requires \valid_read(w) && has_segments(w) && knows_starts(w) && k < w->parts;
-    assigns \nothing;
-    ensures \result.from == w->from[k] <= \result.head <= \result.tail <= \result.to == w->from[k + 1];
-    ensures \result.first == w->first[k] && \result.first + \result.count + (\result.cut ? 1 : 0) == w->first[k + 1];
-    ensures \result.starts ? start_of(w->lengths, \result.first) == \result.head : \result.head == \result.to;
-    ensures \result.cut ==> start_of(w->lengths, \result.first + \result.count) == \result.tail;
-    ensures \result.starts && !\result.cut ==> start_of(w->lengths, \result.first + \result.count) == \result.tail == \result.to;
-    ensures \result.cut <==> \result.starts && w->start[k + 1] > \result.to; */
 CvlPiece cvl_piece(const CvlWork *w, size_t k) {
     CvlPiece p;
     /*@ assert w->from[k] <= w->start[k] && w->from[k + 1] <= w->start[k + 1]; */

@@ -30,11 +30,11 @@ struct CvlWork {
     size_t from[CVL_MOST_PARTS + 1];  /* the first element of each part, and how many elements there are */
     size_t first[CVL_MOST_PARTS + 1]; /* the first segment that starts in each part, and how many segments there are */
     size_t start[CVL_MOST_PARTS + 1]; /* where that segment starts */
+    bool starts[CVL_MOST_PARTS];      /* whether a segment starts in each part */
     size_t other[CVL_MOST_PARTS + 1]; /* where it starts in a second vector, or where a part's result goes */
     size_t third[CVL_MOST_PARTS + 1]; /* where it starts in a third one */
     CvlItem sums[CVL_MOST_PARTS];     /* what each part, or its last, cut segment, joins to */
     CvlItem heads[CVL_MOST_PARTS];    /* what those elements of each part join to that belong to a segment of an earlier part */
-    CvlItem before[CVL_MOST_PARTS];   /* the carry into each part */
     int64_t head_totals[CVL_MOST_PARTS]; /* the same as sums that never wrap */
     size_t counts[CVL_MOST_PARTS];       /* how many elements each part gives */
     CvlRecord of_parts;                  /* what a step tells of each part */
@@ -172,6 +172,30 @@ typedef struct CvlPiece {
     bool starts, cut;    /* whether a segment starts in the part, and whether its last one is cut */
 } CvlPiece;
 
+/* Elements that are cut, the lengths of their segments, and the first segment that starts in each part. */
+/*@ predicate has_segments{L}(CvlWork *w) =
+      0 < w->parts <= CVL_MOST_PARTS && w->from[w->parts] <= CVL_MOST_ELEMENTS && w->segments <= CVL_MOST_ELEMENTS &&
+      is_cut(&w->from[0], w->parts, w->from[w->parts]) && is_segments(w->lengths, w->segments, w->from[w->parts]) &&
+      \valid_read(w->lengths + (0 .. w->segments - 1)) && \separated(w->lengths + (0 .. w->segments - 1), w);
+
+    predicate knows_first{L}(CvlWork *w, integer k) =
+      is_first(w->lengths, w->segments, w->from[k], w->first[k]) && w->start[k] == start_of(w->lengths, w->first[k]);
+
+    predicate knows_starts{L}(CvlWork *w) =
+      w->first[0] == 0 && w->first[w->parts] == w->segments && w->start[w->parts] == w->from[w->parts] &&
+      (\forall integer k; 0 <= k <= w->parts ==> 0 <= w->first[k] <= w->segments) &&
+      (\forall integer k; 0 <= k <= w->parts ==> w->from[k] <= w->start[k] == start_of(w->lengths, w->first[k])) &&
+      (\forall integer k, s; 0 <= k < w->parts && 0 <= s < w->first[k] ==> start_of(w->lengths, s) < w->from[k]); */
+
+/*@ requires \valid_read(w) && has_segments(w) && knows_starts(w) && k < w->parts;
+    assigns \nothing;
+    ensures \result.from == w->from[k] <= \result.head <= \result.tail <= \result.to == w->from[k + 1];
+    ensures \result.first == w->first[k] && \result.first + \result.count + (\result.cut ? 1 : 0) == w->first[k + 1];
+    ensures \result.starts <==> w->first[k + 1] > w->first[k];
+    ensures \result.starts ? start_of(w->lengths, \result.first) == \result.head : \result.head == \result.to;
+    ensures \result.cut ==> start_of(w->lengths, \result.first + \result.count) == \result.tail;
+    ensures \result.starts && !\result.cut ==> start_of(w->lengths, \result.first + \result.count) == \result.tail == \result.to;
+    ensures \result.cut <==> \result.starts && w->start[k + 1] > \result.to; */
 CVL_HIDDEN CvlPiece cvl_piece(const CvlWork *w, size_t k);
 
 /*
@@ -220,9 +244,6 @@ CVL_HIDDEN bool cvl_segments_in_parts(const CvlPool *pool, CvlWork *w);
 /*@ requires w->parts <= CVL_MOST_PARTS;
     assigns *w, rooms, made; */
 CVL_HIDDEN bool cvl_sure_segments_in_parts(const CvlPool *pool, CvlWork *w);
-/*@ requires w->parts <= CVL_MOST_PARTS;
-    assigns *w, rooms, made; */
-CVL_HIDDEN bool cvl_seg_scan_in_parts(const CvlPool *pool, CvlWork *w);
 CVL_HIDDEN bool cvl_seg_reduce_in_parts(const CvlPool *pool, CvlWork *w);
 CVL_HIDDEN bool cvl_seg_checked_scan_in_parts(const CvlPool *pool, CvlWork *w);
 CVL_HIDDEN bool cvl_seg_checked_reduce_in_parts(const CvlPool *pool, CvlWork *w);
@@ -237,7 +258,7 @@ CVL_HIDDEN bool cvl_write_in_parts(const CvlPool *pool, CvlWork *w);
 CVL_HIDDEN bool cvl_read_in_parts(const CvlPool *pool, CvlWork *w);
 
 /* The rows of what parts call beside their own. */
-extern CVL_HIDDEN const CvlRow cvl_int_scan_after_row, cvl_bool_scan_after_row, cvl_seg_int_scan_row, cvl_seg_bool_scan_row;
+extern CVL_HIDDEN const CvlRow cvl_int_scan_after_row, cvl_seg_int_scan_row;
 
 /* Makes the call on what a part has of each operand; and the boundaries of its parts. */
 CVL_HIDDEN CvlStatus cvl_make_part(CvlWork *w, size_t k);
@@ -248,7 +269,6 @@ CVL_HIDDEN const size_t *cvl_boundaries(const CvlWork *w, CvlBy by);
 CVL_HIDDEN CvlStatus cvl_reduce_of(const CvlWork *w, size_t from, size_t to, CvlItem *sum);
 /*@ assigns *joined; */
 CVL_HIDDEN CvlStatus cvl_join_of(const CvlWork *w, CvlItem first, CvlItem second, CvlItem *joined);
-CVL_HIDDEN CvlStatus cvl_scan_range(const CvlWork *w, CvlItem before, size_t from, size_t to);
 
 static inline bool cvl_fits(int64_t sum) { return sum >= INT32_MIN && sum <= INT32_MAX; }
 

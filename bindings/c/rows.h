@@ -26,6 +26,8 @@ typedef enum CvlAs {
     CVL_AS_OUT, CVL_AS_MARKS, CVL_AS_TOLD, CVL_AS_OTHER_OUT, CVL_AS_OTHER_TOLD,
     /* the records of a call in parts: a number of 32 bits or of 64 for each part */
     CVL_AS_SUMS, CVL_AS_BEFORE, CVL_AS_TOTALS, CVL_AS_CARRIES,
+    /* whether a segment starts in each part */
+    CVL_AS_STARTS,
     /* how many elements each part keeps, where these go in the room and where they end, and how many it has written there */
     CVL_AS_COUNTS, CVL_AS_PLACES, CVL_AS_KEPT,
     /* the number 1, the element of the room at the place, and no array */
@@ -44,12 +46,13 @@ typedef enum CvlRelation {
 
 /*
  * What each part has of an operand: the whole (NONE); what lies between two boundaries of CvlWork (FROM to THIRD, named as the array that has
- * them); its own place of a record (PART); or the number that stands there (INT, FLAG).
+ * them); its own place of a record (PART), or the number that stands there (INT to LONG); how many of its elements go on from an earlier
+ * segment (HEAD), the lengths of its whole segments (WHOLE), or its elements since its last start (LAST).
  */
 /* clang-format off */
 typedef enum CvlBy {
     CVL_BY_NONE, CVL_BY_FROM, CVL_BY_FIRST, CVL_BY_START, CVL_BY_OTHER, CVL_BY_THIRD,
-    CVL_BY_PART, CVL_BY_INT, CVL_BY_FLAG, CVL_BY_LONG
+    CVL_BY_PART, CVL_BY_INT, CVL_BY_FLAG, CVL_BY_LONG, CVL_BY_HEAD, CVL_BY_WHOLE, CVL_BY_LAST
 } CvlBy;
 /* clang-format on */
 

@@ -15,45 +15,6 @@ CvlStatus cvl_join_of(const CvlWork *w, CvlItem first, CvlItem second, CvlItem *
     return cvl_proved_int_reduce(w->op, numbers, 2, &joined->number);
 }
 
-CvlStatus cvl_scan_range(const CvlWork *w, CvlItem before, size_t from, size_t to) {
-    const CvlRow *const row = cvl_of_bools(w) ? &cvl_bool_scan_after_row : &cvl_int_scan_after_row;
-    const CvlSlot number = {NULL, cvl_of_bools(w) ? before.flag : (size_t)before.number};
-    const CvlSlot s[] = {number, cvl_range(w, CVL_AS_A, from, to), cvl_range(w, CVL_AS_OUT, from, to)};
-    return row->make(w->op, s);
-}
-
-/* ---- scans: what stands before a part is the join since the last start ---- */
-
-/* What the elements of the part since its last start join to, or all of them if none starts. */
-static CvlStatus since_part(CvlWork *w, size_t k) {
-    const CvlPiece p = cvl_piece(w, k);
-    return cvl_reduce_of(w, p.starts ? p.tail : p.from, p.to, &w->sums[k]);
-}
-
-static CvlStatus scan_part(CvlWork *w, size_t k) {
-    const CvlRow *const row = cvl_of_bools(w) ? &cvl_seg_bool_scan_row : &cvl_seg_int_scan_row;
-    const CvlPiece p = cvl_piece(w, k);
-    const CvlSlot lengths = {w->lengths + p.first, p.count};
-    const CvlSlot whole[] = {cvl_range(w, CVL_AS_A, p.head, p.tail), lengths, cvl_range(w, CVL_AS_OUT, p.head, p.tail)};
-    CvlItem unit;
-    const CvlStatus status = cvl_reduce_of(w, 0, 0, &unit);
-    if (status.number != CVL_DONE) return status;
-    return cvl_first_of(
-        cvl_scan_range(w, w->before[k], p.from, p.head), row->make(w->op, whole), cvl_scan_range(w, unit, p.tail, p.to));
-}
-
-bool cvl_seg_scan_in_parts(const CvlPool *pool, CvlWork *w) {
-    bool done = cvl_make_all(pool, w) && cvl_step(pool, w, CVL_READS, since_part);
-    /*@ loop invariant 0 <= k && w->parts == \at(w->parts, Pre) && (done ==> made != 0);
-        loop assigns k, done, w->before[0 .. CVL_MOST_PARTS - 1]; */
-    for (size_t k = 0; k + 1 < w->parts && done; k++) {
-        if (cvl_piece(w, k).starts) w->before[k + 1] = w->sums[k];
-        else done = cvl_join_of(w, w->before[k], w->sums[k], &w->before[k + 1]).number == CVL_DONE;
-    }
-    w->told = cvl_done();
-    return done && cvl_step(pool, w, CVL_WRITES, scan_part);
-}
-
 /* ---- reduces: each part writes those of its whole segments; then the pieces of cut ones are joined ---- */
 
 static CvlStatus reduce_whole(const CvlWork *w, CvlPiece p) {
@@ -115,7 +76,7 @@ bool cvl_seg_count_in_parts(const CvlPool *pool, CvlWork *w) {
 
 /* ---- sums that never wrap ---- */
 
-/* The same as since_part. */
+/* The total of what the part has since its last start, or of all of it if none starts. */
 static CvlStatus total_part(CvlWork *w, size_t k) {
     const CvlPiece p = cvl_piece(w, k);
     const size_t from = p.starts ? p.tail : p.from;
@@ -136,7 +97,9 @@ bool cvl_seg_checked_scan_in_parts(const CvlPool *pool, CvlWork *w) {
     if (!cvl_step(pool, w, CVL_READS, total_part)) return 0;
     for (size_t k = 0; k + 1 < w->parts; k++)
         w->before_parts.longs[k + 1] = w->of_parts.longs[k] + (cvl_piece(w, k).starts ? 0 : w->before_parts.longs[k]);
-    return cvl_step(pool, w, CVL_READS, checked_look) && cvl_seg_scan_in_parts(pool, w);
+    if (!cvl_step(pool, w, CVL_READS, checked_look)) return 0;
+    w->row = &cvl_seg_int_scan_row;
+    return cvl_steps_in_parts(pool, w);
 }
 
 /* Checks the sums of the part's whole segments, and reports those of its pieces of others. */

@@ -52,7 +52,51 @@ static size_t number_before(const CvlWork *w, CvlBy by, size_t k) {
     }
 }
 
-/* What a part has of an operand. */
+/* So many elements of an array, from a place on. */
+/*@ requires place <= CVL_MOST_ELEMENTS;
+    assigns \nothing;
+    ensures \result.at == (char *)slot.at + place * size && \result.number == count; */
+static CvlSlot slot_from(CvlSlot slot, size_t place, size_t count, unsigned char size) {
+    slot.at = (const char *)slot.at + place * size;
+    slot.number = count;
+    return slot;
+}
+
+/* How many elements of a part go on from an earlier segment; and where its last segment starts, or it begins. */
+/*@ logic integer head_of{L}(CvlWork *w, integer k) = (w->start[k] < w->from[k + 1] ? w->start[k] : w->from[k + 1]) - w->from[k];
+
+    logic integer last_of{L}(CvlWork *w, integer k) =
+      w->first[k + 1] == w->first[k] ? w->from[k] :
+      w->start[k + 1] == w->from[k + 1] ? w->from[k + 1] : start_of(w->lengths, w->first[k + 1] - 1);
+
+    logic integer is_cut_behind{L}(CvlWork *w, integer k) =
+      w->first[k + 1] > w->first[k] && w->start[k + 1] > w->from[k + 1] ? 1 : 0; */
+/* What a part has of segments. */
+/*@ predicate is_piece(integer by) = by == CVL_BY_HEAD || by == CVL_BY_WHOLE || by == CVL_BY_LAST; */
+/*@ requires \valid_read(w) && \valid_read(o) && o->as < CVL_ROLES && is_piece(o->by);
+    requires has_segments(w) && knows_starts(w) && k < w->parts;
+    assigns \nothing;
+    ensures o->by == CVL_BY_HEAD ==> \result.number == head_of(w, k);
+    ensures o->by == CVL_BY_WHOLE ==> \result.at == (char *)w->in[o->as].at + w->first[k] * o->size;
+    ensures o->by == CVL_BY_WHOLE ==> w->first[k] + \result.number == w->first[k + 1] - is_cut_behind(w, k);
+    ensures o->by == CVL_BY_LAST ==> \result.at == (char *)w->in[o->as].at + last_of(w, k) * o->size;
+    ensures o->by == CVL_BY_LAST ==> \result.number == w->from[k + 1] - last_of(w, k); */
+static CvlSlot slot_of_piece(const CvlWork *w, const CvlOperand *o, size_t k) {
+    const CvlPiece p = cvl_piece(w, k);
+    const bool whole = o->by == CVL_BY_WHOLE;
+    const size_t from = whole ? p.first : p.starts ? p.tail : p.from;
+    CvlSlot slot = w->in[o->as];
+    if (o->by == CVL_BY_HEAD) {
+        slot.number = p.head - p.from;
+        return slot;
+    }
+    const CvlSlot range = slot_from(slot, from, whole ? p.count : p.to - from, o->size);
+    /*@ assert from == (o->by == CVL_BY_WHOLE ? w->first[k] : last_of(w, k)); */
+    /*@ assert range.at == (char *)w->in[o->as].at + from * o->size; */
+    return range;
+}
+
+/* What a part has of an operand by boundaries or of a record. */
 /*@ predicate is_before(integer by) = by == CVL_BY_INT || by == CVL_BY_FLAG || by == CVL_BY_LONG; */
 /*@ requires \valid_read(w) && \valid_read(o) && o->as < CVL_ROLES && k < CVL_MOST_PARTS;
     requires !is_before(o->by) ==> begins(w, o->by, k) <= begins(w, o->by, k + 1) <= CVL_MOST_ELEMENTS;
@@ -65,7 +109,7 @@ static size_t number_before(const CvlWork *w, CvlBy by, size_t k) {
     ensures o->by != CVL_BY_NONE && !is_before(o->by) && o->size == 0 && o->as == CVL_AS_COUNT ==>
       \result.number == w->from[k + 1] - w->from[k];
     ensures is_before(o->by) ==> \result.number == before_part(w, o->by, k); */
-static CvlSlot slot_of_part(const CvlWork *w, const CvlOperand *o, size_t k) {
+static CvlSlot slot_of_range(const CvlWork *w, const CvlOperand *o, size_t k) {
     CvlSlot slot = w->in[o->as];
     if (o->by == CVL_BY_NONE) return slot;
     if (o->by == CVL_BY_INT || o->by == CVL_BY_FLAG || o->by == CVL_BY_LONG) {
@@ -74,11 +118,13 @@ static CvlSlot slot_of_part(const CvlWork *w, const CvlOperand *o, size_t k) {
     }
     if (o->size == 0) return number_of_part(w, o, k);
     const size_t from = begin_of(w, o->by, k), to = begin_of(w, o->by, k + 1);
-    /*@ assert from * o->size <= CVL_MOST_ELEMENTS * 255; */
-    /*@ assert from <= to <= CVL_MOST_ELEMENTS; */
-    slot.at = (const char *)slot.at + from * o->size;
-    slot.number = to - from;
-    return slot;
+    return slot_from(slot, from, to - from, o->size);
+}
+
+/* What a part has of an operand. */
+static CvlSlot slot_of_part(const CvlWork *w, const CvlOperand *o, size_t k) {
+    const bool is_piece = o->by == CVL_BY_HEAD || o->by == CVL_BY_WHOLE || o->by == CVL_BY_LAST;
+    return is_piece ? slot_of_piece(w, o, k) : slot_of_range(w, o, k);
 }
 
 CvlStatus cvl_make_part(CvlWork *w, size_t k) {
@@ -105,11 +151,12 @@ static void hold_records(CvlWork *w) {
     const CvlSlot out = w->in[CVL_AS_OUT], nothing = {NULL, 0}, one = {NULL, 1};
     const CvlSlot totals = {w->of_parts.longs, w->parts}, carries = {w->before_parts.longs, w->parts};
     const CvlSlot counts = {w->of_parts.ints, w->parts}, places = {w->other, w->parts + 1}, kept = {w->counts, w->parts};
+    const CvlSlot starts = {w->starts, w->parts};
     CvlSlot sums = {w->of_parts.ints, w->parts}, before = {w->before_parts.ints, w->parts};
     if (cvl_of_bools(w)) sums.at = w->of_parts.flags, before.at = w->before_parts.flags;
     w->in[CVL_AS_SUMS] = sums, w->in[CVL_AS_BEFORE] = before, w->in[CVL_AS_TOTALS] = totals, w->in[CVL_AS_CARRIES] = carries;
     w->in[CVL_AS_COUNTS] = counts, w->in[CVL_AS_PLACES] = places, w->in[CVL_AS_KEPT] = kept;
-    w->in[CVL_AS_ONE] = one, w->in[CVL_AS_NOTHING] = nothing;
+    w->in[CVL_AS_ONE] = one, w->in[CVL_AS_NOTHING] = nothing, w->in[CVL_AS_STARTS] = starts;
     if (!(w->row->is & CVL_AT_PLACE)) return;
     w->in[CVL_AS_AT_PLACE].at = (const char *)out.at + w->in[CVL_AS_PLACE].number * cvl_size(w);
     w->in[CVL_AS_AT_PLACE].number = 1;

@@ -331,7 +331,7 @@ def taken(found, step, called, k):
 
 
 def step_row(found, step):
-    called = found if step.calls is None else Family((rows.FAMILIES | rows.BETWEEN)[step.calls])
+    called = found if step.calls is None else Family((rows.FAMILIES | rows.IN_STEPS)[step.calls])
     takes = [taken(found, step, called, k) for k in range(len(called.operands))]
     operands = [f"{{.as = CVL_AS_{role}, .size = {called.size(k)}, .by = CVL_BY_{by}}}" for k, (role, by) in enumerate(takes)]
     roles = {found.role(k) for k in range(len(found.operands))}
@@ -467,7 +467,7 @@ def calls_file():
         "public function, which hands its arguments to the driver by the row of its family.",
         rows.NOTE,
     )
-    blocks = [make_function(found) for found in [*families, *map(Family, rows.BETWEEN.values())]]
+    blocks = [make_function(found) for found in [*families, *map(Family, rows.IN_STEPS.values())]]
     blocks += [block for found in families for block in ([steps_table(found)] if found.steps else []) + [row_of(found)]]
     blocks += [
         fault_names(),

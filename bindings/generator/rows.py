@@ -155,7 +155,7 @@ def in_place_words(family):
 
 
 FAMILIES = {family.name: Row(family) for family in table.FAMILIES}
-BETWEEN = {family.name: Row(family) for family in table.BETWEEN}
+IN_STEPS = {family.name: Row(family) for family in table.IN_STEPS}
 CALLS = [Row(FAMILIES[call.family].family, call) for call in table.CALLS]
 
 
@@ -251,7 +251,7 @@ def _export_differences(name, wanted, family, found):
 def export_differences(exports):
     """In what the rows differ from the exports."""
     named = {"are_flags", "make_flags", *table.STEPS}
-    for row in [*FAMILIES.values(), *BETWEEN.values()]:
+    for row in [*FAMILIES.values(), *IN_STEPS.values()]:
         family = row.family
         named.add(family.exported)
         yield from _export_differences(
