@@ -15,7 +15,8 @@ enum { MOST = 65536, ROUNDS = 60, LEAST_NANOSECONDS = 20000 };
 
 /* `small` has elements whose sums fit, `shifts` numbers from 0 to 31, `ones` no 0, `shuffled` and `places` each index once, at random: of the
  * vector and of its segment, `keys` few numbers, and `sorted` many equal neighbours. */
-static int32_t a[MOST], ones[MOST], small[MOST], shifts[MOST], shuffled[MOST], places[MOST], keys[MOST], sorted[MOST], lengths[MOST], firsts[MOST];
+static int32_t a[MOST], ones[MOST], small[MOST], shifts[MOST], shuffled[MOST], places[MOST], keys[MOST], sorted[MOST],
+    lengths[MOST], firsts[MOST];
 static int32_t out[2 * MOST], values[MOST];
 static int64_t exact[MOST];
 static uint8_t bytes[MOST];
@@ -27,77 +28,77 @@ static size_t n, segments, trues, count, text_len;
     (CvlLengths) { lengths, segments }
 
 /* A call on whole vectors, under its name. */
-#define FLAT(ONE) \
-    ONE(add_wuz, add_wuz(a, ones, out, n)) \
-    ONE(div_wuz, div_wuz(a, ones, out, n)) \
-    ONE(mod_wuz, mod_wuz(a, ones, out, n)) \
-    ONE(lsh_wuz, lsh_wuz(a, shifts, out, n)) \
-    ONE(les_wuz, les_wuz(a, ones, truths, n)) \
-    ONE(sel_wuz, sel_wuz(flags, a, ones, out, n)) \
-    ONE(not_wuz, not_wuz(a, out, n)) \
-    ONE(cpy_wuz, cpy_wuz(a, out, n)) \
-    ONE(and_wub, and_wub(flags, others, truths, n)) \
-    ONE(sel_wub, sel_wub(flags, others, flags, truths, n)) \
-    ONE(not_wub, not_wub(flags, truths, n)) \
-    ONE(cpy_wub, cpy_wub(flags, truths, n)) \
-    ONE(int_wub, int_wub(flags, out, n)) \
-    ONE(boo_wuz, boo_wuz(small, truths, n)) \
-    ONE(add_suz, add_suz(a, out, n)) \
-    ONE(max_suz, max_suz(a, out, n)) \
-    ONE(and_sub, and_sub(others, truths, n)) \
-    ONE(tot_suz, tot_suz(small, out, n)) \
-    ONE(add_ruz, add_ruz(a, n, out)) \
-    ONE(max_ruz, max_ruz(a, n, out)) \
-    ONE(and_rub, and_rub(others, n, truths)) \
-    ONE(tot_ruz, tot_ruz(small, n, out)) \
-    ONE(cnt_lub, cnt_lub(flags, n, out)) \
-    ONE(smp_puz, smp_puz(a, shuffled, out, n)) \
-    ONE(bck_puz, bck_puz(a, n, shuffled, out, n)) \
-    ONE(def_puz, def_puz(a, shuffled, n, ones, out, n)) \
-    ONE(smp_pub, smp_pub(flags, shuffled, truths, n)) \
-    ONE(bck_pub, bck_pub(flags, n, shuffled, truths, n)) \
-    ONE(pck_luz, pck_luz(a, flags, n, out, n, &count)) \
-    ONE(pck_lub, pck_lub(others, flags, n, truths, n, &count)) \
-    ONE(dis_vuz, dis_vuz(7, (int32_t)n, out)) \
-    ONE(ind_luz, ind_luz(5, 3, (int32_t)n, out)) \
-    ONE(rep_vuz, rep_vuz(a, 5, 3, out, n)) \
-    ONE(cvl_int_scan_after, cvl_int_scan_after(CVL_ADD, 7, a, n, out, n)) \
-    ONE(cvl_exact_sum, cvl_exact_sum(a, n, exact)) \
-    ONE(cvl_order, cvl_order(a, n, out, n)) \
-    ONE(cvl_rank, cvl_rank(a, n, out, n)) \
-    ONE(cvl_sort, cvl_sort(a, n, out, n)) \
-    ONE(cvl_sort_by_key, cvl_sort_by_key(copied(a), n, values, n)) \
-    ONE(cvl_combine_permute_int, cvl_combine_permute_int(CVL_ADD, a, n, keys, n, out, 256)) \
-    ONE(cvl_combine_exact_sums, cvl_combine_exact_sums(a, n, keys, n, zeros(), 256)) \
-    ONE(cvl_counts, cvl_counts(keys, n, out, 256)) \
-    ONE(cvl_first_senders, cvl_first_senders(keys, n, out, 256)) \
-    ONE(cvl_run_lengths_int, cvl_run_lengths_int(sorted, n, out, n, &count)) \
-    ONE(cvl_run_starts_int, cvl_run_starts_int(sorted, n, out, n, &count)) \
+#define FLAT(ONE)                                                                                    \
+    ONE(add_wuz, add_wuz(a, ones, out, n))                                                           \
+    ONE(div_wuz, div_wuz(a, ones, out, n))                                                           \
+    ONE(mod_wuz, mod_wuz(a, ones, out, n))                                                           \
+    ONE(lsh_wuz, lsh_wuz(a, shifts, out, n))                                                         \
+    ONE(les_wuz, les_wuz(a, ones, truths, n))                                                        \
+    ONE(sel_wuz, sel_wuz(flags, a, ones, out, n))                                                    \
+    ONE(not_wuz, not_wuz(a, out, n))                                                                 \
+    ONE(cpy_wuz, cpy_wuz(a, out, n))                                                                 \
+    ONE(and_wub, and_wub(flags, others, truths, n))                                                  \
+    ONE(sel_wub, sel_wub(flags, others, flags, truths, n))                                           \
+    ONE(not_wub, not_wub(flags, truths, n))                                                          \
+    ONE(cpy_wub, cpy_wub(flags, truths, n))                                                          \
+    ONE(int_wub, int_wub(flags, out, n))                                                             \
+    ONE(boo_wuz, boo_wuz(small, truths, n))                                                          \
+    ONE(add_suz, add_suz(a, out, n))                                                                 \
+    ONE(max_suz, max_suz(a, out, n))                                                                 \
+    ONE(and_sub, and_sub(others, truths, n))                                                         \
+    ONE(tot_suz, tot_suz(small, out, n))                                                             \
+    ONE(add_ruz, add_ruz(a, n, out))                                                                 \
+    ONE(max_ruz, max_ruz(a, n, out))                                                                 \
+    ONE(and_rub, and_rub(others, n, truths))                                                         \
+    ONE(tot_ruz, tot_ruz(small, n, out))                                                             \
+    ONE(cnt_lub, cnt_lub(flags, n, out))                                                             \
+    ONE(smp_puz, smp_puz(a, shuffled, out, n))                                                       \
+    ONE(bck_puz, bck_puz(a, n, shuffled, out, n))                                                    \
+    ONE(def_puz, def_puz(a, shuffled, n, ones, out, n))                                              \
+    ONE(smp_pub, smp_pub(flags, shuffled, truths, n))                                                \
+    ONE(bck_pub, bck_pub(flags, n, shuffled, truths, n))                                             \
+    ONE(pck_luz, pck_luz(a, flags, n, out, n, &count))                                               \
+    ONE(pck_lub, pck_lub(others, flags, n, truths, n, &count))                                       \
+    ONE(dis_vuz, dis_vuz(7, (int32_t)n, out))                                                        \
+    ONE(ind_luz, ind_luz(5, 3, (int32_t)n, out))                                                     \
+    ONE(rep_vuz, rep_vuz(a, 5, 3, out, n))                                                           \
+    ONE(cvl_int_scan_after, cvl_int_scan_after(CVL_ADD, 7, a, n, out, n))                            \
+    ONE(cvl_exact_sum, cvl_exact_sum(a, n, exact))                                                   \
+    ONE(cvl_order, cvl_order(a, n, out, n))                                                          \
+    ONE(cvl_rank, cvl_rank(a, n, out, n))                                                            \
+    ONE(cvl_sort, cvl_sort(a, n, out, n))                                                            \
+    ONE(cvl_sort_by_key, cvl_sort_by_key(copied(a), n, values, n))                                   \
+    ONE(cvl_combine_permute_int, cvl_combine_permute_int(CVL_ADD, a, n, keys, n, out, 256))          \
+    ONE(cvl_combine_exact_sums, cvl_combine_exact_sums(a, n, keys, n, zeros(), 256))                 \
+    ONE(cvl_counts, cvl_counts(keys, n, out, 256))                                                   \
+    ONE(cvl_first_senders, cvl_first_senders(keys, n, out, 256))                                     \
+    ONE(cvl_run_lengths_int, cvl_run_lengths_int(sorted, n, out, n, &count))                         \
+    ONE(cvl_run_starts_int, cvl_run_starts_int(sorted, n, out, n, &count))                           \
     ONE(cvl_merge_by_flags_int, cvl_merge_by_flags_int(flags, n, a, trues, ones, n - trues, out, n)) \
-    ONE(cvl_transpose_int, cvl_transpose_int(a, n / 8 * 8, n / 8, 8, out, n / 8 * 8)) \
-    ONE(cvl_ints_from_bytes, cvl_ints_from_bytes(bytes, n, out, n)) \
-    ONE(cvl_bytes_from_ints, cvl_bytes_from_ints(keys, n, bytes, n)) \
-    ONE(cvl_write_ints, cvl_write_ints(a, n, text, sizeof text, &text_len)) \
+    ONE(cvl_transpose_int, cvl_transpose_int(a, n / 8 * 8, n / 8, 8, out, n / 8 * 8))                \
+    ONE(cvl_ints_from_bytes, cvl_ints_from_bytes(bytes, n, out, n))                                  \
+    ONE(cvl_bytes_from_ints, cvl_bytes_from_ints(keys, n, bytes, n))                                 \
+    ONE(cvl_write_ints, cvl_write_ints(a, n, text, sizeof text, &text_len))                          \
     ONE(cvl_read_ints, cvl_read_ints(text + 1, text_len - 2, out, n, &count))
 
 /* The same on segments. */
-#define SEGMENTED(ONE) \
-    ONE(add_sez, add_sez(a, CUT, out, n)) \
-    ONE(max_sez, max_sez(a, CUT, out, n)) \
-    ONE(and_seb, and_seb(others, CUT, truths, n)) \
-    ONE(tot_sez, tot_sez(small, CUT, out, n)) \
-    ONE(add_rez, add_rez(a, n, CUT, out)) \
-    ONE(max_rez, max_rez(a, n, CUT, out)) \
-    ONE(and_reb, and_reb(others, n, CUT, truths)) \
-    ONE(tot_rez, tot_rez(small, n, CUT, out)) \
-    ONE(cnt_leb, cnt_leb(flags, n, CUT, out)) \
-    ONE(smp_pez, smp_pez(a, places, CUT, out, n)) \
-    ONE(bck_pez, bck_pez(a, n, places, CUT, CUT, out, n)) \
-    ONE(pck_lez, pck_lez(a, flags, n, CUT, out, n, &count)) \
-    ONE(dis_vez, dis_vez(a, CUT, out, n)) \
-    ONE(ind_lez, ind_lez(a, ones, CUT, out, n)) \
-    ONE(cvl_seg_sort, cvl_seg_sort(a, n, CUT, out, n)) \
-    ONE(cvl_seg_exact_sums, cvl_seg_exact_sums(a, n, CUT, exact, segments)) \
+#define SEGMENTED(ONE)                                                                         \
+    ONE(add_sez, add_sez(a, CUT, out, n))                                                      \
+    ONE(max_sez, max_sez(a, CUT, out, n))                                                      \
+    ONE(and_seb, and_seb(others, CUT, truths, n))                                              \
+    ONE(tot_sez, tot_sez(small, CUT, out, n))                                                  \
+    ONE(add_rez, add_rez(a, n, CUT, out))                                                      \
+    ONE(max_rez, max_rez(a, n, CUT, out))                                                      \
+    ONE(and_reb, and_reb(others, n, CUT, truths))                                              \
+    ONE(tot_rez, tot_rez(small, n, CUT, out))                                                  \
+    ONE(cnt_leb, cnt_leb(flags, n, CUT, out))                                                  \
+    ONE(smp_pez, smp_pez(a, places, CUT, out, n))                                              \
+    ONE(bck_pez, bck_pez(a, n, places, CUT, CUT, out, n))                                      \
+    ONE(pck_lez, pck_lez(a, flags, n, CUT, out, n, &count))                                    \
+    ONE(dis_vez, dis_vez(a, CUT, out, n))                                                      \
+    ONE(ind_lez, ind_lez(a, ones, CUT, out, n))                                                \
+    ONE(cvl_seg_sort, cvl_seg_sort(a, n, CUT, out, n))                                         \
+    ONE(cvl_seg_exact_sums, cvl_seg_exact_sums(a, n, CUT, exact, segments))                    \
     ONE(cvl_gather_segments_int, cvl_gather_segments_int(a, n, firsts, segments, CUT, out, n)) \
     ONE(cvl_append_segments_int, cvl_append_segments_int(a, n, ones, n, CUT, CUT, out, 2 * n)) \
     ONE(cvl_sparse_product, cvl_sparse_product(CUT, shuffled, n, a, n, ones, n, out, segments))
@@ -166,7 +167,6 @@ static void cut(size_t average) {
         firsts[segments] = (int32_t)from;
         shuffle(places + from, length, &state);
         from += length;
-        if (segments + 1 == n) lengths[segments] += (int32_t)(n - from), shuffle(places + firsts[segments], n - (size_t)firsts[segments], &state), from = n;
     }
 }
 
