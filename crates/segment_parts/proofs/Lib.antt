@@ -1,2 +1,4 @@
+pub mod BehindEach
 pub mod Carried
 pub mod Scanned
+pub mod Starts

@@ -1,3 +1,6 @@
+pub mod Behinds
 pub mod Calls
 pub mod Carries
 pub mod Parts
+pub mod ReduceCalls
+pub mod Reduces
