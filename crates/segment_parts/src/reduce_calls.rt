@@ -30,8 +30,8 @@ fn reduce_over<M: Monoid, X: Copy, E: Reading<X, M::Item>>(
 ) -> Result<(), Fault>
     requires behind { IsTrue (M.is_item behind.now) }
     requires items { AllPass (λ x. M.is_item (E.item x)) a.now }
-    ensures { Fills (in_limit a.now (by_segments lengths.now (λ d. part_reduces_of M.join M.unit behind.now head d (map E.item a.now))))
-        result out.old out.new }
+    ensures { Fills (in_limit a.now (by_segments lengths.now (λ d.
+        part_reduces_of M.join M.unit behind.now head d (map E.item a.now)))) result out.old out.new }
 {
     check_limit(a)?;
     let d = segments(lengths)?;

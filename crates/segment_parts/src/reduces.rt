@@ -67,7 +67,8 @@ pub fn part_reduces_over<M: Monoid, X: Copy, E: Reading<X, M::Item>>(
         out,
         |run: Run<M::Item>| -> Run<M::Item>
             requires { (run.items ≡ []) × (run.room ≡ length lengths.now) × (sum (but_last lengths.now) ≤ length others.now)
-                × (length others.now ≤ sum lengths.now) × IsTrue (M.is_item behind) × AllPass (λ x. M.is_item (E.item x)) others.now }
+                × (length others.now ≤ sum lengths.now) × IsTrue (M.is_item behind)
+                × AllPass (λ x. M.is_item (E.item x)) others.now }
             ensures { result ≡ with_items run (join_last M.join
                 (reduces_of M.join M.unit lengths.entry.now (map E.item others.entry.now)) behind) }
         { reduces_onto::<M, X, E>(run, lengths, others, behind) },
