@@ -11,5 +11,9 @@ pub mod Parted
 pub mod PieceScans
 pub mod PlaceByPlace
 pub mod Scanned
+pub mod SegCounted
+pub mod SegReduced
 pub mod SegScanned
+pub mod SegmentLengths
+pub mod StartReduces
 pub mod Valued

@@ -7,5 +7,7 @@ pub mod PackSteps
 pub mod Parts
 pub mod Pieces
 pub mod PlaceSteps
+pub mod ReduceParts
+pub mod ReduceSteps
 pub mod SegmentSteps
 pub mod Steps

@@ -9,4 +9,5 @@ pub mod descriptors;
 pub mod packs;
 pub mod places;
 pub mod scans;
+pub mod seg_reduces;
 pub mod seg_scans;
