@@ -6,8 +6,8 @@ use Rattle.cvl_base.specs.declared.fault.Fault.{Fault}
 use Rattle.cvl_base.specs.Elementwise.{if_as_long}
 
 module _ {Item : Type 0} (join : Item → Item → Item) (unit : Item) where
-  -- what goes on where some parts begin. Each part's pair is whether a segment starts in it, and what its head joins to: its elements
-  -- before the first start
+  -- what goes on where some parts begin: the elements up to the next start, joined. Each part is a pair: whether a segment starts in it,
+  -- and what its head, the elements before its first start, joins to
   abbrev pub goes_on : List (Bool × Item) → Item
   goes_on [] = unit
   goes_on ((starts, head) ∷ parts) = if starts then head else join head (goes_on parts)
@@ -17,6 +17,6 @@ module _ {Item : Type 0} (join : Item → Item → Item) (unit : Item) where
   behind_each [] = []
   behind_each (part ∷ parts) = goes_on parts ∷ behind_each parts
 
-  -- the same, if both lists are equally long
+  -- what goes on behind each part, or LengthMismatch if the lists are not equally long
   abbrev pub seg_behinds_of : List Bool → List Item → Result (List Item) Fault
   seg_behinds_of starts told = if_as_long starts told (Ok (behind_each (zip starts told)))

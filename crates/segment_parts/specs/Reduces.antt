@@ -11,12 +11,12 @@ use Rattle.range_walks.specs.Ranges.{reduces_of}
 abbrev pub but_last : {X : Type 0} → List X → List X
 but_last xs = take (length xs - 1) xs
 
--- so many elements are the head of a part and the segments of these lengths behind it, of which the last may be longer than the part
+-- whether a part may have so many elements: its head, and behind it segments of these lengths, the last of which may go on behind the part
 abbrev pub is_part : ℕ → List ℕ → ℕ → Bool
 is_part head lengths n = nat_le (head + sum (but_last lengths)) n && nat_le n (head + sum lengths)
 
 module _ {Item : Type 0} (join : Item → Item → Item) where
-  -- values, of which the last is joined with one more
+  -- some values, the last of them joined with one more
   abbrev pub join_last : List Item → Item → List Item
   join_last [] more = []
   join_last (x ∷ []) more = join x more ∷ []
@@ -27,7 +27,7 @@ module _ {Item : Type 0} (join : Item → Item → Item) (unit : Item) where
   abbrev pub start_reduces_of : Item → ℕ → List ℕ → List Item → List Item
   start_reduces_of behind head lengths xs = join_last join (reduces_of join unit lengths (drop head xs)) behind
 
-  -- the same, if the part has so many elements
+  -- the reduces of a part, or LengthMismatch if no part with this head and these lengths has so many elements
   abbrev pub part_reduces_of : Item → ℕ → List ℕ → List Item → Result (List Item) Fault
   part_reduces_of behind head lengths xs =
       fault_if (not (is_part head lengths (length xs))) (fault no.LengthMismatch) (Ok (start_reduces_of behind head lengths xs))
