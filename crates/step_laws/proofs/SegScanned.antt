@@ -1,33 +1,23 @@
 -- Scans by segments by steps, of an operator that is known or not, for integers and booleans alike.
-use Rattle.std.proofs.Common.{◌≡◌, ◌≢◌, ◌++◌, ◌+◌, ◌≤◌, ◌∙◌, ℕ, ℤ, pos, Bool, true, false, List, [], ◌∷◌, length, map, drop, sum, Result, Ok, Err, Option, Some, None}
-use Rattle.std.proofs.Common.{refl, sym, ap, arith, subst, All, get_or, length-append, unsigned_abs, nat_lt, eqb, ⊎_elim}
+use Rattle.std.proofs.Common.{◌≡◌, ◌++◌, ◌+◌, ◌≤◌, ◌∙◌, ℕ, ℤ, pos, Bool, true, false, List, [], ◌∷◌, length, map, drop, sum, Result, Ok, Err}
+use Rattle.std.proofs.Common.{refl, sym, ap, arith, subst, All, get_or, length-append}
 use mathlib.Core.List.{map-map}
-use Rattle.std.proofs.lemmas.Bool.{ltb-false}
-use Rattle.std.proofs.lemmas.Bool.Decides.{eqb_tells}
 use Rattle.std.proofs.lemmas.List.{length-map}
 use Rattle.std.proofs.lemmas.List.Elements.{All-cons, All-head, All-nil, All-tail}
 use Rattle.std.proofs.lemmas.Option.{none-some, same_Some}
-use Rattle.std.specs.Int.{is_negative}
 use Rattle.std.specs.List.{AllPass, AllZip}
-use Rattle.std.specs.Option.{option_map}
-use Rattle.std.specs.Prelude.{position}
 use Rattle.std.specs.Result.{result_ok}
 use Rattle.call_laws.proofs.OverRanks.{joined-together, seg_scan-over_ranks}
 use Rattle.call_laws.specs.OverRanks.{followed_by, going_on, scans_over_ranks, together}
-use Rattle.cvl_base.proofs.Descriptors.{abs_pos}
 use Rattle.cvl_base.proofs.Elementwise.{if_as_long-fits}
-use Rattle.cvl_base.proofs.Nests.{joined-cut, length-cut, lengths-cut, nest-fits, nest-misfits}
-use Rattle.cvl_base.specs.Descriptors.{descriptor_within}
+use Rattle.cvl_base.proofs.Nests.{joined-cut, length-cut, lengths-cut}
 use Rattle.cvl_base.specs.declared.fault.Fault.{Fault}
-use Rattle.cvl_base.specs.declared.fault.FaultNo.TheVariants as no
-use Rattle.cvl_base.specs.Faults.{fault, fault_at}
-use Rattle.cvl_base.specs.Gives.{◌>>=◌, fault_if, unless}
+use Rattle.cvl_base.specs.Gives.{◌>>=◌}
 use Rattle.cvl_base.specs.Limits.{most_places}
 use Rattle.cvl_base.specs.Lists.{joined}
 use Rattle.cvl_base.specs.Monoid.{MonoidLaws}
-use Rattle.cvl_base.specs.Nests.{cut_of, nest}
+use Rattle.cvl_base.specs.Nests.{cut_of}
 use Rattle.cvl_base.specs.SegmentedCalls.{seg_scan_of}
-use Rattle.segdes.proofs.Checked.{lengths_made}
 use Rattle.segment_parts.proofs.Scanned.{length-scans_in_part, part-fits}
 use Rattle.segment_parts.specs.Carries.{before_each, seg_carries_of}
 use Rattle.segment_parts.specs.Parts.{part_scan_of}
@@ -39,46 +29,11 @@ use Rattle.step_laws.specs.SegmentSteps.{CarriesAlone, FillsAlone, HaveRooms, Se
 use Rattle.step_laws.proofs.Answered.{fills, is_done, tells_done, within}
 use Rattle.step_laws.proofs.Parted.{alike, alike_where, all-parts, as-long, keeps, some-fewer}
 use Rattle.step_laws.proofs.PieceScans.{all_scans, befores, carries-cut, scans-cut, scans_in, tells}
-
--- ---- lengths
-
--- the numbers of a descriptor are not too many, nor their sum too great
-few_lengths : (numbers : List ℤ) (over : Bool) (negative : Option Fault) (long : Bool) (f g : Fault) (segments : List ℕ) → nat_lt most_places (length numbers) ≡ over
-    → nat_lt most_places (sum (map unsigned_abs numbers)) ≡ long → fault_if over f (unless negative (fault_if long g (Ok (map unsigned_abs numbers)))) ≡ Ok segments
-    → (length segments ≤ most_places) × (sum segments ≤ most_places)
-few_lengths numbers true negative long f g segments is_over is_long is = absurd (none-some segments (ap result_ok is))
-few_lengths numbers false (Some e) long f g segments is_over is_long is = absurd (none-some segments (ap result_ok is))
-few_lengths numbers false None true f g segments is_over is_long is = absurd (none-some segments (ap result_ok is))
-few_lengths numbers false None false f g segments is_over is_long is =
-    let same : map unsigned_abs numbers ≡ segments = same_Some (map unsigned_abs numbers) segments (ap result_ok is) in
-    let few : length numbers ≤ most_places = ltb-false most_places (length numbers) is_over in
-    let small : sum (map unsigned_abs numbers) ≤ most_places = ltb-false most_places (sum (map unsigned_abs numbers)) is_long in
-    (omega (arith, ap length same, length-map numbers unsigned_abs, few), subst (λ ns. sum ns ≤ most_places) same small)
-
-few : (numbers : List ℤ) (segments : List ℕ) → lengths_of numbers ≡ Ok segments → (length segments ≤ most_places) × (sum segments ≤ most_places)
-few numbers segments is =
-    few_lengths numbers (nat_lt most_places (length numbers)) (option_map (fault_at no.NegativeLength) (position is_negative numbers))
-    (nat_lt most_places (sum (map unsigned_abs numbers))) (fault no.TooLong) (fault no.TooLong) segments refl refl is
-
--- lengths are those of a descriptor
-are_lengths : (ns : List ℕ) → length ns ≤ most_places → sum ns ≤ most_places → lengths_of (map pos ns) ≡ Ok ns
-are_lengths ns short small =
-    within (map pos ns) (descriptor_within most_places (map pos ns)) (omega (arith, short, length-map ns pos))
-    ∙ lengths_made most_places (map pos ns) (ap (map pos) (sym (abs_pos ns))) (subst (λ ms. sum ms ≤ most_places) (sym (abs_pos ns)) small)
-    ∙ ap Ok (abs_pos ns)
+use Rattle.step_laws.proofs.SegmentLengths.{are_lengths, few-of, nested}
 
 -- ---- how many segments pieces have
 
 module _ {X : Type 0} where
-  -- lengths that cut a vector add up to its length
-  nested : (lengths : List ℕ) (xs : List X) (lists : List (List X)) → nest lengths xs ≡ Ok lists → (sum lengths ≡ length xs) × (lists ≡ cut_of lengths xs)
-  nested lengths xs lists is =
-      ⊎_elim
-      (λ (fits : (eqb (sum lengths) (length xs) ≡ true) × (sum lengths ≡ length xs)).
-      (fits.1, same_Some lists (cut_of lengths xs) (ap result_ok (sym is ∙ nest-fits lengths xs fits.1))))
-      (λ (differs : (eqb (sum lengths) (length xs) ≡ false) × (sum lengths ≢ length xs)). absurd (none-some lists (ap result_ok (sym (nest-misfits lengths xs differs.1) ∙ is))))
-      (eqb_tells (sum lengths) (length xs))
-
   count-going_on : (segment : List X) (others : List (List X)) (more : List X) → length (going_on segment others more) ≡ 1 + length others
   count-going_on segment [] more = refl
   count-going_on segment (other ∷ others) more = omega (arith, count-going_on other others more)
@@ -210,7 +165,7 @@ module _ {Operator Item : Type 0} {is_item : Item → Bool} (unit : Operator →
       same_Some _ (befores_of carried) (ap result_ok (sym (if_as_long-fits (starts_of summed) (told_of summed) _ as_many) ∙ given.0)) in
       let befores_are : befores_of carried ≡ befores (laws o) false (unit o) pieces =
       sym carry ∙ (λ i. before_each (join o) (unit o) (starts i) (sums i)) ∙ carries-cut (laws o) pieces in
-      let limits = few lengths segments are in
+      let limits = few-of lengths segments are in
       let at_first : All Fits start = all-fit segments start limits.0 limits.1 cut rooms in
       let then : All Fits summed = keeps (Sums o) Fits Fits (λ own left does fit. subst Fits (sym does.1) fit) start summed reduced at_first in
       let last : All Fits carried = keeps CarriesAlone Fits Fits (λ own left does fit. subst Fits (sym does) fit) summed carried kept then in
