@@ -1,5 +1,5 @@
 -- The segments that start in a part: all but the last, and the last, which has what is left of the part.
-use Rattle.std.proofs.Common.{◌≡◌, ◌+◌, ◌-◌, ◌≤◌, ◌∙◌, ℕ, suc, ℤ, pos, Bool, true, not, List, [], ◌∷◌, ◌++◌, length, map, take, drop, Result, Ok, refl, sym, ap, arith}
+use Rattle.std.proofs.Common.{◌≡◌, ◌+◌, ◌-◌, ◌≤◌, ◌∙◌, ℕ, suc, ℤ, pos, true, not, List, [], ◌∷◌, ◌++◌, length, map, take, drop, Ok, refl, sym, ap, arith}
 use Rattle.std.proofs.Common.{subst, drop-drop, length-append, length-drop, take_all, sum, unsigned_abs}
 use Rattle.std.proofs.lemmas.List.{map-append, take_at}
 use Rattle.cvl_base.proofs.Lists.{sum-cons}

@@ -1,4 +1,4 @@
-use Rattle.std.proofs.Common.{◌≡◌, ◌∙◌, ◌++◌, ◌∷◌, [], IsTrue, ap, arith, drop, length, length-append, map, rules, subst, sum, sym, true, unsigned_abs}
+use Rattle.std.proofs.Common.{◌≡◌, ◌∙◌, ◌++◌, ◌∷◌, [], IsTrue, ap, arith, drop, length, map, subst, sum, sym, true, unsigned_abs}
 use Rattle.std.proofs.lemmas.List.{drop-map, length-map}
 use Rattle.std.proofs.lemmas.List.Elements.{All-drop, All-map}
 use Rattle.std.specs.List.{AllPass}
