@@ -201,9 +201,9 @@ CUTS = {
     ),
     "seg_scan": Cut(IN_SEGMENTS, OverRanks("seg_scan", BEFORE), "steps"),
     "seg_checked_scan": Cut(IN_SEGMENTS, OverRanks("seg_checked_scan", BEFORE), "seg_checked_scan"),
-    "seg_reduce": Cut(PIECES, OverRanks("seg_reduce", JOINED_AT_START), "seg_reduce"),
+    "seg_reduce": Cut(PIECES, OverRanks("seg_reduce", JOINED_AT_START), "steps"),
     "seg_checked_reduce": Cut(PIECES, OverRanks("seg_checked_reduce", JOINED_AT_START), "seg_checked_reduce"),
-    "seg_count": Cut(PIECES, OverRanks("seg_count", "the pieces of a segment are added where it starts"), "seg_count"),
+    "seg_count": Cut(PIECES, OverRanks("seg_count", "the pieces of a segment are added where it starts"), "steps"),
     "seg_copies": Cut(
         "cut inside segments", OverRanks("seg_values", "a segment's value goes on to the ranks behind its start"), "seg_copies"
     ),
@@ -246,7 +246,7 @@ STEPS = (
 )
 
 # The families that steps of other calls in parts make.
-STEP_FAMILIES = ("int_scan_after", "seg_int_scan")
+STEP_FAMILIES = ("int_scan_after", "seg_int_scan", "seg_int_reduce")
 
 # A step of a call in parts.
 #
@@ -3055,6 +3055,41 @@ IN_STEPS = (
         faults=(SUM_OF_N,),
         over_ranks=NO_PARTS,
     ),
+    *twins(
+        ("int_behinds", "bool_behinds"),
+        "in steps",
+        lambda kind: (copied("starts"), items(kind, "told"), room(kind)),
+        "For each part what goes on behind it: what the parts up to the next start of a segment tell, joined.",
+        operators=joining,
+        limit=None,
+        faults=(),
+        over_ranks=NO_PARTS,
+    ),
+    *twins(
+        ("part_int_reduce", "part_bool_reduce"),
+        "in steps",
+        lambda kind: (
+            value("behind", one(kind)),
+            value("head", "size"),
+            lengths(),
+            any_items(kind, "a"),
+            room(kind, "segments"),
+        ),
+        "The reduces of the segments that start in a part, behind its first `head` elements; the last is joined with `behind`.",
+        operators=joining,
+        limit=None,
+        faults=(SUM_OF_N,),
+        over_ranks=NO_PARTS,
+    ),  # fmt: skip
+    family(
+        "part_count",
+        "in steps",
+        (value("behind"), value("head", "size"), lengths(), mask(), room("ints", "segments")),
+        "How many flags are true in each segment that starts in a part; `behind` is added to the last.",
+        limit=None,
+        faults=(SUM_OF_N,),
+        over_ranks=NO_PARTS,
+    ),
 )
 
 
@@ -3077,6 +3112,25 @@ def steps_of(cut, kind):
             step("tells", f"{kind}_reduce", a=("A", "LAST"), out=each_sum),
             step("joins", f"{kind}_carries", starts=("STARTS", "NONE"), told=all_sums, out=all_before),
             step("fills", f"part_{kind}_scan", before=before, head=("LENGTHS", "HEAD"), lengths=("LENGTHS", "WHOLE")),
+        ),
+        "seg_reduce": (
+            step("tells", f"{kind}_reduce", a=("A", "FRONT"), out=each_sum),
+            step("joins", f"{kind}_behinds", starts=("STARTS", "NONE"), told=all_sums, out=all_before),
+            step(
+                "fills",
+                f"part_{kind}_reduce",
+                behind=before,
+                head=("LENGTHS", "HEAD"),
+                lengths=("LENGTHS", "FIRST"),
+                out=("OUT", "FIRST"),
+            ),
+        ),
+        "seg_count": (
+            step("tells", "count", flags=("FLAGS", "FRONT"), out=each_sum),
+            step("joins", "int_behinds", "ADD", starts=("STARTS", "NONE"), told=all_sums, out=all_before),
+            step(
+                "fills", "part_count", behind=before, head=("LENGTHS", "HEAD"), lengths=("LENGTHS", "FIRST"), out=("OUT", "FIRST")
+            ),
         ),
         "count": (step("tells", "count", out=each_sum), step("joins", "int_reduce", "ADD", a=all_sums)),
         "checked_reduce": (step("tells", "exact_sum", out=each_total), step("joins", "carried_total", sums=all_totals)),

@@ -244,10 +244,8 @@ CVL_HIDDEN bool cvl_segments_in_parts(const CvlPool *pool, CvlWork *w);
 /*@ requires w->parts <= CVL_MOST_PARTS;
     assigns *w, rooms, made; */
 CVL_HIDDEN bool cvl_sure_segments_in_parts(const CvlPool *pool, CvlWork *w);
-CVL_HIDDEN bool cvl_seg_reduce_in_parts(const CvlPool *pool, CvlWork *w);
 CVL_HIDDEN bool cvl_seg_checked_scan_in_parts(const CvlPool *pool, CvlWork *w);
 CVL_HIDDEN bool cvl_seg_checked_reduce_in_parts(const CvlPool *pool, CvlWork *w);
-CVL_HIDDEN bool cvl_seg_count_in_parts(const CvlPool *pool, CvlWork *w);
 /*@ assigns *w, rooms, made; */
 CVL_HIDDEN bool cvl_seg_copies_in_parts(const CvlPool *pool, CvlWork *w);
 CVL_HIDDEN bool cvl_seg_numbers_in_parts(const CvlPool *pool, CvlWork *w);
@@ -258,17 +256,11 @@ CVL_HIDDEN bool cvl_write_in_parts(const CvlPool *pool, CvlWork *w);
 CVL_HIDDEN bool cvl_read_in_parts(const CvlPool *pool, CvlWork *w);
 
 /* The rows of what parts call beside their own. */
-extern CVL_HIDDEN const CvlRow cvl_int_scan_after_row, cvl_seg_int_scan_row;
+extern CVL_HIDDEN const CvlRow cvl_int_scan_after_row, cvl_seg_int_scan_row, cvl_seg_int_reduce_row;
 
 /* Makes the call on what a part has of each operand; and the boundaries of its parts. */
 CVL_HIDDEN CvlStatus cvl_make_part(CvlWork *w, size_t k);
 CVL_HIDDEN const size_t *cvl_boundaries(const CvlWork *w, CvlBy by);
-
-/* What one element, or a part's elements, join to. */
-/*@ assigns *sum; */
-CVL_HIDDEN CvlStatus cvl_reduce_of(const CvlWork *w, size_t from, size_t to, CvlItem *sum);
-/*@ assigns *joined; */
-CVL_HIDDEN CvlStatus cvl_join_of(const CvlWork *w, CvlItem first, CvlItem second, CvlItem *joined);
 
 static inline bool cvl_fits(int64_t sum) { return sum >= INT32_MIN && sum <= INT32_MAX; }
 

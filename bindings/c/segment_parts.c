@@ -1,79 +1,6 @@
 /* Calls in parts on segments: cut at places, and the pieces of a cut segment are joined; or cut between segments. */
 #include "parts.h"
 
-CvlStatus cvl_reduce_of(const CvlWork *w, size_t from, size_t to, CvlItem *sum) {
-    if (cvl_of_bools(w)) return cvl_proved_bool_reduce(w->op, CVL_BOOLS(w, CVL_AS_A, from), to - from, &sum->flag);
-    return cvl_proved_int_reduce(w->op, CVL_INTS(w, CVL_AS_A, from), to - from, &sum->number);
-}
-
-CvlStatus cvl_join_of(const CvlWork *w, CvlItem first, CvlItem second, CvlItem *joined) {
-    if (cvl_of_bools(w)) {
-        const bool flags[2] = {first.flag, second.flag};
-        return cvl_proved_bool_reduce(w->op, flags, 2, &joined->flag);
-    }
-    const int32_t numbers[2] = {first.number, second.number};
-    return cvl_proved_int_reduce(w->op, numbers, 2, &joined->number);
-}
-
-/* ---- reduces: each part writes those of its whole segments; then the pieces of cut ones are joined ---- */
-
-static CvlStatus reduce_whole(const CvlWork *w, CvlPiece p) {
-    const int32_t *lengths = w->lengths + p.first;
-    const size_t n = p.tail - p.head;
-    if (cvl_of_bools(w)) {
-        return cvl_proved_seg_bool_reduce(
-            w->op, CVL_BOOLS(w, CVL_AS_A, p.head), n, lengths, p.count, CVL_BOOL_ROOM(w, p.first), p.count);
-    }
-    return cvl_proved_seg_int_reduce(
-        w->op, CVL_INTS(w, CVL_AS_A, p.head), n, lengths, p.count, CVL_INT_ROOM(w, p.first), p.count);
-}
-
-static CvlStatus reduce_part(CvlWork *w, size_t k) {
-    const CvlPiece p = cvl_piece(w, k);
-    return cvl_first_of(
-        cvl_reduce_of(w, p.from, p.head, &w->heads[k]), reduce_whole(w, p), cvl_reduce_of(w, p.tail, p.to, &w->sums[k]));
-}
-
-bool cvl_seg_reduce_in_parts(const CvlPool *pool, CvlWork *w) {
-    CvlItem so_far = {0};
-    bool done = cvl_step(pool, w, CVL_WRITES, reduce_part);
-    for (size_t k = 0; k < w->parts && done; k++) {
-        const CvlPiece p = cvl_piece(w, k);
-        if (p.head > p.from) {
-            const CvlItem before = so_far;
-            done = cvl_join_of(w, before, w->heads[k], &so_far).number == CVL_DONE;
-            if (cvl_of_bools(w)) *CVL_BOOL_ROOM(w, p.first - 1) = so_far.flag;
-            else *CVL_INT_ROOM(w, p.first - 1) = so_far.number;
-        }
-        if (p.cut) so_far = w->sums[k];
-    }
-    w->told = cvl_done();
-    return done;
-}
-
-static CvlStatus count_part(CvlWork *w, size_t k) {
-    const CvlPiece p = cvl_piece(w, k);
-    return cvl_first_of(
-        cvl_proved_count(CVL_BOOLS(w, CVL_AS_FLAGS, p.from), p.head - p.from, &w->heads[k].number),
-        cvl_proved_seg_count(
-            CVL_BOOLS(w, CVL_AS_FLAGS, p.head), p.tail - p.head, w->lengths + p.first, p.count, CVL_INT_ROOM(w, p.first),
-            p.count),
-        cvl_proved_count(CVL_BOOLS(w, CVL_AS_FLAGS, p.tail), p.to - p.tail, &w->sums[k].number));
-}
-
-/* The counts of a segment that is cut are added. */
-bool cvl_seg_count_in_parts(const CvlPool *pool, CvlWork *w) {
-    int32_t so_far = 0;
-    const bool done = cvl_step(pool, w, CVL_WRITES, count_part);
-    for (size_t k = 0; k < w->parts && done; k++) {
-        const CvlPiece p = cvl_piece(w, k);
-        if (p.head > p.from) *CVL_INT_ROOM(w, p.first - 1) = so_far += w->heads[k].number;
-        if (p.cut) so_far = w->sums[k].number;
-    }
-    w->told = cvl_done();
-    return done;
-}
-
 /* ---- sums that never wrap ---- */
 
 /* The total of what the part has since its last start, or of all of it if none starts. */
@@ -122,7 +49,8 @@ bool cvl_seg_checked_reduce_in_parts(const CvlPool *pool, CvlWork *w) {
         if (p.head > p.from && w->start[k] <= p.to && !cvl_fits(so_far)) return 0;
         if (p.cut) so_far = w->of_parts.longs[k];
     }
-    return cvl_seg_reduce_in_parts(pool, w);
+    w->row = &cvl_seg_int_reduce_row;
+    return cvl_steps_in_parts(pool, w);
 }
 
 /* ---- copies of a value, and numbers by a stride ---- */

@@ -72,27 +72,29 @@ static CvlSlot slot_from(CvlSlot slot, size_t place, size_t count, unsigned char
     logic integer is_cut_behind{L}(CvlWork *w, integer k) =
       w->first[k + 1] > w->first[k] && w->start[k + 1] > w->from[k + 1] ? 1 : 0; */
 /* What a part has of segments. */
-/*@ predicate is_piece(integer by) = by == CVL_BY_HEAD || by == CVL_BY_WHOLE || by == CVL_BY_LAST; */
+/*@ predicate is_piece(integer by) = by == CVL_BY_HEAD || by == CVL_BY_FRONT || by == CVL_BY_WHOLE || by == CVL_BY_LAST; */
 /*@ requires \valid_read(w) && \valid_read(o) && o->as < CVL_ROLES && is_piece(o->by);
     requires has_segments(w) && knows_starts(w) && k < w->parts;
     assigns \nothing;
-    ensures o->by == CVL_BY_HEAD ==> \result.number == head_of(w, k);
+    ensures o->by == CVL_BY_HEAD || o->by == CVL_BY_FRONT ==> \result.number == head_of(w, k);
+    ensures o->by == CVL_BY_FRONT ==> \result.at == (char *)w->in[o->as].at + w->from[k] * o->size;
     ensures o->by == CVL_BY_WHOLE ==> \result.at == (char *)w->in[o->as].at + w->first[k] * o->size;
     ensures o->by == CVL_BY_WHOLE ==> w->first[k] + \result.number == w->first[k + 1] - is_cut_behind(w, k);
     ensures o->by == CVL_BY_LAST ==> \result.at == (char *)w->in[o->as].at + last_of(w, k) * o->size;
     ensures o->by == CVL_BY_LAST ==> \result.number == w->from[k + 1] - last_of(w, k); */
 static CvlSlot slot_of_piece(const CvlWork *w, const CvlOperand *o, size_t k) {
     const CvlPiece p = cvl_piece(w, k);
-    const bool whole = o->by == CVL_BY_WHOLE;
-    const size_t from = whole ? p.first : p.starts ? p.tail : p.from;
     CvlSlot slot = w->in[o->as];
-    if (o->by == CVL_BY_HEAD) {
-        slot.number = p.head - p.from;
-        return slot;
+    switch (o->by) {
+    case CVL_BY_HEAD: slot.number = p.head - p.from; return slot;
+    case CVL_BY_FRONT: return slot_from(slot, p.from, p.head - p.from, o->size);
+    case CVL_BY_WHOLE: return slot_from(slot, p.first, p.count, o->size);
+    default: break;
     }
-    const CvlSlot range = slot_from(slot, from, whole ? p.count : p.to - from, o->size);
-    /*@ assert from == (o->by == CVL_BY_WHOLE ? w->first[k] : last_of(w, k)); */
-    /*@ assert range.at == (char *)w->in[o->as].at + from * o->size; */
+    const size_t last = p.starts ? p.tail : p.from;
+    const CvlSlot range = slot_from(slot, last, p.to - last, o->size);
+    /*@ assert last == last_of(w, k); */
+    /*@ assert range.at == (char *)w->in[o->as].at + last * o->size; */
     return range;
 }
 
@@ -123,8 +125,13 @@ static CvlSlot slot_of_range(const CvlWork *w, const CvlOperand *o, size_t k) {
 
 /* What a part has of an operand. */
 static CvlSlot slot_of_part(const CvlWork *w, const CvlOperand *o, size_t k) {
-    const bool is_piece = o->by == CVL_BY_HEAD || o->by == CVL_BY_WHOLE || o->by == CVL_BY_LAST;
-    return is_piece ? slot_of_piece(w, o, k) : slot_of_range(w, o, k);
+    switch (o->by) {
+    case CVL_BY_HEAD:
+    case CVL_BY_FRONT:
+    case CVL_BY_WHOLE:
+    case CVL_BY_LAST: return slot_of_piece(w, o, k);
+    default: return slot_of_range(w, o, k);
+    }
 }
 
 CvlStatus cvl_make_part(CvlWork *w, size_t k) {
