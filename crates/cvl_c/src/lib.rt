@@ -20,6 +20,7 @@ mod matrices;
 mod merges;
 mod nested_texts;
 mod packs;
+mod part_checked_sums;
 mod part_reduces;
 mod part_scans;
 mod parts;

@@ -1,4 +1,5 @@
 pub mod BehindEach
 pub mod Carried
+pub mod CheckedScanned
 pub mod Scanned
 pub mod Starts

@@ -30,7 +30,7 @@ module _ {Item : Type 0} (join : Item → Item → Item) (unit before : Item) (h
   pub part-fits : head + sum lengths ≤ length xs → part_scan_of join unit before head lengths xs ≡ Ok (scans_in_part join unit before head lengths xs)
   part-fits enough = rw (le-ltb (length xs) (head + sum lengths) enough) refl
 
-  front-scans : scans_of join unit lengths (take (sum lengths) (drop head xs)) ≡ scans_of join unit lengths (drop head xs)
+  pub front-scans : scans_of join unit lengths (take (sum lengths) (drop head xs)) ≡ scans_of join unit lengths (drop head xs)
   front-scans = ap (λ segments. joined (map (scan_of join unit) segments)) (cut-front lengths (drop head xs))
 
   pub length-whole_scans : head + sum lengths ≤ length xs → length (scans_of join unit lengths (drop head xs)) ≡ sum lengths

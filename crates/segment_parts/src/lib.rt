@@ -13,6 +13,8 @@
 pub mod behinds;
 pub mod calls;
 pub mod carries;
+pub mod checked_scans;
+pub mod longs;
 pub mod parts;
 mod readings;
 pub mod reduce_calls;
@@ -20,5 +22,7 @@ pub mod reduces;
 
 pub use behinds::seg_behinds;
 pub use carries::seg_carries;
+pub use checked_scans::{checked_part_scan_over, part_checked_scan};
+pub use longs::long_carries;
 pub use parts::{part_scan_in, part_scan_over};
 pub use reduces::part_reduces_over;

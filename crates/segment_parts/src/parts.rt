@@ -15,7 +15,7 @@ use segdes::SegLengths;
 
 /// Checks that so many elements and the segments behind them are no more than the part's elements, else `LengthMismatch`, without
 /// a place.
-fn check_fits<T>(head: usize, lengths: &SegLengths, a: &[T]) -> Result<(), Fault>
+pub(crate) fn check_fits<T>(head: usize, lengths: &SegLengths, a: &[T]) -> Result<(), Fault>
     ensures { MatchResult result (λ _. head + sum lengths.now ≤ length a.now)
         (λ f. (f ≡ fault no.LengthMismatch) × (length a.now < head + sum lengths.now)) }
 {
