@@ -15,12 +15,12 @@ use Rattle.operators.proofs.FoldLaws.{fold_from, scan_of-cons}
 use Rattle.scan_walks.proofs.WholeSums.{all_whole, whole_laws}
 use Rattle.long_sums.specs.LongSums.{long_sum_of}
 
-total-two : (xs ys : List ℤ) → total_of (xs ++ ys) ≡ total_of xs +ℤ total_of ys
+pub total-two : (xs ys : List ℤ) → total_of (xs ++ ys) ≡ total_of xs +ℤ total_of ys
 total-two xs ys = fold-append ◌+ℤ◌ (pos 0) xs ys ∙ fold_from whole_laws (total_of xs) ys refl (all_whole ys)
 
 module _ (fits : (xs : List ℤ) → length xs ≤ 2 ^ 32 → AllPass is_number xs → FitsSigned w64 (total_of xs)) where
   -- the sum of what stands before a part and of the part does not wrap
-  next : (front xs rest : List ℤ) → length ((front ++ xs) ++ rest) ≤ 2 ^ 32 → AllPass is_number ((front ++ xs) ++ rest)
+  pub next : (front xs rest : List ℤ) → length ((front ++ xs) ++ rest) ≤ 2 ^ 32 → AllPass is_number ((front ++ xs) ++ rest)
       → long_sum_of (total_of front) (total_of xs) ≡ total_of (front ++ xs)
   next front xs rest few numbers =
       let all = front ++ xs in

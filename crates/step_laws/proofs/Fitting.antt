@@ -19,7 +19,7 @@ use Rattle.step_laws.specs.Looks.{FindsNone}
 use Rattle.step_laws.proofs.Answered.{within}
 
 -- the scan that wraps is the wrapped scan
-wrapped : (before : ℤ) (xs : List ℤ) → scan_of sum_of (wrap before) xs ≡ map wrap (scan_of ◌+ℤ◌ before xs)
+pub wrapped : (before : ℤ) (xs : List ℤ) → scan_of sum_of (wrap before) xs ≡ map wrap (scan_of ◌+ℤ◌ before xs)
 wrapped before [] = refl
 wrapped before (x ∷ xs) = cc (scan_of-cons sum_of (wrap before) x xs, int_wrap-add_left w32 before x, wrapped (before +ℤ x) xs, scan_of-cons ◌+ℤ◌ before x xs)
 
@@ -28,7 +28,7 @@ abbrev pub FitsAfter : ℤ → List ℤ → Type 0
 FitsAfter before xs = checked_scan_after before xs ≡ Ok (scan_of sum_of (wrap before) xs)
 
 -- a sum that does not fit is a fault of its own number
-no-overflow : (place : ℕ) (status : CvlStatus) → RoomTold {X = ℤ} (Err (fault_at Overflow place)) status [] [] → FindsNone status → ⊥
+pub no-overflow : (place : ℕ) (status : CvlStatus) → RoomTold {X = ℤ} (Err (fault_at Overflow place)) status [] [] → FindsNone status → ⊥
 no-overflow place status told finds =
     ⊎_elim (λ (is : status ≡ done). let number : 18 ≡ 0 = sym (ap (λ (s : CvlStatus). s.number) told.0) ∙ ap (λ (s : CvlStatus). s.number) is in omega (arith, number))
     (λ (is : status.number ≡ 7). let number : 18 ≡ 7 = sym (ap (λ (s : CvlStatus). s.number) told.0) ∙ is in omega (arith, number))

@@ -1,7 +1,9 @@
 pub mod AnyOrder
 pub mod Answered
 pub mod Carried
+pub mod CarriedPieces
 pub mod CheckedScans
+pub mod CheckedSegScans
 pub mod Counted
 pub mod Fitting
 pub mod Measured

@@ -113,7 +113,7 @@ module _ {Item : Type 0} {is_item : Item → Bool} {unit : Item} {join : Item �
   others-next : (p : Piece Item) (ps : List (Piece Item)) → AreNext (p ∷ ps) → AreNext ps
   others-next p ps next = λ k x y here there. next (suc k) x y here (let one : suc k + 1 ≡ suc (k + 1) = omega arith in ap (slice_get (p ∷ ps)) one ∙ there)
 
-  zip-tells : (ps : List (Piece Item)) → zip (map (λ p. p.starts) ps) (map (tells join unit) ps) ≡ map (λ p. (p.starts, tells join unit p)) ps
+  pub zip-tells : (ps : List (Piece Item)) → zip (map (λ p. p.starts) ps) (map (tells join unit) ps) ≡ map (λ p. (p.starts, tells join unit p)) ps
   zip-tells [] = refl
   zip-tells (p ∷ ps) = ap (λ ws. (p.starts, tells join unit p) ∷ ws) (zip-tells ps)
 

@@ -60,7 +60,7 @@ at-each f P (x ∷ xs) all = All-cons (λ y. P (f y)) x xs (All-head P (f x) (ma
 -- ---- the scan of the whole
 
 module _ {Item : Type 0} (join : Item → Item → Item) (unit : Item) (segments : List ℕ) (ps : List (Piece Item)) (cut : AreCut segments ps) where
-  whole-scan : seg_scan_of join unit (joined (map (λ p. p.elements) ps)) segments ≡ Ok (scans_over_ranks join unit unit (map segments_in ps))
+  pub whole-scan : seg_scan_of join unit (joined (map (λ p. p.elements) ps)) segments ≡ Ok (scans_over_ranks join unit unit (map segments_in ps))
   whole-scan =
       let parts = map segments_in ps in let xs = joined (map (λ p. p.elements) ps) in
       let lists = cut.whole.0 in let nests = nested segments xs lists cut.whole.1 in
@@ -73,13 +73,13 @@ module _ {Item : Type 0} (join : Item → Item → Item) (unit : Item) (segments
 -- ---- the steps
 
 -- a piece has a room for its elements, of which there are not too many, and enough for its lengths
-record HasRoom {Item : Type 0} (piece : Piece Item) (own_room : List Item) : Type 0 where
-  room : length own_room ≡ length piece.elements
-  few_elements : length piece.elements ≤ most_places
-  enough : piece.head + sum piece.lengths ≤ length piece.elements
-  few_lengths : length piece.lengths ≤ most_places
+pub record HasRoom {Item : Type 0} (piece : Piece Item) (own_room : List Item) : Type 0 where
+  pub room : length own_room ≡ length piece.elements
+  pub few_elements : length piece.elements ≤ most_places
+  pub enough : piece.head + sum piece.lengths ≤ length piece.elements
+  pub few_lengths : length piece.lengths ≤ most_places
 
-abbrev Fits : {Item : Type 0} → SegPart Item → Type 0
+abbrev pub Fits : {Item : Type 0} → SegPart Item → Type 0
 Fits p = HasRoom p.piece p.room
 
 module _ {Operator Item : Type 0} {is_item : Item → Bool} (unit : Operator → Item) (join : Operator → Item → Item → Item)
@@ -91,7 +91,7 @@ module _ {Operator Item : Type 0} {is_item : Item → Bool} (unit : Operator →
   abbrev carries : Result Operator Fault → List Bool → List Item → Result (List Item) Fault
   carries operator starts told = by_operator operator (λ o. seg_carries_of (join o) (unit o) starts told)
 
-  abbrev part_scan : Result Operator Fault → Item → ℕ → List ℤ → List Item → Result (List Item) Fault
+  abbrev pub part_scan : Result Operator Fault → Item → ℕ → List ℤ → List Item → Result (List Item) Fault
   part_scan operator before head lengths xs =
       by_operator operator (λ o. in_limit xs (by_segments lengths (λ segments. part_scan_of (join o) (unit o) before head segments xs)))
 
@@ -108,10 +108,10 @@ module _ {Operator Item : Type 0} {is_item : Item → Bool} (unit : Operator →
   abbrev scans_own : Operator → SegPart Item → List Item
   scans_own o p = scans_in (join o) (unit o) p.before p.piece
 
-  length-own : (o : Operator) (p : SegPart Item) → Fits p → length (scans_own o p) ≡ length p.room
+  pub length-own : (o : Operator) (p : SegPart Item) → Fits p → length (scans_own o p) ≡ length p.room
   length-own o p fit = length-scans_in_part (join o) (unit o) p.before p.piece.head p.piece.lengths p.piece.elements fit.enough ∙ sym fit.room
 
-  writes-own : (o : Operator) (own left : SegPart Item) → Scans (Ok o) own left → Fits own → left.room ≡ scans_own o own
+  pub writes-own : (o : Operator) (own left : SegPart Item) → Scans (Ok o) own left → Fits own → left.room ≡ scans_own o own
   writes-own o own left does fit =
       let p = own.piece in
       let small : sum p.lengths ≤ most_places = omega (arith, fit.enough, fit.few_elements) in
@@ -127,7 +127,7 @@ module _ {Operator Item : Type 0} {is_item : Item → Bool} (unit : Operator →
   after-each o [] = refl
   after-each o (p ∷ parts) = ap (λ rest. scans_own o p ++ rest) (after-each o parts)
 
-  all-fit : (segments : List ℕ) (parts : List (SegPart Item)) → length segments ≤ most_places → sum segments ≤ most_places → AreCut segments (pieces_of parts) → HaveRooms parts
+  pub all-fit : (segments : List ℕ) (parts : List (SegPart Item)) → length segments ≤ most_places → sum segments ≤ most_places → AreCut segments (pieces_of parts) → HaveRooms parts
       → All Fits parts
   all-fit segments parts short small cut rooms =
       let pieces = pieces_of parts in

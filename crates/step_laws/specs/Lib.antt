@@ -1,3 +1,4 @@
+pub mod CheckedSegmentSteps
 pub mod CheckedSteps
 pub mod CountSteps
 pub mod FlatSteps

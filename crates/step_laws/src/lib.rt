@@ -3,6 +3,7 @@
 //! then the room and what is told are the call's. A step is what its export is proved to do.
 #![tactic(auto)]
 
+pub mod checked_seg_sums;
 pub mod checked_sums;
 pub mod counts;
 pub mod descriptors;
