@@ -13,6 +13,7 @@
 pub mod behinds;
 pub mod calls;
 pub mod carries;
+pub mod checked_reduces;
 pub mod checked_scans;
 pub mod longs;
 pub mod parts;
@@ -22,7 +23,8 @@ pub mod reduces;
 
 pub use behinds::seg_behinds;
 pub use carries::seg_carries;
+pub use checked_reduces::{checked_part_reduces_over, part_checked_reduce};
 pub use checked_scans::{checked_part_scan_over, part_checked_scan};
-pub use longs::long_carries;
+pub use longs::{long_behinds, long_carries};
 pub use parts::{part_scan_in, part_scan_over};
 pub use reduces::part_reduces_over;
