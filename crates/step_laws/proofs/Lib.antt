@@ -1,8 +1,10 @@
 pub mod AnyOrder
 pub mod Answered
+pub mod BehindParts
 pub mod Carried
 pub mod CarriedPieces
 pub mod CheckedScans
+pub mod CheckedSegReduces
 pub mod CheckedSegScans
 pub mod Counted
 pub mod Fitting

@@ -25,7 +25,7 @@ use Rattle.step_laws.proofs.Parted.{alike, alike_where, as-long, keeps, some-few
 use Rattle.step_laws.proofs.SegmentLengths.{are_lengths, few-of, nested, some-less}
 use Rattle.step_laws.proofs.StartReduces.{each-reduces, head_of, pair_of, ranks_of, read_in, reduces_in, whole-reduces}
 
-zip-maps : {A X Y : Type 0} (f : A → X) (g : A → Y) (xs : List A) → zip (map f xs) (map g xs) ≡ map (λ x. (f x, g x)) xs
+pub zip-maps : {A X Y : Type 0} (f : A → X) (g : A → Y) (xs : List A) → zip (map f xs) (map g xs) ≡ map (λ x. (f x, g x)) xs
 zip-maps f g [] = refl
 zip-maps f g (x ∷ xs) = ap (λ ps. (f x, g x) ∷ ps) (zip-maps f g xs)
 
@@ -38,7 +38,7 @@ pub record Fits {X Y : Type 0} (p : ReducePart X Y) : Type 0 where
   pub small : sum p.lengths ≤ most_places
 
 -- what is told of a part and what goes on behind it do not matter
-still-fits : {X Y : Type 0} (p : ReducePart X Y) (told behind : Y) → Fits p → Fits (record p { told = told; behind = behind })
+pub still-fits : {X Y : Type 0} (p : ReducePart X Y) (told behind : Y) → Fits p → Fits (record p { told = told; behind = behind })
 still-fits p told behind fits = record {
   part = fits.part;
   room = fits.room;

@@ -1,3 +1,4 @@
+pub mod CheckedReduceSteps
 pub mod CheckedSegmentSteps
 pub mod CheckedSteps
 pub mod CountSteps

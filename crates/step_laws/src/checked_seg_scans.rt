@@ -1,4 +1,4 @@
-//! Checked sums by segments by steps.
+//! Checked scans by segments by steps.
 
 ghost use Rattle.std.specs.Prelude.{◌≡◌, ℕ, ℤ, List, Ok};
 ghost use Rattle.std.specs.List.{AllPass};

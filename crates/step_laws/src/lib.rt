@@ -3,7 +3,8 @@
 //! then the room and what is told are the call's. A step is what its export is proved to do.
 #![tactic(auto)]
 
-pub mod checked_seg_sums;
+pub mod checked_seg_reduces;
+pub mod checked_seg_scans;
 pub mod checked_sums;
 pub mod counts;
 pub mod descriptors;

@@ -1,7 +1,7 @@
 use Rattle.step_laws.proofs.AnyOrder.{in_any_order}
 use Rattle.step_laws.proofs.CheckedSegScans.{checked_scans}
 use Rattle.step_laws.specs.CheckedSegmentSteps.{LooksAtSegSums, ScansSegSums, SegTotals}
-use Rattle.step_laws.proofs.checked_seg_sums.checked_seg_scans_by_steps.Goals as goal
+use Rattle.step_laws.proofs.checked_seg_scans.checked_seg_scans_by_steps.Goals as goal
 
 pub returns : goal.returns
 returns c = λ op lengths segments start summed carried looked end is_add are cut numbers rooms first carries looks last.
