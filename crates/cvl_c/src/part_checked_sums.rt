@@ -1,7 +1,7 @@
 //! Checked sums of segmented vectors in parts, which are cut at any places: only `bindings/c/segment_parts.c` calls these.
 //!
-//! A part is cut as for `part_scans` and `part_reduces`. What stands before a part and what goes on behind it are sums in 64 bits.
-//! Without a room, which is checked last, a part's call only looks whether its sums fit 32 bits.
+//! A part is cut as for `part_scans` and `part_reduces`. What stands before a part and what goes on behind it are sums in 64
+//! bits. Without a room, which is checked last, a part's call only looks whether its sums fit 32 bits.
 
 ghost use Rattle.c_calls.specs.Told.{RoomTold};
 ghost use Rattle.segment_parts.specs.CheckedSums.{checked_part_reduce_by, checked_part_scan_by};
@@ -10,8 +10,8 @@ ghost use Rattle.segment_parts.specs.CheckedSums.{long_behinds_of, long_carries_
 use c_calls::status::{CvlStatus, told_over};
 use segment_parts::{long_behinds, long_carries, part_checked_reduce, part_checked_scan};
 
-/// What stands before each part in 64 bits. `starts` says of each part whether a segment starts in it, and `told` the sum of its
-/// integers since its last start, or of all of them if none starts.
+/// What stands before each part in 64 bits. `starts` says of each part whether a segment starts in it, and `told` the sum of
+/// its integers since its last start, or of all of them if none starts.
 #[unsafe(no_mangle)]
 pub extern "C" fn cvl_proved_long_carries(
     starts: &[bool],
@@ -23,8 +23,8 @@ pub extern "C" fn cvl_proved_long_carries(
     told_over::<i64>(long_carries(starts, told, out))
 }
 
-/// For each integer of a part the sum of those before it in its segment, which never wraps; `before` stands before the first of
-/// them.
+/// For each integer of a part the sum of those before it in its segment, which never wraps; `before` stands before the first
+/// of them.
 #[unsafe(no_mangle)]
 pub extern "C" fn cvl_proved_part_checked_scan(
     before: i64,
@@ -38,8 +38,8 @@ pub extern "C" fn cvl_proved_part_checked_scan(
     told_over::<i32>(part_checked_scan(&before, head, lengths, a, out))
 }
 
-/// What goes on behind each part in 64 bits. `starts` says of each part whether a segment starts in it, and `told` the sum of its
-/// integers before its first start, or of all of them if none starts.
+/// What goes on behind each part in 64 bits. `starts` says of each part whether a segment starts in it, and `told` the sum of
+/// its integers before its first start, or of all of them if none starts.
 #[unsafe(no_mangle)]
 pub extern "C" fn cvl_proved_long_behinds(
     starts: &[bool],
@@ -51,7 +51,8 @@ pub extern "C" fn cvl_proved_long_behinds(
     told_over::<i64>(long_behinds(starts, told, out))
 }
 
-/// The sum of each segment that starts in a part, which never wraps; `behind` goes on behind the part and is added to the last one.
+/// The sum of each segment that starts in a part, which never wraps; `behind` goes on behind the part and is added to the last
+/// one.
 #[unsafe(no_mangle)]
 pub extern "C" fn cvl_proved_part_checked_reduce(
     behind: i64,

@@ -1,13 +1,12 @@
 -- The sums in a part: how many of them fit 32 bits, from the first one on, and the checked scan of which that is known.
-use Rattle.std.proofs.Common.{◌≡◌, append_assoc, ◌+◌, ◌+ℤ◌, ◌<◌, ◌≤◌, ◌∙◌, ℕ, ℤ, pos, Bool, true, false, not, List, ◌++◌, length, map, take, drop, Result, Ok, Err, Option, Some, None}
+use Rattle.std.proofs.Common.{◌≡◌, append_assoc, ◌+◌, ◌+ℤ◌, ◌<◌, ◌≤◌, ◌∙◌, ℕ, ℤ, pos, Bool, true, false, not, List, ◌++◌, length, take, drop, Result, Ok, Err, Some, None}
 use Rattle.std.proofs.Common.{refl, sym, ap, arith, subst, sum, drop-drop, length-append, length-drop, ⊎_elim, unwrap_or}
 use Rattle.std.proofs.lemmas.Bool.{cases_lt}
 use Rattle.std.proofs.lemmas.List.{length-take-le}
-use Rattle.std.proofs.lemmas.List.Folds.{prefix_len-append}
 use Rattle.std.proofs.lemmas.List.Sums.{prefix_len-le-length}
 use Rattle.std.proofs.lemmas.Option.{none-some, same_Some}
 use Rattle.std.specs.Result.{result_ok}
-use Rattle.cvl_base.specs.CheckedSums.{checked_scan_of, checked_seg_scan_of, fitting}
+use Rattle.cvl_base.specs.CheckedSums.{checked_seg_scan_of, fitting}
 use Rattle.cvl_base.specs.declared.fault.Fault.{Fault}
 use Rattle.cvl_base.specs.declared.fault.FaultNo.TheVariants as no
 use Rattle.cvl_base.specs.Faults.{fault, fault_at}

@@ -25,7 +25,7 @@ checked_part_scan_by before head lengths xs = in_limit xs (by_segments lengths (
 abbrev pub long_carries_of : List Bool → List ℤ → Result (List ℤ) Fault
 long_carries_of starts told = seg_carries_of long_sum_of (pos 0) starts told
 
--- the checked sums of the segments that start in a part, the last of which goes on behind the part, where its elements add up to `behind`
+-- the checked sums of the segments that start in a part, with `behind`, the sum of what goes on behind the part, added to the last one
 abbrev pub checked_part_reduces_of : ℤ → ℕ → List ℕ → List ℤ → Result (List ℤ) Fault
 checked_part_reduces_of behind head lengths xs = part_reduces_of ◌+ℤ◌ (pos 0) behind head lengths xs >>= all_fitting
 

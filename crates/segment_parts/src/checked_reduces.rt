@@ -32,8 +32,8 @@ fn segment_sum(behind: &i64, is_last: bool, segment: &[i32]) -> Option<i32>
     }
 }
 
-/// How many of the sums of segments fit 32 bits, from the first one on. The last segment has all elements that are left, and goes
-/// on behind them.
+/// How many of the sums of segments fit 32 bits, from the first one on. The last segment has all elements that are left, and
+/// goes on behind them.
 fn fitting_sums(behind: &i64, lengths: &SegLengths, a: &[i32]) -> usize
     requires { length a.now ≤ most_places }
     ensures front { result ≡ fitting_front (join_last ◌+ℤ◌ (reduces_of ◌+ℤ◌ (pos 0) lengths.now a.now) behind.now) }
@@ -66,14 +66,14 @@ fn write_sums(behind: &i64, lengths: &SegLengths, a: &[i32], out: &mut [i32])
     }
 }
 
-/// Writes the checked sums of the segments that start in a part of a segmented vector into a room. The first `head` elements go on
-/// from a segment that began before the part. Then there are segments with these lengths, the last of which may be longer than what
-/// the part has of it; its elements behind the part add up to `behind`.
+/// Writes the checked sums of the segments that start in a part of a segmented vector into a room. The first `head` elements
+/// go on from a segment that began before the part. Then there are segments with these lengths, the last of which may be
+/// longer than what the part has of it; its elements behind the part add up to `behind`.
 ///
 /// `LengthMismatch`, without a place, if `head` and the lengths but the last are more than the elements, or if `head` and all
-/// lengths are fewer; then `Overflow` at the first segment whose sum does not fit 32 bits, counted from the first that starts in the
-/// part; then `LengthMismatch`, without a place, if the room has not one place for each length. The room is then as before. The part
-/// has at most 2,147,483,647 elements. Source: CVL's segmented reduces.
+/// lengths are fewer; then `Overflow` at the first segment whose sum does not fit 32 bits, counted from the first that starts
+/// in the part; then `LengthMismatch`, without a place, if the room has not one place for each length. The room is then as
+/// before. The part has at most 2,147,483,647 elements. Source: CVL's segmented reduces.
 pub fn checked_part_reduces_over(
     behind: &i64,
     head: usize,

@@ -51,12 +51,12 @@ fn fitting_in_part(before: &i64, head: usize, lengths: &SegLengths, a: &[i32]) -
     front.len() + whole.len() + fitting_of_scan(0, behind)
 }
 
-/// Writes the checked scan of a part of a segmented vector into a room: the sums of [`part_scan_over`], which never wrap. The first
-/// `head` elements go on from `before`.
+/// Writes the checked scan of a part of a segmented vector into a room: the sums of [`part_scan_over`], which never wrap. The
+/// first `head` elements go on from `before`.
 ///
-/// `LengthMismatch`, without a place, if `head` and the lengths are more than the elements; then `Overflow` at the first sum that
-/// does not fit 32 bits, at its place in the part; then `LengthMismatch`, without a place, if the room is not as long as the part.
-/// The room is then as before. The part has at most 2,147,483,647 elements. Source: Blelloch's segmented scans.
+/// `LengthMismatch`, without a place, if `head` and the lengths are more than the elements; then `Overflow` at the first sum
+/// that does not fit 32 bits, at its place in the part; then `LengthMismatch`, without a place, if the room is not as long as
+/// the part. The room is then as before. The part has at most 2,147,483,647 elements. Source: Blelloch's segmented scans.
 pub fn checked_part_scan_over(
     before: &i64,
     head: usize,

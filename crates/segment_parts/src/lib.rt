@@ -8,6 +8,9 @@
 //! For a reduce each part tells what its elements before its first start of a segment join to; [`seg_behinds`] puts together what
 //! goes on behind each part; and each part reduces the segments that start in it, the last one with what goes on behind the part,
 //! by [`part_reduces_over`]. The module [`reduce_calls`] has them by the numbers of operators.
+//!
+//! Checked sums go the same way over whole numbers: [`long_carries`] and [`long_behinds`] put together in 64 bits what the parts
+//! tell, and [`checked_part_scan_over`] and [`checked_part_reduces_over`] look at all sums of a part before they write.
 #![tactic(auto)]
 
 pub mod behinds;

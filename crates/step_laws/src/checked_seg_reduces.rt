@@ -12,11 +12,11 @@ ghost use Rattle.step_laws.specs.Steps.{InParts};
 
 use call_laws::checked_sums::{carry_fits, checked_segments_in_parts};
 
-/// A checked reduce by segments by steps, whose parts are cut at any places: each part adds up its head, the elements before its
-/// first start of a segment, in 64 bits; once, the sums and the starts say what goes on behind each part, in 64 bits too; each part
-/// looks at the sums of the segments that start in it, the last one with what goes on behind the part; and if no part finds one that
-/// does not fit 32 bits, each writes them. Then no sum of the whole is outside 32 bits, and the room is the checked sum of each
-/// segment of the whole.
+/// A checked reduce by segments by steps, whose parts are cut at any places: each part adds up its head, the elements before
+/// its first start of a segment, in 64 bits; once, the sums and the starts say what goes on behind each part, in 64 bits too;
+/// each part looks at the sums of the segments that start in it, the last one with what goes on behind the part; and if no
+/// part finds one that does not fit 32 bits, each writes them. Then no sum of the whole is outside 32 bits, and the room is
+/// the checked sum of each segment of the whole.
 pub fn checked_seg_reduces_by_steps()
     ensures { (lengths : List ℤ) (segments : List ℕ) (start told known looked end : List (ReducePart ℤ ℤ)) →
         lengths_of lengths ≡ Ok segments → ArePartsOf segments start → AllPass is_number (elements_of start) → HaveRooms start →

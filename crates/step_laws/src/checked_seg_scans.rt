@@ -15,10 +15,10 @@ ghost use Rattle.step_laws.specs.Steps.{InParts};
 
 use call_laws::checked_sums::{carry_fits, checked_segments_in_parts};
 
-/// A checked scan by segments by steps, whose parts are cut at any places: each part adds up its integers since the last start of a
-/// segment, in 64 bits; once, the sums and the starts say what stands before each part, in 64 bits too; each part looks at its sums
-/// after that, and if no part finds one that does not fit 32 bits, each scans its integers by sums that wrap. Then no sum of the
-/// whole is outside 32 bits, and the room is the checked scan of each segment of the whole.
+/// A checked scan by segments by steps, whose parts are cut at any places: each part adds up its integers since the last start
+/// of a segment, in 64 bits; once, the sums and the starts say what stands before each part, in 64 bits too; each part looks
+/// at its sums after that, and if no part finds one that does not fit 32 bits, each scans its integers by sums that wrap. Then
+/// no sum of the whole is outside 32 bits, and the room is the checked scan of each segment of the whole.
 pub fn checked_seg_scans_by_steps()
     ensures { (op : ℕ) (lengths : List ℤ) (segments : List ℕ) (start summed carried looked end : List (SegPart ℤ)) →
         int_monoid op ≡ Ok Add → lengths_of lengths ≡ Ok segments → AreCut segments (pieces_of start) →

@@ -1,8 +1,7 @@
-use Rattle.std.proofs.Common.{◌≡◌, ◌∙◌, Err, Ok, ap, arith, length, refl, sym, true}
+use Rattle.std.proofs.Common.{◌∙◌, Err, Ok, ap, arith, length, refl, sym}
 use Rattle.cvl_base.proofs.Rooms.{differs, fits, told}
 use Rattle.cvl_base.specs.Rooms.{in_room}
 use Rattle.segment_parts.proofs.StartSums.{last_sums, length-last_sums, sums-fit, sums-overflow}
-use Rattle.segment_parts.specs.Reduces.{is_part}
 use Rattle.segment_parts.proofs.checked_reduces.checked_part_reduces_over.Goals as goal
 
 pub returns-then-front-count : goal.returns-then-front-count

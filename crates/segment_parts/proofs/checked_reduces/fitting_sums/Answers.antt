@@ -1,4 +1,4 @@
-use Rattle.std.proofs.Common.{◌≡◌, ◌∙◌, ◌+◌, ap, arith, eqb, get_or, is_some, length, length-drop, min, not, sym}
+use Rattle.std.proofs.Common.{◌≡◌, ◌∙◌, ◌+◌, ap, arith, eqb, get_or, is_some, length, min, not, sym}
 use Rattle.segment_parts.proofs.StartSums.{goes_past, stops_at}
 use Rattle.segment_parts.proofs.checked_reduces.fitting_sums.Goals as goal
 

@@ -1,9 +1,9 @@
-use Rattle.std.proofs.Common.{rules, ◌≡◌, ◌∙◌, Err, ap, length, pos, refl, sym, subst, w32, unwrap_or}
+use Rattle.std.proofs.Common.{rules, ◌≡◌, ◌∙◌, Err, ap, length, pos, refl, sym, w32, unwrap_or}
 use Rattle.std.proofs.lemmas.Int.{to_z-of_z}
 use mir.Val.{SFits}
 use Rattle.cvl_base.specs.CheckedSums.{fitting}
 use Rattle.cvl_base.specs.Integers.{sum_of}
-use Rattle.cvl_base.specs.Rooms.{Overwrites, in_room}
+use Rattle.cvl_base.specs.Rooms.{in_room}
 use Rattle.segment_parts.specs.Parts.{part_scan_of}
 use Rattle.segment_parts.proofs.CheckedScanned.{part-overflows, part-wraps}
 use Rattle.segment_parts.proofs.Scanned.{part-fits}
