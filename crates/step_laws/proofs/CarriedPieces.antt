@@ -1,5 +1,5 @@
 -- What stands before the pieces of a segmented vector is in 64 bits what it is over whole numbers.
-use Rattle.std.proofs.Common.{◌≡◌, ◌++◌, ◌+◌, ◌≤◌, ◌^◌, ◌∙◌, ◌∷◌, ◌+ℤ◌, ℤ, pos, Bool, true, false, FitsSigned, List, [], length, map, if◌then◌else◌, zip, sum}
+use Rattle.std.proofs.Common.{◌≡◌, ◌++◌, ◌+◌, ◌≤◌, ◌^◌, ◌∙◌, ◌∷◌, ◌+ℤ◌, ℤ, pos, Bool, true, false, FitsSigned, List, [], length, map, if◌then◌else◌, sum}
 use Rattle.std.proofs.Common.{refl, sym, ap, arith, append_assoc, length-append, length-drop, subst, take_at, drop_at}
 use Rattle.std.specs.Int.{w64}
 use Rattle.std.specs.List.{AllPass}
@@ -14,7 +14,7 @@ use Rattle.operators.proofs.FoldLaws.{scan_of-cons}
 use Rattle.operators.specs.Booleans.{either}
 use Rattle.scan_walks.proofs.WholeSums.{whole_laws}
 use Rattle.segment_parts.specs.Carries.{before_each}
-use Rattle.step_laws.specs.Pieces.{Piece, since_start, tail_of}
+use Rattle.step_laws.specs.Pieces.{Piece, tail_of}
 use Rattle.step_laws.proofs.Carried.{next, total-two}
 use Rattle.step_laws.proofs.PieceScans.{befores, tells, zip-tells}
 

@@ -1,5 +1,5 @@
 -- Checked reduces by segments by steps, where 64 bits hold the sum of as many integers as a vector has.
-use Rattle.std.proofs.Common.{◌≡◌, ◌++◌, ◌+ℤ◌, ◌<◌, ◌≤◌, ◌^◌, ◌+◌, ◌∙◌, ◌∷◌, ℕ, ℤ, pos, true, FitsSigned, List, [], length, map, take, sum, nat_lt, Ok, refl, sym, ap, arith, All, subst, zip}
+use Rattle.std.proofs.Common.{◌≡◌, ◌+ℤ◌, ◌<◌, ◌≤◌, ◌^◌, ◌+◌, ◌∙◌, ◌∷◌, ℕ, ℤ, pos, FitsSigned, List, [], length, map, take, nat_lt, Ok, refl, sym, ap, arith, All, subst, zip}
 use Rattle.std.proofs.Common.{Result, ⊎_elim}
 use Rattle.std.proofs.lemmas.Bool.{cases_lt}
 use Rattle.std.proofs.lemmas.List.{map-id}

@@ -1,5 +1,5 @@
 -- Checked scans by segments by steps, where 64 bits hold the sum of as many integers as a vector has.
-use Rattle.std.proofs.Common.{◌≡◌, ◌++◌, ◌+ℤ◌, ◌<◌, ◌≤◌, ◌^◌, ◌+◌, ◌∙◌, ◌∷◌, ℕ, ℤ, pos, false, FitsSigned, List, [], length, map, take, drop, sum, Ok, Err, refl, sym, ap, arith, All, subst, get_or}
+use Rattle.std.proofs.Common.{◌≡◌, ◌++◌, ◌+ℤ◌, ◌<◌, ◌≤◌, ◌^◌, ◌+◌, ◌∙◌, ◌∷◌, ℕ, ℤ, pos, false, FitsSigned, List, [], length, map, take, drop, sum, Ok, refl, sym, ap, arith, All, subst, get_or}
 use Rattle.std.proofs.Common.{Result, ⊎_elim}
 use mathlib.Core.List.{map-map}
 use Rattle.std.proofs.lemmas.Bool.{cases_lt}
@@ -33,7 +33,7 @@ use Rattle.scan_walks.specs.Fronts.{fitting_front}
 use Rattle.segment_parts.proofs.Scanned.{part-fits}
 use Rattle.segment_parts.specs.Carries.{before_each}
 use Rattle.segment_parts.specs.CheckedSums.{checked_part_scan_by, checked_part_scan_of, long_carries_of}
-use Rattle.c_calls.specs.Calls.{by_operator, by_segments, in_limit, lengths_of}
+use Rattle.c_calls.specs.Calls.{by_segments, lengths_of}
 use Rattle.c_calls.specs.Numbers.{int_monoid}
 use Rattle.c_calls.specs.Told.{RoomTold, done}
 use Rattle.step_laws.specs.CheckedSegmentSteps.{LongCarries, LooksAtSegSums, ScansSegSums, SegTotals}
@@ -44,7 +44,7 @@ use Rattle.step_laws.proofs.Answered.{fills, is_given, past_limit, tells_done, w
 use Rattle.step_laws.proofs.CarriedPieces.{exact-befores}
 use Rattle.step_laws.proofs.Fitting.{no-overflow, wrapped}
 use Rattle.step_laws.proofs.Operators.{int_laws}
-use Rattle.step_laws.proofs.Parted.{alike, all-parts, each-also, each-where, keeps}
+use Rattle.step_laws.proofs.Parted.{alike, each-also, each-where, keeps}
 use Rattle.step_laws.proofs.PieceScans.{all_scans, befores, scans-cut, scans_in, tells}
 use Rattle.step_laws.proofs.SegScanned.{Fits, all-fit, length-own, part_scan, whole-scan, writes-own}
 use Rattle.step_laws.proofs.SegmentLengths.{are_lengths, few-of, nested}
