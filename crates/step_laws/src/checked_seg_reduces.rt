@@ -20,7 +20,8 @@ use call_laws::checked_sums::{carry_fits, checked_segments_in_parts};
 pub fn checked_seg_reduces_by_steps()
     ensures { (lengths : List ℤ) (segments : List ℕ) (start told known looked end : List (ReducePart ℤ ℤ)) →
         lengths_of lengths ≡ Ok segments → ArePartsOf segments start → AllPass is_number (elements_of start) → HaveRooms start →
-        InParts HeadTotals start told → LongGoesOn told known → InParts LooksAtStarts known looked → InParts SumsStarts looked end →
+        InParts HeadTotals start told → LongGoesOn told known → InParts LooksAtStarts known looked →
+        InParts SumsStarts looked end →
         RoomTold (by_segments lengths (checked_seg_reduce_of (elements_of start))) done (room_of start) (room_of end) }
 {
     carry_fits();
