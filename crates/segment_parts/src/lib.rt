@@ -30,4 +30,4 @@ pub use checked_reduces::{checked_part_reduces_over, part_checked_reduce};
 pub use checked_scans::{checked_part_scan_over, part_checked_scan};
 pub use longs::{long_behinds, long_carries};
 pub use parts::{part_scan_in, part_scan_over};
-pub use reduces::part_reduces_over;
+pub use reduces::{is_part, part_reduces_over};

@@ -27,7 +27,7 @@ fn total_but_last(lengths: &SegLengths) -> usize
 
 /// Whether so many elements are the head of a part and the segments of these lengths behind it, of which the last may be longer
 /// than the part.
-pub(crate) fn is_part(head: usize, lengths: &SegLengths, elements: usize) -> bool
+pub fn is_part(head: usize, lengths: &SegLengths, elements: usize) -> bool
     ensures { result ≡ is_part head lengths.now elements }
 {
     if head > elements {

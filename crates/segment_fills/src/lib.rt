@@ -1,0 +1,11 @@
+//! Copies and numbers by segments in parts of a segmented vector, which is cut at any places: a segment may begin in one part and
+//! go on in others.
+//!
+//! The first `head` elements of a part go on from a segment that began before it, the open one; the others are those of segments
+//! with given lengths, the last of which may be longer than what the part has of it.
+#![tactic(auto)]
+
+pub mod calls;
+pub mod copies;
+
+pub use copies::part_copies_over;
