@@ -21,6 +21,7 @@ mod merges;
 mod nested_texts;
 mod packs;
 mod part_checked_sums;
+mod part_fills;
 mod part_reduces;
 mod part_scans;
 mod parts;

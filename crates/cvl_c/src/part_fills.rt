@@ -1,0 +1,37 @@
+//! Copies by segments in parts of a vector, which is cut at any places: only `bindings/c/segment_parts.c` calls these.
+//!
+//! The first `head` elements of a part go on from a segment that began before it, the open one; the others are those of segments
+//! with these lengths, the last of which may be longer than the part. `out` is the part's range of the result.
+
+ghost use Rattle.segment_fills.specs.Calls.{part_distribute_by};
+ghost use Rattle.c_calls.specs.Told.{Told};
+
+use c_calls::status::{CvlStatus, told_over};
+use segment_fills::calls::part_distribute;
+
+/// The integer of the part's open segment, if `head` is not 0, and that of each segment that starts in the part, as often as the
+/// part has elements of the segment.
+#[unsafe(no_mangle)]
+pub extern "C" fn cvl_proved_part_distribute_int(
+    head: usize,
+    lengths: &[i32],
+    values: &[i32],
+    out: &mut [i32],
+) -> CvlStatus
+    ensures { Told (part_distribute_by head lengths.now values.now out.old) result out.old out.new }
+{
+    told_over::<i32>(part_distribute(head, lengths, values, out))
+}
+
+/// The booleans of the part's segments, as `cvl_proved_part_distribute_int`.
+#[unsafe(no_mangle)]
+pub extern "C" fn cvl_proved_part_distribute_bool(
+    head: usize,
+    lengths: &[i32],
+    values: &[bool],
+    out: &mut [bool],
+) -> CvlStatus
+    ensures { Told (part_distribute_by head lengths.now values.now out.old) result out.old out.new }
+{
+    told_over::<bool>(part_distribute(head, lengths, values, out))
+}
