@@ -7,6 +7,8 @@ pub mod CheckedScans
 pub mod CheckedSegReduces
 pub mod CheckedSegScans
 pub mod Counted
+pub mod Filled
+pub mod FilledByCopies
 pub mod Fitting
 pub mod Measured
 pub mod Operators

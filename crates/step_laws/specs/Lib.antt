@@ -2,6 +2,8 @@ pub mod CheckedReduceSteps
 pub mod CheckedSegmentSteps
 pub mod CheckedSteps
 pub mod CountSteps
+pub mod FillParts
+pub mod FillSteps
 pub mod FlatSteps
 pub mod LengthSteps
 pub mod Looks

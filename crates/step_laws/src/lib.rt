@@ -11,5 +11,6 @@ pub mod descriptors;
 pub mod packs;
 pub mod places;
 pub mod scans;
+pub mod seg_fills;
 pub mod seg_reduces;
 pub mod seg_scans;
