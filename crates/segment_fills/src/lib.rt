@@ -7,5 +7,7 @@
 
 pub mod calls;
 pub mod copies;
+pub mod numbers;
 
 pub use copies::part_copies_over;
+pub use numbers::part_numbers_over;
