@@ -1,13 +1,13 @@
-//! Copies by segments in parts of a vector, which is cut at any places: only `bindings/c/segment_parts.c` calls these.
+//! Copies and numbers by segments in parts of a vector, which is cut at any places: only `bindings/c/segment_parts.c` calls these.
 //!
 //! The first `head` elements of a part go on from a segment that began before it, the open one; the others are those of segments
 //! with these lengths, the last of which may be longer than the part. `out` is the part's range of the result.
 
-ghost use Rattle.segment_fills.specs.Calls.{part_distribute_by};
+ghost use Rattle.segment_fills.specs.Calls.{part_distribute_by, part_index_by};
 ghost use Rattle.c_calls.specs.Told.{Told};
 
 use c_calls::status::{CvlStatus, told_over};
-use segment_fills::calls::part_distribute;
+use segment_fills::calls::{part_distribute, part_index};
 
 /// The integer of the part's open segment, if `head` is not 0, and that of each segment that starts in the part, as often as the
 /// part has elements of the segment.
@@ -34,4 +34,20 @@ pub extern "C" fn cvl_proved_part_distribute_bool(
     ensures { Told (part_distribute_by head lengths.now values.now out.old) result out.old out.new }
 {
     told_over::<bool>(part_distribute(head, lengths, values, out))
+}
+
+/// For each of the part's segments the numbers from its init on, in steps of its stride; `done` of the open segment's stand before
+/// the part.
+#[unsafe(no_mangle)]
+pub extern "C" fn cvl_proved_part_index(
+    done: usize,
+    head: usize,
+    lengths: &[i32],
+    inits: &[i32],
+    strides: &[i32],
+    out: &mut [i32],
+) -> CvlStatus
+    ensures { Told (part_index_by done head lengths.now inits.now strides.now out.old) result out.old out.new }
+{
+    told_over::<i32>(part_index(done, head, lengths, inits, strides, out))
 }

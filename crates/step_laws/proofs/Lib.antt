@@ -9,6 +9,7 @@ pub mod CheckedSegScans
 pub mod Counted
 pub mod Filled
 pub mod FilledByCopies
+pub mod FilledByNumbers
 pub mod Fitting
 pub mod Measured
 pub mod Operators

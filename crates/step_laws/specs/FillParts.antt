@@ -1,7 +1,7 @@
 -- What the parts of a distribute or an index by segments have of their own. The result is cut into parts at any places: a segment may begin
 -- in one part and go on in others.
 -- Source: CVL's segmented distribute and index; how segments are cut is this library's.
-use Rattle.std.specs.Prelude.{◌≡◌, ◌+◌, ◌-◌, ◌<◌, ℕ, zero, suc, IsTrue, List, [], ◌∷◌, drop, length, map, sum, take, Ok}
+use Rattle.std.specs.Prelude.{◌≡◌, ◌+◌, ◌-◌, ℕ, zero, suc, IsTrue, List, [], ◌∷◌, drop, length, map, sum, take, Ok}
 use Rattle.std.specs.List.{All}
 use Rattle.call_laws.specs.OverRanks.{together}
 use Rattle.cvl_base.specs.Lists.{joined}
@@ -22,6 +22,11 @@ pub record FillPart (X Y : Type 0) : Type 0 where
 abbrev pub opened : ℕ → ℕ
 opened zero = 0
 opened (suc n) = 1
+
+-- a number for a part with this head that has an open segment, else 0
+abbrev pub if_opened : ℕ → ℕ → ℕ
+if_opened zero n = 0
+if_opened (suc head) n = n
 
 -- how many elements the segment that goes on behind a part has up to there, if the part's open one has so many in the parts before
 abbrev pub done_behind : ℕ → ℕ → List ℕ → ℕ → ℕ
@@ -45,10 +50,10 @@ module _ {X Y : Type 0} where
       (p.values ≡ take (opened p.head + length p.lengths) (drop (first - opened p.head) values))
       × HaveValues values (first + length p.lengths) parts
 
-  -- each part with a head has told how many elements the parts before have of its open segment; those before these parts have `done`
+  -- each part has told how many elements the parts before have of its open segment; the one before these parts has `done`
   abbrev pub AreDone : ℕ → List (FillPart X Y) → Type 0
   AreDone done [] = Unit {0}
-  AreDone done (p ∷ parts) = (0 < p.head → p.done ≡ done) × AreDone (done_behind done p.head p.lengths (length p.room)) parts
+  AreDone done (p ∷ parts) = (p.done ≡ if_opened p.head done) × AreDone (done_behind done p.head p.lengths (length p.room)) parts
 
   -- The parts into which a room is cut whose segments have these lengths and values. Each has as many elements as its head and its lengths
   -- say; the lengths are those of all parts, in order; each segment has a value, and each part the values of its segments; and the lengths
