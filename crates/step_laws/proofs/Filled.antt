@@ -1,10 +1,9 @@
 -- What the parts of a result hold, whose segments each have a value: together it is what all segments hold.
-use Rattle.std.proofs.Common.{◌≡◌, ◌≢◌, ◌++◌, ◌+◌, ◌-◌, ◌<◌, ◌≤◌, ◌∙◌, ℕ, zero, suc, Bool, true, leb, IsTrue, List, [], ◌∷◌, length, map, take, drop, min, sum, zip, get_or, refl, sym, ap, arith}
+use Rattle.std.proofs.Common.{◌≡◌, ◌++◌, ◌+◌, ◌-◌, ◌<◌, ◌≤◌, ◌∙◌, ℕ, zero, suc, true, leb, IsTrue, List, [], ◌∷◌, length, map, take, drop, min, sum, zip, get_or, refl, sym, ap, arith}
 use Rattle.std.proofs.Common.{subst, All, append_assoc, length-append, length-drop, take_at, take_all, drop-drop}
 use Rattle.std.proofs.lemmas.Bool.{and_parts, leb-true}
 use Rattle.std.proofs.lemmas.List.{append-nil, length-map, drop_more, get_or-drop, length-take, map-append}
 use Rattle.std.proofs.lemmas.List.Elements.{All-cons, All-head, All-nil, All-tail}
-use Rattle.std.proofs.lemmas.List.Sums.{sum_by-append}
 use Rattle.call_laws.specs.OverRanks.{followed_by, going_on, together}
 use Rattle.cvl_base.proofs.Lists.{sum-cons}
 use Rattle.cvl_base.proofs.Nests.{lengths-cut}

@@ -1,5 +1,5 @@
 -- A distribute by segments by steps.
-use Rattle.std.proofs.Common.{◌≡◌, ◌++◌, ◌+◌, ◌-◌, ◌≤◌, ◌∙◌, ℕ, zero, suc, ℤ, pos, true, List, [], ◌∷◌, length, map, take, drop, replicate, Result, Ok, refl, sym, ap, arith, subst, All, take_all}
+use Rattle.std.proofs.Common.{◌≡◌, ◌++◌, ◌-◌, ◌≤◌, ◌∙◌, ℕ, zero, suc, ℤ, pos, true, List, [], ◌∷◌, length, map, take, replicate, Result, Ok, refl, sym, ap, arith, subst, All, take_all}
 use Rattle.std.proofs.lemmas.Bool.{and_from, eq-eqb}
 use Rattle.std.proofs.lemmas.List.{length-replicate, replicate-append-replicate}
 use Rattle.std.proofs.lemmas.List.Elements.{All-head, All-tail}
@@ -20,7 +20,7 @@ use Rattle.c_calls.specs.Told.{RoomTold, Told, done}
 use Rattle.step_laws.specs.FillParts.{ArePartsOf, FillPart, done_behind, room_of}
 use Rattle.step_laws.specs.FillSteps.{Copies}
 use Rattle.step_laws.proofs.Answered.{tells_done, within}
-use Rattle.step_laws.proofs.Filled.{Fits, Holds, all-fit, filled, first_of, held, held_from}
+use Rattle.step_laws.proofs.Filled.{Fits, Holds, all-fit, filled, held, held_from}
 use Rattle.step_laws.proofs.Parted.{alike_where}
 use Rattle.step_laws.proofs.SegmentLengths.{are_lengths, few-of, nested}
 

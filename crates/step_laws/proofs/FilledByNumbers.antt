@@ -1,5 +1,5 @@
 -- An index by segments by steps.
-use Rattle.std.proofs.Common.{◌≡◌, ◌≢◌, ◌++◌, ◌+◌, ◌-◌, ◌<◌, ◌≤◌, ◌∙◌, ℕ, zero, suc, ℤ, pos, ◌+ℤ◌, ◌*ℤ◌, true, List, [], ◌∷◌, length, map, take, drop, sum, zip, Result, Ok, refl, sym, ap, arith, subst, All, take_all}
+use Rattle.std.proofs.Common.{◌≡◌, ◌≢◌, ◌++◌, ◌+◌, ◌-◌, ◌≤◌, ◌∙◌, ℕ, zero, suc, ℤ, pos, ◌+ℤ◌, ◌*ℤ◌, true, List, [], ◌∷◌, length, map, take, zip, Result, Ok, refl, sym, ap, arith, subst, All}
 use Rattle.std.proofs.Common.{length-append}
 use Rattle.std.proofs.lemmas.Bool.{and_from, eq-eqb}
 use Rattle.std.proofs.lemmas.List.{length-map}
@@ -12,14 +12,13 @@ use Rattle.cvl_base.specs.Limits.{most_places}
 use Rattle.cvl_base.specs.Lists.{joined}
 use Rattle.cvl_base.specs.SegmentedCalls.{seg_index_within}
 use Rattle.cvl_base.specs.declared.fault.Fault.{Fault}
-use Rattle.pack_dist.proofs.Distributed.{index-fits, lists-whole, numbers, progression-long}
-use Rattle.pack_dist.proofs.Progressed.{progression-part}
+use Rattle.pack_dist.proofs.Distributed.{index-fits, lists-whole, numbers}
 use Rattle.pack_dist.specs.Lists.{progressions_of}
-use Rattle.pack_dist.specs.Progressions.{numbers_from, progression}
+use Rattle.pack_dist.specs.Progressions.{numbers_from}
 use Rattle.segment_fills.proofs.Numbered.{numbered, part-indexes}
 use Rattle.segment_fills.proofs.Parts.{PartWith, part-with}
 use Rattle.segment_fills.specs.Calls.{part_index_by}
-use Rattle.segment_fills.specs.Fills.{is_part_with, with_head}
+use Rattle.segment_fills.specs.Fills.{is_part_with}
 use Rattle.segment_fills.specs.Numbers.{numbers_in_part, part_index_of}
 use Rattle.c_calls.specs.Calls.{by_segments, lengths_of}
 use Rattle.c_calls.specs.Told.{RoomTold, Told, done}
