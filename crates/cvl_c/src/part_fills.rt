@@ -1,4 +1,5 @@
-//! Copies and numbers by segments in parts of a vector, which is cut at any places: only `bindings/c/segment_parts.c` calls these.
+//! Copies and numbers by segments in parts of a vector, which is cut at any places: only `bindings/c/segment_parts.c` calls
+//! these.
 //!
 //! The first `head` elements of a part go on from a segment that began before it, the open one; the others are those of segments
 //! with these lengths, the last of which may be longer than the part. `out` is the part's range of the result.
@@ -36,8 +37,8 @@ pub extern "C" fn cvl_proved_part_distribute_bool(
     told_over::<bool>(part_distribute(head, lengths, values, out))
 }
 
-/// For each of the part's segments the numbers from its init on, in steps of its stride; `done` of the open segment's stand before
-/// the part.
+/// For each of the part's segments the numbers from its init on, in steps of its stride; `done` of those of the open segment
+/// stand before the part.
 #[unsafe(no_mangle)]
 pub extern "C" fn cvl_proved_part_index(
     done: usize,

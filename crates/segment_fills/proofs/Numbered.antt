@@ -1,5 +1,6 @@
 -- The numbers of a part, as they are written.
-use Rattle.std.proofs.Common.{◌≡◌, ◌≢◌, ◌==◌, ◌&&◌, ◌++◌, ◌+◌, ◌-◌, ◌<◌, ◌≤◌, ◌∙◌, ℕ, zero, suc, ℤ, pos, ◌+ℤ◌, ◌*ℤ◌, true, not, Ok, List, [], ◌∷◌, length, take, drop, get_or, min, sum, zip, refl, sym, ap, arith}
+use Rattle.std.proofs.Common.{◌≡◌, ◌≢◌, ◌==◌, ◌&&◌, ◌++◌, ◌+◌, ◌-◌, ◌<◌, ◌≤◌, ◌∙◌, ℕ, zero, suc, ℤ, pos, ◌+ℤ◌, ◌*ℤ◌, true, not, Ok, List, [], ◌∷◌, length, take, drop, get_or}
+use Rattle.std.proofs.Common.{min, sum, zip, refl, sym, ap, arith}
 use Rattle.std.proofs.Common.{length-drop, take_all}
 use Rattle.std.proofs.Math.IntN.{+ℤ_idr, zero-*ℤ}
 use Rattle.std.proofs.lemmas.Bool.{and_from, eq-eqb, le-ltb}
@@ -48,8 +49,8 @@ length-cut-numbers inits strides lengths n a b few =
     omega (arith, few, length-take n all, lists-whole (numbers 0) (zip inits strides) lengths (omega (arith, a, b, length-zip inits strides)))
 
 -- what a part has of its open segment, and the segments that start in it, are its numbers
-pub numbered : (before head : ℕ) (lengths : List ℕ) (inits strides others other_strides : List ℤ) (n : ℕ) (front starts : List ℤ) → PartWith head lengths (length inits) n → length strides ≡ length inits
-    → (head ≡ 0 → others ≡ inits) → (head ≢ 0 → others ≡ drop 1 inits) → (head ≡ 0 → other_strides ≡ strides) → (head ≢ 0 → other_strides ≡ drop 1 strides)
+pub numbered : (before head : ℕ) (lengths : List ℕ) (inits strides others other_strides : List ℤ) (n : ℕ) (front starts : List ℤ) → PartWith head lengths (length inits) n
+    → length strides ≡ length inits → (head ≡ 0 → others ≡ inits) → (head ≢ 0 → others ≡ drop 1 inits) → (head ≡ 0 → other_strides ≡ strides) → (head ≢ 0 → other_strides ≡ drop 1 strides)
     → front ≡ numbers_from (get_or inits 0 (pos 0)) (get_or strides 0 (pos 0)) before head → starts ≡ take (n - head) (joined (progressions_of others other_strides lengths))
     → numbers_in_part before head lengths inits strides n ≡ front ++ starts
 numbered before zero lengths inits strides others other_strides n front starts part pairs a b c d front_is starts_are =

@@ -1,5 +1,5 @@
--- The numbers of each segment, from a first one on in equal steps, in a part of a segmented vector that is cut at any place: the segment that
--- is open where the part begins goes on in it, and the last one that starts in it may go on behind it.
+-- The numbers of each segment, from a first one on in equal steps, in a part of a segmented vector that is cut at any place: the segment
+-- that is open where the part begins goes on in it, and the last one that starts in it may go on behind it.
 -- Source: CVL's index; the parts are this library's.
 use Rattle.std.specs.Prelude.{ℕ, zero, suc, ◌+◌, ◌&&◌, ◌==◌, nat_lt, not, ℤ, List, ◌∷◌, drop, length, take, Result, Ok}
 use Rattle.cvl_base.specs.declared.fault.Fault.{Fault}
@@ -15,7 +15,8 @@ use Rattle.segment_fills.specs.Fills.{is_part_with}
 -- and its first `done` numbers stand before the part
 abbrev pub numbers_in_part : ℕ → ℕ → List ℕ → List ℤ → List ℤ → ℕ → List ℤ
 numbers_in_part done zero lengths inits strides n = take n (joined (progressions_of inits strides lengths))
-numbers_in_part done (suc h) lengths inits strides n = take n (drop done (joined (progressions_of inits strides ((done + suc h) ∷ lengths))))
+numbers_in_part done (suc h) lengths inits strides n =
+    take n (drop done (joined (progressions_of inits strides ((done + suc h) ∷ lengths))))
 
 -- the numbers in a part of n elements; or TooLong if its open segment has more than 2,147,483,647 elements; or LengthMismatch if no part
 -- with this head and these lengths has so many elements, or there are not one init and one stride for each of its segments

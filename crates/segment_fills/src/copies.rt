@@ -54,7 +54,8 @@ pub fn part_copies_over<T: Copy>(
 /// Fills what a part has of its open segment by copies of the first value, and returns the other values; or all, if it has none.
 fn fill_open<'a, T: Copy>(values: &'a [T], room: &mut [T]) -> &'a [T]
     requires { length values.now ≡ 0 → length room.old ≡ 0 }
-    ensures room { (value : T) → length room.old ≢ 0 → room.new ≡ replicate (length room.old) (slice_index_or values.now 0 value) }
+    ensures room { (value : T) → length room.old ≢ 0
+        → room.new ≡ replicate (length room.old) (slice_index_or values.now 0 value) }
     ensures none { length room.old ≡ 0 → (room.new ≡ room.old) × (result.now ≡ values.now) }
     ensures others { length room.old ≢ 0 → result.now ≡ drop 1 values.now }
 {

@@ -1,6 +1,7 @@
 //! Numbers of a part's segments, from a first one on in equal steps.
 
-ghost use Rattle.std.specs.Prelude.{◌≡◌, ◌≢◌, ◌≤◌, ◌<◌, ◌^◌, ◌-◌, ◌++◌, [], drop, length, map, pos, slice_index_or, sum, take, unsigned_abs};
+ghost use Rattle.std.specs.Prelude.{◌≡◌, ◌≢◌, ◌≤◌, ◌<◌, ◌^◌, ◌-◌, ◌++◌, [], drop, length, map, pos, slice_index_or};
+ghost use Rattle.std.specs.Prelude.{sum, take, unsigned_abs};
 ghost use Rattle.cvl_base.specs.Descriptors.{AreLengthsWithin};
 ghost use Rattle.cvl_base.specs.Limits.{most_places};
 ghost use Rattle.cvl_base.specs.Lists.{joined};

@@ -8,9 +8,9 @@ use Rattle.cvl_base.specs.Lists.{joined}
 use Rattle.cvl_base.specs.Nests.{cut_of, nest}
 use Rattle.segment_parts.specs.Reduces.{but_last, is_part}
 
--- how many of a part's elements, its head, go on from a segment that began before the part, its open one; how many elements the parts before
--- have of that segment; the lengths of the segments that start in the part, the last of which may go on behind it; the values of its
--- segments; and its range of the room
+-- how many of a part's elements, its head, go on from a segment that began before the part, its open one; how many elements the parts
+-- before have of that segment; the lengths of the segments that start in the part, the last of which may go on behind it; the values of
+-- its segments; and its range of the room
 pub record FillPart (X Y : Type 0) : Type 0 where
   pub head : ℕ
   pub done : ℕ
