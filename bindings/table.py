@@ -200,15 +200,15 @@ CUTS = {
         "steps",
     ),
     "seg_scan": Cut(IN_SEGMENTS, OverRanks("seg_scan", BEFORE), "steps"),
-    "seg_checked_scan": Cut(IN_SEGMENTS, OverRanks("seg_checked_scan", BEFORE), "seg_checked_scan"),
+    "seg_checked_scan": Cut(IN_SEGMENTS, OverRanks("seg_checked_scan", BEFORE), "steps"),
     "seg_reduce": Cut(PIECES, OverRanks("seg_reduce", JOINED_AT_START), "steps"),
-    "seg_checked_reduce": Cut(PIECES, OverRanks("seg_checked_reduce", JOINED_AT_START), "seg_checked_reduce"),
+    "seg_checked_reduce": Cut(PIECES, OverRanks("seg_checked_reduce", JOINED_AT_START), "steps"),
     "seg_count": Cut(PIECES, OverRanks("seg_count", "the pieces of a segment are added where it starts"), "steps"),
     "seg_copies": Cut(
-        "cut inside segments", OverRanks("seg_values", "a segment's value goes on to the ranks behind its start"), "seg_copies"
+        "cut inside segments", OverRanks("seg_values", "a segment's value goes on to the ranks behind its start"), "steps"
     ),
     "seg_numbers": Cut(
-        "cut inside segments", OverRanks("seg_values", "a segment's numbers go on in the ranks behind its start"), "seg_numbers"
+        "cut inside segments", OverRanks("seg_values", "a segment's numbers go on in the ranks behind its start"), "steps"
     ),
     # the way over ranks differs from family to family
     "segments": Cut("cut between segments", None, "segments"),
@@ -246,7 +246,7 @@ STEPS = (
 )
 
 # The families that steps of other calls in parts make.
-STEP_FAMILIES = ("int_scan_after", "seg_int_scan", "seg_int_reduce")
+STEP_FAMILIES = ("int_scan_after",)
 
 # A step of a call in parts.
 #
@@ -3090,6 +3090,59 @@ IN_STEPS = (
         faults=(SUM_OF_N,),
         over_ranks=NO_PARTS,
     ),
+    *(
+        family(
+            name,
+            "in steps",
+            (copied("starts"), sums("told"), room("sums")),
+            sentence,
+            limit=None,
+            faults=(),
+            over_ranks=NO_PARTS,
+        )
+        for name, sentence in (
+            ("long_carries", "The same as `int_carries` of sums in 64 bits."),
+            ("long_behinds", "The same as `int_behinds` of sums in 64 bits."),
+        )
+    ),
+    family(
+        "part_checked_scan",
+        "in steps",
+        (value("before", "sum"), value("head", "size"), lengths(), ints("a"), room("ints")),
+        "The checked scan of a part: of its first `head` elements after `before`, of its whole segments, and of what it has of another.",
+        limit=None,
+        faults=(SUM_OF_N, OVERFLOW_AT_PLACE),
+        over_ranks=NO_PARTS,
+    ),
+    family(
+        "part_checked_reduce",
+        "in steps",
+        (value("behind", "sum"), value("head", "size"), lengths(), ints("a"), room("ints", "segments")),
+        "The checked sums of the segments that start in a part, behind its first `head` elements; `behind` is added to the last.",
+        limit=None,
+        faults=(SUM_OF_N, OVERFLOW_AT_SEGMENT),
+        over_ranks=NO_PARTS,
+    ),
+    *twins(
+        ("part_distribute_int", "part_distribute_bool"),
+        "in steps",
+        lambda kind: (value("head", "size"), lengths(), items(kind, "values", "segments"), room(kind)),
+        "Copies of the value of each segment of which a part has elements, as many as it has there; the first `head` are of an earlier one.",
+        limit=None,
+        faults=(SUM_OF_N,),
+        over_ranks=NO_PARTS,
+    ),
+    family(
+        "part_index",
+        "in steps",
+        (
+            value("done", "size"), value("head", "size"), lengths(), ints("inits", "segments"), ints("strides", "segments"), room("ints"),
+        ),
+        "The numbers of each segment of which a part has elements; the first `head` are of an earlier one, which has `done` before them.",
+        limit=None,
+        faults=(SUM_OF_N,),
+        over_ranks=NO_PARTS,
+    ),  # fmt: skip
 )
 
 
@@ -3099,6 +3152,7 @@ def steps_of(cut, kind):
     each_total, all_totals, all_carries, carry = ("TOTALS", "PART"), ("TOTALS", "NONE"), ("CARRIES", "NONE"), ("CARRIES", "LONG")
     each_sum, all_sums, all_before = ("SUMS", "PART"), ("SUMS", "NONE"), ("BEFORE", "NONE")
     before = ("BEFORE", {"int": "INT", "bool": "FLAG"}[kind])
+    starts, head, starting = ("STARTS", "NONE"), ("LENGTHS", "HEAD"), ("LENGTHS", "FIRST")
     return {
         "places": (step("looks", out=nothing), step("fills")),
         "replace": (step("fills", f"{kind}1", "CPY", a="vector"), step("joins", f"distribute_{kind}", count=one, out=place)),
@@ -3110,27 +3164,49 @@ def steps_of(cut, kind):
         ),
         "seg_scan": (
             step("tells", f"{kind}_reduce", a=("A", "LAST"), out=each_sum),
-            step("joins", f"{kind}_carries", starts=("STARTS", "NONE"), told=all_sums, out=all_before),
-            step("fills", f"part_{kind}_scan", before=before, head=("LENGTHS", "HEAD"), lengths=("LENGTHS", "WHOLE")),
+            step("joins", f"{kind}_carries", starts=starts, told=all_sums, out=all_before),
+            step("fills", f"part_{kind}_scan", before=before, head=head, lengths=("LENGTHS", "WHOLE")),
         ),
         "seg_reduce": (
             step("tells", f"{kind}_reduce", a=("A", "FRONT"), out=each_sum),
-            step("joins", f"{kind}_behinds", starts=("STARTS", "NONE"), told=all_sums, out=all_before),
+            step("joins", f"{kind}_behinds", starts=starts, told=all_sums, out=all_before),
             step(
                 "fills",
                 f"part_{kind}_reduce",
                 behind=before,
-                head=("LENGTHS", "HEAD"),
-                lengths=("LENGTHS", "FIRST"),
+                head=head,
+                lengths=starting,
                 out=("OUT", "FIRST"),
+            ),
+        ),
+        "seg_checked_scan": (
+            step("tells", "exact_sum", a=("A", "LAST"), out=each_total),
+            step("joins", "long_carries", starts=starts, told=all_totals, out=all_carries),
+            step("looks", "part_checked_scan", before=carry, head=head, lengths=("LENGTHS", "WHOLE"), out=nothing),
+            step("fills", "part_int_scan", "ADD", before=carry, head=head, lengths=("LENGTHS", "WHOLE")),
+        ),
+        "seg_checked_reduce": (
+            step("tells", "exact_sum", a=("A", "FRONT"), out=each_total),
+            step("joins", "long_behinds", starts=starts, told=all_totals, out=all_carries),
+            step("looks", "part_checked_reduce", behind=carry, head=head, lengths=starting, out=nothing),
+            step("fills", "part_checked_reduce", behind=carry, head=head, lengths=starting, out=("OUT", "FIRST")),
+        ),
+        "seg_copies": (step("fills", f"part_distribute_{kind}", head=head, lengths=starting, values=("A", "OWNERS")),),
+        "seg_numbers": (
+            step(
+                "fills",
+                "part_index",
+                done=("LENGTHS", "DONE"),
+                head=head,
+                lengths=starting,
+                inits=("A", "OWNERS"),
+                strides=("B", "OWNERS"),
             ),
         ),
         "seg_count": (
             step("tells", "count", flags=("FLAGS", "FRONT"), out=each_sum),
-            step("joins", "int_behinds", "ADD", starts=("STARTS", "NONE"), told=all_sums, out=all_before),
-            step(
-                "fills", "part_count", behind=before, head=("LENGTHS", "HEAD"), lengths=("LENGTHS", "FIRST"), out=("OUT", "FIRST")
-            ),
+            step("joins", "int_behinds", "ADD", starts=starts, told=all_sums, out=all_before),
+            step("fills", "part_count", behind=before, head=head, lengths=starting, out=("OUT", "FIRST")),
         ),
         "count": (step("tells", "count", out=each_sum), step("joins", "int_reduce", "ADD", a=all_sums)),
         "checked_reduce": (step("tells", "exact_sum", out=each_total), step("joins", "carried_total", sums=all_totals)),

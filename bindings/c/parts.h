@@ -35,15 +35,14 @@ struct CvlWork {
     size_t third[CVL_MOST_PARTS + 1]; /* where it starts in a third one */
     CvlItem sums[CVL_MOST_PARTS];     /* what each part, or its last, cut segment, joins to */
     CvlItem heads[CVL_MOST_PARTS];    /* what those elements of each part join to that belong to a segment of an earlier part */
-    int64_t head_totals[CVL_MOST_PARTS]; /* the same as sums that never wrap */
-    size_t counts[CVL_MOST_PARTS];       /* how many elements each part gives */
-    CvlRecord of_parts;                  /* what a step tells of each part */
-    CvlRecord before_parts;              /* and what stands before each one */
-    CvlStatus told;                      /* what the call returns if its parts are done */
-    bool left_out;                       /* whether the pool left a part out */
-    char *kept;                          /* what stood in the room before, if it may have to be put back, or the parts' texts */
-    bool *copies;                        /* copies of flags that are neither 0 nor 1 */
-    bool made;                           /* whether the flags are 0 and 1, and need no other look */
+    size_t counts[CVL_MOST_PARTS];    /* how many elements each part gives */
+    CvlRecord of_parts;               /* what a step tells of each part */
+    CvlRecord before_parts;           /* and what stands before each one */
+    CvlStatus told;                   /* what the call returns if its parts are done */
+    bool left_out;                    /* whether the pool left a part out */
+    char *kept;                       /* what stood in the room before, if it may have to be put back, or the parts' texts */
+    bool *copies;                     /* copies of flags that are neither 0 nor 1 */
+    bool made;                        /* whether the flags are 0 and 1, and need no other look */
     /* the call */
     const CvlRow *row;
     const CvlStepRow *step; /* the step that is run */
@@ -81,19 +80,8 @@ static inline size_t cvl_size(const CvlWork *w) { return w->row->operand[w->row-
 /*@ assigns \nothing; */
 static inline size_t cvl_room_bytes(const CvlWork *w) { return w->in[CVL_AS_OUT].number * cvl_size(w); }
 
-/* What an argument has from one place to another. */
-static inline CvlSlot cvl_range(const CvlWork *w, CvlAs as, size_t from, size_t to) {
-    const CvlSlot range = {(const char *)w->in[as].at + from * (cvl_of_bools(w) ? sizeof(bool) : sizeof(int32_t)), to - from};
-    return range;
-}
-
 /* The number beside the room. */
 static inline size_t *cvl_told_at(const CvlWork *w) { return (size_t *)w->in[CVL_AS_TOLD].at; }
-
-/* The number at a place, wrapped: where a part starts. */
-static inline int32_t cvl_number_at(int32_t init, int32_t stride, size_t place) {
-    return (int32_t)((uint32_t)init + (uint32_t)place * (uint32_t)stride);
-}
 
 /* ---- cutting, and the steps: cut.c ---- */
 
@@ -244,11 +232,6 @@ CVL_HIDDEN bool cvl_segments_in_parts(const CvlPool *pool, CvlWork *w);
 /*@ requires w->parts <= CVL_MOST_PARTS;
     assigns *w, rooms, made; */
 CVL_HIDDEN bool cvl_sure_segments_in_parts(const CvlPool *pool, CvlWork *w);
-CVL_HIDDEN bool cvl_seg_checked_scan_in_parts(const CvlPool *pool, CvlWork *w);
-CVL_HIDDEN bool cvl_seg_checked_reduce_in_parts(const CvlPool *pool, CvlWork *w);
-/*@ assigns *w, rooms, made; */
-CVL_HIDDEN bool cvl_seg_copies_in_parts(const CvlPool *pool, CvlWork *w);
-CVL_HIDDEN bool cvl_seg_numbers_in_parts(const CvlPool *pool, CvlWork *w);
 CVL_HIDDEN bool cvl_run_lengths_in_parts(const CvlPool *pool, CvlWork *w);
 CVL_HIDDEN bool cvl_run_starts_in_parts(const CvlPool *pool, CvlWork *w);
 CVL_HIDDEN bool cvl_run_counts_in_parts(const CvlPool *pool, CvlWork *w);
@@ -256,12 +239,10 @@ CVL_HIDDEN bool cvl_write_in_parts(const CvlPool *pool, CvlWork *w);
 CVL_HIDDEN bool cvl_read_in_parts(const CvlPool *pool, CvlWork *w);
 
 /* The rows of what parts call beside their own. */
-extern CVL_HIDDEN const CvlRow cvl_int_scan_after_row, cvl_seg_int_scan_row, cvl_seg_int_reduce_row;
+extern CVL_HIDDEN const CvlRow cvl_int_scan_after_row;
 
 /* Makes the call on what a part has of each operand; and the boundaries of its parts. */
 CVL_HIDDEN CvlStatus cvl_make_part(CvlWork *w, size_t k);
 CVL_HIDDEN const size_t *cvl_boundaries(const CvlWork *w, CvlBy by);
-
-static inline bool cvl_fits(int64_t sum) { return sum >= INT32_MIN && sum <= INT32_MAX; }
 
 #endif

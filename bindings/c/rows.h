@@ -47,12 +47,13 @@ typedef enum CvlRelation {
 /*
  * What each part has of an operand: the whole (NONE); what lies between two boundaries of CvlWork (FROM to THIRD, named as the array that has
  * them); its own place of a record (PART), or the number that stands there (INT to LONG); how many of its elements go on from an earlier
- * segment (HEAD), these elements (FRONT), the lengths of its whole segments (WHOLE), or its elements since its last start (LAST).
+ * segment (HEAD), these elements (FRONT), how many that segment has before (DONE), the lengths of its whole segments (WHOLE), its elements
+ * since its last start (LAST), or what belongs to each segment of which it has elements or a start (OWNERS).
  */
 /* clang-format off */
 typedef enum CvlBy {
     CVL_BY_NONE, CVL_BY_FROM, CVL_BY_FIRST, CVL_BY_START, CVL_BY_OTHER, CVL_BY_THIRD,
-    CVL_BY_PART, CVL_BY_INT, CVL_BY_FLAG, CVL_BY_LONG, CVL_BY_HEAD, CVL_BY_FRONT, CVL_BY_WHOLE, CVL_BY_LAST
+    CVL_BY_PART, CVL_BY_INT, CVL_BY_FLAG, CVL_BY_LONG, CVL_BY_HEAD, CVL_BY_FRONT, CVL_BY_DONE, CVL_BY_WHOLE, CVL_BY_LAST, CVL_BY_OWNERS
 } CvlBy;
 /* clang-format on */
 

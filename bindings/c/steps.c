@@ -69,10 +69,25 @@ static CvlSlot slot_from(CvlSlot slot, size_t place, size_t count, unsigned char
       w->first[k + 1] == w->first[k] ? w->from[k] :
       w->start[k + 1] == w->from[k + 1] ? w->from[k + 1] : start_of(w->lengths, w->first[k + 1] - 1);
 
+    logic integer owner_of{L}(CvlWork *w, integer k) = w->first[k] - (head_of(w, k) > 0 ? 1 : 0);
+
+    logic integer done_of{L}(CvlWork *w, integer k) =
+      head_of(w, k) > 0 ? w->from[k] - start_of(w->lengths, w->first[k] - 1) : 0;
+
     logic integer is_cut_behind{L}(CvlWork *w, integer k) =
       w->first[k + 1] > w->first[k] && w->start[k + 1] > w->from[k + 1] ? 1 : 0; */
+/* How many elements the segment has before a part that goes on in it, or 0. */
+/*@ requires \valid_read(w) && has_segments(w) && knows_starts(w) && k < w->parts;
+    requires p.from == w->from[k] && p.head - p.from == head_of(w, k) && p.first == w->first[k];
+    assigns \nothing;
+    ensures \result == done_of(w, k); */
+static size_t done_before(const CvlWork *w, CvlPiece p, size_t k) {
+    return p.head > p.from ? p.from - (w->start[k] - (size_t)w->lengths[p.first - 1]) : 0;
+}
+
 /* What a part has of segments. */
-/*@ predicate is_piece(integer by) = by == CVL_BY_HEAD || by == CVL_BY_FRONT || by == CVL_BY_WHOLE || by == CVL_BY_LAST; */
+/*@ predicate is_piece(integer by) =
+      by == CVL_BY_HEAD || by == CVL_BY_FRONT || by == CVL_BY_DONE || by == CVL_BY_WHOLE || by == CVL_BY_LAST || by == CVL_BY_OWNERS; */
 /*@ requires \valid_read(w) && \valid_read(o) && o->as < CVL_ROLES && is_piece(o->by);
     requires has_segments(w) && knows_starts(w) && k < w->parts;
     assigns \nothing;
@@ -80,6 +95,9 @@ static CvlSlot slot_from(CvlSlot slot, size_t place, size_t count, unsigned char
     ensures o->by == CVL_BY_FRONT ==> \result.at == (char *)w->in[o->as].at + w->from[k] * o->size;
     ensures o->by == CVL_BY_WHOLE ==> \result.at == (char *)w->in[o->as].at + w->first[k] * o->size;
     ensures o->by == CVL_BY_WHOLE ==> w->first[k] + \result.number == w->first[k + 1] - is_cut_behind(w, k);
+    ensures o->by == CVL_BY_DONE ==> \result.number == done_of(w, k);
+    ensures o->by == CVL_BY_OWNERS ==> \result.at == (char *)w->in[o->as].at + owner_of(w, k) * o->size;
+    ensures o->by == CVL_BY_OWNERS ==> \result.number == w->first[k + 1] - owner_of(w, k);
     ensures o->by == CVL_BY_LAST ==> \result.at == (char *)w->in[o->as].at + last_of(w, k) * o->size;
     ensures o->by == CVL_BY_LAST ==> \result.number == w->from[k + 1] - last_of(w, k); */
 static CvlSlot slot_of_piece(const CvlWork *w, const CvlOperand *o, size_t k) {
@@ -87,14 +105,17 @@ static CvlSlot slot_of_piece(const CvlWork *w, const CvlOperand *o, size_t k) {
     CvlSlot slot = w->in[o->as];
     switch (o->by) {
     case CVL_BY_HEAD: slot.number = p.head - p.from; return slot;
+    case CVL_BY_DONE: slot.number = done_before(w, p, k); return slot;
     case CVL_BY_FRONT: return slot_from(slot, p.from, p.head - p.from, o->size);
     case CVL_BY_WHOLE: return slot_from(slot, p.first, p.count, o->size);
     default: break;
     }
-    const size_t last = p.starts ? p.tail : p.from;
-    const CvlSlot range = slot_from(slot, last, p.to - last, o->size);
-    /*@ assert last == last_of(w, k); */
-    /*@ assert range.at == (char *)w->in[o->as].at + last * o->size; */
+    const bool owners = o->by == CVL_BY_OWNERS;
+    const size_t owner = p.head > p.from ? p.first - 1 : p.first, last = p.starts ? p.tail : p.from;
+    const size_t from = owners ? owner : last, to = owners ? w->first[k + 1] : p.to;
+    const CvlSlot range = slot_from(slot, from, to - from, o->size);
+    /*@ assert from == (o->by == CVL_BY_OWNERS ? owner_of(w, k) : last_of(w, k)); */
+    /*@ assert range.at == (char *)w->in[o->as].at + from * o->size; */
     return range;
 }
 
@@ -128,8 +149,10 @@ static CvlSlot slot_of_part(const CvlWork *w, const CvlOperand *o, size_t k) {
     switch (o->by) {
     case CVL_BY_HEAD:
     case CVL_BY_FRONT:
+    case CVL_BY_DONE:
     case CVL_BY_WHOLE:
-    case CVL_BY_LAST: return slot_of_piece(w, o, k);
+    case CVL_BY_LAST:
+    case CVL_BY_OWNERS: return slot_of_piece(w, o, k);
     default: return slot_of_range(w, o, k);
     }
 }
