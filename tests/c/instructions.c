@@ -1,12 +1,13 @@
 /*
  * Counts the instructions that calls take, and compares them with those of `instructions.txt`, so that a walk that takes more than it
- * did is seen where no time is sure to show it. A count may differ by 3 percent and by 60 instructions, since another compiler of C and the
- * functions that a C library has for a processor take others.
+ * did is seen where no time is sure to show it. A count may differ by 3 percent and by 60 instructions, since another compiler of C takes
+ * others; what the C library carries out is left out.
  *
  *     instructions FILE            compares
  *     instructions FILE --write    writes the file anew: read what changed before you keep it
  */
-#define _DEFAULT_SOURCE
+#define _GNU_SOURCE
+#define OWN_STEPS
 #include "cvl.h"
 #include "steps.h"
 

@@ -108,10 +108,10 @@ enum { MOST_STEPS = 7 };
     X(def_puz, LIST(READS, WRITES), a, in_order, MOST, ones, rooms.out, MOST)                                                  \
     X(mke_fov, LIST(READS, READS), cut, &rooms.count)                                                                          \
     X(add_sez, LIST(READS, READS, READS, WRITES), a, cut, rooms.out, MOST)                                                     \
-    X(add_rez, LIST(READS, READS, WRITES), a, MOST, cut, rooms.out)                                                            \
-    X(tot_sez, LIST(READS, READS, READS, READS, READS, WRITES), a, cut, rooms.out, MOST)                                       \
-    X(tot_rez, LIST(READS, READS, READS, WRITES), a, MOST, cut, rooms.out)                                                     \
-    X(cnt_leb, LIST(READS, READS, WRITES), truths, MOST, cut, rooms.out)                                                       \
+    X(add_rez, LIST(READS, READS, READS, WRITES), a, MOST, cut, rooms.out)                                                            \
+    X(tot_sez, LIST(READS, READS, READS, READS, WRITES), a, cut, rooms.out, MOST)                                       \
+    X(tot_rez, LIST(READS, READS, READS, READS, WRITES), a, MOST, cut, rooms.out)                                                     \
+    X(cnt_leb, LIST(READS, READS, READS, WRITES), truths, MOST, cut, rooms.out)                                                       \
     X(dis_vez, LIST(READS, READS, WRITES), lengths, cut, rooms.out, MOST)                                                      \
     X(ind_lez, LIST(READS, READS, WRITES), lengths, firsts, cut, rooms.out, MOST)                                              \
     X(ext_vez, LIST(READS, READS, WRITES), a, MOST, firsts, cut, rooms.out)                                                    \
