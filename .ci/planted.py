@@ -60,7 +60,10 @@ EDITS = {
     "source.check_columns": [("crates/sharing/src/lib.rt", "", "//" + " long" * 26 + "\n")],
     "promises.check_contracts": [(PROVED, "`run`, `stop_line`", "`run`, `no_such_function`")],
     "promises.check_promises": [(BODIES, "", f"{TABLE}| a body | `crates/boards/must-fail/no_such.edit` |\n")],
-    "promises.check_edits": [("crates/boards/must-fail/unnamed.edit", "", "file: src/lib.rt\n")],
+    "promises.check_edits": [
+        ("crates/boards/must-fail/unnamed.edit", "", "file: src/lib.rt\n"),
+        ("bindings/tests/analysis/wrong/two_rooms_meet.edit", "CVL_WRITTEN) &&", "CVL_WRITTEN) ||"),
+    ],
     "promises.check_trusted": [(PROVED, "`rayon`, `strsim`, `thiserror`", "`rayon`, `thiserror`")],
     "promises.check_from_c": [("docs/user/rust.md", "The C over them is tested,", "The C over them is proved,")],
     "paths.check_paths": [("README.md", "", "\nSee `docs/no-such-page.md`.\n")],

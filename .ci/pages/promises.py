@@ -92,11 +92,16 @@ def check_promises():
 
 
 def check_edits():
-    """Each must-fail edit of the crates stands in the table, so that none goes unseen."""
+    """Each must-fail edit of the crates stands in the table, so that none goes unseen; and each of the C can be applied."""
     named = {reference for _, _, references in rows() for reference in references}
     for edit in sorted(str(path.relative_to(TOP)) for path in TOP.glob("crates/*/must-fail/*.edit")):
         if edit not in named:
             yield f"{BODIES} does not name {edit} below {HEADING}"
+    for path in sorted(TOP.glob("bindings/tests/analysis/wrong/*.edit")):
+        head, _, body = path.read_text().partition("\n<<<<\n")
+        file, times = head.split()[1], (TOP / head.split()[1]).read_text().count(body.partition("\n====\n")[0])
+        if times != 1:
+            yield f"{path.relative_to(TOP)} changes a text that stands {times} times in {file}"
 
 
 # names of crates.txt that stand for the standard library
