@@ -33,7 +33,7 @@ typedef struct Kept {
 #else
 #define CVL_OF_THREAD _Thread_local
 #endif
-static CVL_OF_THREAD Kept kept;
+static CVL_OF_THREAD Kept last_fault;
 
 /* ---- what can be said ---- */
 
@@ -129,13 +129,13 @@ static void find_shared(Kept *k, const CvlSlot *s) {
 }
 
 CvlStatus cvl_keep_fault(const CvlRow *row, const CvlSlot *s, CvlStatus status) {
-    kept = (Kept){.status = status, .row = row, .other = CVL_MOST_OPERANDS};
+    last_fault = (Kept){.status = status, .row = row, .other = CVL_MOST_OPERANDS};
     if (row == NULL) return status;
     switch (status.number) {
-    case CVL_LENGTH_MISMATCH: find_lengths(&kept, s); break;
-    case CVL_NEGATIVE_LENGTH: find_negative(&kept, s); break;
-    case CVL_OVERLAP: find_shared(&kept, s); break;
-    default: find_element(&kept, s); break;
+    case CVL_LENGTH_MISMATCH: find_lengths(&last_fault, s); break;
+    case CVL_NEGATIVE_LENGTH: find_negative(&last_fault, s); break;
+    case CVL_OVERLAP: find_shared(&last_fault, s); break;
+    default: find_element(&last_fault, s); break;
     }
     return status;
 }
@@ -158,19 +158,24 @@ static void put(Text *text, const char *form, ...) {
 }
 
 static void put_said(Text *text) {
-    const char *const *const names = kept.row->names;
-    const char *const one = names[kept.one], *const other = kept.other < kept.row->operands ? names[kept.other] : NULL;
-    const long long value = (long long)kept.value, place = (long long)kept.status.place;
-    switch (kept.said) {
+    const char *const *const names = last_fault.row->names;
+    const char *const one = names[last_fault.one],
+                      *const other = last_fault.other < last_fault.row->operands ? names[last_fault.other] : NULL;
+    const long long value = (long long)last_fault.value, place = (long long)last_fault.status.place;
+    switch (last_fault.said) {
     case SAID_NOTHING: return;
     case SAID_NUMBER: put(text, ": %s is %lld", one, value); break;
     case SAID_ELEMENT: put(text, ": %s[%lld] is %lld", one, place, value); break;
-    case SAID_LENGTHS: put(text, ": %s has %zu elements, and %s has %zu", one, kept.number, other, kept.wanted); return;
-    case SAID_TOTAL: put(text, ": %s add up to %zu, and %s has %zu elements", one, kept.number, other, kept.wanted); return;
-    case SAID_ROOM: put(text, ": %s has %zu elements, and has to have %zu", one, kept.number, kept.wanted); return;
+    case SAID_LENGTHS:
+        put(text, ": %s has %zu elements, and %s has %zu", one, last_fault.number, other, last_fault.wanted);
+        return;
+    case SAID_TOTAL:
+        put(text, ": %s add up to %zu, and %s has %zu elements", one, last_fault.number, other, last_fault.wanted);
+        return;
+    case SAID_ROOM: put(text, ": %s has %zu elements, and has to have %zu", one, last_fault.number, last_fault.wanted); return;
     case SAID_SHARED: put(text, ": %s and %s share memory", one, other); return;
     }
-    if (other != NULL) put(text, ", and %s has %zu elements", other, kept.wanted);
+    if (other != NULL) put(text, ", and %s has %zu elements", other, last_fault.wanted);
 }
 
 size_t cvl_explain(CvlStatus status, char *text, size_t size) {
@@ -179,6 +184,7 @@ size_t cvl_explain(CvlStatus status, char *text, size_t size) {
     if (status.number == CVL_DONE) return 0;
     put(&made, "fault %lu %s", (unsigned long)status.number, cvl_fault_name(status.number));
     if (status.place >= 0) put(&made, " at %lld", (long long)status.place);
-    if (kept.row != NULL && kept.status.number == status.number && kept.status.place == status.place) put_said(&made);
+    if (last_fault.row != NULL && last_fault.status.number == status.number && last_fault.status.place == status.place)
+        put_said(&made);
     return made.length;
 }

@@ -14,6 +14,9 @@
 void *given_malloc(size_t size);
 #define malloc given_malloc
 
+/*@ assigns \nothing; */
+void __builtin_ia32_pause(void);
+
 int pthread_sigmask(int how, const sigset_t *set, sigset_t *before);
 int pthread_atfork(void (*prepare)(void), void (*parent)(void), void (*child)(void));
 int pthread_condattr_setclock(pthread_condattr_t *attributes, clockid_t clock);
