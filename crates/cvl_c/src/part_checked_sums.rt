@@ -1,4 +1,4 @@
-//! Checked sums of segmented vectors in parts, which are cut at any places: only `bindings/c/segment_parts.c` calls these.
+//! Checked sums of segmented vectors in parts, which are cut at any places: only `bindings/c/steps.c` calls these.
 //!
 //! A part is cut as for `part_scans` and `part_reduces`. What stands before a part and what goes on behind it are sums in 64
 //! bits. Without a room, which is checked last, a part's call only looks whether its sums fit 32 bits.

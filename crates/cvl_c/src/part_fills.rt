@@ -1,5 +1,4 @@
-//! Copies and numbers by segments in parts of a vector, which is cut at any places: only `bindings/c/segment_parts.c` calls
-//! these.
+//! Copies and numbers by segments in parts of a vector, which is cut at any places: only `bindings/c/steps.c` calls these.
 //!
 //! The first `head` elements of a part go on from a segment that began before it, the open one; the others are those of segments
 //! with these lengths, the last of which may be longer than the part. `out` is the part's range of the result.

@@ -1,4 +1,4 @@
-//! Reduces and counts of segmented vectors in parts, which are cut at any places: only `bindings/c/segment_parts.c` calls these.
+//! Reduces and counts of segmented vectors in parts, which are cut at any places: only `bindings/c/steps.c` calls these.
 //!
 //! The first `head` elements of a part go on from a segment that began before it; the others are those of segments with these
 //! lengths, the last of which may be longer than the part and is joined with `behind`, which is what goes on behind the part.

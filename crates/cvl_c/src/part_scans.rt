@@ -1,4 +1,4 @@
-//! Scans of segmented vectors in parts, which are cut at any places: only `bindings/c/segment_parts.c` calls these.
+//! Scans of segmented vectors in parts, which are cut at any places: only `bindings/c/steps.c` calls these.
 //!
 //! The first `head` elements of a part go on from a segment that began before it; then there are whole segments with these
 //! lengths; and with what is left another segment begins.

@@ -12,7 +12,7 @@ ghost use Rattle.c_calls.specs.Told.{RoomTold, Told, done};
 ghost use Rattle.flag_calls.specs.Flags.{flags_of};
 
 /// A scan by steps: each part reduces its elements; the reduces are scanned, once; each part scans its elements after what then
-/// stands before them. No part of the last step has a fault, and the room is the scan of the whole.
+/// stands before them. Whatever these parts answer, the room is the scan of the whole.
 pub fn scans_by_steps()
     ensures integers { (op : ℕ) (start summed carried end : List (Part ℤ ℤ ℤ)) →
         AllPass is_number (elements_of start) → length (elements_of start) ≤ most_places → HaveRooms start →

@@ -10,7 +10,7 @@ ghost use Rattle.c_calls.specs.Calls.{by_segments, lengths_of};
 ghost use Rattle.c_calls.specs.Told.{RoomTold, done};
 
 /// A distribute by segments by one step, whose parts are cut at any places: each part writes the values of its segments, each as
-/// often as it has elements of the segment. No part has a fault, and the room is the distribute of the whole.
+/// often as it has elements of the segment. Whatever the parts answer, the room is the distribute of the whole.
 pub fn seg_distributes_by_steps()
     ensures integers { (lengths : List ℤ) (segments : List ℕ) (values : List ℤ) (start end : List (FillPart ℤ ℤ)) →
         lengths_of lengths ≡ Ok segments → ArePartsOf segments values start → InParts Copies start end →

@@ -18,8 +18,8 @@ ghost use Rattle.flag_calls.specs.Flags.{flags_of};
 
 /// A reduce by segments by steps, whose parts are cut at any places: each part reduces its head, the elements before its first
 /// start of a segment; once, the heads and the starts say what goes on behind each part; each part reduces the segments that
-/// start in it, the last one with what goes on behind the part. No part of the last step has a fault, and the room is the reduce
-/// of each segment of the whole.
+/// start in it, the last one with what goes on behind the part. Whatever these parts answer, the room is the reduce of each
+/// segment of the whole.
 pub fn seg_reduces_by_steps()
     ensures integers { (op : ℕ) (lengths : List ℤ) (segments : List ℕ) (start told known end : List (ReducePart ℤ ℤ)) →
         lengths_of lengths ≡ Ok segments → ArePartsOf segments start → AllPass is_number (elements_of start) → HaveRooms start →

@@ -13,8 +13,8 @@ ghost use Rattle.c_calls.specs.Scans.{seg_bool_scan_by, seg_int_scan_by};
 ghost use Rattle.c_calls.specs.Told.{RoomTold, done};
 
 /// A scan by segments by steps, whose parts are cut at any places: each part reduces its elements since the last start of a
-/// segment; once, the reduces and the starts say what stands before each part; each part scans its elements after that. No part
-/// of the last step has a fault, and the room is the scan of each segment of the whole.
+/// segment; once, the reduces and the starts say what stands before each part; each part scans its elements after that.
+/// Whatever these parts answer, the room is the scan of each segment of the whole.
 pub fn seg_scans_by_steps()
     ensures integers { (op : ℕ) (lengths : List ℤ) (segments : List ℕ) (start summed carried end : List (SegPart ℤ)) →
         lengths_of lengths ≡ Ok segments → AreCut segments (pieces_of start) →
