@@ -1,12 +1,9 @@
 //! Combining permutes by sums that never wrap, of a whole vector and of each segment; one range of their room; and the steps of
 //! such a call in parts.
 
-ghost use Rattle.std.specs.Prelude.{Ok};
 ghost use Rattle.c_calls.specs.Calls.{in_limit};
 ghost use Rattle.c_calls.specs.Told.{RoomTold, Told, ToldOr};
-ghost use Rattle.cvl_base.specs.Elementwise.{on_pairs};
 ghost use Rattle.cvl_c.specs.CombineSums.{checked_by, exact_by, seg_checked_by, seg_exact_by};
-ghost use Rattle.long_sums.specs.LongSums.{long_sum_of};
 ghost use Rattle.long_sums.specs.RoomSums.{all_fitting};
 ghost use Rattle.part_calls.specs.CombineRanges.{exact_range_of};
 
@@ -14,11 +11,10 @@ use crate::senders::told_counted;
 use c_calls::checks::{check_limit, segments};
 use c_calls::or_tell;
 use c_calls::status::{CvlStatus, told_over, told_over_or};
-use elementwise::on_pairs_in_first;
 use exact_combines::{
     checked_combine_over, exact_sums_over, seg_checked_combine_over, seg_exact_sums_over,
 };
-use long_sums::{LongSum, ints_from_sums_over, sums_from_ints_over};
+use long_sums::ints_from_sums_over;
 use part_calls::combine_ranges::exact_sums_range_checked;
 use std::alloc::Global;
 
@@ -101,22 +97,6 @@ pub extern "C" fn cvl_proved_combine_exact_sums_range(
     ensures { Told (exact_range_of source.now index.now lowest out.old) result (out.old, named.old) (out.new, named.new) }
 {
     told_counted::<i64>(exact_sums_range_checked(source, index, lowest, out), named)
-}
-
-/// Adds a sum to each of the room, wrapped to 64 bits: how the rooms of a call's parts are joined.
-#[unsafe(no_mangle)]
-pub extern "C" fn cvl_proved_add_sums(sums: &[i64], out: &mut [i64]) -> CvlStatus
-    ensures { Told (on_pairs long_sum_of out.old sums.now) result out.old out.new }
-{
-    told_over::<i64>(on_pairs_in_first::<LongSum, i64>(out, sums))
-}
-
-/// Each integer as a sum.
-#[unsafe(no_mangle)]
-pub extern "C" fn cvl_proved_sums_from_ints(a: &[i32], out: &mut [i64]) -> CvlStatus
-    ensures { RoomTold (Ok a.now) result out.old out.new }
-{
-    told_over::<i64>(sums_from_ints_over(a, out))
 }
 
 /// Each sum as an integer, which has to fit 32 bits.

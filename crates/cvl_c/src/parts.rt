@@ -18,7 +18,7 @@ use part_calls::text_pieces::read_piece;
 use std::alloc::Global;
 
 /// The status of a call that may write a range of a permute, and the number of its places.
-fn told_range<T>(answer: Result<usize, Fault>, written: &mut usize) -> CvlStatus
+pub(crate) fn told_range<T>(answer: Result<usize, Fault>, written: &mut usize) -> CvlStatus
     ensures { (meaning : Result (List T × List ℕ × ℕ) Fault) (out now : List T) (marks marked : List ℕ)
         → WritesRange meaning answer (out, marks) (now, marked)
         → Told meaning result (out, marks, written.old) (now, marked, written.new) }

@@ -21,7 +21,7 @@ use run_lengths::{
 };
 
 /// Of two bytes one is true, and the other is not.
-struct FlagsDiffer;
+pub(crate) struct FlagsDiffer;
 
 impl Binary<u8, bool> for FlagsDiffer {
     ghost value = { flags_differ };

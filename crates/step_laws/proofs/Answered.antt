@@ -46,6 +46,11 @@ module _ {X : Type 0} where
   is_done xs before now status long told =
       let full : Told (Ok xs) status before now = subst (λ m. Told m status before now) (fits (length before) xs long) told in full.1
 
+  -- and tells that it is
+  pub done_if_long : (xs before now : List X) (status : CvlStatus) → length xs ≡ length before → RoomTold (Ok xs) status before now → status ≡ done
+  done_if_long xs before now status long told =
+      let full : Told (Ok xs) status before now = subst (λ m. Told m status before now) (fits (length before) xs long) told in full.0
+
   pub tells_done : (xs before : List X) → length xs ≡ length before → RoomTold (Ok xs) done before xs
   tells_done xs before long = subst (λ m. Told m done before xs) (sym (fits (length before) xs long)) (refl, refl)
 

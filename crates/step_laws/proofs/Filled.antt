@@ -20,7 +20,7 @@ use Rattle.step_laws.proofs.SegmentLengths.{nested, some-less}
 -- ---- lengths of what parts have together
 
 module _ {Y : Type 0} where
-  same-front : (xs ys us ws : List Y) → length xs ≡ length us → xs ++ ys ≡ us ++ ws → (xs ≡ us) × (ys ≡ ws)
+  pub same-front : (xs ys us ws : List Y) → length xs ≡ length us → xs ++ ys ≡ us ++ ws → (xs ≡ us) × (ys ≡ ws)
   same-front [] ys [] ws long same = (refl, same)
   same-front [] ys (u ∷ us) ws long same = absurd (omega (arith, long))
   same-front (x ∷ xs) ys [] ws long same = absurd (omega (arith, long))
@@ -29,7 +29,7 @@ module _ {Y : Type 0} where
       let first : take 1 (x ∷ (xs ++ ys)) ≡ take 1 (u ∷ (us ++ ws)) = ap (take 1) same in
       ((λ i. first i ++ rest.0 i), rest.1)
 
-  lengths-going_on : (segment : List Y) (others : List (List Y)) (more : List Y)
+  pub lengths-going_on : (segment : List Y) (others : List (List Y)) (more : List Y)
       → (sum (map length (going_on segment others more)) ≡ sum (map length (segment ∷ others)) + length more) × (length (going_on segment others more) ≡ length (segment ∷ others))
   lengths-going_on segment [] more =
       (omega (arith, sum-cons (length (segment ++ more)) [], sum-cons (length segment) [], length-append segment more), refl)
@@ -39,16 +39,16 @@ module _ {Y : Type 0} where
         ap suc rest.1,
       )
 
-  sums-cut : (lengths : List ℕ) (xs : List Y) → sum (map length (cut_of lengths xs)) ≡ min (sum lengths) (length xs)
+  pub sums-cut : (lengths : List ℕ) (xs : List Y) → sum (map length (cut_of lengths xs)) ≡ min (sum lengths) (length xs)
   sums-cut [] xs = omega arith
   sums-cut (n ∷ lengths) xs =
       omega (arith, sum-cons (length (take n xs)) (map length (cut_of lengths (drop n xs))), length-take n xs, sums-cut lengths (drop n xs), length-drop n xs, sum-cons n lengths)
 
-  count-cut : (lengths : List ℕ) (xs : List Y) → length (cut_of lengths xs) ≡ length lengths
+  pub count-cut : (lengths : List ℕ) (xs : List Y) → length (cut_of lengths xs) ≡ length lengths
   count-cut [] xs = refl
   count-cut (n ∷ lengths) xs = ap suc (count-cut lengths (drop n xs))
 
-bounds : (head : ℕ) (lengths : List ℕ) (n : ℕ) → is_part head lengths n ≡ true → (head + sum (but_last lengths) ≤ n) × (n ≤ head + sum lengths)
+pub bounds : (head : ℕ) (lengths : List ℕ) (n : ℕ) → is_part head lengths n ≡ true → (head + sum (but_last lengths) ≤ n) × (n ≤ head + sum lengths)
 bounds head lengths n is =
     let both = and_parts (leb (head + sum (but_last lengths)) n) (leb n (head + sum lengths)) is in
     (leb-true (head + sum (but_last lengths)) n both.0, leb-true n (head + sum lengths) both.1)

@@ -78,11 +78,11 @@ module _ {X : Type 0} where
 -- ---- where each part's elements go
 
 -- where each of some lengths ends
-abbrev ends : ℕ → List ℕ → List ℕ
+abbrev pub ends : ℕ → List ℕ → List ℕ
 ends from [] = []
 ends from (n ∷ lengths) = (from + n) ∷ ends (from + n) lengths
 
-places-on : (from : ℕ) (lengths : List ℕ) → scan_of ◌+◌ from lengths ++ (from + sum lengths) ∷ [] ≡ from ∷ ends from lengths
+pub places-on : (from : ℕ) (lengths : List ℕ) → scan_of ◌+◌ from lengths ++ (from + sum lengths) ∷ [] ≡ from ∷ ends from lengths
 places-on from [] = ap (λ place. place ∷ []) (omega arith)
 places-on from (n ∷ lengths) =
     let last : from + sum (n ∷ lengths) ≡ (from + n) + sum lengths = omega (arith, sum-cons n lengths) in
@@ -91,7 +91,7 @@ places-on from (n ∷ lengths) =
     ∙ ap (λ places. from ∷ places) (places-on (from + n) lengths)
 
 module _ {X : Type 0} where
-  joined-ranges : (from : ℕ) (lengths : List ℕ) (room : List X) → joined (ranges_on from (ends from lengths) room) ≡ take (sum lengths) (drop from room)
+  pub joined-ranges : (from : ℕ) (lengths : List ℕ) (room : List X) → joined (ranges_on from (ends from lengths) room) ≡ take (sum lengths) (drop from room)
   joined-ranges from [] room = refl
   joined-ranges from (n ∷ lengths) room =
       let rest = drop from room in
@@ -102,7 +102,7 @@ module _ {X : Type 0} where
       ∙ sym (take-add n (sum lengths) rest)
       ∙ ap (λ m. take m rest) (sym (sum-cons n lengths))
 
-  length-ranges : (from : ℕ) (lengths : List ℕ) (room : List X) → from + sum lengths ≤ length room → map length (ranges_on from (ends from lengths) room) ≡ lengths
+  pub length-ranges : (from : ℕ) (lengths : List ℕ) (room : List X) → from + sum lengths ≤ length room → map length (ranges_on from (ends from lengths) room) ≡ lengths
   length-ranges from [] room fit = refl
   length-ranges from (n ∷ lengths) room fit =
       let total = sum-cons n lengths in
@@ -114,7 +114,7 @@ module _ {X : Type 0} where
 -- ---- the steps
 
 -- an answer that all is done says that there is room
-has-room : (room : ℕ) (layout : Layout) → Told (fits_room room layout) done tt tt → layout.total ≤ room
+pub has-room : (room : ℕ) (layout : Layout) → Told (fits_room room layout) done tt tt → layout.total ≤ room
 has-room room layout told =
     ⊎_elim
     (λ (short : room < layout.total).
@@ -166,7 +166,7 @@ module _ {X : Type 0} where
       (subst (λ r. Told (fitted room r) status tt tt) is lays.0, lays.1 ∙ ap (layout_or before) is)
 
   -- a list that has room stands in front
-  at-front : (room xs : List X) → length xs ≤ length room → at_front room xs ≡ Ok (xs ++ drop (length xs) room)
+  pub at-front : (room xs : List X) → length xs ≤ length room → at_front room xs ≡ Ok (xs ++ drop (length xs) room)
   at-front room xs long = ap (λ b. fault_if b (fault no.LengthMismatch) (Ok (xs ++ drop (length xs) room))) (le-ltb (length room) (length xs) long)
 
   -- a part that has a place for each element that it keeps

@@ -1,0 +1,4 @@
+pub mod Ascending
+pub mod JoinedCounts
+pub mod OwnTold
+pub mod Zeros

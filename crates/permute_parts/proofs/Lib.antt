@@ -1,0 +1,2 @@
+pub mod MarkPlaces
+pub mod Passed

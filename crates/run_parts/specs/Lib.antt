@@ -1,0 +1,5 @@
+pub mod Calls
+pub mod Counts
+pub mod Places
+pub mod Puts
+pub mod Runs

@@ -1,0 +1,95 @@
+-- The vectors of a call, cut where the segments of its parts stand.
+use Rattle.std.proofs.Common.{◌≡◌, ◌≢◌, ◌∙◌, ◌+◌, ℕ, ℤ, pos, true, false, List, length, map, sum, Ok, Err, sym, ap, arith, subst}
+use Rattle.std.proofs.Common.{eqb, unsigned_abs, ⊎_elim}
+use mathlib.Core.List.{map-map}
+use Rattle.std.proofs.lemmas.Bool.Decides.{eqb_tells}
+use Rattle.std.proofs.lemmas.List.{length-map}
+use Rattle.std.specs.List.{AllZip}
+use Rattle.cvl_base.proofs.Nests.{nest-misfits}
+use Rattle.cvl_base.specs.declared.fault.FaultNo.TheVariants as no
+use Rattle.cvl_base.specs.Faults.{fault}
+use Rattle.cvl_base.specs.Lists.{joined}
+use Rattle.cvl_base.specs.Nests.{nest}
+use Rattle.cvl_base.specs.Packs.{count_of}
+use Rattle.flag_calls.specs.Flags.{flags_of}
+use Rattle.part_cuts.proofs.Told.{length-places_of}
+use Rattle.part_cuts.specs.Pairs.{added_places_of}
+use Rattle.part_cuts.specs.Places.{exact_count_places_of, exact_places_of, places_of}
+use Rattle.c_calls.specs.Calls.{by_segments, lengths_of}
+use Rattle.c_calls.specs.Told.{RoomTold, done, status_of_fault}
+use Rattle.c_calls.specs.declared.status.CvlStatus.{CvlStatus}
+use Rattle.step_laws.proofs.Answered.{done_if_long, fills, is_given, past_limit}
+use Rattle.step_laws.proofs.BySegments.{own-sizes, sizes, sum-parts, told-sizes}
+use Rattle.step_laws.proofs.CutPlaces.{both-given, count-places, exact-fits, exact-given, exact-misfits, ranges-joined, ranges-long}
+use Rattle.step_laws.proofs.Parted.{alike}
+use Rattle.step_laws.specs.CountSteps.{Counts}
+use Rattle.step_laws.specs.CutSteps.{IsCutBy}
+use Rattle.step_laws.specs.LengthSteps.{Measures}
+use Rattle.step_laws.specs.PackSteps.{ranges_of}
+use Rattle.step_laws.specs.Parts.{Part, elements_of, told_of}
+
+-- places of parts with these lengths cut a vector of as many elements
+pub cut-by : {X : Type 0} (lengths places : List ℕ) (xs : List X) → sum lengths ≡ length xs → places ≡ places_of lengths → IsCutBy places lengths xs
+cut-by lengths places xs total are = record {
+  begin = are;
+  together = ap (λ ps. joined (ranges_of ps xs)) are ∙ ranges-joined lengths xs total;
+  long = ap (λ ps. map length (ranges_of ps xs)) are ∙ ranges-long lengths xs total;
+}
+
+module _ (start measured : List (Part ℤ ℕ ℤ)) (first : AllZip Measures start measured) where
+  -- the lengths of each part, added up
+  abbrev totals : List ℕ
+  totals = map (λ (p : Part ℤ ℕ ℤ). sum (map unsigned_abs p.elements)) start
+
+  told-totals : told_of measured ≡ totals
+  told-totals =
+      alike Measures (λ (p : Part ℤ ℕ ℤ). sum (map unsigned_abs p.elements)) (λ (p : Part ℤ ℕ ℤ). p.told)
+      (λ own left does. told-sizes own.elements left.told (is_given (by_segments own.elements (λ lengths. Ok (sum lengths))) own.told left.told does.0)) start measured first
+
+  pub cut-lengths : {X : Type 0} (xs : List X) (before places : List ℕ) → RoomTold (exact_places_of (told_of measured) (length xs)) done before places → IsCutBy places totals xs
+  cut-lengths xs before places told =
+      let given = (fills (exact_places_of (told_of measured) (length xs)) before places told).0 in
+      let is = exact-given totals (length xs) places (sym (ap (λ ts. exact_places_of ts (length xs)) told-totals) ∙ given) in
+      cut-by totals places xs is.0 is.1
+
+  pub other-lengths : {X : Type 0} (xs : List X) (status : CvlStatus) (before places segments : List ℕ) → length before ≡ length start + 1 → lengths_of (elements_of start) ≡ Ok segments
+      → RoomTold (exact_places_of (told_of measured) (length xs)) status before places → status ≢ done
+      → (nest segments xs ≡ Err (fault no.LengthMismatch)) × (status ≡ status_of_fault (fault no.LengthMismatch))
+  other-lengths xs status before places segments long are told fails =
+      let cut : RoomTold (exact_places_of totals (length xs)) status before places =
+      subst (λ ts. RoomTold (exact_places_of ts (length xs)) status before places) told-totals told in
+      let whole : sum segments ≡ sum totals = ap sum (own-sizes (λ (p : Part ℤ ℕ ℤ). p.elements) start segments are) ∙ sum-parts (sizes (λ (p : Part ℤ ℕ ℤ). p.elements)) start in
+      ⊎_elim
+      (λ (adds : (eqb (sum totals) (length xs) ≡ true) × (sum totals ≡ length xs)).
+      absurd (fails (done_if_long (places_of totals) before places status
+      (omega (arith, length-places_of totals, length-map start (λ (p : Part ℤ ℕ ℤ). sum (map unsigned_abs p.elements)), long))
+      (subst (λ m. RoomTold m status before places) (exact-fits totals (length xs) adds.1) cut))))
+      (λ (differ : (eqb (sum totals) (length xs) ≡ false) × (sum totals ≢ length xs)).
+      let none : RoomTold (Err (fault no.LengthMismatch)) status before places = subst (λ m. RoomTold m status before places) (exact-misfits totals (length xs) differ.1) cut in
+      (nest-misfits segments xs (λ same. differ.1 (sym whole ∙ same)), none.0))
+      (eqb_tells (sum totals) (length xs))
+
+module _ (start counted : List (Part ℕ ℤ ℤ)) (first : AllZip Counts start counted) where
+  -- the true flags of each part
+  abbrev counts : List ℕ
+  counts = map (λ (p : Part ℕ ℤ ℤ). count_of (flags_of p.elements)) start
+
+  told-counts : told_of counted ≡ map pos counts
+  told-counts =
+      alike Counts (λ (p : Part ℕ ℤ ℤ). pos (count_of (flags_of p.elements))) (λ (p : Part ℕ ℤ ℤ). p.told)
+      (λ own left does. sym (past_limit _ _ (pos (count_of (flags_of own.elements))) left.told (is_given _ own.told left.told does.0))) start counted first
+      ∙ sym (map-map pos (λ (p : Part ℕ ℤ ℤ). count_of (flags_of p.elements)) start)
+
+  pub cut-counts : {X : Type 0} (xs : List X) (before places : List ℕ) → RoomTold (exact_count_places_of (told_of counted) (length xs)) done before places → IsCutBy places counts xs
+  cut-counts xs before places told =
+      let given = (fills (exact_count_places_of (told_of counted) (length xs)) before places told).0 in
+      let is = exact-given counts (length xs) places (sym (ap (λ ts. exact_count_places_of ts (length xs)) told-counts ∙ count-places counts (length xs)) ∙ given) in
+      cut-by counts places xs is.0 is.1
+
+module _ {P X : Type 0} (one other : P → ℕ) (parts : List P) where
+  pub cut-both : (xs : List X) (before places : List ℕ) → RoomTold (added_places_of (places_of (map one parts)) (places_of (map other parts)) (length xs)) done before places
+      → IsCutBy places (map (λ p. one p + other p) parts) xs
+  cut-both xs before places told =
+      let is = both-given one other parts (length xs) places
+      (fills (added_places_of (places_of (map one parts)) (places_of (map other parts)) (length xs)) before places told).0 in
+      cut-by (map (λ p. one p + other p) parts) places xs is.0 is.1

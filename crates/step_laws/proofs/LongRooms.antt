@@ -1,0 +1,117 @@
+-- Sums in 64 bits of a combining permute, if what stood in the room may grow, are those over whole numbers.
+use Rattle.std.proofs.Common.{◌≡◌, ◌∙◌, ◌+◌, ◌-◌, ◌<◌, ◌≤◌, ◌^◌, ◌∷◌, ◌++◌, ◌+ℤ◌, ℕ, ℤ, pos, negsuc, Bool, true, false, IsTrue, List, []}
+use Rattle.std.proofs.Common.{All, ap, arith, count_by, filter, get_or, length, map, nat_lt, refl, replicate, subst, sym, zip, None, Some, Option, Ok, Err, Result}
+use Rattle.std.proofs.lemmas.Bool.{lt-ltb, ltb-true}
+use Rattle.std.proofs.lemmas.List.{length-map}
+use Rattle.std.proofs.lemmas.List.Elements.{All-append, All-cons, All-filter, All-head, All-map, All-nil, All-tail}
+use Rattle.std.proofs.lemmas.List.Sums.{count_by-le-length, length-filter}
+use Rattle.std.proofs.lemmas.Option.{none-some, same_Some}
+use Rattle.std.specs.List.{AllPass, AllZip}
+use Rattle.std.specs.Prelude.{if◌then◌else◌}
+use Rattle.std.specs.Result.{result_ok}
+use Rattle.combining_permutes.specs.CombiningPermutes.{combine_of, combined, names, sent_there}
+use Rattle.cvl_base.specs.declared.fault.Fault.{Fault}
+use Rattle.cvl_base.specs.declared.fault.FaultNo.TheVariants.{Overflow}
+use Rattle.cvl_base.specs.Elementwise.{if_as_long, values_from}
+use Rattle.cvl_base.specs.Faults.{fault_at}
+use Rattle.cvl_base.specs.Folds.{fold_of}
+use Rattle.cvl_base.specs.Gives.{◌>>=◌, unless}
+use Rattle.cvl_base.specs.ItemWords.{is_number}
+use Rattle.cvl_base.specs.Limits.{most_places}
+use Rattle.cvl_base.specs.Lists.{joined}
+use Rattle.long_sums.specs.LongFolds.{fold_same}
+use Rattle.long_sums.specs.LongSums.{is_long, long_sum_of, may_grow}
+use Rattle.long_sums.specs.RoomSums.{all_growing, growing}
+use Rattle.permute_walks.specs.Indices.{first_outside}
+use Rattle.step_laws.proofs.OwnGiven.{zip_items}
+
+-- ---- numbers, and what may grow
+
+pub grows-number : (z : ℤ) → IsTrue (is_number z) → IsTrue (may_grow z)
+grows-number (pos n) h = let below = ltb-true n (2 ^ 31) h in lt-ltb n (2 ^ 62) (omega (arith, below))
+grows-number (negsuc n) h = let below = ltb-true n (2 ^ 31) h in lt-ltb n (2 ^ 62) (omega (arith, below))
+
+pub long-grows : (z : ℤ) → IsTrue (may_grow z) → IsTrue (is_long z)
+long-grows (pos n) h = let below = ltb-true n (2 ^ 62) h in lt-ltb n (2 ^ 63) (omega (arith, below))
+long-grows (negsuc n) h = let below = ltb-true n (2 ^ 62) h in lt-ltb n (2 ^ 63) (omega (arith, below))
+
+pub all_grow : (xs : List ℤ) → AllPass is_number xs → AllPass may_grow xs
+all_grow xs numbers = λ k d lt. grows-number (get_or xs k d) (numbers k d lt)
+
+pub all_long : (xs : List ℤ) → AllPass may_grow xs → AllPass is_long xs
+all_long xs grow = λ k d lt. long-grows (get_or xs k d) (grow k d lt)
+
+-- ---- one room
+
+few_sent : (sends : List (ℤ × ℤ)) (d : ℕ) → length (sent_there sends d) ≤ length sends
+few_sent sends d =
+    let own = λ (p : ℤ × ℤ). names d p.0 in
+    omega (arith, length-map (filter own sends) (λ p. p.1), length-filter own sends, count_by-le-length own sends)
+
+sent_numbers : (sends : List (ℤ × ℤ)) (d : ℕ) → AllPass (λ p. is_number p.1) sends → AllPass is_number (sent_there sends d)
+sent_numbers sends d numbers =
+    All-map (λ x. IsTrue (is_number x)) (λ p. p.1) (filter (λ p. names d p.0) sends) (All-filter (λ p. names d p.0) (λ p. IsTrue (is_number p.1)) sends numbers)
+
+pub combined_same : (sends : List (ℤ × ℤ)) (lowest : ℕ) (before : List ℤ) → length sends ≤ most_places → AllPass (λ p. is_number p.1) sends → AllPass may_grow before
+    → combined long_sum_of sends lowest before ≡ combined ◌+ℤ◌ sends lowest before
+combined_same sends lowest [] few numbers grow = refl
+combined_same sends lowest (y ∷ before) few numbers grow =
+    let here = fold_same y (sent_there sends lowest) (All-head (λ z. IsTrue (may_grow z)) y before grow) (omega (arith, few, few_sent sends lowest)) (sent_numbers sends lowest numbers) in
+    let others = combined_same sends (lowest + 1) before few numbers (All-tail (λ z. IsTrue (may_grow z)) y before grow) in
+    (λ t. here t ∷ others t)
+
+pub few_pairs : (index source : List ℤ) → length (zip index source) ≤ length index
+few_pairs [] source = omega arith
+few_pairs (i ∷ index) [] = omega arith
+few_pairs (i ∷ index) (x ∷ source) = omega (arith, few_pairs index source)
+
+pub pairs_same : (source index : List ℤ) (lowest : ℕ) (before : List ℤ) → length index ≤ most_places → AllPass is_number source → AllPass may_grow before
+    → combined long_sum_of (zip index source) lowest before ≡ combined ◌+ℤ◌ (zip index source) lowest before
+pairs_same source index lowest before few numbers grow =
+    combined_same (zip index source) lowest before (omega (arith, few, few_pairs index source)) (zip_items is_number index source numbers) grow
+
+pub combine_same : (source index before : List ℤ) → length index ≤ most_places → AllPass is_number source → AllPass may_grow before
+    → combine_of ◌+ℤ◌ source index before ≡ combine_of long_sum_of source index before
+combine_same source index before few numbers grow =
+    ap (λ room. if_as_long source index (unless (first_outside 0 (length before) index) (Ok room))) (sym (pairs_same source index 0 before few numbers grow))
+
+-- ---- a room that may grow
+
+pub grows_all : (place : ℕ) (zs : List ℤ) → AllPass may_grow zs → all_growing place zs ≡ Ok zs
+grows_all place [] grow = refl
+grows_all place (z ∷ zs) grow =
+    let own : may_grow z ≡ true = All-head (λ x. IsTrue (may_grow x)) z zs grow in
+    ap (λ b. values_from Overflow place ((if b then Some z else None) ∷ map growing zs)) own
+    ∙ ap (λ r. r >>= λ ys. Ok (z ∷ ys)) (grows_all (place + 1) zs (All-tail (λ x. IsTrue (may_grow x)) z zs grow))
+
+some_rest : (rest : Result (List ℤ) Fault) (z : ℤ) (y : List ℤ) → (rest >>= λ ys. Ok (z ∷ ys)) ≡ Ok y → (ys : List ℤ) × (rest ≡ Ok ys)
+some_rest (Ok ys) z y is = (ys, refl)
+some_rest (Err f) z y is = absurd (none-some y (ap result_ok is))
+
+pub first_grows : (b : Bool) (place : ℕ) (z : ℤ) (vs : List (Option ℤ)) (y : List ℤ) → values_from Overflow place ((if b then Some z else None) ∷ vs) ≡ Ok y
+    → (b ≡ true) × ((ys : List ℤ) × (values_from Overflow (place + 1) vs ≡ Ok ys))
+first_grows false place z vs y is = absurd (none-some y (ap result_ok is))
+first_grows true place z vs y is = (refl, some_rest (values_from Overflow (place + 1) vs) z y is)
+
+pub all_growing-grow : (place : ℕ) (zs ys : List ℤ) → all_growing place zs ≡ Ok ys → AllPass may_grow zs
+all_growing-grow place [] ys is = All-nil (λ z. IsTrue (may_grow z))
+all_growing-grow place (z ∷ zs) ys is =
+    let first = first_grows (may_grow z) place z (map growing zs) ys is in
+    All-cons (λ x. IsTrue (may_grow x)) z zs first.0 (all_growing-grow (place + 1) zs first.1.0 first.1.1)
+
+-- ---- parts of a room
+
+pub all-joined : {A X : Type 0} (P : X → Type 0) (f : A → List X) (parts : List A) → All (λ a. All P (f a)) parts → All P (joined (map f parts))
+all-joined P f [] each = All-nil P
+all-joined P f (a ∷ parts) each =
+    All-append P (f a) (joined (map f parts)) (All-head (λ b. All P (f b)) a parts each) (all-joined P f parts (All-tail (λ b. All P (f b)) a parts each))
+
+pub all-same : {A : Type 0} (xs ys : List A) → AllZip (λ x y. y ≡ x) xs ys → ys ≡ xs
+all-same [] [] same = refl
+all-same [] (y ∷ ys) same = absurd same
+all-same (x ∷ xs) [] same = absurd same
+all-same (x ∷ xs) (y ∷ ys) same = (λ t. same.0 t ∷ all-same xs ys same.1 t)
+
+pub none-sent : {X : Type 0} (join : X → X → X) (lowest : ℕ) (before : List X) → combined join [] lowest before ≡ before
+none-sent join lowest [] = refl
+none-sent join lowest (y ∷ before) = ap (λ zs. y ∷ zs) (none-sent join (lowest + 1) before)

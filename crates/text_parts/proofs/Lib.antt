@@ -1,0 +1,3 @@
+mod Numbered
+mod Pieced
+mod Taken
