@@ -65,7 +65,7 @@ EDITS = {
         ("bindings/tests/analysis/wrong/two_rooms_meet.edit", "CVL_WRITTEN) &&", "CVL_WRITTEN) ||"),
     ],
     "promises.check_trusted": [(PROVED, "`rayon`, `strsim`, `thiserror`", "`rayon`, `thiserror`")],
-    "promises.check_from_c": [("docs/user/rust.md", "The C over them is tested,", "The C over them is proved,")],
+    "promises.check_from_c": [("docs/user/rust.md", "and runs the steps, is tested.", "and runs the steps, is proved.")],
     "paths.check_paths": [("README.md", "", "\nSee `docs/no-such-page.md`.\n")],
     "paths.check_links": [("README.md", "", "\nSee [a page](docs/no-such-page.md).\n")],
     "paths.check_tests": [("tests/README.md", "`nests.c`", "another")],

@@ -5,11 +5,15 @@ from table import MOST_ELEMENTS, MOST_OF_TEXT, MOST_STACK
 
 # what is proved of the library from other languages, in the same words on the pages that stand alone, and in short on the others
 FROM_C = (
-    "The exported functions of the library are proved on the thread that calls: each gives the value or the first fault of its definition, and a fault "
-    "leaves your arrays as they were. The C over them, which checks arguments and shares long calls among threads, is tested, and in part proved by another tool. "
-    "So a call on several threads is tested and not proved."
+    "The exported functions of the library are proved: each gives the value or the first fault of its definition, and a fault leaves your arrays as they "
+    "were. On several threads a call is a list of steps, each an exported function too, and proved together, but for sorts by key by segments: the parts of a "
+    "step run once, in any order, and step after step, they give the result of the call. The C over them, which checks arguments, cuts a call and runs its "
+    "steps on threads, is tested, and in part proved by another tool."
 )
-FROM_C_IN_SHORT = "On the thread that calls, the functions below a call are [proved](proved.md). The C over them is tested, and so is a call on several threads."
+FROM_C_IN_SHORT = (
+    "The functions below a call are [proved](proved.md), and so is that the steps of a call on several threads give its result, but for sorts by key by "
+    "segments. The C over them, which checks arguments and runs the steps, is tested."
+)
 
 ABOUT = (
     "cvl.h: the vector calls of CVL, the C Vector Library, on your own memory.",

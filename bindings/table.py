@@ -120,59 +120,56 @@ BY_AN_ORDER = OverRanks(None, "over ranks an order of the keys and a back permut
 #
 #   said        what a page says of it
 #   over_ranks  how such a family goes over ranks, where it does not say it itself
-#   runs        the function that runs the parts, cvl_NAME_in_parts, where cvl_steps_in_parts runs those that `steps_of` lists; nothing if it is
-#               not cut, or its rows come by offsets
 #   least       the prefix of the least lengths that pay
 #   any_bytes   whether what the parts call takes any bytes as flags, so that only those of a mask are copied
-Cut = namedtuple("Cut", "said over_ranks runs least any_bytes", defaults=(None, None, "LEAST_SHARED", False))
+Cut = namedtuple("Cut", "said over_ranks least any_bytes", defaults=(None, "LEAST_SHARED", False))
 
 DIGITS = "cut at places; each part sorts its own keys by a digit, and gathers a range of the result"
 IN_SEGMENTS = "cut inside segments; each part goes on from what stands before it in its segment"
 PIECES = "cut inside segments; the pieces of a cut segment are joined"
+READS_INDICES = "the result is cut; each part reads all indices"
+ROOMS_OR_RANGES = (
+    "cut at places, and each part joins in a room of its own; with many places the room is cut, and each part reads all indices"
+)
 RUNS_THERE = "cut at places; a part has the runs that begin in it, and the last of them may go on in later parts"
 BEFORE = "each rank goes on from what stands before it in its segment"
 JOINED_AT_START = "the pieces of a segment are joined where it starts"
 CUTS = {
-    "places": Cut("cut at places", OWN_PLACES, "steps"),
-    "reduce": Cut("cut at places; the parts' reduces are joined", OverRanks("reduce", "the ranks' reduces are joined"), "steps"),
+    "places": Cut("cut at places", OWN_PLACES),
+    "reduce": Cut("cut at places; the parts' reduces are joined", OverRanks("reduce", "the ranks' reduces are joined")),
     "scan": Cut(
         "cut at places; each part goes on from the reduces before it",
         OverRanks("scan", "each rank goes on from the reduces before it"),
-        "steps",
     ),
     "checked_reduce": Cut(
         "cut at places; the parts' exact sums are added",
         OverRanks("checked_reduce", "the ranks' exact sums are added"),
-        "steps",
     ),
     "checked_scan": Cut(
         "cut at places; each part goes on from the exact sums before it",
         OverRanks("checked_scan", "each rank goes on from the exact sums before it"),
-        "steps",
     ),
-    "count": Cut(
-        "cut at places; the parts' counts are added", OverRanks("count", "the ranks' counts are added", named=True), "steps"
-    ),
-    "pack": Cut("cut at places; each part's elements go behind those of the parts before", KEPT_ELEMENTS, "steps"),
-    "run_lengths": Cut(RUNS_THERE, OWN_LENGTHS, "run_lengths"),
-    "run_starts": Cut(RUNS_THERE, OWN_STARTS, "run_starts"),
+    "count": Cut("cut at places; the parts' counts are added", OverRanks("count", "the ranks' counts are added", named=True)),
+    "pack": Cut("cut at places; each part's elements go behind those of the parts before", KEPT_ELEMENTS),
+    "run_lengths": Cut(RUNS_THERE, OWN_LENGTHS),
+    "run_starts": Cut(RUNS_THERE, OWN_STARTS),
     "run_counts": Cut(
         PIECES,
         OverRanks("run_counts", "the runs of a segment are added where it starts, each counted where it begins"),
-        "run_counts",
     ),
     "whole": Cut("not cut"),
-    "ranges": Cut("the result is cut; each part reads all indices", SENT_ELEMENTS, "ranges", any_bytes=True),
-    "senders": Cut("the result is cut; each part reads all indices", SENT_SENDERS, "senders"),
-    "combine": Cut(
-        "cut at places, and each part joins in a room of its own; with many places the room is cut, and each part reads all indices",
-        FEW_OR_JOINED,
-        "combine",
-    ),
+    "permute": Cut(READS_INDICES, SENT_ELEMENTS, any_bytes=True),
+    "select_permute": Cut(READS_INDICES, SENT_ELEMENTS, any_bytes=True),
+    "default_permute": Cut(READS_INDICES, SENT_ELEMENTS, any_bytes=True),
+    "senders": Cut(READS_INDICES, SENT_SENDERS),
+    "select_senders": Cut(READS_INDICES, SENT_SENDERS),
+    "combine": Cut(ROOMS_OR_RANGES, FEW_OR_JOINED),
+    "combine_counts": Cut(ROOMS_OR_RANGES, FEW_OR_JOINED),
+    "combine_sums": Cut(ROOMS_OR_RANGES, FEW_OR_JOINED),
+    "combine_checked": Cut(ROOMS_OR_RANGES, FEW_OR_JOINED),
     "turns": Cut(
         "the result is cut; each part reads its elements of the whole matrix",
         OverRanks("transpose", "each element moves once; out may be spread otherwise", spread=True),
-        "turns",
     ),
     "order": Cut(
         DIGITS,
@@ -182,43 +179,33 @@ CUTS = {
             named=True,
             spread=True,
         ),
-        "order",
     ),
-    "rank": Cut(DIGITS, OverRanks("rank", "keys go to the ranks of the sorted vector, and their ranks back", named=True), "rank"),
-    "sort": Cut(
-        DIGITS, OverRanks("sort", "keys go to the ranks of the sorted vector, which is spread as out is", spread=True), "sort"
-    ),
-    "sort_by_key": Cut(DIGITS, BY_AN_ORDER, "sort_by_key"),
-    "sort_by_key_descending": Cut(DIGITS, BY_AN_ORDER, "sort_by_key_descending"),
-    "merge": Cut(
-        "cut at places; each part goes on in both vectors behind those that the flags before it take", SPREAD_SIDES, "merge"
-    ),
-    "replace": Cut("the copy is cut at places", OverRanks("replace", "the rank that has the place writes it"), "steps"),
+    "rank": Cut(DIGITS, OverRanks("rank", "keys go to the ranks of the sorted vector, and their ranks back", named=True)),
+    "sort": Cut(DIGITS, OverRanks("sort", "keys go to the ranks of the sorted vector, which is spread as out is", spread=True)),
+    "sort_by_key": Cut(DIGITS, BY_AN_ORDER),
+    "sort_by_key_descending": Cut(DIGITS, BY_AN_ORDER),
+    "merge": Cut("cut at places; each part goes on in both vectors behind those that the flags before it take", SPREAD_SIDES),
+    "replace": Cut("the copy is cut at places", OverRanks("replace", "the rank that has the place writes it")),
     "lengths": Cut(
         "the lengths are cut; the parts' totals are added",
         OverRanks("lengths", "the ranks' totals are added", named=True),
-        "steps",
     ),
-    "seg_scan": Cut(IN_SEGMENTS, OverRanks("seg_scan", BEFORE), "steps"),
-    "seg_checked_scan": Cut(IN_SEGMENTS, OverRanks("seg_checked_scan", BEFORE), "steps"),
-    "seg_reduce": Cut(PIECES, OverRanks("seg_reduce", JOINED_AT_START), "steps"),
-    "seg_checked_reduce": Cut(PIECES, OverRanks("seg_checked_reduce", JOINED_AT_START), "steps"),
-    "seg_count": Cut(PIECES, OverRanks("seg_count", "the pieces of a segment are added where it starts"), "steps"),
-    "seg_copies": Cut(
-        "cut inside segments", OverRanks("seg_values", "a segment's value goes on to the ranks behind its start"), "steps"
-    ),
-    "seg_numbers": Cut(
-        "cut inside segments", OverRanks("seg_values", "a segment's numbers go on in the ranks behind its start"), "steps"
-    ),
+    "seg_scan": Cut(IN_SEGMENTS, OverRanks("seg_scan", BEFORE)),
+    "seg_checked_scan": Cut(IN_SEGMENTS, OverRanks("seg_checked_scan", BEFORE)),
+    "seg_reduce": Cut(PIECES, OverRanks("seg_reduce", JOINED_AT_START)),
+    "seg_checked_reduce": Cut(PIECES, OverRanks("seg_checked_reduce", JOINED_AT_START)),
+    "seg_count": Cut(PIECES, OverRanks("seg_count", "the pieces of a segment are added where it starts")),
+    "seg_copies": Cut("cut inside segments", OverRanks("seg_values", "a segment's value goes on to the ranks behind its start")),
+    "seg_numbers": Cut("cut inside segments", OverRanks("seg_values", "a segment's numbers go on in the ranks behind its start")),
     # the way over ranks differs from family to family
-    "segments": Cut("cut between segments", None, "segments"),
+    "segments": Cut("cut between segments", None),
     "rows": Cut(
         "cut between rows, whose lengths are kept meanwhile",
         OverRanks("rows", "the offsets of a rank's rows begin with 0, and no row crosses ranks"),
     ),
-    "write": Cut("cut at places; the parts' texts are put one after another", NO_TEXTS, "write", "LEAST_WRITTEN"),
-    "seg_write": Cut("cut between segments; the parts' texts are put one after another", NO_TEXTS, "write", "LEAST_WRITTEN"),
-    "read": Cut("cut at white space", NO_TEXTS, "read", "LEAST_READ"),
+    "write": Cut("cut at places; the parts' texts are put one after another", NO_TEXTS, "LEAST_WRITTEN"),
+    "seg_write": Cut("cut between segments; the parts' texts are put one after another", NO_TEXTS, "LEAST_WRITTEN"),
+    "read": Cut("cut at white space", NO_TEXTS, "LEAST_READ"),
 }
 
 # The most elements of a vector; and of one with segments whose text is read at once, and the most of its segments.
@@ -228,39 +215,11 @@ MOST_OF_TEXT = 4194304
 # The most bytes of its stack that a thread needs for a call: what tests/c/stack.c measures stays below it.
 MOST_STACK = 32768
 
-# The exports that only the driver calls: the steps of orders, of sorts, and of sums by place, in parts.
-STEPS = (
-    "placed_from",
-    "placed_values",
-    "placed_values_descending",
-    "key_block",
-    "placed_block",
-    "gather_keys",
-    "gather_placed",
-    "places_of",
-    "keys_of",
-    "keys_of_descending",
-    "add_sums",
-    "sums_from_ints",
-    "ints_from_sums",
-)
-
-# The families that steps of other calls in parts make.
-STEP_FAMILIES = ("int_scan_after",)
-
-# A step of a call in parts.
-#
-#   kind      "looks", "tells", "joins", "fits" or "fills": see CvlStepKind in bindings/c/rows.h
-#   calls     the family that it calls; nothing if it is the call's own
-#   operator  its operator, if it is not the call's
-#   operands  where each operand comes from that is not the call's own under its name: the name of another one, or a role and a way to cut
-#             it (CvlAs and CvlBy in bindings/c/rows.h, without their prefixes)
-Step = namedtuple("Step", "kind calls operator operands")
-
 # The faults that calls share.
 TOO_LONG = Fault((13,), "13 TooLong", False)
 SUM_OF_N = Fault((7,), "7 LengthMismatch if the lengths do not add up to n", False)
 NO_ROOM = Fault((7,), "7 LengthMismatch if out is too short", True)
+NOT_ALL = Fault((7,), "7 LengthMismatch if they do not add up to so many", False)
 SUM_OR_NO_ROOM = Fault(
     (7,), "7 LengthMismatch if the lengths do not add up to n, with *count as it was, and if out is too short", True
 )
@@ -444,6 +403,16 @@ def sums(name, extent="n"):
 def sizes(name, extent="n"):
     """Lengths of parts, as sizes."""
     return Operand(name, "reads", "sizes", extent, False)
+
+
+def placed(name, extent="n"):
+    """Keys beside their places or values."""
+    return Operand(name, "reads", "placed", extent, False)
+
+
+def ends(name="ends", extent="digits"):
+    """Where each digit of each part ends."""
+    return Operand(name, "reads", "marks", extent, False)
 
 
 def numbers(name, extent="n"):
@@ -1063,7 +1032,7 @@ FAMILIES = (
         "Each element of the source at its index.",
         faults=(TOO_LONG, BAD_INDEX),
         asks=True,
-        cut=("ranges", "n"),
+        cut=("permute", "n"),
         over_ranks=SENT_ANYWHERE,
         shape="source, index and out have n elements.",
     ),
@@ -1074,7 +1043,7 @@ FAMILIES = (
         "Each element of the source whose flag is true at its index.",
         faults=(TOO_LONG, BAD_SELECTED),
         asks=True,
-        cut=("ranges", "trues"),
+        cut=("select_permute", "trues"),
         shape="source, index and flags have n elements; out has m, the number of true flags, else 7 LengthMismatch. An index whose flag is "
         "false is ignored.",
     ),
@@ -1085,7 +1054,7 @@ FAMILIES = (
         "Each element of the source at its index, and at a place to which none goes its default.",
         faults=(TOO_LONG, BAD_DEFAULTED),
         asks=True,
-        cut=("ranges", "m"),
+        cut=("default_permute", "m"),
         shape="source and index have n elements, defaults and out m, which may be any number.",
     ),
     *twins(
@@ -1169,7 +1138,7 @@ FAMILIES = (
         "For each place of the result the least place whose flag is true and whose index names it, or -1 if none does. An index whose flag is false is "
         "ignored. The result may have any number of places.",
         faults=(TOO_LONG, FLAGS_DIFFER, BAD_NAMED),
-        cut=("senders", "m"),
+        cut=("select_senders", "m"),
         example={"index": "2 0 2 9", "flags": "false true true false", "out": "1 -1 2"},
     ),
     family(
@@ -1226,7 +1195,7 @@ FAMILIES = (
         (indices(), room("ints", "m")),
         "For each place of the result how many indices name it. The result may have any number of places.",
         faults=(LONG_ROOM, BAD_NAMED),
-        cut=("combine", "n"),
+        cut=("combine_counts", "n"),
         over_ranks=FEW_OR_JOINED._replace(
             said="of few places each rank counts all, and the counts are added; else places go to the ranks that have them"
         ),
@@ -1272,7 +1241,7 @@ FAMILIES = (
         "end. out may have any number of places. While it runs, the call takes 8 bytes for each place of out.",
         faults=(LONG_ROOM, NOT_AS_MANY, BAD_NAMED, OVERFLOW_AT_PLACE),
         asks=True,
-        cut=("combine", "n"),
+        cut=("combine_checked", "n"),
         example={"source": "5 2147483647 7 -2147483647", "index": "2 0 2 0", "out_before": "100 200 300", "out": "100 200 312"},
     ),
     family(
@@ -1282,7 +1251,7 @@ FAMILIES = (
         "At each place of out, of 64 bits, the sum that stands there, plus each integer whose index names the place: it is exact. out may have any number of "
         "places.",
         faults=(LONG_ROOM, NOT_AS_MANY, GREAT_SUM, BAD_NAMED),
-        cut=("combine", "n"),
+        cut=("combine_sums", "n"),
         example={"source": "2147483647 6 2147483647", "index": "1 0 1", "out_before": "0 0 300", "out": "6 4294967294 300"},
     ),
     family(
@@ -2987,242 +2956,3 @@ CALLS = (
         },
     ),
 )
-
-
-# ---- calls in parts ----
-
-
-def step(kind, calls=None, operator=None, **operands):
-    return Step(kind, calls, operator, operands)
-
-
-# The families that only steps of calls in parts make: of a part, or once, of what all parts told. No program calls them.
-IN_STEPS = (
-    family(
-        "carries",
-        "in steps",
-        (sums("sums"), room("sums")),
-        "For each part the sum in 64 bits of those before it.",
-        limit=None,
-        faults=(),
-        over_ranks=NO_PARTS,
-    ),
-    family(
-        "carried_total",
-        "in steps",
-        (sums("sums"), single("int")),
-        "What the sums of the parts add up to, if it fits 32 bits.",
-        limit=None,
-        faults=(OVERFLOW_AT_0,),
-        over_ranks=NO_PARTS,
-    ),
-    family(
-        "part_places",
-        "in steps",
-        (ints("counts"), value("room", "size"), room("sizes"), told()),
-        "Where each part's elements go in a room of so many places, at last where they end, and how many they are.",
-        limit=None,
-        faults=(NO_ROOM,),
-        over_ranks=NO_PARTS,
-    ),
-    family(
-        "part_total",
-        "in steps",
-        (sizes("sizes"), told("total")),
-        "The sum of the lengths of the parts, if a vector may be so long.",
-        limit=None,
-        faults=(),
-        over_ranks=NO_PARTS,
-    ),
-    *twins(
-        ("int_carries", "bool_carries"),
-        "in steps",
-        lambda kind: (copied("starts"), items(kind, "told"), room(kind)),
-        "For each part what its first elements go on from: what the parts since the last start of a segment tell, joined.",
-        operators=joining,
-        limit=None,
-        faults=(),
-        over_ranks=NO_PARTS,
-    ),
-    *twins(
-        ("part_int_scan", "part_bool_scan"),
-        "in steps",
-        lambda kind: (value("before", one(kind)), value("head", "size"), lengths(), items(kind, "a"), room(kind)),
-        "The scan of a part: of its first `head` elements after `before`, of its whole segments, and of what it has of another.",
-        operators=joining,
-        limit=None,
-        in_place=(("a",),),
-        faults=(SUM_OF_N,),
-        over_ranks=NO_PARTS,
-    ),
-    *twins(
-        ("int_behinds", "bool_behinds"),
-        "in steps",
-        lambda kind: (copied("starts"), items(kind, "told"), room(kind)),
-        "For each part what goes on behind it: what the parts up to the next start of a segment tell, joined.",
-        operators=joining,
-        limit=None,
-        faults=(),
-        over_ranks=NO_PARTS,
-    ),
-    *twins(
-        ("part_int_reduce", "part_bool_reduce"),
-        "in steps",
-        lambda kind: (
-            value("behind", one(kind)),
-            value("head", "size"),
-            lengths(),
-            any_items(kind, "a"),
-            room(kind, "segments"),
-        ),
-        "The reduces of the segments that start in a part, behind its first `head` elements; the last is joined with `behind`.",
-        operators=joining,
-        limit=None,
-        faults=(SUM_OF_N,),
-        over_ranks=NO_PARTS,
-    ),  # fmt: skip
-    family(
-        "part_count",
-        "in steps",
-        (value("behind"), value("head", "size"), lengths(), mask(), room("ints", "segments")),
-        "How many flags are true in each segment that starts in a part; `behind` is added to the last.",
-        limit=None,
-        faults=(SUM_OF_N,),
-        over_ranks=NO_PARTS,
-    ),
-    *(
-        family(
-            name,
-            "in steps",
-            (copied("starts"), sums("told"), room("sums")),
-            sentence,
-            limit=None,
-            faults=(),
-            over_ranks=NO_PARTS,
-        )
-        for name, sentence in (
-            ("long_carries", "The same as `int_carries` of sums in 64 bits."),
-            ("long_behinds", "The same as `int_behinds` of sums in 64 bits."),
-        )
-    ),
-    family(
-        "part_checked_scan",
-        "in steps",
-        (value("before", "sum"), value("head", "size"), lengths(), ints("a"), room("ints")),
-        "The checked scan of a part: of its first `head` elements after `before`, of its whole segments, and of what it has of another.",
-        limit=None,
-        faults=(SUM_OF_N, OVERFLOW_AT_PLACE),
-        over_ranks=NO_PARTS,
-    ),
-    family(
-        "part_checked_reduce",
-        "in steps",
-        (value("behind", "sum"), value("head", "size"), lengths(), ints("a"), room("ints", "segments")),
-        "The checked sums of the segments that start in a part, behind its first `head` elements; `behind` is added to the last.",
-        limit=None,
-        faults=(SUM_OF_N, OVERFLOW_AT_SEGMENT),
-        over_ranks=NO_PARTS,
-    ),
-    *twins(
-        ("part_distribute_int", "part_distribute_bool"),
-        "in steps",
-        lambda kind: (value("head", "size"), lengths(), items(kind, "values", "segments"), room(kind)),
-        "Copies of the value of each segment of which a part has elements, as many as it has there; the first `head` are of an earlier one.",
-        limit=None,
-        faults=(SUM_OF_N,),
-        over_ranks=NO_PARTS,
-    ),
-    family(
-        "part_index",
-        "in steps",
-        (
-            value("done", "size"), value("head", "size"), lengths(), ints("inits", "segments"), ints("strides", "segments"), room("ints"),
-        ),
-        "The numbers of each segment of which a part has elements; the first `head` are of an earlier one, which has `done` before them.",
-        limit=None,
-        faults=(SUM_OF_N,),
-        over_ranks=NO_PARTS,
-    ),  # fmt: skip
-)
-
-
-def steps_of(cut, kind):
-    """The steps of a way in parts, on elements of a kind, "int" or "bool"; nothing if the way has none yet."""
-    nothing, one, place = ("NOTHING", "NONE"), ("ONE", "NONE"), ("AT_PLACE", "NONE")
-    each_total, all_totals, all_carries, carry = ("TOTALS", "PART"), ("TOTALS", "NONE"), ("CARRIES", "NONE"), ("CARRIES", "LONG")
-    each_sum, all_sums, all_before = ("SUMS", "PART"), ("SUMS", "NONE"), ("BEFORE", "NONE")
-    before = ("BEFORE", {"int": "INT", "bool": "FLAG"}[kind])
-    starts, head, starting = ("STARTS", "NONE"), ("LENGTHS", "HEAD"), ("LENGTHS", "FIRST")
-    return {
-        "places": (step("looks", out=nothing), step("fills")),
-        "replace": (step("fills", f"{kind}1", "CPY", a="vector"), step("joins", f"distribute_{kind}", count=one, out=place)),
-        "reduce": (step("tells", f"{kind}_reduce", out=each_sum), step("joins", f"{kind}_reduce", a=all_sums)),
-        "scan": (
-            step("tells", f"{kind}_reduce", out=each_sum),
-            step("joins", f"{kind}_scan", a=all_sums, out=all_before),
-            step("fills", f"{kind}_scan_after", before=before),
-        ),
-        "seg_scan": (
-            step("tells", f"{kind}_reduce", a=("A", "LAST"), out=each_sum),
-            step("joins", f"{kind}_carries", starts=starts, told=all_sums, out=all_before),
-            step("fills", f"part_{kind}_scan", before=before, head=head, lengths=("LENGTHS", "WHOLE")),
-        ),
-        "seg_reduce": (
-            step("tells", f"{kind}_reduce", a=("A", "FRONT"), out=each_sum),
-            step("joins", f"{kind}_behinds", starts=starts, told=all_sums, out=all_before),
-            step(
-                "fills",
-                f"part_{kind}_reduce",
-                behind=before,
-                head=head,
-                lengths=starting,
-                out=("OUT", "FIRST"),
-            ),
-        ),
-        "seg_checked_scan": (
-            step("tells", "exact_sum", a=("A", "LAST"), out=each_total),
-            step("joins", "long_carries", starts=starts, told=all_totals, out=all_carries),
-            step("looks", "part_checked_scan", before=carry, head=head, lengths=("LENGTHS", "WHOLE"), out=nothing),
-            step("fills", "part_int_scan", "ADD", before=carry, head=head, lengths=("LENGTHS", "WHOLE")),
-        ),
-        "seg_checked_reduce": (
-            step("tells", "exact_sum", a=("A", "FRONT"), out=each_total),
-            step("joins", "long_behinds", starts=starts, told=all_totals, out=all_carries),
-            step("looks", "part_checked_reduce", behind=carry, head=head, lengths=starting, out=nothing),
-            step("fills", "part_checked_reduce", behind=carry, head=head, lengths=starting, out=("OUT", "FIRST")),
-        ),
-        "seg_copies": (step("fills", f"part_distribute_{kind}", head=head, lengths=starting, values=("A", "OWNERS")),),
-        "seg_numbers": (
-            step(
-                "fills",
-                "part_index",
-                done=("LENGTHS", "DONE"),
-                head=head,
-                lengths=starting,
-                inits=("A", "OWNERS"),
-                strides=("B", "OWNERS"),
-            ),
-        ),
-        "seg_count": (
-            step("tells", "count", flags=("FLAGS", "FRONT"), out=each_sum),
-            step("joins", "int_behinds", "ADD", starts=starts, told=all_sums, out=all_before),
-            step("fills", "part_count", behind=before, head=head, lengths=starting, out=("OUT", "FIRST")),
-        ),
-        "count": (step("tells", "count", out=each_sum), step("joins", "int_reduce", "ADD", a=all_sums)),
-        "checked_reduce": (step("tells", "exact_sum", out=each_total), step("joins", "carried_total", sums=all_totals)),
-        "checked_scan": (
-            step("tells", "exact_sum", out=each_total),
-            step("joins", "carries", sums=all_totals, out=all_carries),
-            step("looks", "checked_scan_after", before=carry, out=nothing),
-            step("fills", "int_scan_after", "ADD", before=carry),
-        ),
-        "lengths": (
-            step("tells", "make_descriptor", total=("KEPT", "PART")),
-            step("joins", "part_total", sizes=("KEPT", "NONE")),
-        ),
-        "pack": (
-            step("tells", "count", out=("COUNTS", "PART")),
-            step("fits", "part_places", counts=("COUNTS", "NONE"), room=("OUT", "NONE"), out=("PLACES", "NONE")),
-            step("fills", f"pack_{kind}", out=("OUT", "OTHER"), count=("KEPT", "PART")),
-        ),
-    }.get(cut, ())

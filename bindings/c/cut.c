@@ -173,12 +173,22 @@ static bool cut_segments(const CvlPool *pool, CvlWork *w, size_t n, CvlSlot leng
     return 1;
 }
 
+/* A vector without segments is one segment, which starts in the first part. */
+static bool cut_one_segment(const CvlPool *pool, CvlWork *w, size_t n, size_t least, size_t each) {
+    if (!cut_evenly(pool, w, n, least, each)) return 0;
+    w->length = (int32_t)n;
+    w->lengths = &w->length, w->segments = 1, w->starts[0] = 1;
+    for (size_t k = 1; k <= w->parts; k++) w->first[k] = 1, w->start[k] = n;
+    return 1;
+}
+
 bool cvl_cut(const CvlPool *pool, CvlWork *w, const CvlRow *row, const CvlSlot *s) {
     const size_t n = s[row->cut].number;
     for (size_t k = 0; k < row->operands; k++) {
         if (row->operand[k].as == CVL_AS_LENGTHS && k != row->cut) return cut_segments(pool, w, n, s[k], row->least, row->each);
     }
     if (row->is & CVL_READS_TEXT) return cut_at_white(pool, w, s[row->cut].at, n) && runs_all(pool, w);
+    if (row->is & CVL_ONE_SEGMENT) return cut_one_segment(pool, w, n, row->least, row->each) && runs_all(pool, w);
     return cut_evenly(pool, w, n, row->least, row->each) && runs_all(pool, w);
 }
 
@@ -249,33 +259,6 @@ bool cvl_make_all(const CvlPool *pool, CvlWork *w) {
 }
 
 /* ---- memory ---- */
-
-bool cvl_keep(CvlWork *w, size_t bytes) {
-    w->kept = cvl_memory(bytes);
-    return w->kept != NULL;
-}
-
-/* A second room is as long as the room, and what stood in it is kept behind what stood in the room. */
-static CvlStatus kept_part(CvlWork *w, size_t k) {
-    const size_t from = w->rooms[k] * cvl_size(w), bytes = w->rooms[k + 1] * cvl_size(w) - from;
-    if (bytes > 0) memcpy(w->kept + from, (const char *)w->in[CVL_AS_OUT].at + from, bytes);
-    if (bytes > 0 && (w->row->is & CVL_MOVES))
-        memcpy(w->kept + cvl_room_bytes(w) + from, (const char *)w->in[CVL_AS_OTHER_OUT].at + from, bytes);
-    return w->part(w, k);
-}
-
-void cvl_put_back(CvlWork *w) {
-    const size_t bytes = cvl_room_bytes(w);
-    if (bytes > 0) memcpy((void *)w->in[CVL_AS_OUT].at, w->kept, bytes);
-    if (bytes > 0 && (w->row->is & CVL_MOVES)) memcpy((void *)w->in[CVL_AS_OTHER_OUT].at, w->kept + bytes, bytes);
-}
-
-bool cvl_writes_kept(const CvlPool *pool, CvlWork *w, CvlStepPart part) {
-    w->part = part;
-    if (cvl_step(pool, w, CVL_WRITES, kept_part)) return 1;
-    cvl_put_back(w);
-    return 0;
-}
 
 void cvl_let_go(CvlWork *w) {
     free(w->kept);

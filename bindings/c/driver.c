@@ -68,7 +68,7 @@ CvlStatus cvl_make_on_copies(const CvlRow *row, uint32_t op, const CvlSlot *s) {
     ensures \result ==> is_clean(row, s, row->out);
     ensures \result && (row->is & CVL_AT_PLACE) != 0 ==> s[1].number < s[0].number; */
 static bool may_be_cut(const CvlRow *row, uint32_t op, const CvlSlot *s) {
-    if (row->in_parts == NULL || !cvl_are_apart(row, s) || !cvl_do_agree(row, op, s)) return 0;
+    if (row->steps == 0 || !cvl_are_apart(row, s) || !cvl_do_agree(row, op, s)) return 0;
     if ((row->operand[row->out].is & CVL_COPIED) && !cvl_is_clean(s[row->out])) return 0;
     return !(row->is & CVL_AT_PLACE) || s[1].number < s[0].number;
 }
@@ -89,11 +89,11 @@ static CvlStatus on_rows(const CvlPool *pool, const CvlRow *row, uint32_t op, co
     return status;
 }
 
-/* Runs the parts of a call by the way of its row, which leaves the rooms as they were unless its parts are done without a fault. */
+/* Runs the steps of a call's row. None fails that writes a room for good, and a fault ends a call before that: so the laws of its steps say. */
 /*@ assigns *w, rooms, told;
     ensures !\result ==> rooms == \old(rooms);
     ensures \result && w->told.number != CVL_DONE ==> rooms == \old(rooms); */
-static bool run_parts(const CvlPool *pool, CvlWork *w, const CvlRow *row) { return row->in_parts(pool, w); }
+static bool run_parts(const CvlPool *pool, CvlWork *w) { return cvl_steps_in_parts(pool, w); }
 
 /*
  * Cuts a call that is in order and runs its parts. If they are not done, the rooms are as they were; w->left_out says whether the pool left
@@ -109,7 +109,7 @@ static bool are_parts_done(const CvlPool *pool, CvlWork *w, const CvlRow *row, u
     /*@ loop invariant 0 <= k <= row->operands;
         loop assigns k, w->in[0 .. CVL_ROLES - 1]; */
     for (size_t k = 0; k < row->operands; k++) w->in[row->operand[k].as] = s[k];
-    const bool done = run_parts(pool, w, row);
+    const bool done = run_parts(pool, w);
     cvl_let_go(w);
     return done;
 }

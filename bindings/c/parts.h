@@ -1,7 +1,6 @@
 /*
- * parts.h: a call in parts, as its steps see it. The driver checks and cuts the call, and runs the way of the row to make the parts, which
- * asks for all memory that it needs itself, and runs steps by the pool. If any of this fails, the rooms are as they were, and the call is
- * made by the thread that calls.
+ * parts.h: a call in parts, as its steps see it. The driver checks and cuts the call, and runs the steps of its row by the pool. If a step
+ * fails, or there is no memory for it, the rooms are as they were, and the call is made by the thread that calls.
  */
 #ifndef CVL_PARTS_H
 #define CVL_PARTS_H
@@ -10,16 +9,21 @@
 #include "rows.h"
 #include "threads.h"
 
-typedef union CvlItem {
-    int32_t number;
-    bool flag;
-} CvlItem;
+/* The most elements of an array of a call's own, such as the texts of all parts. */
+#define CVL_MOST_OWN 0x1000000000
 
-/* What a step tells of each part, or what stands before each one: integers, booleans, or sums that never wrap. */
+/* The proved steps of sorts go by digits of 11 bits. An analysis takes fewer. */
+#ifndef CVL_DIGIT_BITS
+#define CVL_DIGIT_BITS 11
+#endif
+#define CVL_DIGITS ((size_t)1 << CVL_DIGIT_BITS)
+
+/* What a step tells of each part, or what stands before each one: integers, booleans, sums that never wrap, or sizes. */
 typedef struct CvlRecord {
     int32_t ints[CVL_MOST_PARTS];
     bool flags[CVL_MOST_PARTS];
     int64_t longs[CVL_MOST_PARTS];
+    size_t sizes[CVL_MOST_PARTS];
 } CvlRecord;
 
 typedef CvlStatus (*CvlStepPart)(CvlWork *work, size_t part);
@@ -32,15 +36,14 @@ struct CvlWork {
     size_t start[CVL_MOST_PARTS + 1]; /* where that segment starts */
     bool starts[CVL_MOST_PARTS];      /* whether a segment starts in each part */
     size_t other[CVL_MOST_PARTS + 1]; /* where it starts in a second vector, or where a part's result goes */
-    size_t third[CVL_MOST_PARTS + 1]; /* where it starts in a third one */
-    CvlItem sums[CVL_MOST_PARTS];     /* what each part, or its last, cut segment, joins to */
-    CvlItem heads[CVL_MOST_PARTS];    /* what those elements of each part join to that belong to a segment of an earlier part */
+    size_t third[CVL_MOST_PARTS + 1]; /* where it starts in a third one, or a part has memory of its own */
     size_t counts[CVL_MOST_PARTS];    /* how many elements each part gives */
     CvlRecord of_parts;               /* what a step tells of each part */
     CvlRecord before_parts;           /* and what stands before each one */
     CvlStatus told;                   /* what the call returns if its parts are done */
     bool left_out;                    /* whether the pool left a part out */
-    char *kept;                       /* what stood in the room before, if it may have to be put back, or the parts' texts */
+    char *kept;                       /* memory of the call's own */
+    bool tried, wrote;                /* whether a step that may fail wrote a room, or one that cannot */
     bool *copies;                     /* copies of flags that are neither 0 nor 1 */
     bool made;                        /* whether the flags are 0 and 1, and need no other look */
     /* the call */
@@ -50,21 +53,9 @@ struct CvlWork {
     CvlSlot in[CVL_ROLES];  /* its arguments, by what they are to it */
     const int32_t *lengths; /* those that it is cut by */
     size_t segments;
-    const size_t *rooms; /* the first place of each part in the room */
-    CvlStepPart part;    /* what each part does after it kept its range of the room */
-    /* a sort */
-    uint32_t pass;       /* the number of the digit that it goes by */
-    const int32_t *keys; /* what it reads */
-    CvlPlaced *placed;   /* or keys beside their places, or beside values that move with them */
-    void *blocks;        /* each part's elements in the order of the digit, */
-    uint32_t *ends;      /* and where each digit of each part ends */
+    int32_t length; /* that of a vector without segments, if it is cut as one */
+    size_t moves;   /* a bit for each pass of a sort that moves keys */
 };
-
-/* Elements of an argument from a place on. */
-#define CVL_INTS(w, as, place) ((const int32_t *)(w)->in[as].at + (place))
-#define CVL_BOOLS(w, as, place) ((const bool *)(w)->in[as].at + (place))
-#define CVL_INT_ROOM(w, place) ((int32_t *)(w)->in[CVL_AS_OUT].at + (place))
-#define CVL_BOOL_ROOM(w, place) ((bool *)(w)->in[CVL_AS_OUT].at + (place))
 
 /*@ logic integer of_bools{L}(CvlWork *w) = w->row->is & CVL_OF_BOOLS; */
 /*@ requires \valid_read(w) && \valid_read(w->row);
@@ -76,14 +67,12 @@ static inline bool cvl_of_bools(const CvlWork *w) { return (w->row->is & CVL_OF_
 /*@ assigns \nothing; */
 static inline size_t cvl_size(const CvlWork *w) { return w->row->operand[w->row->out].size; }
 
-/* The bytes of the room. */
-/*@ assigns \nothing; */
-static inline size_t cvl_room_bytes(const CvlWork *w) { return w->in[CVL_AS_OUT].number * cvl_size(w); }
-
-/* The number beside the room. */
-static inline size_t *cvl_told_at(const CvlWork *w) { return (size_t *)w->in[CVL_AS_TOLD].at; }
-
 /* ---- cutting, and the steps: cut.c ---- */
+
+/* What a step leaves of a call: its number of parts, its memory, and what is known of its rooms. */
+/*@ predicate goes_on{L1, L2}(CvlWork *w) =
+      \at(w->parts, L2) == \at(w->parts, L1) && \at(w->kept, L2) == \at(w->kept, L1) &&
+      \at(w->wrote, L2) == \at(w->wrote, L1) && \at(w->tried, L2) == \at(w->tried, L1); */
 
 /*
  * Cuts a call: at places; a text at white space; with segments at places, so that each part knows the segments that start in it. Answers
@@ -108,7 +97,7 @@ typedef enum CvlKind { CVL_READS, CVL_COPIES, CVL_WRITES } CvlKind;
 /*@ requires kind == CVL_WRITES ==> made != 0;
     assigns *w, rooms;
     ensures kind != CVL_WRITES ==> rooms == \old(rooms);
-    ensures w->parts == \old(w->parts); */
+    ensures goes_on{Pre, Post}(w); */
 CVL_HIDDEN bool cvl_step(const CvlPool *pool, CvlWork *w, CvlKind kind, CvlStepPart part);
 
 /*
@@ -117,36 +106,14 @@ CVL_HIDDEN bool cvl_step(const CvlPool *pool, CvlWork *w, CvlKind kind, CvlStepP
  */
 static inline CvlStatus cvl_looked(CvlStatus status) { return status.number == CVL_LENGTH_MISMATCH ? cvl_done() : status; }
 
-/* The first of three statuses that is a fault. */
-static inline CvlStatus cvl_first_of(CvlStatus first, CvlStatus second, CvlStatus third) {
-    if (first.number != CVL_DONE) return first;
-    return second.number != CVL_DONE ? second : third;
-}
-
 /* Copies the flags that have to be 0 and 1 and are not, and answers whether there was memory. */
 /*@ assigns *w, made;
-    ensures (\result ==> made != 0) && w->parts == \old(w->parts); */
+    ensures (\result ==> made != 0) && goes_on{Pre, Post}(w); */
 CVL_HIDDEN bool cvl_make_all(const CvlPool *pool, CvlWork *w);
 
 /* Memory for so many bytes, which one thread frees; or nothing. */
 /*@ assigns \nothing; */
 CVL_HIDDEN void *cvl_memory(size_t bytes);
-
-/* Takes memory for so many bytes of what the rooms hold now, and answers whether there is some. */
-/*@ assigns w->kept, kept;
-    ensures \result ==> kept == rooms; */
-CVL_HIDDEN bool cvl_keep(CvlWork *w, size_t bytes);
-
-/* Puts back what stood in the room, which the parts kept. */
-/*@ assigns rooms;
-    ensures rooms == kept; */
-CVL_HIDDEN void cvl_put_back(CvlWork *w);
-
-/* Runs a step that may fail, whose parts keep what stood in their ranges of the room; it is put back if one is not done. */
-/*@ requires made != 0 && kept == rooms;
-    assigns *w, rooms;
-    ensures !\result ==> rooms == kept; */
-CVL_HIDDEN bool cvl_writes_kept(const CvlPool *pool, CvlWork *w, CvlStepPart part);
 
 /* Frees the memory of a call. */
 /*@ assigns \nothing; */
@@ -186,63 +153,12 @@ typedef struct CvlPiece {
     ensures \result.cut <==> \result.starts && w->start[k + 1] > \result.to; */
 CVL_HIDDEN CvlPiece cvl_piece(const CvlWork *w, size_t k);
 
-/*
- * ---- each way to cut a call: if its parts are done, w->told is the status; else the rooms are as they were, which is proved of the ways
- * that keep them ----
- */
+/* ---- the parts of a call: if they are done, w->told is the status ---- */
 
-/* Runs the steps of the call's row. */
-/*@ requires w->parts <= CVL_MOST_PARTS;
-    assigns *w, rooms, made; */
-CVL_HIDDEN bool cvl_steps_in_parts(const CvlPool *pool, CvlWork *w);
-/*@ assigns *w, rooms, kept, made;
-    ensures !\result ==> rooms == \old(rooms); */
-CVL_HIDDEN bool cvl_ranges_in_parts(const CvlPool *pool, CvlWork *w);
-/*@ assigns *w, rooms, kept, made;
-    ensures !\result ==> rooms == \old(rooms); */
-CVL_HIDDEN bool cvl_senders_in_parts(const CvlPool *pool, CvlWork *w);
-/*@ requires 0 < w->parts <= CVL_MOST_PARTS;
-    assigns *w, rooms, kept, made; */
-CVL_HIDDEN bool cvl_combine_in_parts(const CvlPool *pool, CvlWork *w);
-/*@ requires 0 < w->parts <= CVL_MOST_PARTS;
-    assigns *w, rooms, kept, made; */
-CVL_HIDDEN bool cvl_sort_in_parts(const CvlPool *pool, CvlWork *w);
-/*@ requires 0 < w->parts <= CVL_MOST_PARTS;
-    assigns *w, rooms, kept, made; */
-CVL_HIDDEN bool cvl_order_in_parts(const CvlPool *pool, CvlWork *w);
-/*@ requires 0 < w->parts <= CVL_MOST_PARTS;
-    assigns *w, rooms, kept, made; */
-CVL_HIDDEN bool cvl_rank_in_parts(const CvlPool *pool, CvlWork *w);
-/*@ requires 0 < w->parts <= CVL_MOST_PARTS;
-    assigns *w, rooms, kept, made; */
-CVL_HIDDEN bool cvl_sort_by_key_in_parts(const CvlPool *pool, CvlWork *w);
-/*@ requires 0 < w->parts <= CVL_MOST_PARTS;
-    assigns *w, rooms, kept, made; */
-CVL_HIDDEN bool cvl_sort_by_key_descending_in_parts(const CvlPool *pool, CvlWork *w);
-/*@ requires w->parts <= CVL_MOST_PARTS;
-    assigns *w, rooms, made; */
-CVL_HIDDEN bool cvl_turns_in_parts(const CvlPool *pool, CvlWork *w);
-/*@ requires w->parts <= CVL_MOST_PARTS;
-    assigns *w, rooms, made; */
-CVL_HIDDEN bool cvl_merge_in_parts(const CvlPool *pool, CvlWork *w);
-/*@ requires w->parts <= CVL_MOST_PARTS;
+/* Runs the steps of the call's row, and answers whether they are done. */
+/*@ requires w->parts <= CVL_MOST_PARTS && !w->tried && !w->wrote && w->kept == \null;
     assigns *w, rooms, kept, made;
-    ensures !\result ==> rooms == \old(rooms); */
-CVL_HIDDEN bool cvl_segments_in_parts(const CvlPool *pool, CvlWork *w);
-/*@ requires w->parts <= CVL_MOST_PARTS;
-    assigns *w, rooms, made; */
-CVL_HIDDEN bool cvl_sure_segments_in_parts(const CvlPool *pool, CvlWork *w);
-CVL_HIDDEN bool cvl_run_lengths_in_parts(const CvlPool *pool, CvlWork *w);
-CVL_HIDDEN bool cvl_run_starts_in_parts(const CvlPool *pool, CvlWork *w);
-CVL_HIDDEN bool cvl_run_counts_in_parts(const CvlPool *pool, CvlWork *w);
-CVL_HIDDEN bool cvl_write_in_parts(const CvlPool *pool, CvlWork *w);
-CVL_HIDDEN bool cvl_read_in_parts(const CvlPool *pool, CvlWork *w);
-
-/* The rows of what parts call beside their own. */
-extern CVL_HIDDEN const CvlRow cvl_int_scan_after_row;
-
-/* Makes the call on what a part has of each operand; and the boundaries of its parts. */
-CVL_HIDDEN CvlStatus cvl_make_part(CvlWork *w, size_t k);
-CVL_HIDDEN const size_t *cvl_boundaries(const CvlWork *w, CvlBy by);
+    ensures !\result && !w->wrote ==> rooms == \old(rooms); */
+CVL_HIDDEN bool cvl_steps_in_parts(const CvlPool *pool, CvlWork *w);
 
 #endif

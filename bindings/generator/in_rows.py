@@ -3,6 +3,7 @@ their arguments to the driver."""
 
 import in_c
 import rows
+import steps_table
 import table
 from in_c import indented, kept, parameters, wrapped
 
@@ -20,6 +21,7 @@ SIZES = {
     "marks": "sizeof(uint32_t)",
     "sums": "sizeof(int64_t)",
     "sizes": "sizeof(size_t)",
+    "placed": "sizeof(CvlPlaced)",
     "int": "sizeof(int32_t)",
     "flag": "sizeof(bool)",
     "sum": "sizeof(int64_t)",
@@ -50,7 +52,7 @@ class Family:
     @property
     def is_cut(self):
         """Whether the family is made in parts where it is long, by itself or as the one that takes lengths."""
-        return self.cut is not None and bool(table.CUTS[self.cut].runs or self.family.by_lengths)
+        return bool(self.steps or self.family.by_lengths)
 
     # ---- operands ----
 
@@ -196,13 +198,6 @@ class Family:
         return not (self.family.asks or self.faulty or any(fault.in_elements for fault in self.family.faults))
 
     @property
-    def runs(self):
-        """The function that runs the parts, cvl_NAME_in_parts: where segments are cut from one another, one that keeps a copy of the room if
-        a part may fail."""
-        name = table.CUTS[self.cut].runs
-        return f"sure_{name}" if self.cut == "segments" and self.is_sure else name
-
-    @property
     def about(self):
         """The faults of elements whose place counts in an operand, the place of that operand, and of the one into which its indices lead."""
         operators = [found.fault for found in table.OPERATORS if found.name in self.family.operators and found.fault]
@@ -237,7 +232,27 @@ class Family:
     @property
     def steps(self):
         """The steps of its parts."""
-        return table.steps_of(self.cut, "bool" if self.of_bools else "int")
+        if self.cut is None or self.family.by_lengths:
+            return ()
+        if self.cut == "segments":
+            return tuple(self.steps_between_segments())
+        return steps_table.steps_of(self.cut, "bool" if self.of_bools else "int")
+
+    def steps_between_segments(self):
+        """Of a call that is cut between segments: if a part may fail, what stood in the rooms is kept."""
+        roles, by = [self.role(k) for k in range(len(self.operands))], [self.by(k) for k in range(len(self.operands))]
+        appends = any(o.extent == "both" for o in self.operands)
+        counted = {
+            "OTHER": "OTHER_LENGTHS" if "OTHER_LENGTHS" in roles else "FLAGS",
+            "THIRD": "THIRD_LENGTHS",
+        }
+        others = [
+            (found, counted[found], roles[by.index(found)])
+            for found in ("OTHER", "THIRD")
+            if found in by and not (appends and found == "THIRD")
+        ]
+        rooms = [(f"KEPT_{role}", o.kind) for role, o in zip(roles, self.operands) if o.role == "room"]
+        return steps_table.between_segments(others, appends, [] if self.is_sure else rooms)
 
     @property
     def words(self):
@@ -258,8 +273,8 @@ class Family:
             "MERGES": not self.lengths and any(o.extent == "falses" for o in self.operands),
             "APPENDS": any(o.extent == "both" for o in self.operands),
             "TURNS": any(o.use == "row_count" for o in self.operands),
-            "MOVES": len([o for o in self.operands if o.over]) > 1,
             "ADDS": self.room is not None and self.is_joined(self.room) and not self.family.operators,
+            "ONE_SEGMENT": self.cut in ("run_lengths", "run_starts") and not self.lengths,
         }
         return [word for word, is_so in said.items() if is_so]
 
@@ -297,13 +312,10 @@ def row_of(found):
     made = f".make = make_{found.name}"
     if family.by_lengths:
         made += f", .by_lengths = &cvl_{family.by_lengths}_row"
-    elif found.is_cut:
-        made += f", .in_parts = cvl_{found.runs}_in_parts"
-    if found.steps:
+    elif found.steps:
         made += f", .step = {found.name}_steps, .steps = {len(found.steps)}"
-    static = "" if found.name in table.STEP_FAMILIES else "static "
     names = f"static const char *const {found.name}_names[] = {{{', '.join(kept(chr(34) + o.name + chr(34)) for o in found.operands)}}};"
-    head = f"{wrapped(names)}\n{static}const CvlRow cvl_{found.name}_row = {{\n    .operand = {{"
+    head = f"{wrapped(names)}\nstatic const CvlRow cvl_{found.name}_row = {{\n    .operand = {{"
     return "\n".join(
         [
             head,
@@ -330,20 +342,36 @@ def taken(found, step, called, k):
     return found.role(j), "FROM" if found.operands[j].extent == found.extent or found.operands[j].role == "lengths" else "NONE"
 
 
+def row_of_memory(step):
+    """The row of a step that takes memory."""
+    operands = [f"{{.as = CVL_AS_{role}, .size = {SIZES[kind]}, .by = CVL_BY_{by}}}" for role, kind, by in step.operands.values()]
+    said = f".operands = {len(operands)}, .kind = CVL_TAKES, .when = {when_of(step)}"
+    return "\n".join(
+        [indented("{.operand = {"), *(indented(f"{operand},", 2) for operand in operands), indented(f"}}, {said}}},")]
+    )
+
+
+def when_of(step):
+    return "CVL_ALWAYS" if step.when == "always" else f"CVL_IF_{step.when.upper().replace(' ', '_')}"
+
+
 def step_row(found, step):
+    if step.kind == "takes":
+        return row_of_memory(step)
     called = found if step.calls is None else Family((rows.FAMILIES | rows.IN_STEPS)[step.calls])
     takes = [taken(found, step, called, k) for k in range(len(called.operands))]
     operands = [f"{{.as = CVL_AS_{role}, .size = {called.size(k)}, .by = CVL_BY_{by}}}" for k, (role, by) in enumerate(takes)]
     roles = {found.role(k) for k in range(len(found.operands))}
     on_flags = any(operand.copied and role in roles for operand, (role, _) in zip(called.operands, takes))
     op = f"CVL_{step.operator}" if step.operator else "CVL_OP_OF_CALL"
-    said = f".operands = {len(operands)}, .kind = CVL_{step.kind.upper()}, .op = {op}, .on_flags = {int(on_flags)}, .make = make_{called.name}"
+    said = f".operands = {len(operands)}, .kind = CVL_{step.kind.upper()}, .op = {op}, .on_flags = {int(on_flags)}, "
+    said += f".when = {when_of(step)}, .make = make_{called.name}"
     return "\n".join(
         [indented("{.operand = {"), *(indented(f"{operand},", 2) for operand in operands), indented(f"}}, {said}}},")]
     )
 
 
-def steps_table(found):
+def rows_of_steps(found):
     return "\n".join(
         [f"static const CvlStepRow {found.name}_steps[] = {{", *(step_row(found, step) for step in found.steps), "};"]
     )
@@ -362,6 +390,7 @@ def export_argument(found, k, is_room=False):
             "flag": f"s[{k}].number != 0",
             "sum": f"(int64_t)s[{k}].number",
             "size": f"s[{k}].number",
+            "word": f"(uint32_t)s[{k}].number",
         }[operand.kind]
     if operand.role in ("single", "told"):
         return f"({rows.NUMBERS[operand.kind]}*)s[{k}].at"
@@ -373,6 +402,7 @@ def export_argument(found, k, is_room=False):
         "marks": "uint32_t *",
         "sums": "int64_t *",
         "sizes": "size_t *",
+        "placed": "CvlPlaced *",
     }[operand.kind]
     cast = f"({kind})" if operand.role == "room" or is_room else ""
     return f"{cast}s[{k}].at, s[{k}].number"
@@ -468,7 +498,7 @@ def calls_file():
         rows.NOTE,
     )
     blocks = [make_function(found) for found in [*families, *map(Family, rows.IN_STEPS.values())]]
-    blocks += [block for found in families for block in ([steps_table(found)] if found.steps else []) + [row_of(found)]]
+    blocks += [block for found in families for block in ([rows_of_steps(found)] if found.steps else []) + [row_of(found)]]
     blocks += [
         fault_names(),
         *(

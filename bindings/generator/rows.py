@@ -6,6 +6,7 @@ import sys
 
 sys.path.insert(0, str(pathlib.Path(__file__).resolve().parent.parent))
 
+import steps_table
 import table
 
 NOTE = "Written by the generator of the repository from its table of calls; edit the table and not this file."
@@ -155,7 +156,7 @@ def in_place_words(family):
 
 
 FAMILIES = {family.name: Row(family) for family in table.FAMILIES}
-IN_STEPS = {family.name: Row(family) for family in table.IN_STEPS}
+IN_STEPS = {family.name: Row(family) for family in steps_table.IN_STEPS}
 CALLS = [Row(FAMILIES[call.family].family, call) for call in table.CALLS]
 
 
@@ -206,12 +207,14 @@ READ_AS = {
     "text": ("&[u8]",),
     "sums": ("&[i64]",),
     "sizes": ("&[usize]",),
+    "marks": ("&[u32]",),
+    "placed": ("&[Placed]",),
 }
 WRITTEN_AS = {
     "ints": ("&mut [i32]",), "flags": ("&mut [u8]", "&mut [bool]"), "bytes": ("&mut [u8]",), "text": ("&mut [u8]",), "marks": ("&mut [u32]",),
-    "sums": ("&mut [i64]",), "sizes": ("&mut [usize]",),
+    "sums": ("&mut [i64]",), "sizes": ("&mut [usize]",), "placed": ("&mut [Placed]",),
 }  # fmt: skip
-ONE_AS = {"int": "i32", "flag": "bool", "sum": "i64", "size": "usize"}
+ONE_AS = {"int": "i32", "flag": "bool", "sum": "i64", "size": "usize", "word": "u32"}
 
 
 def _types(operand, is_room=False):
@@ -250,7 +253,7 @@ def _export_differences(name, wanted, family, found):
 
 def export_differences(exports):
     """In what the rows differ from the exports."""
-    named = {"are_flags", "make_flags", *table.STEPS}
+    named = {"are_flags", "make_flags"}
     for row in [*FAMILIES.values(), *IN_STEPS.values()]:
         family = row.family
         named.add(family.exported)

@@ -72,7 +72,7 @@ static struct {
     size_t count;
 } rooms;
 
-static int32_t ones[MOST], in_order[MOST], lengths[SEGMENTS], firsts[SEGMENTS];
+static int32_t ones[MOST], in_order[MOST], chosen[MOST], lengths[SEGMENTS], firsts[SEGMENTS];
 static bool truths[MOST];
 static unsigned char any_bytes[MOST];
 static char spoken[2 * MOST];
@@ -82,7 +82,7 @@ static const CvlLengths cut = {lengths, SEGMENTS}, ones_of_segments = {ones, SEG
 /* What a step of a call does: it reads alone, or it writes, also into memory of its own. */
 typedef enum Step { NO_MORE, READS, WRITES } Step;
 
-enum { MOST_STEPS = 7 };
+enum { MOST_STEPS = 8 };
 
 /* Several steps in one argument of a row. */
 #define LIST(...) \
@@ -116,9 +116,19 @@ enum { MOST_STEPS = 7 };
     X(ind_lez, LIST(READS, READS, WRITES), lengths, firsts, cut, rooms.out, MOST)                                              \
     X(ext_vez, LIST(READS, READS, WRITES), a, MOST, firsts, cut, rooms.out)                                                    \
     X(bck_pez, LIST(READS, READS, READS, WRITES), a, MOST, firsts, cut, ones_of_segments, rooms.out, SEGMENTS)                 \
-    X(sort, LIST(READS, READS, WRITES, WRITES), in_order, MOST, rooms.out, MOST)                                               \
-    X(order, LIST(READS, READS, WRITES, WRITES, WRITES, WRITES), in_order, MOST, rooms.out, MOST)                              \
-    X(rank, LIST(READS, READS, WRITES, WRITES, WRITES, WRITES, WRITES), in_order, MOST, rooms.out, MOST)                       \
+    X(sel_puz, LIST(READS, READS, READS, WRITES), a, chosen, truths, MOST, rooms.out, MOST / 3)                                \
+    X(first_senders, LIST(READS, WRITES), in_order, MOST, rooms.out, MOST)                                                     \
+    X(transpose_int, LIST(READS, WRITES), a, MOST, 20, MOST / 20, rooms.out, MOST)                                             \
+    X(merge_by_flags_int, LIST(READS, READS, READS, WRITES), truths, MOST, a, MOST / 3, ones, MOST - MOST / 3, rooms.out, MOST) \
+    X(run_lengths_int, LIST(READS, WRITES, WRITES), lengths, SEGMENTS, rooms.out, SEGMENTS, &rooms.count)                      \
+    X(run_starts_int, LIST(READS, WRITES, WRITES), a, MOST, rooms.out, MOST, &rooms.count)                                     \
+    X(seg_run_counts_int, LIST(READS, READS, READS, WRITES), a, MOST, cut, rooms.out, SEGMENTS)                                \
+    X(counts, LIST(READS, WRITES, WRITES), ones, MOST, rooms.out, 2)                                                           \
+    X(combine_checked_int, LIST(READS, WRITES, WRITES, WRITES), a, MOST, ones, MOST, rooms.out, 2)                             \
+    X(combine_permute_int, LIST(READS, READS, WRITES), CVL_MAX, a, MOST, in_order, MOST, rooms.out, MOST)                      \
+    X(sort, LIST(READS, READS, READS, WRITES, WRITES), in_order, MOST, rooms.out, MOST)                                               \
+    X(order, LIST(READS, READS, READS, WRITES, WRITES, WRITES, WRITES), in_order, MOST, rooms.out, MOST)                              \
+    X(rank, LIST(READS, READS, READS, WRITES, WRITES, WRITES, WRITES, WRITES), in_order, MOST, rooms.out, MOST)                       \
     X(read_ints, LIST(READS, WRITES, WRITES), spoken, sizeof spoken, rooms.out, MOST, &rooms.count)                            \
     X(write_ints, LIST(READS, WRITES, WRITES), a, MOST, rooms.text, sizeof rooms.text, &rooms.count)                           \
     X(seg_write_ints, LIST(READS, READS, WRITES, WRITES), a, MOST, cut, rooms.text, sizeof rooms.text, &rooms.count)
@@ -185,7 +195,8 @@ static void leave_out(const Kind *kind) {
 
 static void gaps(void) {
     for (int32_t k = 0; k < MOST; k++) {
-        ones[k] = 1, in_order[k] = MOST - 1 - k, truths[k] = k % 3 == 0, any_bytes[k] = (unsigned char)(k % 3 * 100);
+        ones[k] = 1, in_order[k] = MOST - 1 - k, chosen[k] = k / 3, truths[k] = k % 3 == 0,
+        any_bytes[k] = (unsigned char)(k % 3 * 100);
         memcpy(spoken + 2 * k, "7 ", 2);
     }
     for (int32_t s = 0; s < SEGMENTS; s++) lengths[s] = MOST / SEGMENTS;

@@ -42,39 +42,3 @@ void starts_from(const int32_t *lengths, size_t from, size_t count) {
 /*@ lemma first_is_cut{L}: \forall CvlWork *w; has_segments(w) && knows_starts(w) ==> is_cut(&w->first[0], w->parts, w->segments);
     lemma first_is_within{L}: \forall CvlWork *w, integer k, s; has_segments(w) && knows_starts(w) && 0 <= k < w->parts &&
       w->first[k] <= s < w->first[k + 1] ==> w->from[k] <= start_of(w->lengths, s) <= w->from[k + 1]; */
-
-/* Numbers in brackets, a space between each two, find room in the memory of their part, before the next part's begins. */
-/*@ requires \valid_read(a + (0 .. n - 1)) && n <= CVL_MOST_ELEMENTS;
-    assigns \nothing;
-    ensures \forall integer from, k;
-      written_in(a, n) + around_of(n) <= text_begins(0, from + n, 0, k + 1) - text_begins(0, from, 0, k);
-    ensures \forall integer from, k; n + around_of(n) <= text_begins(1, from + n, 0, k + 1) - text_begins(1, from, 0, k); */
-void texts_find_room(const int32_t *a, size_t n) {
-    /*@ loop invariant 0 <= k <= n && written_in(a, k) <= 11 * k;
-        loop assigns k;
-        loop variant n - k; */
-    for (size_t k = 0; k < n; k++) continue;
-}
-
-/* So do lists of them, of which none has fewer elements than none. */
-/*@ requires \valid_read(a + (0 .. n - 1)) && \valid_read(lengths + (0 .. lists - 1)) && is_segments(lengths, lists, n);
-    requires n <= CVL_MOST_ELEMENTS && lists <= CVL_MOST_ELEMENTS;
-    assigns \nothing;
-    ensures \forall integer from, first, k; written_in(a, n) + around_in(lengths, lists) + around_of(lists) <=
-      text_begins(0, from + n, first + lists, k + 1) - text_begins(0, from, first, k);
-    ensures \forall integer from, first, k; n + around_in(lengths, lists) + around_of(lists) <=
-      text_begins(1, from + n, first + lists, k + 1) - text_begins(1, from, first, k); */
-void lists_find_room(const int32_t *a, size_t n, const int32_t *lengths, size_t lists) {
-    /*@ loop invariant 0 <= k <= n && written_in(a, k) <= 11 * k;
-        loop assigns k;
-        loop variant n - k; */
-    for (size_t k = 0; k < n; k++) continue;
-    /*@ loop invariant 0 <= s <= lists && around_in(lengths, s) <= start_of(lengths, s) + 2 * s;
-        loop assigns s;
-        loop variant lists - s; */
-    for (size_t s = 0; s < lists; s++) continue;
-}
-
-/* The integers of a part of a text, at most one for each two bytes, find room before the next part's. */
-/*@ lemma integers_find_room: \forall integer from, n, k; 0 <= from && 0 <= n && 0 <= k ==>
-      read_begins(from, k) + (n + 1) / 2 <= read_begins(from + n, k + 1); */

@@ -135,12 +135,6 @@ extern int rooms, kept, told, made;
     logic integer around_in{L}(int32_t *lengths, integer n) =
       n <= 0 ? 0 : around_in(lengths, n - 1) + around_of(lengths[n - 1]); */
 
-/* Where the room for a part's text begins, and the one for what a part of a text has of integers. */
-/*@ logic integer text_begins(integer of_bools, integer elements, integer lists, integer part) =
-      elements * (of_bools != 0 ? 2 : 12) + lists * 3 + part * 2;
-
-    logic integer read_begins(integer bytes, integer part) = (bytes + part) / 2; */
-
 /* A text of digits alone, so many, and the number that they say. */
 /*@ predicate is_number{L}(char *text, integer n) = \forall integer k; 0 <= k < n ==> '0' <= text[k] <= '9';
 

@@ -1,6 +1,5 @@
 /*
- * flat.c: calls in parts on whole vectors, and permutes: steps.c, flat_parts.c, range_parts.c, combine_parts.c, run_parts.c and what they
- * take of cut.c.
+ * flat.c: calls in parts on whole vectors, and permutes: steps.c and what it takes of cut.c.
  */
 #include "drivers.h"
 

@@ -1,4 +1,4 @@
-/* segments.c: calls in parts on segments: segment_parts.c, run_parts.c and what they take of cut.c. */
+/* segments.c: calls in parts on segments: steps.c and what it takes of cut.c. */
 #include "drivers.h"
 
 enum { SEGMENTS = 3 };

@@ -1,4 +1,4 @@
-/* texts.c: texts in parts, and what is asked of a text: text_parts.c, checks.c and cut_at_white of cut.c. */
+/* texts.c: texts in parts, and what is asked of a text: steps.c, checks.c and cut_at_white of cut.c. */
 #include "drivers.h"
 
 enum { ROOM = 64 };
