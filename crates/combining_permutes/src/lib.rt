@@ -4,17 +4,14 @@
 //! The calls work over a room of the caller's, which holds what stands before, by the thread that calls, without a runtime and
 //! without memory. They look at all indices first, so that a fault leaves the room as it was. Then they go through the elements
 //! in their order. `walks` has the second walk, `flat` and `segments` the calls, and `counts` how many indices name each place.
-//! `ranges` has the second walk for the owner of one range of the places, `operator_ranges` the same by the operators, and
-//! `shared` the call by several threads that each own one; `cuts` says where their ranges end.
+//! `ranges` has the second walk for the owner of one range of the places, and `operator_ranges` the same by the operators.
 #![tactic(auto)]
 
 pub mod counts;
-mod cuts;
 pub mod flat;
 pub mod operator_ranges;
 pub mod ranges;
 pub mod segments;
-pub mod shared;
 mod walks;
 
 pub use counts::{counts_over, seg_counts_over};
@@ -22,4 +19,3 @@ pub use flat::{bool_combine_over, combine_over, int_combine_over};
 pub use operator_ranges::{bool_combine_range, counts_range, int_combine_range};
 pub use ranges::combine_range;
 pub use segments::{seg_bool_combine_over, seg_combine_over, seg_int_combine_over};
-pub use shared::{combine_shared, int_combine_shared};

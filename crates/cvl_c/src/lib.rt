@@ -10,6 +10,7 @@ mod checked_sums;
 mod combine_ranges;
 mod combine_sums;
 mod combines;
+mod cuts;
 mod descriptors;
 mod elements;
 mod flags;

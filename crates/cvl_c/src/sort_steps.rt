@@ -1,10 +1,11 @@
-//! What one of several threads does in an order or a sort: keys beside their places or values, a block by a digit, one range of
-//! a pass's result, and keys or places alone. The driver runs them. A step whose operands do not agree reports `LengthMismatch`,
-//! without a place, and writes nothing.
+//! What one of several threads does in an order or a sort: the bits of its keys, keys beside their places or values, a block by a
+//! digit, one range of a pass's result, and places alone, or keys and values. The driver runs them. A step whose operands do not
+//! agree reports `LengthMismatch`, without a place, and writes nothing.
 
-ghost use Rattle.std.specs.Prelude.{◌≡◌, ◌≢◌, ◌+◌, ◌^◌, ◌≤◌, false, length, map, IsTrue, MatchResult};
+ghost use Rattle.std.specs.Prelude.{◌≡◌, ◌≢◌, ◌+◌, ◌^◌, ◌≤◌, false, length, map, IsTrue, MatchResult, Ok};
 ghost use Rattle.std.specs.List.{enumerate_from, flat_map, range_with_len};
-ghost use Rattle.c_calls.specs.Told.{done, status_of_fault};
+ghost use Rattle.c_calls.specs.Calls.{in_limit};
+ghost use Rattle.c_calls.specs.Told.{Told, done, status_of_fault};
 ghost use Rattle.cvl_base.specs.declared.fault.FaultNo.TheVariants as no;
 ghost use Rattle.cvl_base.specs.Faults.{fault};
 ghost use Rattle.cvl_base.specs.Limits.{most_places};
@@ -12,16 +13,19 @@ ghost use Rattle.digit_partitions.specs.Ends.{digit_ends};
 ghost use Rattle.digit_partitions.specs.Partitions.{partitioned};
 ghost use Rattle.digit_partitions.specs.Pieces.{IsRange, digit_piece};
 ghost use Rattle.orders.specs.SortsByKey.{inverted};
+ghost use Rattle.sort_parts.specs.Passes.{key_bits_of};
 ghost use Rattle.stable_sorts.specs.Placed.{with_key, with_values};
 ghost use Rattle.stable_sorts.specs.Steps.{IsBlock, digit_of_pass};
 
+use c_calls::checks::check_limit;
 use c_calls::or_tell;
 use c_calls::status::{CvlStatus, done};
 use cvl_base::{Fault, FaultNo};
 use digit_partitions::gather_pieces;
+use sort_parts::key_bits;
 use stable_sorts::{
-    Ascending, DIGITS, Descending, Placed, key_block, keys_of, placed_from, placed_values,
-    places_of,
+    Ascending, DIGITS, Descending, Placed, key_block, keys_and_values_of, placed_from,
+    placed_values, places_of,
 };
 
 /// Checks that the operands of a step agree, else `LengthMismatch`, without a place.
@@ -43,6 +47,19 @@ fn told_step(agree: bool) -> CvlStatus
     ensures differ { result ≢ done → agree ≡ false }
 {
     or_tell!(check_step(agree));
+    done()
+}
+
+/// The bits that are set in all of a part's keys, and those that are set in any. `TooLong`, without a place, if there are more
+/// than 2,147,483,647 keys; both are as before then.
+#[unsafe(no_mangle)]
+pub extern "C" fn cvl_proved_key_bits(keys: &[i32], all: &mut i32, any: &mut i32) -> CvlStatus
+    ensures { Told (in_limit keys.now (Ok (key_bits_of keys.now))) result (all.old, any.old) (all.new, any.new) }
+{
+    or_tell!(check_limit(keys));
+    let (in_all, in_any) = key_bits(keys);
+    *all = in_all;
+    *any = in_any;
     done()
 }
 
@@ -175,24 +192,34 @@ pub extern "C" fn cvl_proved_placed_values_descending(
     done()
 }
 
-/// The keys alone.
+/// The keys in one room, and their values in another.
 #[unsafe(no_mangle)]
-pub extern "C" fn cvl_proved_keys_of(placed: &[Placed], out: &mut [i32]) -> CvlStatus
-    ensures done { length out.old ≡ length placed.now → result ≡ done }
-    ensures written { result ≡ done → out.new ≡ map (λ p. p.key) placed.now }
-    ensures as_before { result ≢ done → out.new ≡ out.old }
+pub extern "C" fn cvl_proved_keys_and_values_of(
+    placed: &[Placed],
+    keys: &mut [i32],
+    values: &mut [i32],
+) -> CvlStatus
+    ensures done { (length keys.old ≡ length placed.now) × (length values.old ≡ length placed.now) → result ≡ done }
+    ensures keys { result ≡ done → keys.new ≡ map (λ p. p.key) placed.now }
+    ensures values { result ≡ done → values.new ≡ map (λ p. p.place) placed.now }
+    ensures as_before { result ≢ done → (keys.new ≡ keys.old) × (values.new ≡ values.old) }
 {
-    or_tell!(check_step(keys_of::<Ascending>(placed, out)));
+    or_tell!(check_step(keys_and_values_of::<Ascending>(placed, keys, values)));
     done()
 }
 
-/// The same for a descending sort.
+/// The same for a descending sort, whose keys have their bits inverted.
 #[unsafe(no_mangle)]
-pub extern "C" fn cvl_proved_keys_of_descending(placed: &[Placed], out: &mut [i32]) -> CvlStatus
-    ensures done { length out.old ≡ length placed.now → result ≡ done }
-    ensures written { result ≡ done → out.new ≡ map (λ p. inverted p.key) placed.now }
-    ensures as_before { result ≢ done → out.new ≡ out.old }
+pub extern "C" fn cvl_proved_keys_and_values_of_descending(
+    placed: &[Placed],
+    keys: &mut [i32],
+    values: &mut [i32],
+) -> CvlStatus
+    ensures done { (length keys.old ≡ length placed.now) × (length values.old ≡ length placed.now) → result ≡ done }
+    ensures keys { result ≡ done → keys.new ≡ map (λ p. inverted p.key) placed.now }
+    ensures values { result ≡ done → values.new ≡ map (λ p. p.place) placed.now }
+    ensures as_before { result ≢ done → (keys.new ≡ keys.old) × (values.new ≡ values.old) }
 {
-    or_tell!(check_step(keys_of::<Descending>(placed, out)));
+    or_tell!(check_step(keys_and_values_of::<Descending>(placed, keys, values)));
     done()
 }

@@ -1,2 +1,4 @@
+pub mod FirstStarts
 pub mod Paired
 pub mod Told
+pub mod WhitePlaces

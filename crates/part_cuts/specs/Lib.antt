@@ -1,2 +1,5 @@
+pub mod Evenly
 pub mod Pairs
 pub mod Places
+pub mod Starts
+pub mod White

@@ -9,7 +9,13 @@ use Rattle.cvl_base.specs.Gives.{fault_if}
 use Rattle.cvl_base.specs.Limits.{most_places}
 use Rattle.cvl_base.specs.Lists.{joined}
 use Rattle.pack_dist.specs.Lists.{progressions_of}
+use Rattle.pack_dist.specs.Progressions.{numbers_from}
 use Rattle.segment_fills.specs.Fills.{is_part_with}
+
+-- n numbers of an index, behind its first `before`; or TooLong if these are together more than 2,147,483,647
+abbrev pub numbers_after_of : ℕ → ℤ → ℤ → ℕ → Result (List ℤ) Fault
+numbers_after_of before init stride n =
+    fault_if (nat_lt most_places (before + n)) (fault no.TooLong) (Ok (numbers_from init stride before n))
 
 -- the numbers of a part's segments, up to the part's end. If the part has a head, the open segment is as long as what it has up to there,
 -- and its first `done` numbers stand before the part

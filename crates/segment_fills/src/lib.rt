@@ -10,4 +10,4 @@ pub mod copies;
 pub mod numbers;
 
 pub use copies::part_copies_over;
-pub use numbers::part_numbers_over;
+pub use numbers::{numbers_after_over, part_numbers_over};

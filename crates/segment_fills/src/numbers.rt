@@ -9,7 +9,7 @@ ghost use Rattle.cvl_base.specs.Rooms.{Overwrites};
 ghost use Rattle.fresh.specs.Places.{stretch, with_items};
 ghost use Rattle.pack_dist.specs.Lists.{progressions_of};
 ghost use Rattle.pack_dist.specs.Progressions.{numbers_from, progression};
-ghost use Rattle.segment_fills.specs.Numbers.{part_index_of};
+ghost use Rattle.segment_fills.specs.Numbers.{numbers_after_of, part_index_of};
 
 use crate::copies::is_part_with;
 use cvl_base::limits::MOST_PLACES;
@@ -47,6 +47,25 @@ pub fn part_numbers_over(
     number_open(done, inits, strides, open_room);
     let (inits, strides) = (behind_open(head, inits), behind_open(head, strides));
     number_starts(lengths.lengths(), inits, strides, starts_room);
+    Ok(())
+}
+
+/// Writes the numbers of an index behind its first `before`, which stand in the parts before; each is wrapped to 32 bits.
+///
+/// `TooLong`, without a place, if `before` and the elements of the room are together more than 2,147,483,647; the room is then
+/// as before. It takes no memory. Source: CVL's index.
+pub fn numbers_after_over(
+    before: usize,
+    init: i32,
+    stride: i32,
+    out: &mut [i32],
+) -> Result<(), Fault>
+    ensures { Overwrites (numbers_after_of before init stride (length out.old)) result out.old out.new }
+{
+    if before > MOST_PLACES || out.len() > MOST_PLACES - before {
+        return Err(Fault::new(FaultNo::TooLong));
+    }
+    number_by(&init, &stride, before, out);
     Ok(())
 }
 

@@ -23,19 +23,19 @@ use Rattle.cvl_base.specs.Lists.{joined}
 use Rattle.segdes.proofs.Checked.{lengths_made}
 use Rattle.c_calls.specs.Calls.{by_segments, in_limit, lengths_of}
 use Rattle.step_laws.proofs.Answered.{within}
-use Rattle.step_laws.proofs.MadeOf.{from_value, made_alike}
+use Rattle.step_laws.proofs.MadeOf.{from_value, made_by_alike}
 use Rattle.step_laws.proofs.Parted.{all-parts, some-fewer}
 use Rattle.step_laws.proofs.SegmentLengths.{some-less}
-use Rattle.step_laws.specs.SegmentCalls.{IsMadeOf, of_all}
+use Rattle.step_laws.specs.SegmentCalls.{IsMadeBy, IsMadeOf, of_all}
 
 -- ---- what lengths are
 
 -- numbers that make a descriptor: none is negative, and there are few with a small sum
-record AreFew (numbers : List ℤ) (segments : List ℕ) : Type 0 where
-  natural_each : All (λ z. is_negative z ≡ false) numbers
-  number : length numbers ≤ most_places
-  total : sum (map unsigned_abs numbers) ≤ most_places
-  same : segments ≡ map unsigned_abs numbers
+pub record AreFew (numbers : List ℤ) (segments : List ℕ) : Type 0 where
+  pub natural_each : All (λ z. is_negative z ≡ false) numbers
+  pub number : length numbers ≤ most_places
+  pub total : sum (map unsigned_abs numbers) ≤ most_places
+  pub same : segments ≡ map unsigned_abs numbers
 
 none-negative : (numbers : List ℤ) → position is_negative numbers ≡ None → All (λ z. is_negative z ≡ false) numbers
 none-negative numbers none =
@@ -57,9 +57,13 @@ made-few numbers segments false false None is_over is_negative is_long is = reco
   same = sym (same_Some (map unsigned_abs numbers) segments (ap result_ok is));
 }
 
-few : (numbers : List ℤ) (segments : List ℕ) → lengths_of numbers ≡ Ok segments → AreFew numbers segments
+pub few : (numbers : List ℤ) (segments : List ℕ) → lengths_of numbers ≡ Ok segments → AreFew numbers segments
 few numbers segments is =
     made-few numbers segments (nat_lt most_places (length numbers)) (nat_lt most_places (sum (map unsigned_abs numbers))) (position is_negative numbers) refl refl refl is
+
+-- lengths are these numbers of elements
+pub sizes-are : (numbers : List ℤ) (segments : List ℕ) → lengths_of numbers ≡ Ok segments → segments ≡ map unsigned_abs numbers
+sizes-are numbers segments is = (few numbers segments is).same
 
 few-made : (numbers : List ℤ) → All (λ z. is_negative z ≡ false) numbers → length numbers ≤ most_places → sum (map unsigned_abs numbers) ≤ most_places
     → lengths_of numbers ≡ Ok (map unsigned_abs numbers)
@@ -112,19 +116,29 @@ module _ {P : Type 0} (lengths : P → List ℤ) where
         λ k d lt. few-made (lengths (get_or parts k d)) (natural_parts k d lt) (numbers k d lt) (totals k d lt)
 
     -- a call that is made of those on the parts stays so if their lengths are checked first
-    pub by-lengths : {Y : Type 0} (whole : List ℕ → Result (List Y) Fault) (own : P → List ℕ → Result (List Y) Fault)
-        → IsMadeOf (whole (joined (map sizes parts))) (map (λ p. own p (sizes p)) parts)
-        → IsMadeOf (by_segments (of_all lengths parts) whole) (map (λ p. by_segments (lengths p) (own p)) parts)
-    by-lengths whole own made =
-        made_alike parts (whole (joined (map sizes parts))) (by_segments (of_all lengths parts) whole) (λ p. own p (sizes p)) (λ p. by_segments (lengths p) (own p))
+    pub made_by_lengths : {V : Type 0} (together : List V → V) (whole : List ℕ → Result V Fault) (own : P → List ℕ → Result V Fault)
+        → IsMadeBy together (whole (joined (map sizes parts))) (map (λ p. own p (sizes p)) parts)
+        → IsMadeBy together (by_segments (of_all lengths parts) whole) (map (λ p. by_segments (lengths p) (own p)) parts)
+    made_by_lengths together whole own made =
+        made_by_alike together parts (whole (joined (map sizes parts))) (by_segments (of_all lengths parts) whole) (λ p. own p (sizes p)) (λ p. by_segments (lengths p) (own p))
         (ap (λ r. r >>= whole) (are ∙ ap Ok own-sizes))
         (λ k d lt. let p = get_or parts k d in ap (λ r. r >>= own p) (each-lengths k d lt)) made
 
-module _ {P X Y : Type 0} (index : P → List X) (parts : List P) where
+    pub by-lengths : {Y : Type 0} (whole : List ℕ → Result (List Y) Fault) (own : P → List ℕ → Result (List Y) Fault)
+        → IsMadeOf (whole (joined (map sizes parts))) (map (λ p. own p (sizes p)) parts)
+        → IsMadeOf (by_segments (of_all lengths parts) whole) (map (λ p. by_segments (lengths p) (own p)) parts)
+    by-lengths whole own made = made_by_lengths joined whole own made
+
+module _ {P X : Type 0} (index : P → List X) (parts : List P) where
   -- or if a vector may not be too long
+  pub made_by_limit : {V : Type 0} (together : List V → V) (whole : Result V Fault) (own : P → Result V Fault) → length (of_all index parts) ≤ most_places
+      → IsMadeBy together whole (map own parts) → IsMadeBy together (in_limit (of_all index parts) whole) (map (λ p. in_limit (index p) (own p)) parts)
+  made_by_limit together whole own few_elements made =
+      let fewer = some-fewer index most_places parts few_elements in
+      made_by_alike together parts whole (in_limit (of_all index parts) whole) own (λ p. in_limit (index p) (own p)) (within (of_all index parts) whole few_elements)
+      (λ k d lt. let p = get_or parts k d in within (index p) (own p) (fewer k d lt)) made
+
+module _ {P X Y : Type 0} (index : P → List X) (parts : List P) where
   pub by-limit : (whole : Result (List Y) Fault) (own : P → Result (List Y) Fault) → length (of_all index parts) ≤ most_places → IsMadeOf whole (map own parts)
       → IsMadeOf (in_limit (of_all index parts) whole) (map (λ p. in_limit (index p) (own p)) parts)
-  by-limit whole own few_elements made =
-      let fewer = some-fewer index most_places parts few_elements in
-      made_alike parts whole (in_limit (of_all index parts) whole) own (λ p. in_limit (index p) (own p)) (within (of_all index parts) whole few_elements)
-      (λ k d lt. let p = get_or parts k d in within (index p) (own p) (fewer k d lt)) made
+  by-limit whole own few_elements made = made_by_limit index parts joined whole own few_elements made

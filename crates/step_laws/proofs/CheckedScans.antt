@@ -1,5 +1,5 @@
 -- Checked scans by steps, where 64 bits hold the sum of as many integers as a vector has.
-use Rattle.std.proofs.Common.{◌≡◌, ◌+ℤ◌, ◌≤◌, ◌^◌, ◌∙◌, ◌∷◌, ℕ, ℤ, pos, FitsSigned, List, [], length, map, Ok, refl, sym, ap, arith, All, subst, get_or}
+use Rattle.std.proofs.Common.{◌≡◌, ◌+ℤ◌, ◌≤◌, ◌^◌, ◌∙◌, ◌∷◌, ℕ, ℤ, pos, FitsSigned, List, [], length, map, Ok, refl, sym, ap, arith, All, Some, subst, get_or, slice_get}
 use mathlib.Core.List.{map-map}
 use Rattle.std.proofs.lemmas.Option.{same_Some}
 use Rattle.std.specs.Int.{w64}
@@ -20,6 +20,7 @@ use Rattle.operators.proofs.FoldLaws.{length-scan_of}
 use Rattle.scan_walks.proofs.WholeSums.{all_whole, whole_laws}
 use Rattle.call_laws.proofs.InParts.{scan-parts}
 use Rattle.call_laws.specs.InParts.{scans_after}
+use Rattle.part_calls.specs.Limits.{few_enough}
 use Rattle.part_calls.specs.Sums.{all_fitting, checked_scan_after}
 use Rattle.part_records.specs.Carries.{carried_total_of, carries_of, long_total_of}
 use Rattle.c_calls.specs.Calls.{by_operator, in_limit}
@@ -27,10 +28,13 @@ use Rattle.c_calls.specs.Numbers.{int_monoid}
 use Rattle.c_calls.specs.Tiles.{int_scan_after}
 use Rattle.c_calls.specs.Told.{RoomTold, done}
 use Rattle.step_laws.specs.CheckedSteps.{Carries, LooksAtSums, ScansSums, Totals}
+use Rattle.step_laws.specs.Looks.{Fails}
 use Rattle.step_laws.specs.Parts.{CarriesAlone, HaveRooms, Part, befores_of, elements_of, room_of, told_of}
 use Rattle.step_laws.proofs.Answered.{fills, is_done, is_given, past_limit, tells_done, within}
+use Rattle.step_laws.proofs.ByElement.{made-elements}
 use Rattle.step_laws.proofs.Carried.{exact-carries, exact-total}
 use Rattle.step_laws.proofs.Fitting.{FitsAfter, looked_fits}
+use Rattle.step_laws.proofs.PartFaults.{HasFault, failed, of_part, whole-failed}
 use Rattle.step_laws.proofs.Parted.{alike, each-also, each-where, keeps, some-fewer}
 use Rattle.step_laws.proofs.Valued.{joined-values, long-zipped}
 
@@ -50,7 +54,11 @@ told-totals start summed first =
     alike Totals (λ p. total_of p.elements) (λ p. p.told) (λ own left does. sym (past_limit _ _ (total_of own.elements) left.told (is_given _ own.told left.told does.0))) start summed first
     ∙ sym (map-map total_of (λ (p : Sums). p.elements) start)
 
-after-each : (parts : List Sums) → map (λ p. scan_of ◌+ℤ◌ p.before p.elements) parts ≡ scans_after ◌+ℤ◌ (befores_of parts) (lists parts)
+-- the sums in a part, after what stands before it
+abbrev sums_in : Sums → List ℤ
+sums_in p = scan_of ◌+ℤ◌ p.before p.elements
+
+after-each : (parts : List Sums) → map sums_in parts ≡ scans_after ◌+ℤ◌ (befores_of parts) (lists parts)
 after-each [] = refl
 after-each (p ∷ parts) = ap (λ rest. scan_of ◌+ℤ◌ p.before p.elements ∷ rest) (after-each parts)
 
@@ -76,16 +84,41 @@ module _ (fits : (xs : List ℤ) → length xs ≤ 2 ^ 32 → AllPass is_number 
       let below : length (joined (lists start)) ≤ 2 ^ 32 = omega (arith, few) in
       sym same ∙ ap carries_of (told-totals start summed first) ∙ exact-carries fits [] (lists start) below numbers
 
+  -- the parts keep their integers
+  lists-kept : (start summed carried : List Sums) → AllZip Totals start summed → Carries summed carried → lists carried ≡ lists start
+  lists-kept start summed carried first carries =
+      alike CarriesAlone (λ p. p.elements) (λ p. p.elements) (λ own left does. ap (λ (p : Sums). p.elements) does) summed carried carries.1
+      ∙ alike Totals (λ p. p.elements) (λ p. p.elements) (λ own left does. ap (λ (p : Sums). p.elements) does.1) start summed first
+
+  -- the sums in each part, after what stands before it, are those of the whole
+  sums-carried : (start summed carried : List Sums) → AllPass is_number (elements_of start) → length (elements_of start) ≤ most_places
+      → AllZip Totals start summed → Carries summed carried → joined (map sums_in carried) ≡ scan_of ◌+ℤ◌ (pos 0) (elements_of start)
+  sums-carried start summed carried numbers few first carries =
+      let befores = carried-exactly start summed carried numbers few first carries in
+      ap joined (after-each carried ∙ ap (λ bs. scans_after ◌+ℤ◌ bs (lists carried)) befores
+      ∙ ap (scans_after ◌+ℤ◌ (scan_of ◌+ℤ◌ (pos 0) (map total_of (lists start)))) (lists-kept start summed carried first carries))
+      ∙ sym (scan-parts whole_laws (pos 0) (lists start) refl (λ k d lt. all_whole (get_or (lists start) k d)))
+
+  -- a part that finds a sum that does not fit finds a fault of the whole
+  pub look-fails : (start summed carried : List Sums) → AllPass is_number (elements_of start) → length (elements_of start) ≤ most_places
+      → AllZip Totals start summed → Carries summed carried → (k : ℕ) (own : Sums) → slice_get carried k ≡ Some own
+      → Fails (few_enough (length own.elements) (checked_scan_after own.before own.elements))
+      → HasFault (in_limit (elements_of start) (checked_scan_of (elements_of start)))
+  look-fails start summed carried numbers few first carries k own here fails =
+      let xs = elements_of start in
+      let few_carried : length (elements_of carried) ≤ most_places = subst (λ ls. length (joined ls) ≤ most_places) (sym (lists-kept start summed carried first carries)) few in
+      let fails_whole : HasFault (all_fitting (joined (map sums_in carried))) =
+      whole-failed (all_fitting (joined (map sums_in carried))) (λ p. all_fitting (sums_in p)) carried k own (made-elements Overflow fitting sums_in carried) here
+      (λ ys is.
+      let few_own = of_part carried k own here (λ (p : Sums). length p.elements ≤ most_places) (some-fewer (λ (p : Sums). p.elements) most_places carried few_carried) in
+      failed (few_enough (length own.elements) (checked_scan_after own.before own.elements)) fails ys (within own.elements (checked_scan_after own.before own.elements) few_own ∙ is)) in
+      (fails_whole.0, within xs (checked_scan_of xs) few ∙ ap all_fitting (sym (sums-carried start summed carried numbers few first carries)) ∙ fails_whole.1)
+
   pub scans : (op : ℕ) (start summed carried looked end : List Sums) → int_monoid op ≡ Ok Add
       → AllPass is_number (elements_of start) → length (elements_of start) ≤ most_places → HaveRooms start
       → AllZip Totals start summed → Carries summed carried → AllZip LooksAtSums carried looked → AllZip (ScansSums op) looked end
       → RoomTold (in_limit (elements_of start) (checked_scan_of (elements_of start))) done (room_of start) (room_of end)
   scans op start summed carried looked end is_add numbers few rooms first carries looks last =
-      let befores = carried-exactly start summed carried numbers few first carries in
-      let told : lists summed ≡ lists start = alike Totals (λ p. p.elements) (λ p. p.elements) (λ own left does. ap (λ (p : Sums). p.elements) does.1) start summed first in
-      let held : lists carried ≡ lists summed = alike CarriesAlone (λ p. p.elements) (λ p. p.elements) (λ own left does. ap (λ (p : Sums). p.elements) does) summed carried carries.1 in
-      let still : lists looked ≡ lists carried = alike LooksAtSums (λ p. p.elements) (λ p. p.elements) (λ own left does. ap (λ (p : Sums). p.elements) does.1) carried looked looks in
-      let before : befores_of looked ≡ befores_of carried = alike LooksAtSums (λ p. p.before) (λ p. p.before) (λ own left does. ap (λ (p : Sums). p.before) does.1) carried looked looks in
       let room_told : map (λ p. p.room) summed ≡ map (λ p. p.room) start = alike Totals (λ p. p.room) (λ p. p.room) (λ own left does. ap (λ (p : Sums). p.room) does.1) start summed first in
       let room_held : map (λ p. p.room) carried ≡ map (λ p. p.room) summed =
       alike CarriesAlone (λ p. p.room) (λ p. p.room) (λ own left does. ap (λ (p : Sums). p.room) does) summed carried carries.1 in
@@ -103,13 +136,11 @@ module _ (fits : (xs : List ℤ) → length xs ≤ 2 ^ 32 → AllPass is_number 
       each-where (ScansSums op) (λ own left. (checked_scan_after own.before own.elements ≡ Ok left.room) × (length left.room ≡ length own.room))
       (λ p. Fits p × FitsAfter p.before p.elements) (λ own left does holds. scanned op is_add own left does holds.0 holds.1) looked end last seen in
       let xs = elements_of start in
-      let sums : joined (map (λ p. scan_of ◌+ℤ◌ p.before p.elements) looked) ≡ scan_of ◌+ℤ◌ (pos 0) xs =
-      ap joined (after-each looked ∙ ap (λ bs. scans_after ◌+ℤ◌ bs (lists looked)) (before ∙ befores)
-      ∙ ap (scans_after ◌+ℤ◌ (scan_of ◌+ℤ◌ (pos 0) (map total_of (lists start)))) (still ∙ held ∙ told))
-      ∙ sym (scan-parts whole_laws (pos 0) (lists start) refl (λ k d lt. all_whole (get_or (lists start) k d))) in
+      let sums : joined (map sums_in looked) ≡ scan_of ◌+ℤ◌ (pos 0) xs =
+      ap joined (alike LooksAtSums sums_in sums_in (λ own left does. ap sums_in does.1) carried looked looks) ∙ sums-carried start summed carried numbers few first carries in
       let whole : checked_scan_of xs ≡ Ok (room_of end) =
       ap all_fitting (sym sums)
-      ∙ joined-values Overflow fitting (λ p. scan_of ◌+ℤ◌ p.before p.elements) (λ p. p.room) looked end
+      ∙ joined-values Overflow fitting sums_in (λ p. p.room) looked end
       (each-also _ (λ own left. checked_scan_after own.before own.elements ≡ Ok left.room) (λ own left both. both.0) looked end made) in
       let long : length (room_of end) ≡ length (room_of start) =
       long-zipped (λ p. p.room) (λ p. p.room) looked end (each-also _ (λ own left. length left.room ≡ length own.room) (λ own left both. both.1) looked end made)

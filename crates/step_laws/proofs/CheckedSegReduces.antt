@@ -1,6 +1,6 @@
 -- Checked reduces by segments by steps, where 64 bits hold the sum of as many integers as a vector has.
 use Rattle.std.proofs.Common.{◌≡◌, ◌+ℤ◌, ◌<◌, ◌≤◌, ◌^◌, ◌+◌, ◌∙◌, ◌∷◌, ℕ, ℤ, pos, FitsSigned, List, [], length, map, take, nat_lt, Ok, refl, sym, ap, arith, All, subst, zip}
-use Rattle.std.proofs.Common.{Result, ⊎_elim}
+use Rattle.std.proofs.Common.{Result, Some, slice_get, ⊎_elim}
 use Rattle.std.proofs.lemmas.Bool.{cases_lt}
 use Rattle.std.proofs.lemmas.List.{map-id}
 use Rattle.std.specs.Int.{w64}
@@ -29,11 +29,13 @@ use Rattle.segment_parts.specs.Reduces.{start_reduces_of}
 use Rattle.c_calls.specs.Calls.{by_segments, lengths_of}
 use Rattle.c_calls.specs.Told.{RoomTold, done}
 use Rattle.step_laws.specs.CheckedReduceSteps.{HeadTotals, LongGoesOn, LooksAtStarts, SumsStarts}
-use Rattle.step_laws.specs.Looks.{Passes}
+use Rattle.step_laws.specs.Looks.{Fails, Passes}
 use Rattle.step_laws.specs.ReduceParts.{ArePartsOf, GoesOnAlone, HaveRooms, ReducePart, behinds_of, elements_of, room_of, segments_in, starts_of, told_of}
 use Rattle.step_laws.proofs.Answered.{fills, is_done, is_given, past_limit, tells_done, within}
 use Rattle.step_laws.proofs.BehindParts.{exact-behinds, itself, pair}
+use Rattle.step_laws.proofs.ByElement.{made-elements}
 use Rattle.step_laws.proofs.Fitting.{no-overflow}
+use Rattle.step_laws.proofs.PartFaults.{HasFault, failed, of_part, whole-failed}
 use Rattle.step_laws.proofs.Parted.{alike, each-also, each-where, keeps}
 use Rattle.step_laws.proofs.SegReduced.{Fits, all-fit, few-elements, still-fits, zip-maps}
 use Rattle.step_laws.proofs.SegmentLengths.{are_lengths, few-of}
@@ -103,47 +105,70 @@ module _ (fits : (xs : List ℤ) → length xs ≤ 2 ^ 32 → AllPass is_number 
       ∙ ap (behind_each long_sum_of (pos 0)) pairs ∙ exact-behinds fits start (omega (arith, few)) numbers
 
   module _ (calls : (xs : List ℤ) (lengths : List ℕ) → checked_seg_reduce_after (pos 0) xs lengths ≡ checked_seg_reduce_of xs lengths) where
+    -- the call has the sums of all parts, if they fit
+    whole-call : (lengths : List ℤ) (segments : List ℕ) (start told known : List Sums) → lengths_of lengths ≡ Ok segments → ArePartsOf segments start
+        → AllPass is_number (elements_of start) → HaveRooms start → AllZip HeadTotals start told → LongGoesOn told known
+        → by_segments lengths (checked_seg_reduce_of (elements_of start)) ≡ all_fitting (joined (map exact_sums known))
+    whole-call lengths segments start told known is are numbers rooms first goes =
+        let xs : List ℤ = elements_of start in
+        let few = few-of lengths segments is in
+        let behinds = known-exactly start told known numbers (few-elements segments start are rooms few.0 few.1) first goes in
+        let pair_told : map pair told ≡ map pair start = alike HeadTotals pair pair (λ own left does. ap (λ (p : Sums). pair p) does.1) start told first in
+        let pair_known : map pair known ≡ map pair told = alike GoesOnAlone pair pair (λ own left does. ap (λ (p : Sums). pair p) does) told known goes.1 in
+        let lists = λ (p : Sums). segments_in p in
+        let list_told : map lists told ≡ map lists start = alike HeadTotals lists lists (λ own left does. ap lists does.1) start told first in
+        let list_known : map lists known ≡ map lists told = alike GoesOnAlone lists lists (λ own left does. ap lists does) told known goes.1 in
+        let known_behinds : behinds_of known ≡ behind_each ◌+ℤ◌ (pos 0) (map pair known) = behinds ∙ ap (behind_each ◌+ℤ◌ (pos 0)) (sym (pair_known ∙ pair_told)) in
+        let sums : reduces_over_ranks ◌+ℤ◌ (pos 0) (ranks_of itself start) ≡ joined (map exact_sums known) =
+        ap (λ parts. reduces_over_ranks ◌+ℤ◌ (pos 0) (map (read_in itself) parts)) (sym (list_known ∙ list_told))
+        ∙ each-reduces ◌+ℤ◌ (pos 0) itself known known_behinds ∙ ap joined (each-exact known) in
+        ap (λ r. r >>= checked_seg_reduce_of xs) is ∙ sym (calls xs segments)
+        ∙ ap (λ r. r >>= all_fitting)
+        (reduce-plain ◌+ℤ◌ (pos 0) xs segments ∙ ap (λ ys. seg_reduce_of ◌+ℤ◌ (pos 0) ys segments) (sym (map-id xs))
+        ∙ whole-reduces whole_laws itself segments start are (all_whole (map itself xs)))
+        ∙ ap all_fitting sums
+
+    parts-fit : (lengths : List ℤ) (segments : List ℕ) (start told known : List Sums) → lengths_of lengths ≡ Ok segments → ArePartsOf segments start → HaveRooms start
+        → AllZip HeadTotals start told → LongGoesOn told known → All Fits known
+    parts-fit lengths segments start told known is are rooms first goes =
+        let few = few-of lengths segments is in
+        let fit : All Fits start = all-fit segments start are rooms few.0 few.1 in
+        let then_fit : All Fits told = keeps HeadTotals Fits Fits (λ own left does f. subst Fits (sym does.1) (still-fits own left.told own.behind f)) start told first fit in
+        keeps GoesOnAlone Fits Fits (λ own left does f. subst Fits (sym does) (still-fits own own.told left.behind f)) told known goes.1 then_fit
+
+    -- a part that finds a sum that does not fit finds a fault of the whole
+    pub look-fails : (lengths : List ℤ) (segments : List ℕ) (start told known : List Sums) → lengths_of lengths ≡ Ok segments → ArePartsOf segments start
+        → AllPass is_number (elements_of start) → HaveRooms start → AllZip HeadTotals start told → LongGoesOn told known → (k : ℕ) (own : Sums) → slice_get known k ≡ Some own
+        → Fails (checked_part_reduce_by own.behind own.head (map pos own.lengths) own.elements) → HasFault (by_segments lengths (checked_seg_reduce_of (elements_of start)))
+    look-fails lengths segments start told known is are numbers rooms first goes k own here fails =
+        let fit_own = of_part known k own here Fits (parts-fit lengths segments start told known is are rooms first goes) in
+        let fails_whole : HasFault (all_fitting (joined (map exact_sums known))) =
+        whole-failed (all_fitting (joined (map exact_sums known))) (λ p. all_fitting (exact_sums p)) known k own (made-elements Overflow fitting exact_sums known) here
+        (λ ys is_own. failed _ fails ys (call-of own fit_own ∙ is_own)) in
+        (fails_whole.0, whole-call lengths segments start told known is are numbers rooms first goes ∙ fails_whole.1)
+
     pub checked_reduces : (lengths : List ℤ) (segments : List ℕ) (start told known looked end : List Sums) → lengths_of lengths ≡ Ok segments
         → ArePartsOf segments start → AllPass is_number (elements_of start) → HaveRooms start
         → AllZip HeadTotals start told → LongGoesOn told known → AllZip LooksAtStarts known looked → AllZip SumsStarts looked end
         → RoomTold (by_segments lengths (checked_seg_reduce_of (elements_of start))) done (room_of start) (room_of end)
     checked_reduces lengths segments start told known looked end is are numbers rooms first goes looks last =
         let xs : List ℤ = elements_of start in
-        let few = few-of lengths segments is in
-        let fit : All Fits start = all-fit segments start are rooms few.0 few.1 in
-        let behinds = known-exactly start told known numbers (few-elements segments start are rooms few.0 few.1) first goes in
-        let still_behind : behinds_of looked ≡ behinds_of known = alike LooksAtStarts (λ p. p.behind) (λ p. p.behind) (λ own left does. ap (λ (p : Sums). p.behind) does.1) known looked looks in
-        let pair_told : map pair told ≡ map pair start = alike HeadTotals pair pair (λ own left does. ap (λ (p : Sums). pair p) does.1) start told first in
-        let pair_known : map pair known ≡ map pair told = alike GoesOnAlone pair pair (λ own left does. ap (λ (p : Sums). pair p) does) told known goes.1 in
-        let pair_seen : map pair looked ≡ map pair known = alike LooksAtStarts pair pair (λ own left does. ap (λ (p : Sums). pair p) does.1) known looked looks in
-        let lists = λ (p : Sums). segments_in p in
-        let list_told : map lists told ≡ map lists start = alike HeadTotals lists lists (λ own left does. ap lists does.1) start told first in
-        let list_known : map lists known ≡ map lists told = alike GoesOnAlone lists lists (λ own left does. ap lists does) told known goes.1 in
-        let list_seen : map lists looked ≡ map lists known = alike LooksAtStarts lists lists (λ own left does. ap lists does.1) known looked looks in
         let room_told : map (λ p. p.room) told ≡ map (λ p. p.room) start = alike HeadTotals (λ p. p.room) (λ p. p.room) (λ own left does. ap (λ (p : Sums). p.room) does.1) start told first in
         let room_known : map (λ p. p.room) known ≡ map (λ p. p.room) told = alike GoesOnAlone (λ p. p.room) (λ p. p.room) (λ own left does. ap (λ (p : Sums). p.room) does) told known goes.1 in
         let room_seen : map (λ p. p.room) looked ≡ map (λ p. p.room) known = alike LooksAtStarts (λ p. p.room) (λ p. p.room) (λ own left does. ap (λ (p : Sums). p.room) does.1) known looked looks in
-        let then_fit : All Fits told = keeps HeadTotals Fits Fits (λ own left does f. subst Fits (sym does.1) (still-fits own left.told own.behind f)) start told first fit in
-        let later_fit : All Fits known = keeps GoesOnAlone Fits Fits (λ own left does f. subst Fits (sym does) (still-fits own own.told left.behind f)) told known goes.1 then_fit in
         let found : All (λ p. Fits p × FitsIn p) looked =
-        keeps LooksAtStarts Fits (λ p. Fits p × FitsIn p) (λ own left does f. subst (λ (p : Sums). Fits p × FitsIn p) (sym does.1) (f, looked_in own f does.0)) known looked looks later_fit in
+        keeps LooksAtStarts Fits (λ p. Fits p × FitsIn p) (λ own left does f. subst (λ (p : Sums). Fits p × FitsIn p) (sym does.1) (f, looked_in own f does.0)) known looked looks
+        (parts-fit lengths segments start told known is are rooms first goes) in
         let made : AllZip (λ own left. (all_fitting (exact_sums own) ≡ Ok left.room) × (length left.room ≡ length own.room)) looked end =
         each-where SumsStarts (λ own left. (all_fitting (exact_sums own) ≡ Ok left.room) × (length left.room ≡ length own.room))
         (λ p. Fits p × FitsIn p) (λ own left does holds. summed_in own left does holds.0 holds.1) looked end last found in
-        let known_behinds : behinds_of looked ≡ behind_each ◌+ℤ◌ (pos 0) (map pair looked) =
-        still_behind ∙ behinds ∙ ap (behind_each ◌+ℤ◌ (pos 0)) (sym (pair_seen ∙ pair_known ∙ pair_told)) in
-        let sums : reduces_over_ranks ◌+ℤ◌ (pos 0) (ranks_of itself start) ≡ joined (map exact_sums looked) =
-        ap (λ parts. reduces_over_ranks ◌+ℤ◌ (pos 0) (map (read_in itself) parts)) (sym (list_seen ∙ list_known ∙ list_told))
-        ∙ each-reduces ◌+ℤ◌ (pos 0) itself looked known_behinds ∙ ap joined (each-exact looked) in
-        let whole : checked_seg_reduce_of xs segments ≡ Ok (room_of end) =
-        sym (calls xs segments)
-        ∙ ap (λ r. r >>= all_fitting)
-        (reduce-plain ◌+ℤ◌ (pos 0) xs segments ∙ ap (λ ys. seg_reduce_of ◌+ℤ◌ (pos 0) ys segments) (sym (map-id xs))
-        ∙ whole-reduces whole_laws itself segments start are (all_whole (map itself xs)))
-        ∙ ap all_fitting sums
+        let sums : joined (map exact_sums looked) ≡ joined (map exact_sums known) =
+        ap joined (alike LooksAtStarts exact_sums exact_sums (λ own left does. ap exact_sums does.1) known looked looks) in
+        let whole : by_segments lengths (checked_seg_reduce_of xs) ≡ Ok (room_of end) =
+        whole-call lengths segments start told known is are numbers rooms first goes ∙ ap all_fitting (sym sums)
         ∙ joined-values Overflow fitting exact_sums (λ p. p.room) looked end
         (each-also _ (λ own left. all_fitting (exact_sums own) ≡ Ok left.room) (λ own left both. both.0) looked end made) in
         let long : length (room_of end) ≡ length (room_of start) =
         long-zipped (λ p. p.room) (λ p. p.room) looked end (each-also _ (λ own left. length left.room ≡ length own.room) (λ own left both. both.1) looked end made)
         ∙ ap (λ r. length (joined r)) (room_seen ∙ room_known ∙ room_told) in
-        subst (λ m. RoomTold m done (room_of start) (room_of end)) (sym (ap (λ r. r >>= checked_seg_reduce_of xs) is ∙ whole)) (tells_done (room_of end) (room_of start) long)
+        subst (λ m. RoomTold m done (room_of start) (room_of end)) (sym whole) (tells_done (room_of end) (room_of start) long)

@@ -1,16 +1,15 @@
 -- If a part of a combining permute finds a fault, so has the whole call one.
-use Rattle.std.proofs.Common.{◌≡◌, ◌≢◌, ◌∙◌, ◌<◌, ◌≤◌, ℕ, ℤ, List, [], All, ap, length, map, refl, replicate, slice_get, subst, sym, zip, None, Some, Option, Result, Ok, Err}
+use Rattle.std.proofs.Common.{◌≡◌, ◌≢◌, ◌∙◌, ◌<◌, ◌≤◌, ℕ, ℤ, List, All, ap, length, map, refl, replicate, slice_get, subst, sym, zip, None, Some, Option, Result, Ok, Err}
 use Rattle.std.proofs.Math.ListN.{get_or-map}
 use Rattle.std.proofs.lemmas.Bool.{le-ltb}
 use Rattle.std.proofs.lemmas.List.{length-map, length-replicate}
-use Rattle.std.proofs.lemmas.Option.{get_or_from_slice_get, slice_get_within}
 use Rattle.c_calls.specs.Calls.{by_operator, in_limit}
 use Rattle.c_calls.specs.Told.{Told, done}
 use Rattle.c_calls.specs.declared.status.CvlStatus.{CvlStatus}
 use Rattle.call_laws.proofs.CombinedRooms.{outside-rooms}
 use Rattle.combine_parts.specs.Cuts.{are_places_of}
-use Rattle.combine_parts.specs.OwnRooms.{OwnTold, may_own, own_room_of}
-use Rattle.combining_permutes.specs.CombiningPermutes.{combine_of, combined}
+use Rattle.combine_parts.specs.OwnRooms.{OwnTold, may_own, own_counts_of, own_room_of}
+use Rattle.combining_permutes.specs.CombiningPermutes.{combine_of, combined, place_counts, place_counts_of}
 use Rattle.cvl_base.proofs.Elementwise.{if_as_long-fits}
 use Rattle.cvl_base.specs.declared.fault.Fault.{Fault}
 use Rattle.cvl_base.specs.declared.fault.FaultNo.TheVariants as no
@@ -21,11 +20,8 @@ use Rattle.permute_walks.specs.Indices.{first_outside}
 use Rattle.step_laws.proofs.Answered.{within}
 use Rattle.step_laws.proofs.CombinedInRanges.{few-fits}
 use Rattle.step_laws.proofs.Parted.{as-long, some-fewer}
+use Rattle.step_laws.proofs.PartFaults.{HasFault, of_part}
 use Rattle.step_laws.specs.CombineParts.{Block, HaveIndices, elements_of, index_of}
-
--- the fault of a call
-abbrev pub HasFault : {Y : Type 0} → Result Y Fault → Type 0
-HasFault call = (f : Fault) × (call ≡ Err f)
 
 some_fault : (o : Option Fault) → (o ≡ None → ⊥) → (f : Fault) × (o ≡ Some f)
 some_fault None other = absurd (other refl)
@@ -34,7 +30,7 @@ some_fault (Some f) other = (f, refl)
 module _ {X Y : Type 0} (start : List (Block X Y)) (k : ℕ) (own : Block X Y) (here : slice_get start k ≡ Some own) where
   -- what holds of all holds of one
   of_one : (P : Block X Y → Type 0) → All P start → P own
-  of_one P all = subst P (get_or_from_slice_get start k own own here) (all k own (slice_get_within start k own here))
+  of_one P all = of_part start k own here P all
 
   -- an index that is out of range in a part is so in the whole
   pub outside_whole : (places : ℕ) → (first_outside 0 places own.index ≡ None → ⊥) → (f : Fault) × (first_outside 0 places (index_of start) ≡ Some f)
@@ -98,3 +94,26 @@ look_fails start k own here few places status told fails none =
     let given : are_places_of places own.index ≡ Ok tt = within own.index _ few_own ∙ ap (λ o. unless o (Ok tt)) none in
     let known : Told (Ok tt) status tt tt = subst (λ m. Told m status tt tt) given told in
     fails known.0
+
+-- ---- counts
+
+module _ {X : Type 0} (start : List (Block X ℤ)) (k : ℕ) (own : Block X ℤ) (here : slice_get start k ≡ Some own) (few : length (index_of start) ≤ most_places) (places : ℕ)
+    (few_places : places ≤ most_places) where
+  counts_fail : (status : CvlStatus) (left : List ℤ) → places ≤ length own.own → OwnTold places (own_counts_of places (length own.own) own.index) status own.own left → status ≢ done
+      → first_outside 0 places own.index ≡ None → ⊥
+  counts_fail status left fits told fails none =
+      let few_own = of_one start k own here (λ b. length b.index ≤ most_places) (some-fewer (λ b. b.index) most_places start few) in
+      let result : Result (List ℤ) Fault = Ok (place_counts own.index 0 places) in
+      let given : own_counts_of places (length own.own) own.index ≡ result =
+      ap (λ m. m >>= λ _. place_counts_of own.index places) (may_fits places (length own.own) own.index own.index refl few_own few_places fits) ∙ ap (λ o. unless o result) none in
+      let known : OwnTold places result status own.own left = subst (λ m. OwnTold places m status own.own left) given told in
+      fails known.0
+
+  -- a part that cannot count its indices found one out of range
+  pub counted_outside : {Y : Type 0} (room : List Y) → length room ≡ places → (status : CvlStatus) (left : List ℤ) → places ≤ length own.own
+      → OwnTold places (own_counts_of places (length own.own) own.index) status own.own left → status ≢ done
+      → HasFault (in_limit (index_of start) (in_limit room (place_counts_of (index_of start) places)))
+  counted_outside room long status left fits told fails =
+      let outside = outside_whole start k own here places (counts_fail status left fits told fails) in
+      let result : Result (List ℤ) Fault = Ok (place_counts (index_of start) 0 places) in
+      (outside.0, within (index_of start) _ few ∙ within room _ (subst (λ n. n ≤ most_places) (sym long) few_places) ∙ ap (λ o. unless o result) outside.1)

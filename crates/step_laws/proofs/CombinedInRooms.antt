@@ -102,13 +102,13 @@ module _ {Item : Type 0} {is_item : Item → Bool} {unit : Item} {join : Item �
   module _ (boundaries : List ℕ) (memory : List Item) (start made : List (Block Item Item)) (before after : List (Share Item))
       (items : AllPass is_item (elements_of start)) (was : AllPass is_item (room_of before)) (begin : BeginAt 0 before)
       (mades : AllZip (Made (length (room_of before))) start made) (has : HaveMemory boundaries memory made) (joins : AllZip (Joins boundaries memory) before after) where
-    abbrev places : ℕ
+    abbrev pub places : ℕ
     places = length (room_of before)
 
-    abbrev blocks : List (List (ℤ × Item))
+    abbrev pub blocks : List (List (ℤ × Item))
     blocks = map sends_of start
 
-    abbrev own_rooms : List (List Item)
+    abbrev pub own_rooms : List (List Item)
     own_rooms = map (own_room join unit 0 places) blocks
 
     pub as_many : All (λ b. length b.elements ≡ length b.index) start
@@ -120,12 +120,12 @@ module _ {Item : Type 0} {is_item : Item → Bool} {unit : Item} {join : Item �
         (All-map (λ index. first_outside 0 places index ≡ None) (λ (b : Block Item Item). b.index) start
         (left_of_each (λ own left does. (known places own left does).inside) start made mades))
 
-    long : All (λ own. places ≤ length own) (map (λ b. b.own) made)
+    pub long : All (λ own. places ≤ length own) (map (λ b. b.own) made)
     long =
         All-map (λ own. places ≤ length own) (λ (b : Block Item Item). b.own) made
         (keeps (Made places) (λ b. Unit {0}) (λ b. places ≤ length b.own) (λ own left does none. (known places own left does).long) start made mades (λ k d lt. tt))
 
-    rooms_made : map (take places) (map (λ b. b.own) made) ≡ own_rooms
+    pub rooms_made : map (take places) (map (λ b. b.own) made) ≡ own_rooms
     rooms_made =
         map-map (take places) (λ (b : Block Item Item). b.own) made
         ∙ alike (Made places) (λ b. own_room join unit 0 places (sends_of b)) (λ b. take places b.own) (λ own left does. (known places own left does).room) start made mades

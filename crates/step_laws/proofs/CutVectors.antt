@@ -20,6 +20,7 @@ use Rattle.c_calls.specs.Told.{RoomTold, done, status_of_fault}
 use Rattle.c_calls.specs.declared.status.CvlStatus.{CvlStatus}
 use Rattle.step_laws.proofs.Answered.{done_if_long, fills, is_given, past_limit}
 use Rattle.step_laws.proofs.BySegments.{own-sizes, sizes, sum-parts, told-sizes}
+use Rattle.step_laws.proofs.Counted.{counted-parts}
 use Rattle.step_laws.proofs.CutPlaces.{both-given, count-places, exact-fits, exact-given, exact-misfits, ranges-joined, ranges-long}
 use Rattle.step_laws.proofs.Parted.{alike}
 use Rattle.step_laws.specs.CountSteps.{Counts}
@@ -27,6 +28,19 @@ use Rattle.step_laws.specs.CutSteps.{IsCutBy}
 use Rattle.step_laws.specs.LengthSteps.{Measures}
 use Rattle.step_laws.specs.PackSteps.{ranges_of}
 use Rattle.step_laws.specs.Parts.{Part, elements_of, told_of}
+
+-- places that are not given are those of parts that are not as long together
+misfit : (lengths : List ℕ) (len : ℕ) (status : CvlStatus) (before places : List ℕ) → length before ≡ length lengths + 1
+    → RoomTold (exact_places_of lengths len) status before places → status ≢ done → (sum lengths ≢ len) × (status ≡ status_of_fault (fault no.LengthMismatch))
+misfit lengths len status before places long told fails =
+    ⊎_elim
+    (λ (adds : (eqb (sum lengths) len ≡ true) × (sum lengths ≡ len)).
+    absurd (fails (done_if_long (places_of lengths) before places status (omega (arith, length-places_of lengths, long))
+    (subst (λ m. RoomTold m status before places) (exact-fits lengths len adds.1) told))))
+    (λ (differ : (eqb (sum lengths) len ≡ false) × (sum lengths ≢ len)).
+    let none : RoomTold (Err (fault no.LengthMismatch)) status before places = subst (λ m. RoomTold m status before places) (exact-misfits lengths len differ.1) told in
+    (differ.1, none.0))
+    (eqb_tells (sum lengths) len)
 
 -- places of parts with these lengths cut a vector of as many elements
 pub cut-by : {X : Type 0} (lengths places : List ℕ) (xs : List X) → sum lengths ≡ length xs → places ≡ places_of lengths → IsCutBy places lengths xs
@@ -38,10 +52,10 @@ cut-by lengths places xs total are = record {
 
 module _ (start measured : List (Part ℤ ℕ ℤ)) (first : AllZip Measures start measured) where
   -- the lengths of each part, added up
-  abbrev totals : List ℕ
+  abbrev pub totals : List ℕ
   totals = map (λ (p : Part ℤ ℕ ℤ). sum (map unsigned_abs p.elements)) start
 
-  told-totals : told_of measured ≡ totals
+  pub told-totals : told_of measured ≡ totals
   told-totals =
       alike Measures (λ (p : Part ℤ ℕ ℤ). sum (map unsigned_abs p.elements)) (λ (p : Part ℤ ℕ ℤ). p.told)
       (λ own left does. told-sizes own.elements left.told (is_given (by_segments own.elements (λ lengths. Ok (sum lengths))) own.told left.told does.0)) start measured first
@@ -59,15 +73,9 @@ module _ (start measured : List (Part ℤ ℕ ℤ)) (first : AllZip Measures sta
       let cut : RoomTold (exact_places_of totals (length xs)) status before places =
       subst (λ ts. RoomTold (exact_places_of ts (length xs)) status before places) told-totals told in
       let whole : sum segments ≡ sum totals = ap sum (own-sizes (λ (p : Part ℤ ℕ ℤ). p.elements) start segments are) ∙ sum-parts (sizes (λ (p : Part ℤ ℕ ℤ). p.elements)) start in
-      ⊎_elim
-      (λ (adds : (eqb (sum totals) (length xs) ≡ true) × (sum totals ≡ length xs)).
-      absurd (fails (done_if_long (places_of totals) before places status
-      (omega (arith, length-places_of totals, length-map start (λ (p : Part ℤ ℕ ℤ). sum (map unsigned_abs p.elements)), long))
-      (subst (λ m. RoomTold m status before places) (exact-fits totals (length xs) adds.1) cut))))
-      (λ (differ : (eqb (sum totals) (length xs) ≡ false) × (sum totals ≢ length xs)).
-      let none : RoomTold (Err (fault no.LengthMismatch)) status before places = subst (λ m. RoomTold m status before places) (exact-misfits totals (length xs) differ.1) cut in
-      (nest-misfits segments xs (λ same. differ.1 (sym whole ∙ same)), none.0))
-      (eqb_tells (sum totals) (length xs))
+      let many : length before ≡ length totals + 1 = omega (arith, length-map start (λ (p : Part ℤ ℕ ℤ). sum (map unsigned_abs p.elements)), long) in
+      let differ = misfit totals (length xs) status before places many cut fails in
+      (nest-misfits segments xs (λ same. differ.0 (sym whole ∙ same)), differ.1)
 
 module _ (start counted : List (Part ℕ ℤ ℤ)) (first : AllZip Counts start counted) where
   -- the true flags of each part
@@ -85,6 +93,18 @@ module _ (start counted : List (Part ℕ ℤ ℤ)) (first : AllZip Counts start 
       let given = (fills (exact_count_places_of (told_of counted) (length xs)) before places told).0 in
       let is = exact-given counts (length xs) places (sym (ap (λ ts. exact_count_places_of ts (length xs)) told-counts ∙ count-places counts (length xs)) ∙ given) in
       cut-by counts places xs is.0 is.1
+
+  pub other-counts : {X : Type 0} (xs : List X) (status : CvlStatus) (before places : List ℕ) → length before ≡ length start + 1
+      → RoomTold (exact_count_places_of (told_of counted) (length xs)) status before places → status ≢ done
+      → (count_of (flags_of (elements_of start)) ≢ length xs) × (status ≡ status_of_fault (fault no.LengthMismatch))
+  other-counts xs status before places long told fails =
+      let cut : RoomTold (exact_places_of counts (length xs)) status before places =
+      subst (λ m. RoomTold m status before places) (ap (λ ts. exact_count_places_of ts (length xs)) told-counts ∙ count-places counts (length xs)) told in
+      let many : length before ≡ length counts + 1 = omega (arith, length-map start (λ (p : Part ℕ ℤ ℤ). count_of (flags_of p.elements)), long) in
+      let differ = misfit counts (length xs) status before places many cut fails in
+      let total : count_of (flags_of (elements_of start)) ≡ sum counts =
+      counted-parts (map (λ (p : Part ℕ ℤ ℤ). p.elements) start) ∙ ap sum (map-map (λ bytes. count_of (flags_of bytes)) (λ (p : Part ℕ ℤ ℤ). p.elements) start) in
+      (λ same. differ.0 (sym total ∙ same), differ.1)
 
 module _ {P X : Type 0} (one other : P → ℕ) (parts : List P) where
   pub cut-both : (xs : List X) (before places : List ℕ) → RoomTold (added_places_of (places_of (map one parts)) (places_of (map other parts)) (length xs)) done before places

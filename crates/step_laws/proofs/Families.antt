@@ -2,7 +2,7 @@
 use Rattle.std.proofs.Common.{◌≡◌, ◌∙◌, ◌++◌, ◌≤◌, ℕ, ℤ, Bool, List, length, map, sum, Result, Ok, Option, Some, refl, sym, ap, arith}
 use Rattle.std.proofs.Common.{All, get_or, unsigned_abs}
 use mathlib.Core.List.{map-map}
-use Rattle.std.proofs.lemmas.List.{length-map}
+use Rattle.std.proofs.lemmas.List.{length-map, map-id}
 use Rattle.std.proofs.lemmas.Slice.Zip.{length-zip}
 use Rattle.std.specs.List.{zip}
 use Rattle.combining_permutes.specs.CombiningPermutes.{combine_of, place_counts_of, seg_combine_of, seg_place_counts_of}
@@ -19,13 +19,16 @@ use Rattle.cvl_base.specs.Permutes.{all_destinations, back_of, default_of, desti
 use Rattle.cvl_base.specs.Segmented.{at_segment, beside, end_to_end, in_vector, of_three, of_two}
 use Rattle.cvl_base.specs.SegmentedCalls.{seg_back_of, seg_default_of, seg_extract_of, seg_replace_of, seg_select_of, seg_simple_of}
 use Rattle.first_senders.specs.FirstSenders.{first_senders_to, seg_first_senders_of, seg_first_senders_to, seg_select_first_senders_of}
+use Rattle.flag_calls.specs.Flags.{as_flag, made_flags}
 use Rattle.flag_merges.specs.Merges.{seg_merge_of, segment_merge_of}
+use Rattle.orders.specs.SortsByKey.{keys_by, seg_sort_by_key_of, values_by}
 use Rattle.segment_slices.specs.Pairs.{append_segments_of}
 use Rattle.segment_values.specs.Values.{each_of}
 use Rattle.c_calls.specs.Calls.{by_operator, by_segments, in_limit, lengths_of}
-use Rattle.step_laws.proofs.BySegments.{by-lengths, by-limit, sizes}
-use Rattle.step_laws.proofs.MadeOf.{Cuts, as-many, cuts-beside, cuts-given, cuts-nest, in_rows, made-certain, made-lists, made-values, made_alike, map-joined, zip-all}
-use Rattle.step_laws.specs.SegmentCalls.{AddUp, AsMany, IsMadeOf, of_all}
+use Rattle.step_laws.proofs.BySegments.{by-lengths, by-limit, made_by_lengths, made_by_limit, sizes}
+use Rattle.step_laws.proofs.MadeOf.{Cuts, as-many, cuts-beside, cuts-given, cuts-nest, in_rows, made-certain, made-lists, made-next, made-values, made_alike, made_by_certain}
+use Rattle.step_laws.proofs.MadeOf.{map-joined, row-joined, zip-all}
+use Rattle.step_laws.specs.SegmentCalls.{AddUp, AreMadeOf, AsMany, IsMadeOf, both_joined, of_all}
 
 -- ---- the segments of two vectors and of three
 
@@ -266,6 +269,39 @@ module _ {P : Type 0} (parts : List P) (keys lengths : P → List ℤ) (segments
       (if_as_long-fits (of_all keys parts) (of_all room parts) _ (as-many keys room parts many))
       (λ k x lt. let p = get_or parts k x in if_as_long-fits (keys p) (room p) _ (many k x lt)) (made-ordered order)))
 
+-- ---- sorts by key
+
+module _ {P : Type 0} (parts : List P) (keys values lengths : P → List ℤ) (segments : List ℕ) (are : lengths_of (of_all lengths parts) ≡ Ok segments)
+    (few : length (of_all keys parts) ≤ most_places) (fit : AddUp lengths keys parts) (many : AsMany keys values parts) (before : ℤ → ℤ → Bool) where
+  -- the keys and the values of each segment, sorted by key
+  abbrev sorted_rows : List (List ℤ × List ℤ) → List ℤ × List ℤ
+  sorted_rows segs = (joined (map (λ segment. keys_by before segment.0) segs), joined (map (of_two (values_by before)) segs))
+
+  -- the segments of a part, of keys and of values side by side
+  abbrev keyed : P → List (List ℤ × List ℤ)
+  keyed p = zip (cut_of (sizes lengths p) (keys p)) (cut_of (sizes lengths p) (values p))
+
+  rows-both : sorted_rows (joined (map keyed parts)) ≡ both_joined (map (λ p. sorted_rows (keyed p)) parts)
+  rows-both =
+      let first = row-joined (λ segment. keys_by before segment.0) keyed parts ∙ sym (ap joined (map-map (λ r. r.0) (λ p. sorted_rows (keyed p)) parts)) in
+      let second = row-joined (of_two (values_by before)) keyed parts ∙ sym (ap joined (map-map (λ r. r.1) (λ p. sorted_rows (keyed p)) parts)) in
+      (λ i. (first i, second i))
+
+  pub sorted-by-key : AreMadeOf (by_segments (of_all lengths parts) (λ d. in_limit (of_all keys parts) (seg_sort_by_key_of before (of_all keys parts) (of_all values parts) d)))
+      (map (λ p. by_segments (lengths p) (λ d. in_limit (keys p) (seg_sort_by_key_of before (keys p) (values p) d))) parts)
+  sorted-by-key =
+      let all = joined (map (sizes lengths) parts) in
+      let K = of_all keys parts in let V = of_all values parts in
+      let also_fit : AddUp lengths values parts = λ k x lt. fit k x lt ∙ many k x lt in
+      let cuts = cuts-two parts (sizes lengths) (sizes lengths) keys values fit also_fit (itself parts (sizes lengths)) in
+      made_by_lengths lengths parts segments are both_joined (λ d. in_limit K (seg_sort_by_key_of before K V d))
+      (λ p d. in_limit (keys p) (seg_sort_by_key_of before (keys p) (values p) d))
+      (made_by_limit keys parts both_joined (seg_sort_by_key_of before K V all) (λ p. seg_sort_by_key_of before (keys p) (values p) (sizes lengths p)) few
+      (made_by_certain both_joined parts (seg_sort_by_key_of before K V all) (λ p. seg_sort_by_key_of before (keys p) (values p) (sizes lengths p)) (λ p. sorted_rows (keyed p))
+      (if_as_long-fits K V _ (as-many keys values parts many) ∙ ap (λ r. r >>= λ segs. Ok (sorted_rows segs)) cuts.all ∙ ap Ok rows-both)
+      (λ k x lt. let p = get_or parts k x in
+      if_as_long-fits (keys p) (values p) _ (many k x lt) ∙ ap (λ r. r >>= λ segs. Ok (sorted_rows segs)) (cuts.each k x lt))))
+
 -- ---- values of segments
 
 module _ {P : Type 0} (parts : List P) (lengths : P → List ℤ) (segments : List ℕ) (are : lengths_of (of_all lengths parts) ≡ Ok segments) where
@@ -304,6 +340,18 @@ module _ {P : Type 0} (parts : List P) (lengths : P → List ℤ) (segments : Li
         (cuts-given values parts)
         (λ k x lt. let p = get_or parts k x in
         omega (arith, length-zip (cut_of (sizes lengths p) (xs p)) (index p), given-many parts lengths xs index many k x lt, many k x lt, also_many k x lt))))
+
+module _ {P : Type 0} (parts : List P) (lengths : P → List ℤ) (segments : List ℕ) (are : lengths_of (of_all lengths parts) ≡ Ok segments) (bytes : P → List ℕ) (index : P → List ℤ)
+    (fit : AddUp lengths bytes parts) (many : AsMany index lengths parts) where
+  -- bytes as flags, list by list
+  flags-joined : (lists : List (List ℕ)) → joined (map (map as_flag) lists) ≡ map as_flag (joined lists)
+  flags-joined lists = sym (map-joined as_flag (λ l. l) lists) ∙ ap (λ ls. map as_flag (joined ls)) (map-id lists)
+
+  pub extracted-flags : IsMadeOf (made_flags (by_segments (of_all lengths parts) (seg_extract_of (of_all bytes parts) (of_all index parts))))
+      (map (λ p. made_flags (by_segments (lengths p) (seg_extract_of (bytes p) (index p)))) parts)
+  extracted-flags =
+      made-next (map as_flag) joined joined flags-joined parts (by_segments (of_all lengths parts) (seg_extract_of (of_all bytes parts) (of_all index parts)))
+      (λ p. by_segments (lengths p) (seg_extract_of (bytes p) (index p))) (extracted parts lengths segments are bytes index fit many)
 
 -- ---- segments side by side
 

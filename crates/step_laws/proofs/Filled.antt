@@ -14,6 +14,7 @@ use Rattle.segment_fills.proofs.Written.{take-both}
 use Rattle.segment_fills.specs.Fills.{with_head}
 use Rattle.segment_parts.specs.Reduces.{but_last, is_part}
 use Rattle.step_laws.specs.FillParts.{ArePartsOf, FillPart, HaveValues, done_behind, opened, room_of, segments_in}
+use Rattle.step_laws.proofs.CutBounds.{but_last-more}
 use Rattle.step_laws.proofs.Parted.{some-fewer}
 use Rattle.step_laws.proofs.SegmentLengths.{nested, some-less}
 
@@ -102,11 +103,6 @@ module _ {X Y : Type 0} (of : X → ℕ → ℕ → List Y) (holds : Holds of) (
       ap (λ ys. of x 0 n ++ ys) (all-append values lengths more (omega (arith, few)))
       ∙ sym (append_assoc (of x 0 n) (all_of values lengths) (all_of (drop (length lengths) values) more))
 
-  but_last-cons : (l l2 : ℕ) (lengths : List ℕ) → sum (but_last (l ∷ l2 ∷ lengths)) ≡ l + sum (but_last (l2 ∷ lengths))
-  but_last-cons l l2 lengths =
-      let less : length (l ∷ l2 ∷ lengths) - 1 ≡ suc (length (l2 ∷ lengths) - 1) = omega arith in
-      ap (λ k. sum (take k (l ∷ l2 ∷ lengths))) less ∙ sum-cons l (but_last (l2 ∷ lengths))
-
   -- the last of some segments goes on
   last-goes-on : (values : List X) (l : ℕ) (lengths : List ℕ) (last : X) (k m : ℕ) → length (l ∷ lengths) ≤ length values → last ≡ get_or values (length lengths) d
       → sum (but_last (l ∷ lengths)) ≤ k → k + m ≡ sum (l ∷ lengths)
@@ -123,7 +119,7 @@ module _ {X Y : Type 0} (of : X → ℕ → ℕ → List Y) (holds : Holds of) (
       (λ i. front i ++ of (is i) (place i) m) ∙ sym whole
   last-goes-on (v ∷ values) l (l2 ∷ lengths) last k m few is le all =
       let rest = all_of values (l2 ∷ lengths) in
-      let before = but_last-cons l l2 lengths in
+      let before = but_last-more l l2 lengths in
       let total = sum-cons l (l2 ∷ lengths) in
       let left : k - length (of v 0 l) ≡ k - l = omega (arith, holds.long v 0 l) in
       let place : k - sum (but_last (l ∷ l2 ∷ lengths)) ≡ (k - l) - sum (but_last (l2 ∷ lengths)) = omega (arith, before) in

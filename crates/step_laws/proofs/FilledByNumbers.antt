@@ -43,10 +43,10 @@ more-from f a (suc n) m =
     ap (λ k. f a ∷ (map f (range_with_len (a + 1) n) ++ map f (range_with_len k m))) first ∙ ap (λ ys. f a ∷ ys) (more-from f (a + 1) n m)
     ∙ ap (λ k. map f (range_with_len a k)) all
 
-more-numbers : (s : Step) (a n m : ℕ) → of s a n ++ of s (a + n) m ≡ of s a (n + m)
+pub more-numbers : (s : Step) (a n m : ℕ) → of s a n ++ of s (a + n) m ≡ of s a (n + m)
 more-numbers s a n m = more-from (λ k. wrap (s.0 +ℤ pos k *ℤ s.1)) a n m
 
-long-numbers : (s : Step) (a n : ℕ) → length (of s a n) ≡ n
+pub long-numbers : (s : Step) (a n : ℕ) → length (of s a n) ≡ n
 long-numbers s a n = length-map-range_with_len (λ k. wrap (s.0 +ℤ pos k *ℤ s.1)) a n
 
 holds : Holds of

@@ -1,6 +1,7 @@
 -- Calls by segments whose segments are those of some parts, one part behind another.
 use Rattle.std.proofs.Common.{◌≡◌, ◌∙◌, ◌+◌, ◌≤◌, ℕ, zero, suc, get_or, List, [], ◌∷◌, ◌++◌, length, map, sum, take, drop, Result, Ok, Err, refl, sym, ap, arith}
 use Rattle.std.proofs.Common.{All, append_assoc, length-append, length-drop}
+use mathlib.Core.List.{map-map}
 use Rattle.std.proofs.lemmas.List.{map-append, take-append-le}
 use Rattle.std.proofs.lemmas.List.Elements.{All-head, All-tail}
 use Rattle.std.proofs.lemmas.List.Sums.{sum_by-append}
@@ -16,7 +17,7 @@ use Rattle.cvl_base.specs.Gives.{◌>>=◌}
 use Rattle.cvl_base.specs.Lists.{joined}
 use Rattle.cvl_base.specs.Nests.{cut_of, nest}
 use Rattle.cvl_base.specs.Segmented.{beside, end_to_end, one_each}
-use Rattle.step_laws.specs.SegmentCalls.{IsMadeOf}
+use Rattle.step_laws.specs.SegmentCalls.{IsMadeBy, IsMadeOf}
 
 -- ---- the segments of all parts
 
@@ -143,14 +144,18 @@ module _ {P R : Type 0} where
       ap (λ r. r ∷ map f parts) (All-head (λ q. f q ≡ g q) p parts each) ∙ ap (λ rs. g p ∷ rs) (same_each f g parts (All-tail (λ q. f q ≡ g q) p parts each))
 
 -- calls that mean the same are made of parts that mean the same
-pub made_alike : {P Y : Type 0} (parts : List P) (whole other : Result (List Y) Fault) (own others : P → Result (List Y) Fault) → other ≡ whole
-    → All (λ p. others p ≡ own p) parts → IsMadeOf whole (map own parts) → IsMadeOf other (map others parts)
-made_alike parts whole other own others same alike made =
+pub made_by_alike : {P V : Type 0} (together : List V → V) (parts : List P) (whole other : Result V Fault) (own others : P → Result V Fault) → other ≡ whole
+    → All (λ p. others p ≡ own p) parts → IsMadeBy together whole (map own parts) → IsMadeBy together other (map others parts)
+made_by_alike together parts whole other own others same alike made =
     let listed = same_each others own parts alike in
     record {
-      all = λ lists are. same ∙ made.all lists (sym listed ∙ are);
-      each = λ ys is. let parted = made.each ys (sym same ∙ is) in (parted.0, listed ∙ parted.1, parted.2);
+      all = λ values are. same ∙ made.all values (sym listed ∙ are);
+      each = λ value is. let parted = made.each value (sym same ∙ is) in (parted.0, listed ∙ parted.1, parted.2);
     }
+
+pub made_alike : {P Y : Type 0} (parts : List P) (whole other : Result (List Y) Fault) (own others : P → Result (List Y) Fault) → other ≡ whole
+    → All (λ p. others p ≡ own p) parts → IsMadeOf whole (map own parts) → IsMadeOf other (map others parts)
+made_alike parts whole other own others same alike made = made_by_alike joined parts whole other own others same alike made
 
 module _ {P S : Type 0} where
   module _ {R : Type 0} (call : S → Result R Fault) (place : ℕ → ℕ → ℕ) (own_place : P → ℕ → ℕ → ℕ) where
@@ -197,47 +202,53 @@ pub in_rows : {X : Type 0} (lists : List (List (List X))) → joined (map joined
 in_rows [] = refl
 in_rows (l ∷ lists) = ap (λ zs. joined l ++ zs) (in_rows lists) ∙ sym (joined-append l (joined lists))
 
+module _ {P V W : Type 0} (next : V → W) where
+  -- what each part makes of its value is made of a value
+  values-before : (own : P → Result V Fault) (parts : List P) (made : List W) → map (λ p. own p >>= λ v. Ok (next v)) parts ≡ map (λ w. Ok w) made
+      → (values : List V) × (map own parts ≡ map (λ v. Ok v) values) × (made ≡ map next values)
+  values-before own [] [] are = ([], refl, refl)
+  values-before own [] (w ∷ made) are = cc
+  values-before own (p ∷ parts) [] are = cc
+  values-before own (p ∷ parts) (w ∷ made) are =
+      let here : (own p >>= λ v. Ok (next v)) ≡ Ok w = cc in
+      let more : map (λ q. own q >>= λ v. Ok (next v)) parts ≡ map (λ u. Ok u) made = cc in
+      let first = from_value (own p) (λ v. Ok (next v)) w here in
+      let rest = values-before own parts made more in
+      let is : next first.0 ≡ w = same_Some (next first.0) w (ap result_ok first.2) in
+      (first.0 ∷ rest.0, (λ i. first.1 i ∷ rest.1 i), (λ i. sym is i ∷ rest.2 i))
+
+  values-behind : (own : P → Result V Fault) (parts : List P) (values : List V) → map own parts ≡ map (λ v. Ok v) values
+      → map (λ p. own p >>= λ v. Ok (next v)) parts ≡ map (λ w. Ok w) (map next values)
+  values-behind own [] [] are = refl
+  values-behind own [] (v ∷ values) are = cc
+  values-behind own (p ∷ parts) [] are = cc
+  values-behind own (p ∷ parts) (v ∷ values) are =
+      let here : own p ≡ Ok v = cc in
+      let more : map own parts ≡ map (λ u. Ok u) values = cc in
+      (λ i. (here i >>= λ u. Ok (next u)) ∷ values-behind own parts values more i)
+
+  -- a call goes on from its value as the parts do from theirs, if what they make is together what it makes
+  pub made-next : (together : List V → V) (also : List W → W) → ((values : List V) → also (map next values) ≡ next (together values)) → (parts : List P) (whole : Result V Fault)
+      (own : P → Result V Fault) → IsMadeBy together whole (map own parts)
+      → IsMadeBy also (whole >>= λ v. Ok (next v)) (map (λ p. own p >>= λ v. Ok (next v)) parts)
+  made-next together also same parts whole own made = record {
+    all = λ ws are.
+        let values = values-before own parts ws are in
+        ap (λ r. r >>= λ v. Ok (next v)) (made.all values.0 values.1) ∙ ap Ok (sym (same values.0) ∙ ap also (sym values.2));
+    each = λ w is.
+        let value = from_value whole (λ v. Ok (next v)) w is in
+        let values = made.each value.0 value.1 in (
+          map next values.0,
+          values-behind own parts values.0 values.1,
+          sym (same_Some (next value.0) w (ap result_ok value.2)) ∙ ap next values.2 ∙ sym (same values.0),
+        );
+  }
+
 module _ {P X : Type 0} where
-  -- calls whose lists are put in a row, part by part
-  rows-of : (own : P → Result (List (List X)) Fault) (parts : List P) (rows : List (List X))
-      → map (λ p. own p >>= λ lists. Ok (joined lists)) parts ≡ map (λ l. Ok l) rows
-      → (lists : List (List (List X))) × (map own parts ≡ map (λ l. Ok l) lists) × (rows ≡ map joined lists)
-  rows-of own [] [] are = ([], refl, refl)
-  rows-of own [] (r ∷ rows) are = cc
-  rows-of own (p ∷ parts) [] are = cc
-  rows-of own (p ∷ parts) (r ∷ rows) are =
-      let here : (own p >>= λ lists. Ok (joined lists)) ≡ Ok r = cc in
-      let more : map (λ q. own q >>= λ lists. Ok (joined lists)) parts ≡ map (λ l. Ok l) rows = cc in
-      let first = from_value (own p) (λ lists. Ok (joined lists)) r here in
-      let rest = rows-of own parts rows more in
-      let row : joined first.0 ≡ r = same_Some (joined first.0) r (ap result_ok first.2) in
-      (first.0 ∷ rest.0, (λ i. first.1 i ∷ rest.1 i), (λ i. sym row i ∷ rest.2 i))
-
-  rows-made : (own : P → Result (List (List X)) Fault) (parts : List P) (lists : List (List (List X))) → map own parts ≡ map (λ l. Ok l) lists
-      → map (λ p. own p >>= λ ls. Ok (joined ls)) parts ≡ map (λ l. Ok l) (map joined lists)
-  rows-made own [] [] are = refl
-  rows-made own [] (l ∷ lists) are = cc
-  rows-made own (p ∷ parts) [] are = cc
-  rows-made own (p ∷ parts) (l ∷ lists) are =
-      let here : own p ≡ Ok l = cc in
-      let more : map own parts ≡ map (λ m. Ok m) lists = cc in
-      (λ i. (here i >>= λ ls. Ok (joined ls)) ∷ rows-made own parts lists more i)
-
   -- the same for results that are lists, which are put in a row
   pub made-rows : (parts : List P) (whole : Result (List (List X)) Fault) (own : P → Result (List (List X)) Fault) → IsMadeOf whole (map own parts)
       → IsMadeOf (whole >>= λ lists. Ok (joined lists)) (map (λ p. own p >>= λ lists. Ok (joined lists)) parts)
-  made-rows parts whole own made = record {
-    all = λ rows are.
-        let lists = rows-of own parts rows are in
-        ap (λ r. r >>= λ ls. Ok (joined ls)) (made.all lists.0 lists.1) ∙ ap Ok (sym (in_rows lists.0) ∙ ap joined (sym lists.2));
-    each = λ ys is.
-        let value = from_value whole (λ ls. Ok (joined ls)) ys is in
-        let lists = made.each value.0 value.1 in (
-          map joined lists.0,
-          rows-made own parts lists.0 lists.1,
-          sym (same_Some (joined value.0) ys (ap result_ok value.2)) ∙ ap joined lists.2 ∙ sym (in_rows lists.0),
-        );
-  }
+  made-rows parts whole own made = made-next joined joined joined in_rows parts whole own made
 
 module _ {P S X : Type 0} (call : S → Result (List X) Fault) (place : ℕ → ℕ → ℕ) (own_place : P → ℕ → ℕ → ℕ) where
   -- a call with a list for each segment
@@ -260,16 +271,25 @@ same-values (x ∷ xs) (y ∷ ys) same =
     let rest : given-values xs ≡ given-values ys = cc in
     (λ i. first i ∷ same-values xs ys rest i)
 
-pub made-certain : {P Y : Type 0} (parts : List P) (whole : Result (List Y) Fault) (own : P → Result (List Y) Fault) (value : P → List Y)
-    → whole ≡ Ok (joined (map value parts)) → All (λ p. own p ≡ Ok (value p)) parts → IsMadeOf whole (map own parts)
-made-certain parts whole own value is has =
+pub made_by_certain : {P V : Type 0} (together : List V → V) (parts : List P) (whole : Result V Fault) (own : P → Result V Fault) (value : P → V)
+    → whole ≡ Ok (together (map value parts)) → All (λ p. own p ≡ Ok (value p)) parts → IsMadeBy together whole (map own parts)
+made_by_certain together parts whole own value is has =
     let listed = values_of own value parts has in
     record {
-      all = λ lists are. is ∙ ap (λ ls. Ok (joined ls)) (same-values (map value parts) lists (sym listed ∙ are));
-      each = λ ys whole_is. (map value parts, listed, sym (same_Some (joined (map value parts)) ys (ap result_ok (sym is ∙ whole_is))));
+      all = λ values are. is ∙ ap (λ vs. Ok (together vs)) (same-values (map value parts) values (sym listed ∙ are));
+      each = λ v whole_is. (map value parts, listed, sym (same_Some (together (map value parts)) v (ap result_ok (sym is ∙ whole_is))));
     }
+
+pub made-certain : {P Y : Type 0} (parts : List P) (whole : Result (List Y) Fault) (own : P → Result (List Y) Fault) (value : P → List Y)
+    → whole ≡ Ok (joined (map value parts)) → All (λ p. own p ≡ Ok (value p)) parts → IsMadeOf whole (map own parts)
+made-certain parts whole own value is has = made_by_certain joined parts whole own value is has
 
 -- what is made of each item is made of those of each part
 pub map-joined : {P A B : Type 0} (f : A → B) (xs : P → List A) (parts : List P) → map f (joined (map xs parts)) ≡ joined (map (λ p. map f (xs p)) parts)
 map-joined f xs [] = refl
 map-joined f xs (p ∷ parts) = map-append f (xs p) (joined (map xs parts)) ∙ ap (λ ys. map f (xs p) ++ ys) (map-joined f xs parts)
+
+-- so too if it is a list, and these are put in a row
+pub row-joined : {P A X : Type 0} (f : A → List X) (xs : P → List A) (parts : List P) → joined (map f (joined (map xs parts))) ≡ joined (map (λ p. joined (map f (xs p))) parts)
+row-joined f xs parts =
+    ap joined (map-joined f xs parts) ∙ sym (in_rows (map (λ p. map f (xs p)) parts)) ∙ ap joined (map-map joined (λ p. map f (xs p)) parts)

@@ -1,5 +1,5 @@
 -- Calls by steps whose result has at each place what is made of the operands there.
-use Rattle.std.proofs.Common.{◌≡◌, ◌≢◌, ◌+◌, ◌++◌, ◌≤◌, ◌∙◌, ◌⊎◌, ℕ, suc, List, [], ◌∷◌, length, map, inl, inr, Option, Some, None, Result, Ok, Err, refl, sym, ap, subst, All, ⊎_elim}
+use Rattle.std.proofs.Common.{◌≡◌, ◌≢◌, ◌+◌, ◌++◌, ◌≤◌, ◌∙◌, ◌⊎◌, ℕ, suc, List, [], ◌∷◌, length, map, inl, inr, slice_get, Option, Some, None, Result, Ok, Err, refl, sym, ap, subst, All, ⊎_elim}
 use mathlib.Core.List.{map-map}
 use Rattle.std.proofs.lemmas.List.{length-map, map-append}
 use Rattle.std.proofs.lemmas.Option.{same_Some}
@@ -17,10 +17,12 @@ use Rattle.call_laws.proofs.TwoParts.{from_value}
 use Rattle.c_calls.specs.Calls.{in_limit}
 use Rattle.c_calls.specs.Told.{RoomTold, done}
 use Rattle.c_calls.specs.declared.status.CvlStatus.{CvlStatus}
-use Rattle.step_laws.specs.Looks.{FindsNone}
+use Rattle.step_laws.specs.Looks.{Fails, FindsNone}
 use Rattle.step_laws.specs.Parts.{HaveRooms, Part, elements_of, room_of}
 use Rattle.step_laws.specs.PlaceSteps.{FillsAll, FillsPlaces, LooksAtPlaces}
 use Rattle.step_laws.proofs.Answered.{is_done, numbered, tells_done, within}
+use Rattle.step_laws.proofs.ByElement.{made-elements}
+use Rattle.step_laws.proofs.PartFaults.{HasFault, failed, of_part, whole-failed}
 use Rattle.step_laws.proofs.Parted.{alike, alike_where, as-long, each-also, each-where, keeps, some-fewer}
 use Rattle.step_laws.proofs.Valued.{joined-values, long-zipped}
 
@@ -108,6 +110,19 @@ module _ {X R Y : Type 0} where
       long-zipped (λ p. p.room) (λ p. p.room) looked end (each-also _ (λ own left. length left.room ≡ length own.room) (λ own left both. both.1) looked end made)
       ∙ ap (λ r. length (joined r)) roomed in
       subst (λ m. RoomTold m done (room_of start) (room_of end)) (sym (within (elements_of start) (call (elements_of start)) few ∙ whole)) (tells_done (room_of end) (room_of start) long)
+
+  -- a part that finds a fault finds one of the whole
+  pub look-fails : (number : FaultNo) (value : X → Option Y) (start : List (Part X R Y)) → length (elements_of start) ≤ most_places → (k : ℕ) (own : Part X R Y)
+      → slice_get start k ≡ Some own → Fails (in_limit own.elements (values_from number 0 (map value own.elements)))
+      → HasFault (in_limit (elements_of start) (values_from number 0 (map value (elements_of start))))
+  look-fails number value start few k own here fails =
+      let call : List X → Result (List Y) Fault = λ xs. values_from number 0 (map value xs) in
+      let fails_whole : HasFault (call (elements_of start)) =
+      whole-failed (call (elements_of start)) (λ (p : Part X R Y). call p.elements) start k own (made-elements number value (λ (p : Part X R Y). p.elements) start) here
+      (λ ys is.
+      let few_own = of_part start k own here (λ (p : Part X R Y). length p.elements ≤ most_places) (some-fewer (λ (p : Part X R Y). p.elements) most_places start few) in
+      failed (in_limit own.elements (call own.elements)) fails ys (within own.elements (call own.elements) few_own ∙ is)) in
+      (fails_whole.0, within (elements_of start) (call (elements_of start)) few ∙ fails_whole.1)
 
   -- what the parts made where each place has a value
   pub filled : (value : X → Y) (start end : List (Part X R Y)) → length (elements_of start) ≤ most_places → HaveRooms start → AllZip (FillsAll value) start end

@@ -1,27 +1,22 @@
 -- Parts of a vector that are cut at any places: which runs begin in each, and that a segment goes on only behind a part that has some of it.
-use Rattle.std.proofs.Common.{◌≡◌, ◌++◌, ◌+◌, ◌-◌, ◌<◌, ◌≤◌, ◌∙◌, ℕ, zero, suc, ℤ, min, true, Bool, IsTrue, Option, None, Some, List, [], ◌∷◌, length, map, take, drop, sum, slice_get, All}
+use Rattle.std.proofs.Common.{◌≡◌, ◌++◌, ◌+◌, ◌<◌, ◌≤◌, ◌∙◌, ℕ, ℤ, true, Bool, IsTrue, None, Some, List, [], ◌∷◌, length, map, take, drop, sum, slice_get, All}
 use Rattle.std.proofs.Common.{refl, sym, ap, arith, subst, ⊎_elim}
 use Rattle.std.proofs.Common.{append_assoc, length-append, take_at, drop_at}
 use Rattle.std.proofs.lemmas.Bool.{cases_lt}
-use Rattle.std.proofs.lemmas.List.{append-nil, length-drop, length-map, length-take, map-append, take-append-drop}
-use Rattle.std.proofs.lemmas.List.Elements.{All-cons, All-head, All-nil, All-tail}
+use Rattle.std.proofs.lemmas.List.{length-drop, length-map, length-take, map-append, take-append-drop}
+use Rattle.std.proofs.lemmas.List.Elements.{All-head, All-tail}
 use Rattle.call_laws.specs.OverRanks.{followed_by, going_on, together}
 use Rattle.cvl_base.proofs.Lists.{sum-cons}
-use Rattle.cvl_base.proofs.Nests.{lengths-cut}
 use Rattle.cvl_base.specs.Lists.{joined}
 use Rattle.cvl_base.specs.Nests.{cut_of}
 use Rattle.run_lengths.specs.Runs.{runs_in}
-use Rattle.run_parts.specs.Runs.{in_front_of, range_of, runs_behind, runs_in_part}
+use Rattle.run_parts.specs.Runs.{in_front_of, range_of, runs_in_part}
 use Rattle.segment_parts.specs.Reduces.{but_last, is_part}
+use Rattle.step_laws.proofs.CutBounds.{but_last-more}
 use Rattle.step_laws.proofs.Filled.{bounds, count-cut, lengths-going_on, same-front, sums-cut}
-use Rattle.step_laws.proofs.RunsTogether.{GoOn, behind-parted, last_list, last_of, last_of-append, parted, run_part, runs_on, size-part}
+use Rattle.step_laws.proofs.RunsTogether.{GoOn, behind-parted, last_list, last_of, last_of-append, run_part, runs_on}
 use Rattle.step_laws.specs.ReduceParts.{ReducePart, elements_of, segments_in}
 use Rattle.step_laws.specs.RunParts.{AreAt, HasFirsts, RunPart, parts_of}
-
-but_last-more : (l l2 : ℕ) (lengths : List ℕ) → sum (but_last (l ∷ l2 ∷ lengths)) ≡ l + sum (but_last (l2 ∷ lengths))
-but_last-more l l2 lengths =
-    let less : length (l ∷ l2 ∷ lengths) - 1 ≡ suc (length (l2 ∷ lengths) - 1) = omega arith in
-    ap (λ k. sum (take k (l ∷ l2 ∷ lengths))) less ∙ sum-cons l (but_last (l2 ∷ lengths))
 
 module _ {X : Type 0} where
   abbrev pub IsPart : ReducePart X ℤ → Type 0

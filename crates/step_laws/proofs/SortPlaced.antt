@@ -13,8 +13,8 @@ use Rattle.stable_sorts.specs.declared.keys.Placed.{Placed}
 use Rattle.step_laws.proofs.Parted.{alike_where}
 use Rattle.step_laws.proofs.PlaceByPlace.{joined-map}
 use Rattle.step_laws.specs.Parts.{HaveRooms, Part, elements_of, room_of}
-use Rattle.step_laws.specs.SortParts.{places_from}
-use Rattle.step_laws.specs.SortSteps.{PlacesKeys, PlacesValues, Reads}
+use Rattle.step_laws.specs.SortParts.{HasBothRooms, ValuesPart, keys_of, placed_of, places_from, values_of}
+use Rattle.step_laws.specs.SortSteps.{PlacesKeys, PlacesValues, Reads, ReadsBoth}
 
 -- ---- keys beside their places
 
@@ -90,10 +90,35 @@ module _ (turned : ℤ → ℤ) where
 
 -- ---- behind the passes
 
+-- what each part writes of its elements is so written of the whole
+module _ {P : Type 0} (does : P → P → Type 0) (HasRoom : P → Type 0) (of : P → List Placed) (room : P → List ℤ) (read : Placed → ℤ) where
+  written_whole : ((own left : P) → does own left → HasRoom own → room left ≡ map read (of own)) → (start end : List P) → All HasRoom start → AllZip does start end
+      → joined (map room end) ≡ map read (joined (map of start))
+  written_whole writes start end rooms zipped =
+      ap joined (alike_where does HasRoom (λ p. map read (of p)) room writes start end zipped rooms ∙ sym (map-map (map read) of start))
+      ∙ sym (joined-map read (map of start))
+
 pub all_read : (read : Placed → ℤ) (start end : List (Part Placed ℕ ℤ)) → HaveRooms start → AllZip (Reads read) start end
     → room_of end ≡ map read (elements_of start)
-all_read read start end rooms zipped =
-    let written : map (λ p. p.room) end ≡ map (λ p. map read p.elements) start =
-    alike_where (Reads read) (λ p. length p.room ≡ length p.elements) (λ p. map read p.elements) (λ p. p.room)
-    (λ own left does long. let makes = does.0.1 in makes.written (makes.is_done long)) start end zipped rooms in
-    ap joined (written ∙ sym (map-map (map read) (λ (p : Part Placed ℕ ℤ). p.elements) start)) ∙ sym (joined-map read (map (λ p. p.elements) start))
+all_read read =
+    written_whole (Reads read) (λ p. length p.room ≡ length p.elements) (λ p. p.elements) (λ p. p.room) read
+    (λ own left does long. let makes = does.0.1 in makes.written (makes.is_done long))
+
+-- what is done of both rooms
+both_written : (turned : ℤ → ℤ) (own left : ValuesPart) → ReadsBoth turned own left → HasBothRooms own
+    → (left.keys ≡ map (λ (p : Placed). turned p.key) own.placed) × (left.values ≡ map (λ (p : Placed). p.place) own.placed)
+both_written turned own left does rooms =
+    let makes = does.0.1 in
+    let written = makes.written (makes.is_done rooms) in
+    (ap (λ (r : List ℤ × List ℤ). r.0) written, ap (λ (r : List ℤ × List ℤ). r.1) written)
+
+module _ (turned : ℤ → ℤ) (start end : List ValuesPart) (rooms : All HasBothRooms start) (zipped : AllZip (ReadsBoth turned) start end) where
+  pub keys_written : keys_of end ≡ map (λ (p : Placed). turned p.key) (placed_of start)
+  keys_written =
+      written_whole (ReadsBoth turned) HasBothRooms (λ p. p.placed) (λ p. p.keys) (λ p. turned p.key)
+      (λ own left does long. (both_written turned own left does long).0) start end rooms zipped
+
+  pub values_written : values_of end ≡ map (λ (p : Placed). p.place) (placed_of start)
+  values_written =
+      written_whole (ReadsBoth turned) HasBothRooms (λ p. p.placed) (λ p. p.values) (λ p. p.place)
+      (λ own left does long. (both_written turned own left does long).1) start end rooms zipped

@@ -4,6 +4,7 @@ pub mod CheckedSteps
 pub mod CombineParts
 pub mod CombineSteps
 pub mod CountSteps
+pub mod CutSegments
 pub mod CutSteps
 pub mod FillParts
 pub mod FillSteps
@@ -20,6 +21,7 @@ pub mod RangeParts
 pub mod ReduceParts
 pub mod ReduceSteps
 pub mod SegmentCalls
+pub mod RoomFills
 pub mod RunParts
 pub mod RunSteps
 pub mod SegmentSteps

@@ -1,9 +1,10 @@
--- What the parts of a pass of a sort have of their own: a part writes its elements in the order of a digit, as a block, and gathers some of
--- the pieces of all blocks.
+-- What the parts of a sort have of their own: in a pass a part writes its elements in the order of a digit, as a block, and gathers some of
+-- the pieces of all blocks; behind the passes of a sort by key it writes keys and values.
 -- Source: Knuth, The Art of Computer Programming, volume 3, 5.2.5, sorting by distribution; the parts are this library's.
-use Rattle.std.specs.Prelude.{◌≡◌, ℕ, ◌+◌, ◌-◌, List, [], ◌∷◌, length, map}
+use Rattle.std.specs.Prelude.{◌≡◌, ℕ, ◌+◌, ◌-◌, ℤ, List, [], ◌∷◌, length, map}
 use Rattle.cvl_base.specs.Lists.{joined}
 use Rattle.digit_partitions.specs.Partitions.{most_digits}
+use Rattle.stable_sorts.specs.declared.keys.Placed.{Placed}
 
 -- how many elements stand before the part's, these, its block, and where each digit ends in it among all blocks; the pieces that it
 -- gathers, from one with a number on, and its range of the result
@@ -65,3 +66,31 @@ module _ {X : Type 0} where
   -- but for its range
   abbrev pub GathersAlone : PassPart X → PassPart X → Type 0
   GathersAlone own left = left ≡ record own { range = left.range }
+
+-- ---- keys and values
+
+-- the keys beside their values that a part has behind the passes, and its ranges of two rooms, of keys and of values
+pub record ValuesPart : Type 0 where
+  pub placed : List Placed
+  pub keys : List ℤ
+  pub values : List ℤ
+
+-- those of the whole
+abbrev pub placed_of : List ValuesPart → List Placed
+placed_of parts = joined (map (λ p. p.placed) parts)
+
+-- its room of keys
+abbrev pub keys_of : List ValuesPart → List ℤ
+keys_of parts = joined (map (λ p. p.keys) parts)
+
+-- its room of values
+abbrev pub values_of : List ValuesPart → List ℤ
+values_of parts = joined (map (λ p. p.values) parts)
+
+-- each of a part's rooms has a place for each of its keys
+abbrev pub HasBothRooms : ValuesPart → Type 0
+HasBothRooms part = (length part.keys ≡ length part.placed) × (length part.values ≡ length part.placed)
+
+-- a part leaves what it had, but for its rooms
+abbrev pub WritesAlone : ValuesPart → ValuesPart → Type 0
+WritesAlone own left = left ≡ record own { keys = left.keys; values = left.values }

@@ -3,24 +3,21 @@
 -- are this library's.
 use Rattle.std.specs.Prelude.{◌≡◌, ◌≢◌, ◌==◌, ℕ, ◌+◌, ◌-◌, ◌*◌, ◌/◌, ◌%◌, ◌^◌, ◌≤◌, ℤ, List, [], ◌∷◌, length, map, MatchResult, Ok}
 use Rattle.std.specs.List.{All, AllZip, enumerate_from, filter, flat_map, range_with_len}
-use Rattle.call_table.specs.declared.families.IntMonoid.TheVariants.{And, Ior}
 use Rattle.cvl_base.specs.Limits.{most_places}
 use Rattle.digit_partitions.specs.Ends.{digit_ends}
 use Rattle.digit_partitions.specs.Partitions.{most_digits, partitioned}
 use Rattle.digit_partitions.specs.Pieces.{IsRange, digit_piece}
 use Rattle.part_calls.specs.SenderRanges.{senders_range_of}
 use Rattle.sort_parts.specs.Cuts.{IsCutBetween, fits_parts}
-use Rattle.sort_parts.specs.Passes.{passes_by}
+use Rattle.sort_parts.specs.Passes.{key_bits_of, passes_by}
 use Rattle.stable_sorts.specs.Placed.{with_key, with_values}
 use Rattle.stable_sorts.specs.Steps.{IsBlock, digit_of_pass}
 use Rattle.stable_sorts.specs.declared.keys.Placed.{Placed}
-use Rattle.step_laws.specs.FlatSteps.{IntReduces}
-use Rattle.step_laws.specs.Parts.{FillsAlone, Part, told_of}
-use Rattle.step_laws.specs.SortParts.{BlocksAlone, GathersAlone, HasBlock, HaveShares, KnowPlaces, PassPart, SharesAlone}
-use Rattle.step_laws.specs.SortParts.{blocks_of, ends_of, result_of, whole_of}
+use Rattle.step_laws.specs.Parts.{FillsAlone, Part, TellsAlone, told_of}
+use Rattle.step_laws.specs.SortParts.{BlocksAlone, GathersAlone, HasBlock, HasBothRooms, HaveShares, KnowPlaces, PassPart, SharesAlone}
+use Rattle.step_laws.specs.SortParts.{ValuesPart, WritesAlone, blocks_of, ends_of, result_of, whole_of}
 use Rattle.step_laws.specs.Steps.{InParts}
 use Rattle.c_calls.specs.Calls.{in_limit}
-use Rattle.c_calls.specs.Numbers.{int_monoid}
 use Rattle.c_calls.specs.Told.{Told, done}
 use Rattle.c_calls.specs.declared.status.CvlStatus.{CvlStatus}
 
@@ -99,19 +96,16 @@ ByPasses {X} key (pass ∷ passes) elements after =
 abbrev pub passes_in : ℕ → List ℕ
 passes_in bits = filter (λ pass. bits / 2 ^ pass % 2 == 1) (range_with_len 0 3)
 
--- Each part of some keys tells the bits that are set in all of its keys, by the operator `and`, and those that are set in any, by the
--- inclusive `or`; these say, once, which passes a sort makes.
-pub record FindsPasses (start : List (Part ℤ ℤ ℤ)) (bits : ℕ) : Type 0 where
-  pub in_all : List (Part ℤ ℤ ℤ)
-  pub in_any : List (Part ℤ ℤ ℤ)
-  pub and_number : ℕ
-  pub is_and : int_monoid and_number ≡ Ok And
-  pub told_in_all : InParts (IntReduces and_number) start in_all
-  pub ior_number : ℕ
-  pub is_ior : int_monoid ior_number ≡ Ok Ior
-  pub told_in_any : InParts (IntReduces ior_number) start in_any
+-- a part tells the bits that are set in all of its keys, and those that are set in any
+abbrev pub TellsBits : Part ℤ (ℤ × ℤ) ℤ → Part ℤ (ℤ × ℤ) ℤ → Type 0
+TellsBits own left = Told (in_limit own.elements (Ok (key_bits_of own.elements))) done own.told left.told × TellsAlone own left
+
+-- Each part of some keys tells its bits; these say, once, which passes a sort makes.
+pub record FindsPasses (start : List (Part ℤ (ℤ × ℤ) ℤ)) (bits : ℕ) : Type 0 where
+  pub left : List (Part ℤ (ℤ × ℤ) ℤ)
+  pub tells : InParts TellsBits start left
   pub before : ℕ
-  pub told : Told (passes_by (told_of in_all) (told_of in_any)) done before bits
+  pub told : Told (passes_by (map (λ b. b.0) (told_of left)) (map (λ b. b.1) (told_of left))) done before bits
 
 -- ---- before the passes, and behind them
 
@@ -137,6 +131,14 @@ abbrev pub Reads : (Placed → ℤ) → Part Placed ℕ ℤ → Part Placed ℕ 
 Reads read own left =
     ((status : CvlStatus) × Makes (length own.room ≡ length own.elements) (map read own.elements) status own.room left.room)
     × FillsAlone own left
+
+-- a part writes the key of each of its elements, turned to a direction, in one room, and its value in another
+abbrev pub ReadsBoth : (ℤ → ℤ) → ValuesPart → ValuesPart → Type 0
+ReadsBoth turned own left =
+    ((status : CvlStatus)
+    × Makes {Y = List ℤ × List ℤ} (HasBothRooms own) (map (λ p. turned p.key) own.placed, map (λ p. p.place) own.placed)
+    status (own.keys, own.values) (left.keys, left.values))
+    × WritesAlone own left
 
 -- a part writes for each place of its range, of which `before` is the first, where the order has it
 abbrev pub FindsPlaces : List ℤ → Part ℤ ℕ ℤ → Part ℤ ℕ ℤ → Type 0

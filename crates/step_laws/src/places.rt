@@ -1,13 +1,15 @@
 //! Calls by steps whose result has at each place what is made of the operands there, and replaces.
 
-ghost use Rattle.std.specs.Prelude.{◌≡◌, ◌≢◌, ◌≤◌, ◌<◌, ℕ, pos, List, [], ◌∷◌, Ok, Option, length, map, slice_get, Some};
+ghost use Rattle.std.specs.Prelude.{◌≡◌, ◌≢◌, ◌≤◌, ◌<◌, ℕ, pos, List, [], ◌∷◌, Ok, Err, Option, length, map, slice_get, Some};
 ghost use Rattle.std.specs.List.{slice_set, zip};
+ghost use Rattle.cvl_base.specs.declared.fault.Fault.{Fault};
 ghost use Rattle.cvl_base.specs.declared.fault.FaultNo.{FaultNo};
 ghost use Rattle.cvl_base.specs.Distributes.{distribute_within};
 ghost use Rattle.cvl_base.specs.Elementwise.{on_pairs, on_pairs_or, values_from};
 ghost use Rattle.cvl_base.specs.Extracts.{replace_of};
 ghost use Rattle.cvl_base.specs.Faults.{number_of};
 ghost use Rattle.cvl_base.specs.Limits.{most_places};
+ghost use Rattle.step_laws.specs.Looks.{Fails};
 ghost use Rattle.step_laws.specs.Parts.{HaveRooms, Part, elements_of, room_of};
 ghost use Rattle.step_laws.specs.PlaceSteps.{FillsAll, FillsPlaces, LooksAtPlaces};
 ghost use Rattle.step_laws.specs.Steps.{InParts};
@@ -17,7 +19,7 @@ ghost use Rattle.c_calls.specs.declared.status.CvlStatus.{CvlStatus};
 
 /// A call place by place, by steps. If some places may lack a value, each part first looks at its own, without a room; once no
 /// part finds a fault, each makes its values. Then each place of the whole has its value, and no part of the last step has a
-/// fault.
+/// fault. If a part finds a fault, the whole has one.
 pub fn places_by_steps<X, R, Y>()
     ensures looking { (number : FaultNo) (value : X → Option Y) (start looked end : List (Part X R Y)) →
         number_of number ≢ 7 → length (elements_of start) ≤ most_places → HaveRooms start →
@@ -27,6 +29,10 @@ pub fn places_by_steps<X, R, Y>()
     ensures all { (value : X → Y) (start end : List (Part X R Y)) → length (elements_of start) ≤ most_places → HaveRooms start →
         InParts (FillsAll value) start end →
         RoomTold (in_limit (elements_of start) (Ok (map value (elements_of start)))) done (room_of start) (room_of end) }
+    ensures faults { (number : FaultNo) (value : X → Option Y) (start : List (Part X R Y)) (k : ℕ) (own : Part X R Y) →
+        length (elements_of start) ≤ most_places → slice_get start k ≡ Some own →
+        Fails (in_limit own.elements (values_from number 0 (map value own.elements))) →
+        (f : Fault) × (in_limit (elements_of start) (values_from number 0 (map value (elements_of start))) ≡ Err f) }
 {}
 
 /// A replace by steps: each part copies its elements, and then, once, the value is distributed to the one place of the index.

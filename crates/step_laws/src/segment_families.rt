@@ -11,12 +11,14 @@ ghost use Rattle.cvl_base.specs.SegmentedCalls.{seg_simple_of};
 ghost use Rattle.exact_combines.specs.ExactCombines.{seg_checked_combine_of, seg_exact_sums_of};
 ghost use Rattle.first_senders.specs.FirstSenders.{seg_first_senders_of, seg_select_first_senders_of};
 ghost use Rattle.flag_merges.specs.Merges.{seg_merge_of};
+ghost use Rattle.flag_calls.specs.Flags.{made_flags};
 ghost use Rattle.orders.specs.Orders.{seg_order_of, seg_rank_of, seg_sorted_of};
+ghost use Rattle.orders.specs.SortsByKey.{seg_sort_by_key_of};
 ghost use Rattle.segment_slices.specs.Pairs.{append_segments_of};
 ghost use Rattle.segment_slices.specs.Slices.{gather_segments_of};
 ghost use Rattle.segment_values.specs.Values.{each_of};
 ghost use Rattle.sparse_products.specs.Answers.{checked_rows_product, rows_product};
-ghost use Rattle.step_laws.specs.SegmentCalls.{AddUp, AsMany, IsMadeOf, of_all};
+ghost use Rattle.step_laws.specs.SegmentCalls.{AddUp, AreMadeOf, AsMany, IsMadeOf, of_all};
 ghost use Rattle.c_calls.specs.Calls.{by_operator, by_segments, in_limit, lengths_of};
 
 /// Permutes by segments.
@@ -116,8 +118,18 @@ pub fn orders_go_by_segments<P>()
         (map (λ p. by_segments (lengths p) (λ d. in_limit (keys p) (seg_sorted_of (keys p) d))) parts) }
 {}
 
+/// Sorts by key by segments, over the keys and their values, in either direction.
+pub fn sorts_by_key_go_by_segments<P>()
+    ensures { (before : ℤ → ℤ → Bool) (parts : List P) (keys values lengths : P → List ℤ) (segments : List ℕ) →
+        lengths_of (of_all lengths parts) ≡ Ok segments → length (of_all keys parts) ≤ most_places →
+        AddUp lengths keys parts → AsMany keys values parts →
+        AreMadeOf (by_segments (of_all lengths parts) (λ d. in_limit (of_all keys parts)
+        (seg_sort_by_key_of before (of_all keys parts) (of_all values parts) d)))
+        (map (λ p. by_segments (lengths p) (λ d. in_limit (keys p) (seg_sort_by_key_of before (keys p) (values p) d))) parts) }
+{}
+
 /// One value of each segment, by any function of it, as its first true flag, its exact sum or the number of its runs; its element
-/// at an index; and segments of which the element at an index is replaced.
+/// at an index, also of flags that come as bytes; and segments of which the element at an index is replaced.
 pub fn values_go_by_segments<P, X, V>()
     ensures each { (value : List X → V) (parts : List P) (xs : P → List X) (lengths : P → List ℤ) (segments : List ℕ) →
         lengths_of (of_all lengths parts) ≡ Ok segments → AddUp lengths xs parts →
@@ -127,6 +139,10 @@ pub fn values_go_by_segments<P, X, V>()
         lengths_of (of_all lengths parts) ≡ Ok segments → AddUp lengths xs parts → AsMany index lengths parts →
         IsMadeOf (by_segments (of_all lengths parts) (seg_extract_of (of_all xs parts) (of_all index parts)))
         (map (λ p. by_segments (lengths p) (seg_extract_of (xs p) (index p))) parts) }
+    ensures extract_flags { (parts : List P) (bytes : P → List ℕ) (index lengths : P → List ℤ) (segments : List ℕ) →
+        lengths_of (of_all lengths parts) ≡ Ok segments → AddUp lengths bytes parts → AsMany index lengths parts →
+        IsMadeOf (made_flags (by_segments (of_all lengths parts) (seg_extract_of (of_all bytes parts) (of_all index parts))))
+        (map (λ p. made_flags (by_segments (lengths p) (seg_extract_of (bytes p) (index p)))) parts) }
     ensures replace { (parts : List P) (xs values : P → List X) (index lengths : P → List ℤ) (segments : List ℕ) →
         lengths_of (of_all lengths parts) ≡ Ok segments → AddUp lengths xs parts →
         AsMany index lengths parts → AsMany values lengths parts →

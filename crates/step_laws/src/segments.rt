@@ -15,16 +15,18 @@ ghost use Rattle.step_laws.specs.CountSteps.{Counts};
 ghost use Rattle.step_laws.specs.CutSteps.{IsCutBy};
 ghost use Rattle.step_laws.specs.LengthSteps.{Measures};
 ghost use Rattle.step_laws.specs.Parts.{Part, elements_of, told_of};
-ghost use Rattle.step_laws.specs.SegmentCalls.{CallPart, IsMadeOf, Makes, MakesOver, room_of};
+ghost use Rattle.step_laws.specs.SegmentCalls.{AreMadeOf, CallPart, IsMadeOf, Makes, MakesOver, MakesOverBoth, TwoRoomPart};
+ghost use Rattle.step_laws.specs.SegmentCalls.{room_of, rooms_in, rooms_of};
 ghost use Rattle.step_laws.specs.Steps.{InParts};
 ghost use Rattle.c_calls.specs.Calls.{lengths_of};
 ghost use Rattle.c_calls.specs.Told.{RoomTold, Told, done, status_of_fault};
 ghost use Rattle.c_calls.specs.declared.status.CvlStatus.{CvlStatus};
 
 /// Where the parts of a call stand in a vector, by steps. If each part adds up its lengths there, or counts the flags that are
-/// true there, the step that looks once for the places cuts the vector into ranges, one for each part, of as many elements; if
-/// the lengths do not add up to the vector, its answer is the fault that the call has. In a vector that has the elements of two
-/// others a part stands behind what is before it in both.
+/// true there, the step that looks once for the places cuts the vector into ranges, one for each part, of as many elements. If
+/// the lengths do not add up to the vector, its answer is the fault that the call has; if more or fewer flags are true than the
+/// vector has elements, it is `LengthMismatch`. In a vector that has the elements of two others a part stands behind what is
+/// before it in both.
 pub fn vectors_cut_by_steps<P, X>()
     ensures lengths { (start measured : List (Part ℤ ℕ ℤ)) (xs : List X) (before places : List ℕ) →
         InParts Measures start measured →
@@ -38,6 +40,10 @@ pub fn vectors_cut_by_steps<P, X>()
     ensures flags { (start counted : List (Part ℕ ℤ ℤ)) (xs : List X) (before places : List ℕ) → InParts Counts start counted →
         RoomTold (exact_count_places_of (told_of counted) (length xs)) done before places →
         IsCutBy places (map (λ (p : Part ℕ ℤ ℤ). count_of (flags_of p.elements)) start) xs }
+    ensures other_flags { (start counted : List (Part ℕ ℤ ℤ)) (xs : List X) (status : CvlStatus) (before places : List ℕ) →
+        length before ≡ length start + 1 → InParts Counts start counted →
+        RoomTold (exact_count_places_of (told_of counted) (length xs)) status before places → status ≢ done →
+        (count_of (flags_of (elements_of start)) ≢ length xs) × (status ≡ status_of_fault (fault no.LengthMismatch)) }
     ensures both { (one other : P → ℕ) (parts : List P) (xs : List X) (before places : List ℕ) →
         RoomTold (added_places_of (places_of (map one parts)) (places_of (map other parts)) (length xs)) done before places →
         IsCutBy places (map (λ p. one p + other p) parts) xs }
@@ -55,4 +61,16 @@ pub fn segment_calls_by_steps<I, Y>()
         Told whole done (room_of start) (room_of end) }
     ensures exactly { (call : I → Result (List Y) Fault) (whole : Result (List Y) Fault) (parts : List I) (ys : List Y) →
         IsMadeOf whole (map call parts) → whole ≡ Ok ys → All (λ p. (zs : List Y) × (call p ≡ Ok zs)) parts }
+{}
+
+/// The same of a call that writes over two rooms, as a sort by key over keys and values: if each part is done, so is the call,
+/// and both rooms have what the parts give, one part behind another.
+pub fn two_room_calls_by_steps<I, Y, Z>()
+    ensures over { (call : I → List Y × List Z → Result (List Y × List Z) Fault) (whole : Result (List Y × List Z) Fault)
+        (start end : List (TwoRoomPart I Y Z)) →
+        AreMadeOf whole (map (λ (p : TwoRoomPart I Y Z). call p.operands (rooms_in p)) start) →
+        InParts (MakesOverBoth call) start end → Told whole done (rooms_of start) (rooms_of end) }
+    ensures exactly { (call : I → Result (List Y × List Z) Fault) (whole : Result (List Y × List Z) Fault) (parts : List I)
+        (rooms : List Y × List Z) →
+        AreMadeOf whole (map call parts) → whole ≡ Ok rooms → All (λ p. (own : List Y × List Z) × (call p ≡ Ok own)) parts }
 {}

@@ -1,7 +1,7 @@
 //! Orders, ranks and sorts by steps.
 
 ghost use Rattle.std.specs.Prelude.{◌≡◌, ◌≤◌, ◌<◌, ℕ, ℤ, pos, List, Ok, length, map};
-ghost use Rattle.std.specs.List.{AllPass};
+ghost use Rattle.std.specs.List.{All, AllPass};
 ghost use Rattle.cvl_base.specs.ItemWords.{is_number};
 ghost use Rattle.cvl_base.specs.Limits.{most_places};
 ghost use Rattle.orders.specs.Orders.{order_of, rank_of, sorted_of};
@@ -10,9 +10,10 @@ ghost use Rattle.stable_sorts.specs.Both.{both};
 ghost use Rattle.stable_sorts.specs.Passes.{by_digit};
 ghost use Rattle.stable_sorts.specs.declared.keys.Placed.{Placed};
 ghost use Rattle.step_laws.specs.Parts.{HaveRooms, Part, befores_of, elements_of, room_of};
-ghost use Rattle.step_laws.specs.SortParts.{PassPart, places_from, result_of, whole_of};
+ghost use Rattle.step_laws.specs.SortParts.{HasBothRooms, PassPart, ValuesPart, keys_of, placed_of, places_from, result_of};
+ghost use Rattle.step_laws.specs.SortParts.{values_of, whole_of};
 ghost use Rattle.step_laws.specs.SortSteps.{ByPasses, FindsPasses, FindsPlaces, IsPassBySteps, PlacesKeys, PlacesValues};
-ghost use Rattle.step_laws.specs.SortSteps.{Reads, digit, passes_in};
+ghost use Rattle.step_laws.specs.SortSteps.{Reads, ReadsBoth, digit, passes_in};
 ghost use Rattle.step_laws.specs.Steps.{InParts};
 ghost use Rattle.c_calls.specs.Calls.{in_limit};
 ghost use Rattle.c_calls.specs.Told.{RoomTold, Told, done};
@@ -30,8 +31,8 @@ pub fn pass_by_steps<X>()
 /// A sort by steps: each part tells which bits are set in all of its keys, and which in any; these say, once, which passes there
 /// are; and the passes are made, each of what the one before left. Then the last one leaves the sort of the whole.
 pub fn sorts_by_steps()
-    ensures { (start : List (Part ℤ ℤ ℤ)) (bits : ℕ) (room after : List ℤ) →
-        AllPass is_number (elements_of start) → length (elements_of start) ≤ most_places → length start ≤ most_places →
+    ensures { (start : List (Part ℤ (ℤ × ℤ) ℤ)) (bits : ℕ) (room after : List ℤ) →
+        AllPass is_number (elements_of start) → length (elements_of start) ≤ most_places →
         length room ≡ length (elements_of start) → FindsPasses start bits →
         ByPasses (λ key. key) (passes_in bits) (elements_of start) after →
         RoomTold (in_limit (elements_of start) (Ok (sorted_of (elements_of start)))) done room after }
@@ -40,9 +41,9 @@ pub fn sorts_by_steps()
 /// An order by steps: each part writes its keys beside their places, the passes move these, and each part writes the places of
 /// its range. They are the order of the whole.
 pub fn orders_by_steps()
-    ensures { (start : List (Part ℤ ℤ ℤ)) (bits : ℕ) (keyed placed : List (Part ℤ ℕ Placed)) (sorted : List Placed)
+    ensures { (start : List (Part ℤ (ℤ × ℤ) ℤ)) (bits : ℕ) (keyed placed : List (Part ℤ ℕ Placed)) (sorted : List Placed)
         (moved end : List (Part Placed ℕ ℤ)) →
-        AllPass is_number (elements_of start) → length (elements_of start) ≤ most_places → length start ≤ most_places →
+        AllPass is_number (elements_of start) → length (elements_of start) ≤ most_places →
         FindsPasses start bits → elements_of keyed ≡ elements_of start →
         befores_of keyed ≡ places_from 0 (map (λ p. p.elements) keyed) → HaveRooms keyed → InParts PlacesKeys keyed placed →
         ByPasses (λ p. p.key) (passes_in bits) (room_of placed) sorted →
@@ -63,30 +64,28 @@ pub fn ranks_by_steps()
 }
 
 /// A sort by key by steps: each part writes its keys beside their values, the passes move these, and each part writes the keys
-/// of its range, and the values. Keys and values together are the sort by key of the whole. In a descending sort the keys are
+/// and the values of its range. Keys and values together are the sort by key of the whole. In a descending sort the keys are
 /// turned by inverting their bits before the passes, and turned back behind them; the passes are those in which the keys as they
 /// are differ.
 pub fn sorts_by_key_by_steps()
-    ensures ascending { (start : List (Part ℤ ℤ ℤ)) (bits : ℕ) (keyed placed : List (Part (ℤ × ℤ) ℕ Placed))
-        (sorted : List Placed) (keys values moved_keys moved_values : List (Part Placed ℕ ℤ)) →
-        AllPass is_number (elements_of start) → length (elements_of start) ≤ most_places → length start ≤ most_places →
+    ensures ascending { (start : List (Part ℤ (ℤ × ℤ) ℤ)) (bits : ℕ) (keyed placed : List (Part (ℤ × ℤ) ℕ Placed))
+        (sorted : List Placed) (moved end : List ValuesPart) →
+        AllPass is_number (elements_of start) → length (elements_of start) ≤ most_places →
         FindsPasses start bits → map (λ e. e.0) (elements_of keyed) ≡ elements_of start → HaveRooms keyed →
         InParts (PlacesValues (λ key. key)) keyed placed →
         ByPasses (λ p. p.key) (passes_in bits) (room_of placed) sorted →
-        elements_of keys ≡ sorted → HaveRooms keys → InParts (Reads (λ p. p.key)) keys moved_keys →
-        elements_of values ≡ sorted → HaveRooms values → InParts (Reads (λ p. p.place)) values moved_values →
+        placed_of moved ≡ sorted → All HasBothRooms moved → InParts (ReadsBoth (λ key. key)) moved end →
         Told (in_limit (elements_of start)
         (sort_by_key_of ascending (elements_of start) (map (λ e. e.1) (elements_of keyed)))) done
-        (both (room_of keys) (room_of values)) (both (room_of moved_keys) (room_of moved_values)) }
-    ensures descending { (start : List (Part ℤ ℤ ℤ)) (bits : ℕ) (keyed placed : List (Part (ℤ × ℤ) ℕ Placed))
-        (sorted : List Placed) (keys values moved_keys moved_values : List (Part Placed ℕ ℤ)) →
-        AllPass is_number (elements_of start) → length (elements_of start) ≤ most_places → length start ≤ most_places →
+        (both (keys_of moved) (values_of moved)) (both (keys_of end) (values_of end)) }
+    ensures descending { (start : List (Part ℤ (ℤ × ℤ) ℤ)) (bits : ℕ) (keyed placed : List (Part (ℤ × ℤ) ℕ Placed))
+        (sorted : List Placed) (moved end : List ValuesPart) →
+        AllPass is_number (elements_of start) → length (elements_of start) ≤ most_places →
         FindsPasses start bits → map (λ e. e.0) (elements_of keyed) ≡ elements_of start → HaveRooms keyed →
         InParts (PlacesValues inverted) keyed placed →
         ByPasses (λ p. p.key) (passes_in bits) (room_of placed) sorted →
-        elements_of keys ≡ sorted → HaveRooms keys → InParts (Reads (λ p. inverted p.key)) keys moved_keys →
-        elements_of values ≡ sorted → HaveRooms values → InParts (Reads (λ p. p.place)) values moved_values →
+        placed_of moved ≡ sorted → All HasBothRooms moved → InParts (ReadsBoth inverted) moved end →
         Told (in_limit (elements_of start)
         (sort_by_key_of descending (elements_of start) (map (λ e. e.1) (elements_of keyed)))) done
-        (both (room_of keys) (room_of values)) (both (room_of moved_keys) (room_of moved_values)) }
+        (both (keys_of moved) (values_of moved)) (both (keys_of end) (values_of end)) }
 {}

@@ -11,7 +11,9 @@ ghost use Rattle.cvl_base.specs.ItemWords.{is_number};
 ghost use Rattle.cvl_base.specs.Limits.{most_places};
 ghost use Rattle.cvl_base.specs.Lists.{joined};
 ghost use Rattle.line_reader.specs.Tokens.{tokens_by};
+ghost use Rattle.part_cuts.specs.White.{IsCutAtWhite};
 ghost use Rattle.part_records.specs.Totals.{total_within};
+ghost use Rattle.step_laws.specs.PackSteps.{ranges_of};
 ghost use Rattle.step_laws.specs.Steps.{InParts};
 ghost use Rattle.step_laws.specs.TextParts.{AreCutAtWhite, TextPart, counts_of, items_of};
 ghost use Rattle.step_laws.specs.TextSteps.{IsMadeBySteps, IsTooShortBySteps, Makes, OfBooleanSegments, OfBooleans};
@@ -55,6 +57,13 @@ pub fn reads_by_steps()
     ensures faults { (parts : List (List ℕ)) (k : ℕ) (bytes : List ℕ) (f : Fault) →
         AreCutAtWhite parts → slice_get parts k ≡ Some bytes → input_within most_places bytes ≡ Err f →
         (g : Fault) × (input_within most_places (joined parts) ≡ Err g) }
+{}
+
+/// A text that is cut at white space has the parts from each of these places up to the next one: they are the text, in order, and
+/// each but the first is empty or begins at white space, so that they may be read by steps.
+pub fn cut_texts_have_parts()
+    ensures white { (text places : List ℕ) → IsCutAtWhite text places → AreCutAtWhite (ranges_of places text) }
+    ensures whole { (text places : List ℕ) → IsCutAtWhite text places → joined (ranges_of places text) ≡ text }
 {}
 
 /// The memory for all has room for what each part makes, between where its range begins and where that of the next part does: an

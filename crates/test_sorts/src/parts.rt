@@ -1,7 +1,7 @@
 //! What a sort in parts makes between the steps of its parts: worked values, told by hand.
 
 use cvl_base::{Fault, FaultNo};
-use sort_parts::{cut_pieces, digit_passes};
+use sort_parts::{cut_pieces, digit_passes, key_bits};
 
 /// What two parts tell of their keys, and which passes there are.
 struct Case {
@@ -50,6 +50,13 @@ fn passes_by_digits_that_differ(rt: HostRuntime) {
     }
     let differ = Fault::new(FaultNo::LengthMismatch);
     assert!(rt; digit_passes(&[1], &[]) == Err(differ));
+}
+
+#[test]
+fn finds_the_bits_of_keys(rt: HostRuntime) {
+    assert!(rt; key_bits(&[5, 7]) == (5, 7));
+    assert!(rt; key_bits(&[-1, 6, 4]) == (4, -1));
+    assert!(rt; key_bits(&[]) == (-1, 0));
 }
 
 /// Two parts of two elements, with the digits 0, 1 and 1, 1.

@@ -7,13 +7,10 @@ use Rattle.step_laws.proofs.sorts.sorts_by_key_by_steps.Goals as goal
 
 pub returns : goal.returns
 returns c = record {
-  ascending = λ start bits keyed placed moved keys values moved_keys moved_values numbers few few_parts found same rooms first passes keys_are key_rooms reads_keys
-      values_are value_rooms reads_values.
-      sorted_with_values start bits numbers few few_parts found ascending (λ key. key) ascending_turn (λ key fit. fit) (λ pass d. d) (λ pass d below. below)
-      (λ pass below key fit. refl) keyed placed moved keys values moved_keys moved_values same rooms first passes keys_are key_rooms reads_keys values_are value_rooms
-      reads_values;
-  descending = λ start bits keyed placed moved keys values moved_keys moved_values numbers few few_parts found same rooms first passes keys_are key_rooms reads_keys
-      values_are value_rooms reads_values.
-      sorted_with_values start bits numbers few few_parts found descending inverted descending_turn fits_inverted turned_digit (λ pass d below. turned-below pass d)
-      turned_is keyed placed moved keys values moved_keys moved_values same rooms first passes keys_are key_rooms reads_keys values_are value_rooms reads_values;
+  ascending = λ start bits keyed placed moved last end numbers few found same rooms first passes is last_rooms reads.
+      sorted_with_values start bits numbers few found ascending (λ key. key) ascending_turn (λ key fit. fit) (λ pass d. d) (λ pass d below. below)
+      (λ pass below key fit. refl) keyed placed moved last end same rooms first passes is last_rooms reads;
+  descending = λ start bits keyed placed moved last end numbers few found same rooms first passes is last_rooms reads.
+      sorted_with_values start bits numbers few found descending inverted descending_turn fits_inverted turned_digit (λ pass d below. turned-below pass d)
+      turned_is keyed placed moved last end same rooms first passes is last_rooms reads;
 }
