@@ -6,13 +6,13 @@ from table import MOST_ELEMENTS, MOST_OF_TEXT, MOST_STACK
 # what is proved of the library from other languages, in the same words on the pages that stand alone, and in short on the others
 FROM_C = (
     "The exported functions of the library are proved: each gives the value or the first fault of its definition, and a fault leaves your arrays as they "
-    "were. On several threads a call is a list of steps, each an exported function too, and proved together, but for sorts by key by segments: the parts of a "
-    "step run once, in any order, and step after step, they give the result of the call. The C over them, which checks arguments, cuts a call and runs its "
-    "steps on threads, is tested, and in part proved by another tool."
+    "were. On several threads a call is a list of steps, each an exported function too but for one that takes memory, and proved together: the parts of a "
+    "step run once, in any order, and step after step, they give the result of the call. The C over them, which checks arguments and runs the steps on "
+    "threads, is tested, and in part proved by another tool."
 )
 FROM_C_IN_SHORT = (
-    "The functions below a call are [proved](proved.md), and so is that the steps of a call on several threads give its result, but for sorts by key by "
-    "segments. The C over them, which checks arguments and runs the steps, is tested."
+    "The functions below a call are [proved](proved.md), and so is that the steps of a call on several threads give its result. The C over them, which "
+    "checks arguments and runs the steps, is tested."
 )
 
 ABOUT = (
@@ -115,8 +115,8 @@ OF_VERSIONS = (
 THREADS = (
     "Calls run on the thread that calls. If cvl_set_threads or the variable CVL_NUM_THREADS asks for more threads, for the whole process, long calls run on "
     "them: from 262144 elements on, from 131072 bytes of a text that is read, and from 32768 elements whose text is written. Results and faults are the same. "
-    "These calls stay on the calling thread: those that read one element, read a nested text or a text after another, scan after a carry, add up exactly, "
-    "make a range of another call, or look for one true flag. On several threads a call may copy its buffer; if there is no "
+    "These calls stay on the calling thread: those that read one element, read a nested text or a text after another, scan after a carry, add up one vector exactly, "
+    "make a range of another call, or look for one true flag; and a combining permute of booleans of which one in the buffer is neither 0 nor 1. On several threads a call may copy its buffer; if there is no "
     "memory for that, it runs on the calling thread.",
     "One call at a time has the threads. No other call waits for it, or for cvl_set_threads: it runs on its own thread. A call in parts on a pool of yours "
     "(cvl_parallel.h) uses only the threads of that pool.",

@@ -152,6 +152,11 @@ IN_STEPS = (
         faults=(SUM_OF_N,),
     ),
     in_steps(
+        "part_numbers",
+        (value("before", "size"), value("init"), value("stride"), room("ints")),
+        "The numbers of an index behind its first `before`.",
+    ),
+    in_steps(
         "part_index",
         (
             value("done", "size"),
@@ -395,6 +400,12 @@ IN_STEPS = (
     in_steps("ints_from_sums", (sums("sums"), room("ints")), "Each sum as an integer.", (OVERFLOW_AT_PLACE,)),
     # ---- orders, ranks and sorts ----
     in_steps(
+        "key_bits",
+        (ints("keys"), single("int", "all"), single("int", "any")),
+        "The bits that are set in all keys of a part, and those that are set in any.",
+        (TOO_LONG,),
+    ),
+    in_steps(
         "digit_passes",
         (ints("all"), ints("any"), told("passes")),
         "Of the bits that are set in all keys of each part, and in any, the passes that move keys: a bit for each, or the first if all keys are equal.",
@@ -433,10 +444,14 @@ IN_STEPS = (
         )
         for name, of, reads, kind in (("gather_keys", "keys", ints, "ints"), ("gather_placed", "placed keys", placed, "placed"))
     ),
-    in_steps("places_of", (placed("placed"), room("ints")), "The places or values of placed keys."),
+    in_steps("places_of", (placed("placed"), room("ints")), "The places of placed keys."),
     *(
-        in_steps(name, (placed("placed"), room("ints")), f"The keys of {of} sort.")
-        for name, of in (("keys_of", "an ascending"), ("keys_of_descending", "a descending"))
+        in_steps(
+            name,
+            (placed("placed"), room("ints", name="keys"), room("ints", name="values")),
+            f"The keys of {of} sort, and beside each its value.",
+        )
+        for name, of in (("keys_and_values_of", "an ascending"), ("keys_and_values_of_descending", "a descending"))
     ),
 )
 
@@ -455,6 +470,7 @@ def steps_of(cut, kind):
     room, index, at_from = ("OUT", "NONE"), ("INDEX", "NONE"), {"from": ("FROMS", "AT_FROM")}
     return {
         "places": (step("looks", out=nothing), step("fills")),
+        "numbers": (step("fills", "part_numbers", before=("FROMS", "AT_FROM"), out=("OUT", "FROM")),),
         "replace": (step("fills", f"{kind}1", "CPY", a="vector"), step("gives", f"distribute_{kind}", count=one, out=place)),
         "reduce": (step("tells", f"{kind}_reduce", out=each_sum), step("gives", f"{kind}_reduce", a=all_sums)),
         "scan": (
@@ -732,8 +748,7 @@ def sorting():
 
     def bits(keys):
         return (
-            step("tells", "int_reduce", "AND", a=keys, out=("SUMS", "PART")),
-            step("tells", "int_reduce", "IOR", a=keys, out=("BEFORE", "PART")),
+            step("tells", "key_bits", keys=keys, all=("SUMS", "PART"), any=("BEFORE", "PART")),
             step("joins", "digit_passes", all=("SUMS", "NONE"), any=("BEFORE", "NONE"), passes=("MOVES", "NONE")),
         )
 
@@ -800,8 +815,7 @@ def sorting():
                     ("OUT", "FROM"),
                     step("drafts", f"placed_values{way}", keys=("OUT", "FROM"), values=("OTHER_OUT", "FROM"), placed=part),
                 ),
-                step("fills", f"keys_of{way}", placed=part, out=("OUT", "FROM")),
-                step("fills", "places_of", placed=part, out=("OTHER_OUT", "FROM")),
+                step("fills", f"keys_and_values_of{way}", placed=part, keys=("OUT", "FROM"), values=("OTHER_OUT", "FROM")),
             )
             for way in ("", "_descending")
         },

@@ -136,6 +136,7 @@ BEFORE = "each rank goes on from what stands before it in its segment"
 JOINED_AT_START = "the pieces of a segment are joined where it starts"
 CUTS = {
     "places": Cut("cut at places", OWN_PLACES),
+    "numbers": Cut("cut at places; a part's numbers go on behind those of the parts before", OWN_PLACES),
     "reduce": Cut("cut at places; the parts' reduces are joined", OverRanks("reduce", "the ranks' reduces are joined")),
     "scan": Cut(
         "cut at places; each part goes on from the reduces before it",
@@ -896,7 +897,7 @@ FAMILIES = (
         "The numbers init + k * stride, each wrapped to 32 bits, count of them.",
         limit=None,
         faults=BAD_COUNT,
-        cut=("places", "count"),
+        cut=("numbers", "count"),
         over_ranks=COUNTED_PLACES,
     ),
     # ---- segments, which come as their lengths ----

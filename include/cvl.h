@@ -188,8 +188,9 @@ size_t cvl_explain(CvlStatus status, char *text, size_t size);
  * Calls run on the thread that calls. If cvl_set_threads or the variable CVL_NUM_THREADS asks for more threads, for the whole
  * process, long calls run on them: from 262144 elements on, from 131072 bytes of a text that is read, and from 32768 elements
  * whose text is written. Results and faults are the same. These calls stay on the calling thread: those that read one element,
- * read a nested text or a text after another, scan after a carry, add up exactly, make a range of another call, or look for one
- * true flag. On several threads a call may copy its buffer; if there is no memory for that, it runs on the calling thread.
+ * read a nested text or a text after another, scan after a carry, add up one vector exactly, make a range of another call, or
+ * look for one true flag; and a combining permute of booleans of which one in the buffer is neither 0 nor 1. On several threads
+ * a call may copy its buffer; if there is no memory for that, it runs on the calling thread.
  *
  * One call at a time has the threads. No other call waits for it, or for cvl_set_threads: it runs on its own thread. A call in
  * parts on a pool of yours (cvl_parallel.h) uses only the threads of that pool.

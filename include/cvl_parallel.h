@@ -29,7 +29,7 @@ typedef void (*CvlPart)(void *work, size_t part);
 
 /*
  * A pool runs the parts of calls. It cuts a long vector into `parts` parts: 0 means 1, more than 64 means 64; a call may use fewer.
- * A call uses `run` once for each of its steps. `run` must do this:
+ * A call uses `run` several times, one after another: to cut the call, and for each step that parts make. `run` must do this:
  *   - it runs part(work, k) once for each k below `parts`, in any order, on any threads;
  *   - a thread that runs a part has CVL_MOST_STACK bytes of its stack left;
  *   - it returns when all parts have returned, and runs none later;
@@ -131,6 +131,8 @@ CVL_CHECKED CvlStatus cvl_replace_bool_on(const CvlPool *pool, const bool *vecto
 /* Cut at places. */
 CVL_CHECKED CvlStatus cvl_distribute_int_on(const CvlPool *pool, int32_t value, int64_t count, int32_t *out, size_t out_len);
 CVL_CHECKED CvlStatus cvl_distribute_bool_on(const CvlPool *pool, bool value, int64_t count, bool *out, size_t out_len);
+
+/* Cut at places; a part's numbers go on behind those of the parts before. */
 CVL_CHECKED CvlStatus cvl_index_on(const CvlPool *pool, int32_t init, int32_t stride, int64_t count, int32_t *out,
     size_t out_len);
 

@@ -1,5 +1,5 @@
 """docs/user/proved.md: the functions and laws that its table of crates names are theirs. docs/dev/wrong-bodies.md: what refuses each wrong
-body is there, and each must-fail edit stands in the table; and the crates of the kit that the proofs trust are listed."""
+body is there, and each must-fail edit stands in the table; the crates of the kit that the proofs trust are listed, and the contracts in C without a proof."""
 
 import re
 import sys
@@ -119,6 +119,25 @@ def check_trusted():
     yield from (
         f"{PAGE} lists {name} among what the proofs trust, and crates.txt does not have it" for name in sorted(listed - used)
     )
+
+
+ANALYSED = "bindings/tests/analysis/proved"
+
+# a contract in C that says something of the result or of what is written, and the function behind it
+IN_C = re.compile(r"/\*@(?:(?!\*/).)*?\bensures\b(?:(?!\*/).)*\*/\n(?:[\w*]+ )*\**(\w+)\(", re.DOTALL)
+
+
+def check_unproved():
+    """The page names each function of the C over the exports whose contract the analysis takes without a proof."""
+    proved = {name for line in lines_of(ANALYSED) for name in line.partition("#")[0].partition(":")[2].split()}
+    [line] = [line for line in lines_of(PAGE) if line.startswith("These proofs rest on ")]
+    named = set(re.findall("`([^`]+)`", line.partition("contracts that nothing proves: ")[2]))
+    files = sorted(path for path in (TOP / "bindings/c").iterdir() if path.suffix in (".c", ".h"))
+    taken = {
+        name for path in [*files, TOP / "bindings/tests/analysis/exports.h"] for name in IN_C.findall(path.read_text())
+    } - proved
+    yield from (f"{PAGE} does not name {name}, whose contract nothing proves" for name in sorted(taken - named))
+    yield from (f"{PAGE} names {name}, which is proved or has no contract" for name in sorted(named - taken))
 
 
 # what each page says is proved of the library from other languages; the manual takes the words from the same place

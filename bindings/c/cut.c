@@ -66,12 +66,6 @@ static void begin(CvlWork *w, size_t parts) {
     w->parts = parts;
 }
 
-/* Where a part of n elements begins, in even parts. */
-/*@ requires k <= parts <= CVL_MOST_PARTS && 0 < parts && n <= CVL_MOST_ELEMENTS;
-    assigns \nothing;
-    ensures \result == even_place(n, parts, k) <= n; */
-static size_t even(size_t n, size_t parts, size_t k) { return n * k / parts; }
-
 /*@ requires \valid(w) && (pool == \null || \valid_read(pool)) && \separated(pool, w) && each > 0;
     assigns *w;
     ensures \result ==> 2 <= w->parts <= CVL_MOST_PARTS && is_cut(&w->from[0], w->parts, n);
@@ -81,94 +75,50 @@ static bool cut_evenly(const CvlPool *pool, CvlWork *w, size_t n, size_t least, 
     const size_t parts = pool == NULL || n > CVL_MOST_ELEMENTS || n < least ? 0 : parts_of(pool, n, each);
     if (parts < 2) return 0;
     begin(w, parts);
-    /*@ loop invariant 0 <= k <= parts + 1 && \forall integer j; 0 <= j < k ==> w->from[j] == even_place(n, parts, j);
-        loop assigns k, w->from[0 .. parts];
-        loop variant parts - k; */
-    for (size_t k = 0; k <= parts; k++) w->from[k] = even(n, parts, k);
-    return 1;
+    return cvl_proved_even_places(n, w->from, parts + 1).number == CVL_DONE;
 }
 
-/*@ assigns \nothing;
-    ensures \result <==> is_white_byte(byte); */
-static bool is_white(char byte) { return byte == ' ' || byte == '\t' || byte == '\n' || byte == '\r'; }
-
-/* The first white space from a place of a text on, or the text's end. */
-/*@ requires place <= n && \valid_read(text + (0 .. n - 1));
-    assigns \nothing;
-    ensures place <= \result <= n && (\result < n ==> is_white_byte(text[\result])); */
-static size_t white_from(const char *text, size_t n, size_t place) {
-    /*@ loop invariant \at(place, Pre) <= place <= n;
-        loop assigns place;
-        loop variant n - place; */
-    while (place < n && !is_white(text[place])) place++;
-    return place;
-}
-
-/*@ requires \valid(w) && (pool == \null || \valid_read(pool)) && \separated(pool, w) && \valid_read(text + (0 .. n - 1));
-    requires \separated(text + (0 .. n - 1), w);
+/*@ requires \valid(w) && (pool == \null || \valid_read(pool)) && \separated(pool, w);
+    requires \valid_read(text + (0 .. n - 1)) && \separated(text + (0 .. n - 1), w);
     assigns *w;
-    ensures \result ==> 2 <= w->parts <= CVL_MOST_PARTS && is_cut(&w->from[0], w->parts, n);
-    ensures \result ==> \forall integer k; 0 < k < w->parts ==> w->from[k] == n || is_white_byte(text[w->from[k]]); */
-static bool cut_at_white(const CvlPool *pool, CvlWork *w, const char *text, size_t n) {
+    ensures \result ==> 2 <= w->parts <= CVL_MOST_PARTS && is_cut(&w->from[0], w->parts, n); */
+static bool cut_at_white(const CvlPool *pool, CvlWork *w, const bool *text, size_t n) {
     const size_t parts = pool == NULL || n < CVL_LEAST_READ ? 0 : parts_of(pool, n, CVL_LEAST_READ_EACH);
     if (parts < 2) return 0;
     begin(w, parts);
-    /*@ loop invariant 1 <= k <= parts + 1 && w->from[0] == 0 && w->from[k - 1] <= n && (k > parts ==> w->from[parts] == n);
-        loop invariant \forall integer i, j; 0 <= i <= j < k ==> w->from[i] <= w->from[j];
-        loop invariant \forall integer j; 0 < j < k ==> w->from[j] == n || is_white_byte(text[w->from[j]]);
-        loop assigns k, w->from[1 .. parts];
-        loop variant parts - k; */
-    for (size_t k = 1; k <= parts; k++) {
-        const size_t to = k == parts ? n : n / parts * k;
-        w->from[k] = white_from(text, n, to < w->from[k - 1] ? w->from[k - 1] : to);
-    }
-    return 1;
+    return cvl_proved_white_places(text, n, w->from, parts + 1).number == CVL_DONE;
 }
 
 /* ---- segments: the elements are cut, and each part finds the segments that start in it ---- */
 
-/* The lengths, cut into parts of their own, and how many elements each of these has. */
+/* How many elements the segments of a part's share of the lengths have. */
 /*@ requires \valid(w) && k < w->parts <= CVL_MOST_PARTS && w->segments <= CVL_MOST_ELEMENTS;
+    requires w->third[k] == even_place(w->segments, w->parts, k) && w->third[k + 1] == even_place(w->segments, w->parts, k + 1);
     requires \valid_read(w->lengths + (0 .. w->segments - 1)) && \separated(w->lengths + (0 .. w->segments - 1), w);
     assigns w->counts[k];
-    ensures \let from = even_place(w->segments, w->parts, k); \let to = even_place(w->segments, w->parts, k + 1);
-      \result.number == CVL_DONE ==> w->counts[k] == start_of(w->lengths + from, to - from); */
+    ensures \result.number == CVL_DONE ==> w->counts[k] == start_of(w->lengths + w->third[k], w->third[k + 1] - w->third[k]); */
 static CvlStatus lengths_part(CvlWork *w, size_t k) {
-    const size_t from = even(w->segments, w->parts, k), to = even(w->segments, w->parts, k + 1);
-    return cvl_proved_make_descriptor(w->lengths + from, to - from, &w->counts[k]);
+    return cvl_proved_make_descriptor(w->lengths + w->third[k], w->third[k + 1] - w->third[k], &w->counts[k]);
 }
 
-/* Finds the first segment that starts in the part or after it, from the last part of the lengths that starts before. */
+/* The first segment that starts in the part or behind it. */
 /*@ requires \valid(w) && has_segments(w) && k < w->parts;
-    requires \forall integer j; 0 <= j <= w->parts ==> w->other[j] == start_of(w->lengths, even_place(w->segments, w->parts, j));
+    requires are_share_starts(w->lengths, w->segments, &w->other[0], w->parts) && w->other[w->parts] == w->from[w->parts];
     assigns w->first[k], w->start[k];
-    ensures k > 0 ==> knows_first(w, k); */
+    ensures knows_first(w, k); */
 static CvlStatus start_part(CvlWork *w, size_t k) {
-    size_t j = w->parts - 1;
-    if (k == 0) return cvl_done();
-    /*@ loop invariant 0 <= j < w->parts;
-        loop assigns j;
-        loop variant j; */
-    while (j > 0 && w->other[j] >= w->from[k]) j--;
-    size_t segment = even(w->segments, w->parts, j), start = w->other[j];
-    /*@ loop invariant 0 <= segment <= w->segments && start == start_of(w->lengths, segment);
-        loop invariant \forall integer s; 0 <= s < segment ==> start_of(w->lengths, s) < w->from[k];
-        loop assigns segment, start;
-        loop variant w->segments - segment; */
-    while (segment < w->segments && start < w->from[k]) start += (size_t)w->lengths[segment++];
-    w->first[k] = segment, w->start[k] = start;
-    return cvl_done();
+    return cvl_proved_first_start(w->lengths, w->segments, w->other, w->parts + 1, w->from[k], &w->first[k], &w->start[k]);
 }
 
 /* An empty segment that stands at a cut starts in the part behind it, and one behind the last element in the last part. */
 static bool cut_segments(const CvlPool *pool, CvlWork *w, size_t n, CvlSlot lengths, size_t least, size_t each) {
     if (lengths.number > CVL_MOST_ELEMENTS || !cut_evenly(pool, w, n, least, each)) return 0;
     w->lengths = lengths.at, w->segments = lengths.number;
+    if (cvl_proved_even_places(w->segments, w->third, w->parts + 1).number != CVL_DONE) return 0;
     if (!cvl_step(pool, w, CVL_READS, lengths_part)) return 0;
-    for (size_t k = 0; k < w->parts; k++) w->other[k + 1] = w->other[k] + w->counts[k];
-    if (w->other[w->parts] != n) return 0;
-    w->first[w->parts] = lengths.number, w->start[w->parts] = n;
+    if (cvl_proved_exact_places(w->counts, w->parts, n, w->other, w->parts + 1).number != CVL_DONE) return 0;
     if (!cvl_step(pool, w, CVL_READS, start_part)) return 0;
+    w->first[w->parts] = w->segments, w->start[w->parts] = n;
     for (size_t k = 0; k < w->parts; k++) w->starts[k] = w->first[k + 1] > w->first[k];
     return 1;
 }

@@ -89,7 +89,7 @@ static CvlStatus on_rows(const CvlPool *pool, const CvlRow *row, uint32_t op, co
     return status;
 }
 
-/* Runs the steps of a call's row. None fails that writes a room for good, and a fault ends a call before that: so the laws of its steps say. */
+/* Runs the steps of a call's row. None fails that fills a room for good, and a fault ends a call before that: so the laws of its steps say. */
 /*@ assigns *w, rooms, told;
     ensures !\result ==> rooms == \old(rooms);
     ensures \result && w->told.number != CVL_DONE ==> rooms == \old(rooms); */

@@ -84,7 +84,7 @@ CVL_HIDDEN bool cvl_cut(const CvlPool *pool, CvlWork *w, const CvlRow *row, cons
 /* Where a part's share of an array begins, if all parts have about as much: a part's ends where that of the next one begins. */
 /*@ requires \valid_read(w) && 0 < w->parts && k <= w->parts;
     assigns \nothing;
-    ensures \result == share_place(len, w->parts, k) <= len; */
+    ensures \result == even_place(len, w->parts, k) <= len; */
 CVL_HIDDEN size_t cvl_part_from(const CvlWork *w, size_t len, size_t k);
 
 /* What a step does: it reads, writes memory of the call's own, or writes the rooms. */

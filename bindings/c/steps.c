@@ -3,14 +3,13 @@
 
 /* ---- what a part has ---- */
 
-/* How many places a part has, or the number of a progression at its first place. */
+/* How many places a part has. */
 /*@ requires \valid_read(w) && \valid_read(o) && o->as < CVL_ROLES && k < CVL_MOST_PARTS && w->from[k] <= w->from[k + 1];
     assigns \nothing;
-    ensures o->as == CVL_AS_COUNT ==> \result.number == w->from[k + 1] - w->from[k]; */
+    ensures \result.number == w->from[k + 1] - w->from[k]; */
 static CvlSlot number_of_part(const CvlWork *w, const CvlOperand *o, size_t k) {
     CvlSlot slot = w->in[o->as];
-    if (o->as == CVL_AS_COUNT) slot.number = w->from[k + 1] - w->from[k];
-    else slot.number += w->from[k] * w->in[CVL_AS_STRIDE].number;
+    slot.number = w->from[k + 1] - w->from[k];
     return slot;
 }
 
@@ -145,7 +144,7 @@ static CvlSlot slot_of_piece(const CvlWork *w, const CvlOperand *o, size_t k) {
     assigns \nothing;
     ensures o->size > 0 ==> \result.number == begins(w, o->by, k + 1) - begins(w, o->by, k);
     ensures o->size > 0 ==> \result.at == (char *)w->in[o->as].at + begins(w, o->by, k) * o->size;
-    ensures o->size == 0 && o->as == CVL_AS_COUNT ==> \result.number == w->from[k + 1] - w->from[k]; */
+    ensures o->size == 0 ==> \result.number == w->from[k + 1] - w->from[k]; */
 static CvlSlot slot_of_range(const CvlWork *w, const CvlOperand *o, size_t k) {
     if (o->size == 0) return number_of_part(w, o, k);
     const size_t from = begin_of(w, o->by, k), to = begin_of(w, o->by, k + 1);
@@ -157,11 +156,11 @@ static CvlSlot slot_of_range(const CvlWork *w, const CvlOperand *o, size_t k) {
     requires is_share(o->by) || is_number(o->by);
     requires o->by == CVL_BY_OF_FIRST ==> w->first[k] <= w->first[k + 1];
     requires o->by == CVL_BY_SHARE ==> w->in[o->as].number <= CVL_MOST_ELEMENTS;
-    requires share_place(w->in[o->as].number, w->parts, k) <= share_place(w->in[o->as].number, w->parts, k + 1);
+    requires even_place(w->in[o->as].number, w->parts, k) <= even_place(w->in[o->as].number, w->parts, k + 1);
     assigns \nothing;
-    ensures \let from = share_place(w->in[o->as].number, w->parts, k); \let to = share_place(w->in[o->as].number, w->parts, k + 1);
+    ensures \let from = even_place(w->in[o->as].number, w->parts, k); \let to = even_place(w->in[o->as].number, w->parts, k + 1);
       o->by == CVL_BY_SHARE ==> \result.at == (char *)w->in[o->as].at + from * o->size && \result.number == to - from;
-    ensures o->by == CVL_BY_AT_SHARE ==> \result.number == share_place(w->in[o->as].number, w->parts, k);
+    ensures o->by == CVL_BY_AT_SHARE ==> \result.number == even_place(w->in[o->as].number, w->parts, k);
     ensures is_number(o->by) ==> \result.number == number_at(w, o->by, k); */
 static CvlSlot slot_of_share(const CvlWork *w, const CvlOperand *o, size_t k) {
     CvlSlot slot = w->in[o->as];
@@ -315,10 +314,15 @@ static bool take(CvlWork *w) {
     ensures goes_on{Pre, Post}(w); */
 static bool join_records(CvlWork *w) { return step_part(w, 0).number == CVL_DONE; }
 
-/* Makes a step once that writes what the call gives. */
+/* Makes a step once that writes what the call gives, or leaves it as it was. */
 /*@ assigns *w, rooms;
-    ensures goes_on{Pre, Post}(w); */
-static bool give(CvlWork *w) { return step_part(w, 0).number == CVL_DONE; }
+    ensures w->parts == \old(w->parts) && w->kept == \old(w->kept) && w->tried == \old(w->tried);
+    ensures \result ? w->wrote != 0 : rooms == \old(rooms) && w->wrote == \old(w->wrote); */
+static bool give(CvlWork *w) {
+    if (step_part(w, 0).number != CVL_DONE) return 0;
+    w->wrote = 1;
+    return 1;
+}
 
 /* Makes a step once whose status is the call's. */
 /*@ assigns *w;
@@ -357,7 +361,7 @@ static bool run_step(const CvlPool *pool, CvlWork *w) {
     switch (kind) {
     case CVL_TAKES: return !w->tried && take(w);
     case CVL_JOINS: return join_records(w);
-    case CVL_GIVES: w->wrote = 1; return give(w);
+    case CVL_GIVES: return give(w);
     case CVL_FITS: return fit_room(w);
     default: break;
     }

@@ -116,7 +116,7 @@ class Family:
         """By which boundaries the parts of an operand are cut, where they make the call itself."""
         operand = self.operands[k]
         if self.cut == "places":
-            return "FROM" if operand.extent == self.extent or operand.role == "count" or operand.use == "init" else "NONE"
+            return "FROM" if operand.extent == self.extent or operand.role == "count" else "NONE"
         if self.cut == "merge":
             return {"n": "FROM", "trues": "OTHER", "falses": "THIRD"}[operand.extent]
         if self.cut != "segments" or operand.role not in ("reads", "lengths", "room"):

@@ -251,9 +251,13 @@ def _export_differences(name, wanted, family, found):
         yield f"{name} {'asks' if not family.asks else 'does not ask'} for memory, and its row says the other"
 
 
+# Exports that C calls by name: those that look at flags, and those that cut a call.
+WITHOUT_A_ROW = ("are_flags", "make_flags", "even_places", "first_start", "white_places")
+
+
 def export_differences(exports):
     """In what the rows differ from the exports."""
-    named = {"are_flags", "make_flags"}
+    named = {*WITHOUT_A_ROW}
     for row in [*FAMILIES.values(), *IN_STEPS.values()]:
         family = row.family
         named.add(family.exported)

@@ -3,6 +3,7 @@
  * first fault with its place and its turn: the order in which the plain call looks for faults. If two neighbours have faults, the one of
  * the earlier turn is kept, of the same turn that of the rank before, with its place counted from the start of both.
  */
+#include "joins.h"
 #include "ranks.h"
 
 /* The turn of a fault, in the order in which a call looks for them. */
@@ -19,14 +20,6 @@ typedef enum CvlTurn {
     CVL_TURN_NONE
 } CvlTurn;
 
-/* 48 bits of elements and 16 of the call; 8 of the turn, 8 of the number and 48 of the place, or all of them set if there is none. */
-typedef struct CvlVote {
-    uint64_t elements, fault;
-} CvlVote;
-
-#define CVL_PLACES ((UINT64_C(1) << 48) - 1)
-#define CVL_OTHER_CALL UINT64_C(0xffff)
-
 static CvlTurn turn_of(CvlStatus status, bool short_room) {
     switch (status.number) {
     case CVL_DONE: return CVL_TURN_NONE;
@@ -42,8 +35,8 @@ static CvlTurn turn_of(CvlStatus status, bool short_room) {
 }
 
 static CvlVote vote_of(CvlStatus status, bool short_room, uint32_t call, uint64_t number) {
-    const uint64_t place = status.place < 0 ? CVL_PLACES : (uint64_t)status.place;
-    CvlVote vote = {number << 16 | call, (uint64_t)turn_of(status, short_room) << 56 | (uint64_t)status.number << 48 | place};
+    const uint64_t place = status.place < 0 ? CVL_NO_PLACE : (uint64_t)status.place, turn = (uint64_t)turn_of(status, short_room);
+    const CvlVote vote = {number * CVL_VOTE_CALLS + call, turn * CVL_VOTE_TURNS + status.number * CVL_VOTE_PLACES + place};
     return vote;
 }
 
@@ -51,14 +44,7 @@ void cvl_fold_votes(void *in, void *inout, int *count, MPI_Datatype *type) {
     const CvlVote *const first = in;
     CvlVote *const second = inout;
     (void)type;
-    for (int k = 0; k < *count; k++) {
-        const bool same = (first[k].elements & 0xffff) == (second[k].elements & 0xffff);
-        const uint64_t before = first[k].elements >> 16, call = same ? first[k].elements & 0xffff : CVL_OTHER_CALL;
-        const bool is_first = first[k].fault >> 56 <= second[k].fault >> 56;
-        if (is_first) second[k].fault = first[k].fault;
-        else if ((second[k].fault & CVL_PLACES) != CVL_PLACES) second[k].fault += before;
-        second[k].elements = (before + (second[k].elements >> 16)) << 16 | call;
-    }
+    for (int k = 0; k < *count; k++) second[k] = cvl_joined_votes(first[k], second[k]);
 }
 
 CvlStatus cvl_agreed(
@@ -66,14 +52,14 @@ CvlStatus cvl_agreed(
     const CvlVote mine = vote_of(status, *short_room, call, number);
     CvlVote all;
     MPI_Allreduce(&mine, &all, 1, ranks->vote, ranks->agree, ranks->comm);
-    const CvlTurn turn = (CvlTurn)(all.fault >> 56);
-    const uint64_t place = all.fault & CVL_PLACES;
+    const CvlTurn turn = (CvlTurn)(all.fault / CVL_VOTE_TURNS);
+    const uint64_t place = all.fault % CVL_VOTE_PLACES;
     *short_room = turn == CVL_TURN_ROOM;
-    *total = all.elements >> 16;
-    if ((all.elements & 0xffff) == CVL_OTHER_CALL && turn > CVL_TURN_UNKNOWN) return cvl_status(CVL_UNKNOWN_CALL, -1);
+    *total = all.elements / CVL_VOTE_CALLS;
+    if (all.elements % CVL_VOTE_CALLS == CVL_OTHER_CALL && turn > CVL_TURN_UNKNOWN) return cvl_status(CVL_UNKNOWN_CALL, -1);
     if (*total > most && turn > CVL_TURN_LONG) return cvl_status(CVL_TOO_LONG, -1);
     if (turn == CVL_TURN_NONE) return cvl_done();
-    return cvl_status((uint32_t)(all.fault >> 48 & 0xff), place == CVL_PLACES ? -1 : (int64_t)place);
+    return cvl_status((uint32_t)(all.fault % CVL_VOTE_TURNS / CVL_VOTE_PLACES), place == CVL_NO_PLACE ? -1 : (int64_t)place);
 }
 
 /* The call and its operator, as 16 bits. */

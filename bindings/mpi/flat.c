@@ -177,8 +177,7 @@ static bool is_own_place(CvlCall *c, size_t *at) {
     const int64_t place = (int64_t)c->in[CVL_AS_PLACE].number;
     if (!cvl_agree_on_numbers(c)) return 0;
     const uint64_t before = places_before(c, n);
-    /* an index of 32 bits, as in a script: a place behind those is out of range */
-    if (place < 0 || place > INT32_MAX || (uint64_t)place >= c->total) {
+    if (place < 0 || (uint64_t)place >= c->total) {
         cvl_say(c, cvl_status(CVL_INDEX_OUT_OF_RANGE, 0));
         return 0;
     }

@@ -1,6 +1,6 @@
 /* What ranks join: reduces, sums and counts of their parts, and the first of their faults. */
+#include "joins.h"
 #include "ranks.h"
-#include "shares.h"
 
 CvlFold cvl_fold(CvlJoin join, uint32_t op, int64_t high, int64_t low, bool starts) {
     const CvlFold fold = {high, low, (uint32_t)join, op, starts, 0};
@@ -23,23 +23,10 @@ static CvlStatus join_bools(uint32_t op, const bool *flags, size_t count, int64_
     return status;
 }
 
-/* Adds exactly; `high` says whether 64 bits are too few, or were before. */
-static void add_exactly(CvlFold first, CvlFold second, CvlFold *joined) {
-    joined->high = first.high != 0 || second.high != 0 || cvl_is_past(first.low, second.low);
-    joined->low = joined->high ? 0 : first.low + second.low;
-}
-
-/* Adds numbers of a high word and a low one of 32 bits. */
-static void add_wide(CvlFold first, CvlFold second, CvlFold *joined) {
-    const int64_t low = first.low + second.low;
-    joined->high = first.high + second.high + (low >> 32);
-    joined->low = low & INT64_C(0xffffffff);
-}
-
-/* The place of the first of some among the elements of both. */
-static void join_places(CvlFold first, CvlFold second, CvlFold *joined) {
-    joined->high = first.high + second.high;
-    joined->low = first.low >= 0 ? first.low : second.low < 0 ? -1 : first.high + second.low;
+/* Joins the numbers of two folds. */
+static void join_pairs(CvlPair join(CvlPair, CvlPair), CvlFold first, CvlFold second, CvlFold *joined) {
+    const CvlPair before = {first.high, first.low}, behind = {second.high, second.low}, both = join(before, behind);
+    joined->high = both.high, joined->low = both.low;
 }
 
 /* Where an automaton of at most eight states ends that begins in each of them, a byte a state. */
@@ -58,10 +45,10 @@ static CvlFold joined_values(CvlFold first, CvlFold second) {
     switch ((CvlJoin)first.join) {
     case CVL_JOIN_INTS: status = join_ints(first.op, numbers, 2, &joined.low); break;
     case CVL_JOIN_BOOLS: status = join_bools(first.op, flags, 2, &joined.low); break;
-    case CVL_JOIN_EXACT: add_exactly(first, second, &joined); break;
-    case CVL_JOIN_WIDE: add_wide(first, second, &joined); break;
+    case CVL_JOIN_EXACT: join_pairs(cvl_added_exactly, first, second, &joined); break;
+    case CVL_JOIN_WIDE: join_pairs(cvl_added_wide, first, second, &joined); break;
     case CVL_JOIN_COUNTS: joined.high += second.high, joined.low += second.low; break;
-    case CVL_JOIN_PLACES: join_places(first, second, &joined); break;
+    case CVL_JOIN_PLACES: join_pairs(cvl_first_place, first, second, &joined); break;
     case CVL_JOIN_STATES: joined.low = joined_states((uint64_t)first.low, (uint64_t)second.low); break;
     case CVL_JOIN_FIRST: break;
     }

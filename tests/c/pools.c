@@ -103,6 +103,7 @@ enum { MOST_STEPS = 8 };
     X(cnt_lub, LIST(READS, READS), truths, MOST, rooms.out)                                                                    \
     X(pck_luz, LIST(READS, READS, READS, WRITES), a, truths, MOST, rooms.out, MOST, &rooms.count)                              \
     X(dis_vuz, LIST(READS, WRITES), 5, MOST, rooms.out)                                                                        \
+    X(ind_luz, LIST(READS, WRITES), 5, 3, MOST, rooms.out)                                                                     \
     X(bck_puz, LIST(READS, READS, WRITES), a, MOST, in_order, rooms.out, MOST)                                                 \
     X(smp_puz, LIST(READS, WRITES), a, in_order, rooms.out, MOST)                                                              \
     X(def_puz, LIST(READS, WRITES), a, in_order, MOST, ones, rooms.out, MOST)                                                  \
@@ -126,9 +127,9 @@ enum { MOST_STEPS = 8 };
     X(counts, LIST(READS, WRITES, WRITES), ones, MOST, rooms.out, 2)                                                           \
     X(combine_checked_int, LIST(READS, WRITES, WRITES, WRITES), a, MOST, ones, MOST, rooms.out, 2)                             \
     X(combine_permute_int, LIST(READS, READS, WRITES), CVL_MAX, a, MOST, in_order, MOST, rooms.out, MOST)                      \
-    X(sort, LIST(READS, READS, READS, WRITES, WRITES), in_order, MOST, rooms.out, MOST)                                               \
-    X(order, LIST(READS, READS, READS, WRITES, WRITES, WRITES, WRITES), in_order, MOST, rooms.out, MOST)                              \
-    X(rank, LIST(READS, READS, READS, WRITES, WRITES, WRITES, WRITES, WRITES), in_order, MOST, rooms.out, MOST)                       \
+    X(sort, LIST(READS, READS, WRITES, WRITES), in_order, MOST, rooms.out, MOST)                                               \
+    X(order, LIST(READS, READS, WRITES, WRITES, WRITES, WRITES), in_order, MOST, rooms.out, MOST)                              \
+    X(rank, LIST(READS, READS, WRITES, WRITES, WRITES, WRITES, WRITES), in_order, MOST, rooms.out, MOST)                       \
     X(read_ints, LIST(READS, WRITES, WRITES), spoken, sizeof spoken, rooms.out, MOST, &rooms.count)                            \
     X(write_ints, LIST(READS, WRITES, WRITES), a, MOST, rooms.text, sizeof rooms.text, &rooms.count)                           \
     X(seg_write_ints, LIST(READS, READS, WRITES, WRITES), a, MOST, cut, rooms.text, sizeof rooms.text, &rooms.count)

@@ -89,7 +89,7 @@ class Held(unittest.TestCase):
 
     def test_each_parameter_of_each_export(self):
         # those without a row are declared as they are exported, and the compiler compares their calls
-        held = {name: said for name, said in self.exports.items() if name not in ("are_flags", "make_flags")}
+        held = {name: said for name, said in self.exports.items() if name not in rows.WITHOUT_A_ROW}
         for k in range(2 * MOST_OPERANDS):
             some = {name: said for name, said in held.items() if k < len(said)}
             self.exports_told({name: said[:k] + said[k + 1 :] for name, said in some.items()})

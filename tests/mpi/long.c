@@ -53,6 +53,10 @@ static void try_flags(void) {
         is(cvl_pck_lub_mpi(ranks, flags, flags, n, kept, 4, &count), CVL_DONE, -1) && count == (rank == 0 ? 1 : 2) &&
             kept[count - 1]);
     check("a share", is(cvl_share(ranks, n, &first, &total), CVL_DONE, -1) && first == from && total == TOTAL);
+    one = 0;
+    check("a far element", is(cvl_ext_vub_mpi(ranks, flags, n, (int64_t)TOTAL - 1, &one), CVL_DONE, -1) && one);
+    check("its neighbour's", is(cvl_ext_vub_mpi(ranks, flags, n, (int64_t)TOTAL - 3, &one), CVL_DONE, -1) && !one);
+    check("no element", is(cvl_ext_vub_mpi(ranks, flags, n, (int64_t)TOTAL, &one), CVL_INDEX_OUT_OF_RANGE, 0) && !one);
     munmap(flags, n);
 }
 
@@ -112,6 +116,8 @@ static CvlStatus a_permute(void) { return cvl_smp_pub_mpi(ranks, flags, ints, fl
 static CvlStatus a_permute_into_it(void) { return cvl_def_pub_mpi(ranks, flags, few, 2, flags, flags_room, n); }
 static CvlStatus senders(void) { return cvl_first_senders_mpi(ranks, ints, n, few, 2); }
 static CvlStatus joins(void) { return cvl_combine_permute_bool_mpi(ranks, CVL_IOR, flags, n, ints, n, flags_room, 2); }
+static CvlStatus runs(void) { return cvl_run_lengths_bool_mpi(ranks, flags, n, few, 2, &told); }
+static CvlStatus starts_of_runs(void) { return cvl_run_starts_bool_mpi(ranks, flags, n, few, 2, &told); }
 static CvlStatus counts(void) { return cvl_counts_mpi(ranks, ints, n, few, 2); }
 static CvlStatus a_route(void) {
     CvlRoute *route;
@@ -144,6 +150,8 @@ static const struct Long {
     {"a permute into it", a_permute_into_it},
     {"first senders", senders},
     {"joins", joins},
+    {"runs", runs},
+    {"starts of runs", starts_of_runs},
     {"counts", counts},
     {"a route", a_route},
     {"a spread", a_spread},

@@ -1,2 +1,2 @@
-/* What calls over ranks reckon with, for WP: bindings/mpi/shares.h, which knows nothing of MPI. */
-#include "../../mpi/shares.h"
+/* What calls over ranks reckon with, for WP: bindings/mpi/joins.h and shares.h, which know nothing of MPI. */
+#include "../../mpi/joins.h"

@@ -55,23 +55,12 @@ extern int rooms, kept, told, made;
 /*@ predicate is_cut{L}(size_t *from, integer parts, integer n) =
       from[0] == 0 && from[parts] == n && \forall integer j, k; 0 <= j <= k <= parts ==> from[j] <= from[k]; */
 
-/* Where part k of n elements begins, in even parts. */
-/*@ logic integer even_place(integer n, integer parts, integer k) = n * k / parts;
+/* Where part k of n elements begins, in even parts, of which the first have one element more. */
+/*@ logic integer even_place(integer n, integer parts, integer k) = n / parts * k + (k < n % parts ? k : n % parts);
 
-    lemma whole_below: \forall integer n, p, k; n >= 0 && p > 0 && 0 <= k <= p ==> 0 <= n / p * k <= n;
-    lemma even_ascends: \forall integer n, p, j, k; n >= 0 && p > 0 && 0 <= j <= k ==> even_place(n, p, j) <= even_place(n, p, k);
+    lemma even_ascends: \forall integer n, p, j, k; n >= 0 && p > 0 && 0 <= j <= k <= p ==> even_place(n, p, j) <= even_place(n, p, k);
     lemma even_begins: \forall integer n, p; n >= 0 && p > 0 ==> even_place(n, p, 0) == 0;
-    lemma even_ends: \forall integer n, p; n >= 0 && p > 0 ==> even_place(n, p, p) == n;
-    lemma even_each: \forall integer n, p, k, each; n >= 0 && p > 0 && k >= 0 && 0 <= p * each <= n ==>
-      even_place(n, p, k + 1) - even_place(n, p, k) >= each; */
-
-/* The same where the first parts have one element more. */
-/*@ logic integer share_place(integer n, integer parts, integer k) = n / parts * k + (k < n % parts ? k : n % parts);
-
-    lemma share_ascends: \forall integer n, p, j, k; n >= 0 && p > 0 && 0 <= j <= k <= p ==>
-      share_place(n, p, j) <= share_place(n, p, k);
-    lemma share_begins: \forall integer n, p; n >= 0 && p > 0 ==> share_place(n, p, 0) == 0;
-    lemma share_ends: \forall integer n, p; n >= 0 && p > 0 ==> share_place(n, p, p) == n; */
+    lemma even_ends: \forall integer n, p; n >= 0 && p > 0 ==> even_place(n, p, p) == n; */
 
 /* ---- segments ---- */
 
@@ -88,6 +77,11 @@ extern int rooms, kept, told, made;
 /*@ predicate is_first{L}(int32_t *lengths, integer segments, integer place, integer first) =
       0 <= first <= segments && start_of(lengths, first) >= place &&
       \forall integer s; 0 <= s < first ==> start_of(lengths, s) < place; */
+
+/* Where the even shares of lengths start, and at last where all segments end. */
+/*@ predicate are_share_starts{L}(int32_t *lengths, integer segments, size_t *places, integer shares) =
+      0 < shares && is_segments(lengths, segments, places[shares]) &&
+      \forall integer k; 0 <= k <= shares ==> places[k] == start_of(lengths, even_place(segments, shares, k)); */
 
 /* Offsets of segments are as many as there may be and one more, begin with 0, and never fall. */
 /*@ predicate ascends{L}(int32_t *offsets, integer count) = \forall integer s; 0 < s < count ==> offsets[s - 1] <= offsets[s];

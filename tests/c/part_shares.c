@@ -1,7 +1,8 @@
 /*
- * Tries how sorts, orders, ranks and sorts by key in parts share their work: they make a pass for each digit in which keys differ, or one if all keys are
- * equal, and in a pass each part gathers about as many elements. No result depends on that. The linker puts functions of this file in place
- * of the proved steps. It prints what is not as it should be, and its status is then 1. `tests/c/run sort_parts` builds and runs it.
+ * Tries how calls in parts share their work, on which no result depends. Sorts, orders, ranks and sorts by key make a pass for each digit in
+ * which keys differ, or one if all keys are equal, and in a pass each part gathers about as many elements; in a combining permute about as many
+ * elements are sent to the range of each part. The linker puts functions of this file in place of the proved steps. It prints what is not as it
+ * should be, and its status is then 1. `tests/c/run part_shares` builds and runs it.
  */
 #include "cvl_parallel.h"
 
@@ -37,6 +38,26 @@ static void note(size_t gathered) {
     }
 GATHER(keys, int32_t)
 GATHER(placed, CvlPlaced)
+
+/* ---- combining permutes: how many elements were sent to ranges, and how many to the one that got most ---- */
+
+static size_t sent, most_sent;
+
+CvlStatus __real_cvl_proved_combine_permute_int_range(
+    uint32_t op, const int32_t *source, size_t source_len, const int32_t *index, size_t index_len, size_t lowest, int32_t *out,
+    size_t out_len, size_t *named);
+CvlStatus __wrap_cvl_proved_combine_permute_int_range(
+    uint32_t op, const int32_t *source, size_t source_len, const int32_t *index, size_t index_len, size_t lowest, int32_t *out,
+    size_t out_len, size_t *named);
+CvlStatus __wrap_cvl_proved_combine_permute_int_range(
+    uint32_t op, const int32_t *source, size_t source_len, const int32_t *index, size_t index_len, size_t lowest, int32_t *out,
+    size_t out_len, size_t *named) {
+    const CvlStatus status = __real_cvl_proved_combine_permute_int_range(
+        op, source, source_len, index, index_len, lowest, out, out_len, named);
+    sent += *named;
+    if (*named > most_sent) most_sent = *named;
+    return status;
+}
 
 /* ---- keys, which differ in some of their three digits of 11 bits ---- */
 
@@ -102,10 +123,32 @@ static void try_kind(size_t kind, size_t call) {
     compare(calls[call].name, kinds[kind].name, "elements of a part", most_gathered, MOST / PARTS, MOST / PARTS * 3 / 2);
 }
 
+static int32_t any_place(uint32_t k) { return (int32_t)(any_of(k) % MOST); }
+static int32_t low_place(uint32_t k) { return (int32_t)(any_of(k) % (MOST / 8)); }
+static int32_t each_place(uint32_t k) { return (int32_t)k; }
+
+static const struct {
+    const char *name;
+    int32_t (*place)(uint32_t k);
+} indices[] = {{"any places", any_place}, {"places among the first", low_place}, {"each place once", each_place}};
+
+/* A part gets its own share of the elements, and half as much again at most. */
+static void try_indices(size_t of) {
+    const CvlPool pool = cvl_pool_alone(PARTS);
+    const char *const call = "cvl_combine_permute_int_on";
+    int32_t index[MOST];
+    for (uint32_t k = 0; k < MOST; k++) index[k] = indices[of].place(k);
+    sent = most_sent = 0;
+    if (cvl_combine_permute_int_on(&pool, CVL_ADD, keys, MOST, index, MOST, out, MOST).number != CVL_DONE) abort();
+    compare(call, indices[of].name, "elements", sent, MOST, MOST);
+    compare(call, indices[of].name, "elements of a part", most_sent, MOST / PARTS, MOST / PARTS * 3 / 2);
+}
+
 int main(void) {
     for (size_t call = 0; call < sizeof calls / sizeof *calls; call++) {
         for (size_t kind = 0; kind < sizeof kinds / sizeof *kinds; kind++) try_kind(kind, call);
     }
-    if (!failed) printf("sorts in parts make the passes that they need, and share them evenly\n");
+    for (size_t of = 0; of < sizeof indices / sizeof *indices; of++) try_indices(of);
+    if (!failed) printf("sorts in parts make the passes that they need, and parts share their work evenly\n");
     return failed ? EXIT_FAILURE : EXIT_SUCCESS;
 }
