@@ -60,9 +60,9 @@ pub fn segments_cut_at_places<X, Y>()
         AllZip (IsRunPart lengths xs) (cut_parts_of lengths places) parts → AreRunPartsOf lengths parts }
 {}
 
-/// Where segments start, by steps: each part adds up its even share of the lengths, and once, the totals say where each share
-/// begins. If these are told, the segments have together as many elements as the vector, and the places are those where the first
-/// segment of each share starts, at last where all segments end.
+/// Where segments start, by steps: each part adds up its even share of the lengths, and one step finds from the totals where each
+/// share begins. If that step is done, the lengths add up to that of the vector, and the places are those where the first segment
+/// of each share starts, at last where all segments end.
 pub fn starts_by_steps()
     ensures { (lengths : List ℤ) (segments : List ℕ) (start measured : List (Part ℤ ℕ ℤ)) (len : ℕ) (before places : List ℕ) →
         lengths_of lengths ≡ Ok segments → 1 ≤ length start →
