@@ -7,32 +7,74 @@
 /* The number of a part's status before it is run. */
 enum { NOT_RUN = 0x7fffffff };
 
-/* A step of a call in parts: what each part does, whether it has begun, and its status. */
+/* A step of a call in parts: what it does, what each part does, whether that has begun, and its status. */
 typedef struct Step {
     CvlWork *work;
+    CvlKind kind;
     CvlStepPart part;
     atomic_bool begun[CVL_MOST_PARTS];
     CvlStatus told[CVL_MOST_PARTS];
 } Step;
 
+/* A part has begun if it has a status, and ran as often as it began. */
+/*@ predicate is_step{L}(Step *s) =
+      \valid(s) && \valid(s->work) && \separated(s, s->work) && s->work->parts <= CVL_MOST_PARTS &&
+      \forall integer k; 0 <= k < s->work->parts ==> s->begun[k] == (s->told[k].number == NOT_RUN ? 0 : 1);
+
+    predicate is_same{L1, L2}(Step *s) =
+      goes_on{L1, L2}(\at(s->work, L1)) && \at(s->work, L2) == \at(s->work, L1) && \at(s->kind, L2) == \at(s->kind, L1) &&
+      (\at(s->kind, L1) != CVL_WRITES ==> \at(rooms, L2) == \at(rooms, L1));
+
+    predicate are_counted{L1, L2}(Step *s) =
+      \forall integer k; 0 <= k < \at(s->work->parts, L1) ==>
+        \at(s->begun[k], L1) <= \at(s->begun[k], L2) &&
+        times{L2}(k) - times{L1}(k) == \at(s->begun[k], L2) - \at(s->begun[k], L1); */
+
+/* What a part does, which writes a room only in a step that does, and tells a status. */
+/*@ assigns *s->work, rooms, runs;
+    ensures times{Post}(k) == times{Pre}(k) + 1 && \forall integer j; j != k ==> times{Post}(j) == times{Pre}(j);
+    ensures s->kind != CVL_WRITES ==> rooms == \old(rooms);
+    ensures \result.number != NOT_RUN && goes_on{Pre, Post}(s->work); */
+static CvlStatus status_of(const Step *s, size_t k) { return s->part(s->work, k); }
+
 /* A part is run once, however often the pool runs it. */
-static void run_part(void *step, size_t part) {
-    Step *s = step;
+/*@ requires is_step(s);
+    assigns *s->work, rooms, runs, s->begun[part], s->told[part];
+    ensures is_step(s) && is_same{Pre, Post}(s) && are_counted{Pre, Post}(s);
+    ensures part < s->work->parts ==> s->begun[part] == 1; */
+static void run_once(Step *s, size_t part) {
     if (part >= s->work->parts || atomic_exchange(&s->begun[part], 1)) return;
-    s->told[part] = s->part(s->work, part);
+    s->told[part] = status_of(s, part);
 }
+
+static void run_part(void *step, size_t part) { run_once(step, part); }
+
+/* Hands a step to a pool, which runs any parts in any order, and has ended them when it returns. */
+/*@ requires is_step(s);
+    assigns *s, *s->work, rooms, runs;
+    ensures is_step(s) && is_same{Pre, Post}(s) && are_counted{Pre, Post}(s); */
+static void run_by(const CvlPool *pool, Step *s) { pool->run(pool->state, run_part, s, s->work->parts); }
 
 bool cvl_step(const CvlPool *pool, CvlWork *w, CvlKind kind, CvlStepPart part) {
     Step step;
     bool done = 1;
-    step.work = w, step.part = part;
+    step.work = w, step.kind = kind, step.part = part;
+    /*@ loop invariant 0 <= k <= w->parts;
+        loop invariant \forall integer j; 0 <= j < k ==> step.begun[j] == 0 && step.told[j].number == NOT_RUN;
+        loop assigns k, step.begun[0 .. CVL_MOST_PARTS - 1], step.told[0 .. CVL_MOST_PARTS - 1]; */
     for (size_t k = 0; k < w->parts; k++) {
         atomic_init(&step.begun[k], 0);
         step.told[k] = cvl_status(NOT_RUN, -1);
     }
-    pool->run(pool->state, run_part, &step, w->parts);
+    run_by(pool, &step);
+    /*@ loop invariant 0 <= k <= w->parts && is_step(&step) && goes_on{Pre, Here}(w) && step.work == w && step.kind == kind;
+        loop invariant kind != CVL_WRITES ==> rooms == \at(rooms, Pre);
+        loop invariant \forall integer j; 0 <= j < w->parts ==> times{Here}(j) == times{Pre}(j) + step.begun[j];
+        loop invariant kind != CVL_READS || done ==> \forall integer j; 0 <= j < k ==> step.begun[j] == 1;
+        loop invariant \forall integer j; 0 <= j < k && step.begun[j] == 0 ==> w->left_out != 0 && done == 0;
+        loop assigns k, done, step.begun[0 .. CVL_MOST_PARTS - 1], step.told[0 .. CVL_MOST_PARTS - 1], *w, rooms, runs; */
     for (size_t k = 0; k < w->parts; k++) {
-        if (step.told[k].number == NOT_RUN && kind != CVL_READS) run_part(&step, k);
+        if (step.told[k].number == NOT_RUN && kind != CVL_READS) run_once(&step, k);
         if (step.told[k].number == NOT_RUN) w->left_out = 1;
         if (step.told[k].number != CVL_DONE) done = 0;
     }

@@ -75,7 +75,7 @@ static bool may_be_cut(const CvlRow *row, uint32_t op, const CvlSlot *s) {
 
 /* Rows that come by offsets: the same call by their lengths. */
 /*@ requires is_call(row, s) && row->by_lengths != \null;
-    assigns rooms, told;
+    assigns rooms, told, runs;
     ensures \result.number != CVL_DONE ==> rooms == \old(rooms);
     ensures !are_apart(row, s) ==> \result.number == CVL_OVERLAP; */
 static CvlStatus on_rows(const CvlPool *pool, const CvlRow *row, uint32_t op, const CvlSlot *s) {
@@ -90,7 +90,7 @@ static CvlStatus on_rows(const CvlPool *pool, const CvlRow *row, uint32_t op, co
 }
 
 /* Runs the steps of a call's row. None fails that fills a room for good, and a fault ends a call before that: so the laws of its steps say. */
-/*@ assigns *w, rooms, told;
+/*@ assigns *w, rooms, told, runs;
     ensures !\result ==> rooms == \old(rooms);
     ensures \result && w->told.number != CVL_DONE ==> rooms == \old(rooms); */
 static bool run_parts(const CvlPool *pool, CvlWork *w) { return cvl_steps_in_parts(pool, w); }
@@ -100,7 +100,7 @@ static bool run_parts(const CvlPool *pool, CvlWork *w) { return cvl_steps_in_par
  * a part out of a step that reads.
  */
 /*@ requires is_call(row, s) && are_apart(row, s) && do_agree(row, op, s) && is_clean(row, s, row->out) && \separated(w, row);
-    assigns *w, rooms, told;
+    assigns *w, rooms, told, runs;
     ensures !\result ==> rooms == \old(rooms);
     ensures \result && w->told.number != CVL_DONE ==> rooms == \old(rooms); */
 static bool are_parts_done(const CvlPool *pool, CvlWork *w, const CvlRow *row, uint32_t op, const CvlSlot *s) {

@@ -318,7 +318,7 @@ CVL_HIDDEN CvlStatus cvl_alone(const CvlRow *row, uint32_t op, const CvlSlot *s)
 
 /* Makes a call by a pool: driver.c. */
 /*@ requires is_call(row, s) && ((row->is & CVL_AT_PLACE) != 0 ==> row->operands > 1);
-    assigns rooms, told;
+    assigns rooms, told, runs;
     ensures \result.number != CVL_DONE ==> rooms == \old(rooms);
     ensures !are_apart(row, s) ==> \result.number == CVL_OVERLAP; */
 CVL_HIDDEN CvlStatus cvl_on(const CvlPool *pool, const CvlRow *row, uint32_t op, const CvlSlot *s);

@@ -78,7 +78,7 @@ static inline size_t cvl_size(const CvlWork *w) { return w->row->operand[w->row-
  * Cuts a call: at places; a text at white space; with segments at places, so that each part knows the segments that start in it. Answers
  * whether there is more than one part, and a pool that runs each.
  */
-/*@ assigns *w; */
+/*@ assigns *w, runs; */
 CVL_HIDDEN bool cvl_cut(const CvlPool *pool, CvlWork *w, const CvlRow *row, const CvlSlot *s);
 
 /* Where a part's share of an array begins, if all parts have about as much: a part's ends where that of the next one begins. */
@@ -94,10 +94,13 @@ typedef enum CvlKind { CVL_READS, CVL_COPIES, CVL_WRITES } CvlKind;
  * Runs a step in all parts, and answers whether all are done. A part that the pool leaves out of a step that only reads ends the call; in a
  * step that writes, the thread that calls runs it, so that no room is half written. Flags are copied before a room is written.
  */
-/*@ requires kind == CVL_WRITES ==> made != 0;
-    assigns *w, rooms;
+/*@ requires \valid(w) && w->parts <= CVL_MOST_PARTS && (kind == CVL_WRITES ==> made != 0);
+    assigns *w, rooms, runs;
     ensures kind != CVL_WRITES ==> rooms == \old(rooms);
-    ensures goes_on{Pre, Post}(w); */
+    ensures goes_on{Pre, Post}(w);
+    ensures \forall integer k; 0 <= k < w->parts ==> times{Post}(k) <= times{Pre}(k) + 1;
+    ensures kind != CVL_READS || \result != 0 ==> \forall integer k; 0 <= k < w->parts ==> times{Post}(k) == times{Pre}(k) + 1;
+    ensures \forall integer k; 0 <= k < w->parts && times{Post}(k) == times{Pre}(k) ==> w->left_out != 0; */
 CVL_HIDDEN bool cvl_step(const CvlPool *pool, CvlWork *w, CvlKind kind, CvlStepPart part);
 
 /*
@@ -107,7 +110,7 @@ CVL_HIDDEN bool cvl_step(const CvlPool *pool, CvlWork *w, CvlKind kind, CvlStepP
 static inline CvlStatus cvl_looked(CvlStatus status) { return status.number == CVL_LENGTH_MISMATCH ? cvl_done() : status; }
 
 /* Copies the flags that have to be 0 and 1 and are not, and answers whether there was memory. */
-/*@ assigns *w, made;
+/*@ assigns *w, made, runs;
     ensures (\result ==> made != 0) && goes_on{Pre, Post}(w); */
 CVL_HIDDEN bool cvl_make_all(const CvlPool *pool, CvlWork *w);
 
@@ -156,8 +159,8 @@ CVL_HIDDEN CvlPiece cvl_piece(const CvlWork *w, size_t k);
 /* ---- the parts of a call: if they are done, w->told is the status ---- */
 
 /* Runs the steps of the call's row, and answers whether they are done. */
-/*@ requires w->parts <= CVL_MOST_PARTS && !w->tried && !w->wrote && w->kept == \null;
-    assigns *w, rooms, kept, made;
+/*@ requires \valid(w) && w->parts <= CVL_MOST_PARTS && !w->tried && !w->wrote && w->kept == \null;
+    assigns *w, rooms, kept, made, runs;
     ensures !\result && !w->wrote ==> rooms == \old(rooms); */
 CVL_HIDDEN bool cvl_steps_in_parts(const CvlPool *pool, CvlWork *w);
 

@@ -333,8 +333,8 @@ static bool fit_room(CvlWork *w) {
 }
 
 /* Runs a step that writes rooms. One that may fail keeps what stood there. */
-/*@ requires w->parts <= CVL_MOST_PARTS && made != 0;
-    assigns *w, rooms;
+/*@ requires \valid(w) && w->parts <= CVL_MOST_PARTS && made != 0;
+    assigns *w, rooms, runs;
     ensures w->parts == \old(w->parts) && w->kept == \old(w->kept);
     ensures may_fail != 0 ? w->tried != 0 && w->wrote == \old(w->wrote) : w->wrote != 0; */
 static bool write_rooms(const CvlPool *pool, CvlWork *w, bool may_fail) {
@@ -348,8 +348,8 @@ static bool write_rooms(const CvlPool *pool, CvlWork *w, bool may_fail) {
  * before an export takes them only as 0 and 1, before a part writes, and before the call's own count is written: memory may be refused. No
  * memory is asked for once a room is written, and none is written by a step that may fail before there is memory to keep it.
  */
-/*@ requires w->parts <= CVL_MOST_PARTS;
-    assigns *w, rooms, kept, made;
+/*@ requires \valid(w) && w->parts <= CVL_MOST_PARTS;
+    assigns *w, rooms, kept, made, runs;
     ensures w->parts == \old(w->parts);
     ensures \forall integer r; \old(are_known(w, r)) ==> are_known(w, r); */
 static bool run_step(const CvlPool *pool, CvlWork *w) {
@@ -390,7 +390,7 @@ bool cvl_steps_in_parts(const CvlPool *pool, CvlWork *w) {
     hold_records(w);
     w->told = cvl_done();
     /*@ loop invariant w->parts == \at(w->parts, Pre) && are_known(w, \at(rooms, Pre));
-        loop assigns j, *w, rooms, kept, made; */
+        loop assigns j, *w, rooms, kept, made, runs; */
     for (size_t j = 0; j < w->row->steps && w->told.number == CVL_DONE; j++) {
         w->step = &w->row->step[j];
         /*@ assert are_known(w, \at(rooms, Pre)); */

@@ -20,6 +20,8 @@ enum { memory_order_relaxed, memory_order_acquire, memory_order_release };
 #define atomic_fetch_and_explicit(at, value, order) (*(at) &= (value))
 #define atomic_compare_exchange_strong_explicit(at, seen, next, order, other) \
     (*(at) == *(seen) ? (*(at) = (next), 1) : (*(seen) = *(at), 0))
+/*@ assigns *at;
+    ensures \result == \old(*at) && *at == value; */
 static inline unsigned char atomic_exchange(unsigned char *at, unsigned char value) {
     const unsigned char was = *at;
     *at = value;
@@ -43,6 +45,10 @@ static inline unsigned char atomic_exchange(unsigned char *at, unsigned char val
  * and changes where they may. And whether flags that have to be 0 and 1 are copied where they aren't.
  */
 extern int rooms, kept, told, made;
+
+/* How often each part of a call has run. */
+extern int runs;
+/*@ axiomatic Runs { logic integer times{L}(integer part) reads runs; } */
 
 /* ---- flags ---- */
 
