@@ -1,7 +1,7 @@
 -- Where parts stand in a vector, and their ranges of it.
-use Rattle.std.proofs.Common.{◌≡◌, ◌≢◌, ◌∙◌, ◌+◌, ◌-◌, ◌==◌, ◌&&◌, ◌^◌, ℕ, pos, Bool, true, false, not, nat_lt, List, [], ◌∷◌, ◌++◌, length, map, sum, Ok, Err, refl, sym, ap, arith}
+use Rattle.std.proofs.Common.{◌≡◌, ◌≢◌, ◌∙◌, ◌+◌, ◌-◌, ◌==◌, ◌&&◌, ◌<◌, ◌^◌, ℕ, pos, Bool, true, false, not, nat_lt, List, [], ◌∷◌, ◌++◌, length, map, sum, Ok, Err, refl, sym, ap, arith}
 use Rattle.std.proofs.Common.{All, eqb, take_all, unsigned_abs, ⊎_elim}
-use Rattle.std.proofs.lemmas.Bool.{eq-eqb, le-ltb, ne_eqb}
+use Rattle.std.proofs.lemmas.Bool.{eq-eqb, le-ltb, lt-ltb, ne_eqb}
 use Rattle.std.proofs.lemmas.Bool.Decides.{eqb_tells}
 use Rattle.std.proofs.lemmas.List.{length-map}
 use Rattle.std.proofs.lemmas.List.Elements.{All-head, All-tail}
@@ -9,6 +9,7 @@ use Rattle.std.proofs.lemmas.Option.{none-some, same_Some}
 use Rattle.std.specs.List.{list_all, zip}
 use Rattle.std.specs.Result.{result_ok}
 use Rattle.cvl_base.proofs.Descriptors.{abs_pos, not_negative}
+use Rattle.cvl_base.proofs.Lists.{sum-cons}
 use Rattle.cvl_base.specs.declared.fault.FaultNo.TheVariants as no
 use Rattle.cvl_base.specs.Faults.{fault}
 use Rattle.cvl_base.specs.Folds.{scan_of}
@@ -196,3 +197,47 @@ module _ {P : Type 0} (one other : P → ℕ) where
       let last : ends_at len (places_of_pairs fits-place ◌+◌ starts others) ≡ true =
       and-right (list_all (λ p. fits-place p.0 p.1) (zip starts others)) (ends_at len (places_of_pairs fits-place ◌+◌ starts others)) found.0 in
       (same-number (sum sums) len (sym (ends-total sums len) ∙ sym (ap (ends_at len) (both-places parts)) ∙ last), found.1 ∙ both-places parts)
+
+  and-false : (a b : Bool) → b ≡ false → (a && b) ≡ false
+  and-false true b is = is
+  and-false false b is = refl
+
+  -- places that end below 2^64 fit 64 bits
+  all-fit : (from more : ℕ) (parts : List P) → (from + more) + sum (map (λ p. one p + other p) parts) < 2 ^ 64
+      → list_all (λ p. fits-place p.0 p.1) (zip (ends from (map one parts)) (ends more (map other parts))) ≡ true
+  all-fit from more [] small = refl
+  all-fit from more (p ∷ parts) small =
+      let here : (from + more) + ((one p + other p) + sum (map (λ q. one q + other q) parts)) < 2 ^ 64 =
+      omega (arith, small, sum-cons (one p + other p) (map (λ q. one q + other q) parts)) in
+      ap (λ b. b && list_all (λ q. fits-place q.0 q.1) (zip (ends (from + one p) (map one parts)) (ends (more + other p) (map other parts))))
+      (lt-ltb ((from + one p) + (more + other p)) (2 ^ 64) (omega (arith, here)))
+      ∙ all-fit (from + one p) (more + other p) parts (omega (arith, here))
+
+  module _ (parts : List P) (len : ℕ) (small : len < 2 ^ 64) where
+    abbrev starts : List ℕ
+    starts = places_of (map one parts)
+
+    abbrev others : List ℕ
+    others = places_of (map other parts)
+
+    abbrev sums : List ℕ
+    sums = map (λ p. one p + other p) parts
+
+    as-long : length starts ≡ length others
+    as-long = omega (arith, length-places_of (map one parts), length-places_of (map other parts), length-map parts one, length-map parts other)
+
+    ends-both : ends_at len (places_of_pairs fits-place ◌+◌ starts others) ≡ (sum sums == len)
+    ends-both = ap (ends_at len) (both-places parts) ∙ ends-total sums len
+
+    pub both-fits : sum sums ≡ len → added_places_of starts others len ≡ Ok (places_of sums)
+    both-fits is =
+        let all : list_all (λ p. fits-place p.0 p.1) (zip starts others) ≡ true =
+        (λ i. list_all (λ p. fits-place p.0 p.1) (zip (by-ends (map one parts) i) (by-ends (map other parts) i))) ∙ all-fit 0 0 parts (omega (arith, small, is)) in
+        paired fits-place ◌+◌ starts others len as-long
+        (ap (λ b. b && ends_at len (places_of_pairs fits-place ◌+◌ starts others)) all ∙ ends-both ∙ eq-eqb (sum sums) len is)
+        ∙ ap Ok (both-places parts)
+
+    pub both-misfits : sum sums ≢ len → added_places_of starts others len ≡ Err (fault no.LengthMismatch)
+    both-misfits other_sum =
+        unpaired fits-place ◌+◌ starts others len as-long
+        (and-false (list_all (λ p. fits-place p.0 p.1) (zip starts others)) (ends_at len (places_of_pairs fits-place ◌+◌ starts others)) (ends-both ∙ ne_eqb (sum sums) len other_sum))

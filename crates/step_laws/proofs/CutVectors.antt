@@ -1,5 +1,5 @@
 -- The vectors of a call, cut where the segments of its parts stand.
-use Rattle.std.proofs.Common.{◌≡◌, ◌≢◌, ◌∙◌, ◌+◌, ℕ, ℤ, pos, true, false, List, length, map, sum, Ok, Err, sym, ap, arith, subst}
+use Rattle.std.proofs.Common.{◌≡◌, ◌≢◌, ◌∙◌, ◌+◌, ◌≤◌, ℕ, ℤ, pos, true, false, List, length, map, sum, Ok, Err, sym, ap, arith, subst}
 use Rattle.std.proofs.Common.{eqb, unsigned_abs, ⊎_elim}
 use mathlib.Core.List.{map-map}
 use Rattle.std.proofs.lemmas.Bool.Decides.{eqb_tells}
@@ -8,6 +8,7 @@ use Rattle.std.specs.List.{AllZip}
 use Rattle.cvl_base.proofs.Nests.{nest-misfits}
 use Rattle.cvl_base.specs.declared.fault.FaultNo.TheVariants as no
 use Rattle.cvl_base.specs.Faults.{fault}
+use Rattle.cvl_base.specs.Limits.{most_places}
 use Rattle.cvl_base.specs.Lists.{joined}
 use Rattle.cvl_base.specs.Nests.{nest}
 use Rattle.cvl_base.specs.Packs.{count_of}
@@ -21,7 +22,7 @@ use Rattle.c_calls.specs.declared.status.CvlStatus.{CvlStatus}
 use Rattle.step_laws.proofs.Answered.{done_if_long, fills, is_given, past_limit}
 use Rattle.step_laws.proofs.BySegments.{own-sizes, sizes, sum-parts, told-sizes}
 use Rattle.step_laws.proofs.Counted.{counted-parts}
-use Rattle.step_laws.proofs.CutPlaces.{both-given, count-places, exact-fits, exact-given, exact-misfits, ranges-joined, ranges-long}
+use Rattle.step_laws.proofs.CutPlaces.{both-fits, both-given, both-misfits, count-places, exact-fits, exact-given, exact-misfits, ranges-joined, ranges-long}
 use Rattle.step_laws.proofs.Parted.{alike}
 use Rattle.step_laws.specs.CountSteps.{Counts}
 use Rattle.step_laws.specs.CutSteps.{IsCutBy}
@@ -113,3 +114,18 @@ module _ {P X : Type 0} (one other : P → ℕ) (parts : List P) where
       let is = both-given one other parts (length xs) places
       (fills (added_places_of (places_of (map one parts)) (places_of (map other parts)) (length xs)) before places told).0 in
       cut-by (map (λ p. one p + other p) parts) places xs is.0 is.1
+
+  pub other-both : (xs : List X) (status : CvlStatus) (before places : List ℕ) → length xs ≤ most_places → length before ≡ length parts + 1
+      → RoomTold (added_places_of (places_of (map one parts)) (places_of (map other parts)) (length xs)) status before places → status ≢ done
+      → (sum (map (λ p. one p + other p) parts) ≢ length xs) × (status ≡ status_of_fault (fault no.LengthMismatch))
+  other-both xs status before places few long told fails =
+      let sums = map (λ p. one p + other p) parts in
+      ⊎_elim
+      (λ (adds : (eqb (sum sums) (length xs) ≡ true) × (sum sums ≡ length xs)).
+      absurd (fails (done_if_long (places_of sums) before places status (omega (arith, length-places_of sums, length-map parts (λ p. one p + other p), long))
+      (subst (λ m. RoomTold m status before places) (both-fits one other parts (length xs) (omega (arith, few)) adds.1) told))))
+      (λ (differ : (eqb (sum sums) (length xs) ≡ false) × (sum sums ≢ length xs)).
+      let none : RoomTold (Err (fault no.LengthMismatch)) status before places =
+      subst (λ m. RoomTold m status before places) (both-misfits one other parts (length xs) (omega (arith, few)) differ.1) told in
+      (differ.1, none.0))
+      (eqb_tells (sum sums) (length xs))

@@ -1,11 +1,12 @@
 //! Calls that go segment by segment, by steps: their vectors are cut between segments into parts, and each part makes the call on
 //! its own segments.
 
-ghost use Rattle.std.specs.Prelude.{◌≡◌, ◌≢◌, ◌+◌, ℕ, ℤ, Err, List, Ok, Result, length, map, sum, unsigned_abs};
+ghost use Rattle.std.specs.Prelude.{◌≡◌, ◌≢◌, ◌+◌, ◌≤◌, ℕ, ℤ, Err, List, Ok, Result, length, map, sum, unsigned_abs};
 ghost use Rattle.std.specs.List.{All};
 ghost use Rattle.cvl_base.specs.declared.fault.Fault.{Fault};
 ghost use Rattle.cvl_base.specs.declared.fault.FaultNo.TheVariants as no;
 ghost use Rattle.cvl_base.specs.Faults.{fault};
+ghost use Rattle.cvl_base.specs.Limits.{most_places};
 ghost use Rattle.cvl_base.specs.Nests.{nest};
 ghost use Rattle.cvl_base.specs.Packs.{count_of};
 ghost use Rattle.flag_calls.specs.Flags.{flags_of};
@@ -26,7 +27,7 @@ ghost use Rattle.c_calls.specs.declared.status.CvlStatus.{CvlStatus};
 /// true there, the step that looks once for the places cuts the vector into ranges, one for each part, of as many elements. If
 /// the lengths do not add up to the vector, its answer is the fault that the call has; if more or fewer flags are true than the
 /// vector has elements, it is `LengthMismatch`. In a vector that has the elements of two others a part stands behind what is
-/// before it in both.
+/// before it in both; if it has more elements, or fewer, the answer is `LengthMismatch` too.
 pub fn vectors_cut_by_steps<P, X>()
     ensures lengths { (start measured : List (Part ℤ ℕ ℤ)) (xs : List X) (before places : List ℕ) →
         InParts Measures start measured →
@@ -47,6 +48,11 @@ pub fn vectors_cut_by_steps<P, X>()
     ensures both { (one other : P → ℕ) (parts : List P) (xs : List X) (before places : List ℕ) →
         RoomTold (added_places_of (places_of (map one parts)) (places_of (map other parts)) (length xs)) done before places →
         IsCutBy places (map (λ p. one p + other p) parts) xs }
+    ensures other_both { (one other : P → ℕ) (parts : List P) (xs : List X) (status : CvlStatus) (before places : List ℕ) →
+        length xs ≤ most_places → length before ≡ length parts + 1 →
+        RoomTold (added_places_of (places_of (map one parts)) (places_of (map other parts)) (length xs)) status before places →
+        status ≢ done →
+        (sum (map (λ p. one p + other p) parts) ≢ length xs) × (status ≡ status_of_fault (fault no.LengthMismatch)) }
 {}
 
 /// A call that is made of the calls on its parts, by one step: each part makes the call on its own operands. If each is done, so

@@ -4,7 +4,7 @@ use Rattle.cvl_base.specs.declared.fault.Fault.{Fault}
 use Rattle.cvl_base.specs.declared.fault.FaultNo.TheVariants as no
 use Rattle.cvl_base.specs.Faults.{fault}
 use Rattle.c_calls.specs.declared.status.CvlStatus.{CvlStatus}
-use Rattle.c_calls.specs.Told.{Told, done, status_of_fault}
+use Rattle.c_calls.specs.Told.{Told, done}
 use Rattle.cvl_c.proofs.cuts.cvl_proved_first_start.Goals as goal
 
 -- an answer that is not that all is done is this fault

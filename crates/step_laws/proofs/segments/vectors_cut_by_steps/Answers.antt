@@ -1,5 +1,5 @@
 use Rattle.step_laws.proofs.AnyOrder.{in_any_order}
-use Rattle.step_laws.proofs.CutVectors.{cut-both, cut-counts, cut-lengths, other-counts, other-lengths}
+use Rattle.step_laws.proofs.CutVectors.{cut-both, cut-counts, cut-lengths, other-both, other-counts, other-lengths}
 use Rattle.step_laws.specs.CountSteps.{Counts}
 use Rattle.step_laws.specs.LengthSteps.{Measures}
 use Rattle.step_laws.proofs.segments.vectors_cut_by_steps.Goals as goal
@@ -13,4 +13,5 @@ returns g c = record {
   other_flags = λ start counted xs status before places long first told fails.
       other-counts start counted (in_any_order Counts start counted first) xs status before places long told fails;
   both = λ one other parts xs before places told. cut-both one other parts xs before places told;
+  other_both = λ one other parts xs status before places few long told fails. other-both one other parts xs status before places few long told fails;
 }
