@@ -115,6 +115,14 @@ static void tell_flat(void) {
     tell("spread_ints", cvl_spread_ints(ranks, a, rank == 0 ? N : N - 1, out, rank + 1 == size ? N : N - 1));
 }
 
+/* Into four places of each rank. */
+static void tell_few(void) {
+    static int32_t few[N];
+    for (int32_t k = 0; k < N; k++) few[k] = k % (4 * size);
+    tell("combine_permute_int into few", cvl_combine_permute_int_mpi(ranks, CVL_ADD, a, N, few, N, out, 4));
+    tell("counts into few", cvl_counts_mpi(ranks, few, N, out, 4));
+}
+
 static void tell_by_segments(void) {
     static int32_t none[3];
     tell("ind_lez", cvl_ind_lez_mpi(ranks, a, b, segments, out, N));
@@ -205,6 +213,7 @@ int main(int words, char **word) {
     tell("first_senders", cvl_first_senders_mpi(ranks, index_of, N, out, N));
     tell("combine_permute_int", cvl_combine_permute_int_mpi(ranks, CVL_ADD, a, N, index_of, N, out, N));
     tell("counts", cvl_counts_mpi(ranks, index_of, N, out, N));
+    tell_few();
     tell("sort", cvl_sort_mpi(ranks, index_of, N, out, N));
     tell("order", cvl_order_mpi(ranks, index_of, N, out, N));
     tell("rank", cvl_rank_mpi(ranks, index_of, N, out, N));
