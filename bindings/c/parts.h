@@ -91,8 +91,8 @@ CVL_HIDDEN size_t cvl_part_from(const CvlWork *w, size_t len, size_t k);
 typedef enum CvlKind { CVL_READS, CVL_COPIES, CVL_WRITES } CvlKind;
 
 /*
- * Runs a step in all parts, and answers whether all are done. A part that the pool leaves out of a step that only reads ends the call; in a
- * step that writes, the thread that calls runs it, so that no room is half written. Flags are copied before a room is written.
+ * Runs a step in all parts, each once, and answers whether all are done. A part that the pool leaves out of a step that only reads ends the
+ * call; in a step that writes, the thread that calls runs it, so that no room is half written. Flags are copied before a room is written.
  */
 /*@ requires \valid(w) && w->parts <= CVL_MOST_PARTS && (kind == CVL_WRITES ==> made != 0);
     assigns *w, rooms, runs;

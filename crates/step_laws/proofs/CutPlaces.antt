@@ -1,6 +1,7 @@
 -- Where parts stand in a vector, and their ranges of it.
 use Rattle.std.proofs.Common.{◌≡◌, ◌≢◌, ◌∙◌, ◌+◌, ◌-◌, ◌==◌, ◌&&◌, ◌<◌, ◌^◌, ℕ, pos, Bool, true, false, not, nat_lt, List, [], ◌∷◌, ◌++◌, length, map, sum, Ok, Err, refl, sym, ap, arith}
 use Rattle.std.proofs.Common.{All, eqb, take_all, unsigned_abs, ⊎_elim}
+use Rattle.std.proofs.Math.Bool.{and-false}
 use Rattle.std.proofs.lemmas.Bool.{eq-eqb, le-ltb, lt-ltb, ne_eqb}
 use Rattle.std.proofs.lemmas.Bool.Decides.{eqb_tells}
 use Rattle.std.proofs.lemmas.List.{length-map}
@@ -198,10 +199,6 @@ module _ {P : Type 0} (one other : P → ℕ) where
       and-right (list_all (λ p. fits-place p.0 p.1) (zip starts others)) (ends_at len (places_of_pairs fits-place ◌+◌ starts others)) found.0 in
       (same-number (sum sums) len (sym (ends-total sums len) ∙ sym (ap (ends_at len) (both-places parts)) ∙ last), found.1 ∙ both-places parts)
 
-  and-false : (a b : Bool) → b ≡ false → (a && b) ≡ false
-  and-false true b is = is
-  and-false false b is = refl
-
   -- places that end below 2^64 fit 64 bits
   all-fit : (from more : ℕ) (parts : List P) → (from + more) + sum (map (λ p. one p + other p) parts) < 2 ^ 64
       → list_all (λ p. fits-place p.0 p.1) (zip (ends from (map one parts)) (ends more (map other parts))) ≡ true
@@ -239,5 +236,5 @@ module _ {P : Type 0} (one other : P → ℕ) where
 
     pub both-misfits : sum sums ≢ len → added_places_of starts others len ≡ Err (fault no.LengthMismatch)
     both-misfits other_sum =
-        unpaired fits-place ◌+◌ starts others len as-long
-        (and-false (list_all (λ p. fits-place p.0 p.1) (zip starts others)) (ends_at len (places_of_pairs fits-place ◌+◌ starts others)) (ends-both ∙ ne_eqb (sum sums) len other_sum))
+        let all = list_all (λ p. fits-place p.0 p.1) (zip starts others) in
+        unpaired fits-place ◌+◌ starts others len as-long (ap (λ b. all && b) (ends-both ∙ ne_eqb (sum sums) len other_sum) ∙ and-false all)

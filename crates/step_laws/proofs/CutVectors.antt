@@ -1,11 +1,12 @@
 -- The vectors of a call, cut where the segments of its parts stand.
-use Rattle.std.proofs.Common.{◌≡◌, ◌≢◌, ◌∙◌, ◌+◌, ◌≤◌, ℕ, ℤ, pos, true, false, List, length, map, sum, Ok, Err, sym, ap, arith, subst}
+use Rattle.std.proofs.Common.{◌≡◌, ◌≢◌, ◌∙◌, ◌+◌, ◌<◌, ◌≤◌, ◌^◌, ℕ, ℤ, pos, true, false, List, length, map, sum, Result, Ok, Err, sym, ap, arith, subst}
 use Rattle.std.proofs.Common.{eqb, unsigned_abs, ⊎_elim}
 use mathlib.Core.List.{map-map}
 use Rattle.std.proofs.lemmas.Bool.Decides.{eqb_tells}
 use Rattle.std.proofs.lemmas.List.{length-map}
 use Rattle.std.specs.List.{AllZip}
 use Rattle.cvl_base.proofs.Nests.{nest-misfits}
+use Rattle.cvl_base.specs.declared.fault.Fault.{Fault}
 use Rattle.cvl_base.specs.declared.fault.FaultNo.TheVariants as no
 use Rattle.cvl_base.specs.Faults.{fault}
 use Rattle.cvl_base.specs.Limits.{most_places}
@@ -30,18 +31,25 @@ use Rattle.step_laws.specs.LengthSteps.{Measures}
 use Rattle.step_laws.specs.PackSteps.{ranges_of}
 use Rattle.step_laws.specs.Parts.{Part, elements_of, told_of}
 
+-- an answer that is given exactly if parts are together as long as a vector, and is not: they are not
+not_as_long : {X : Type 0} (answer : Result (List X) Fault) (given before now : List X) (total len : ℕ) (status : CvlStatus) → length given ≡ length before
+    → (total ≡ len → answer ≡ Ok given) → (total ≢ len → answer ≡ Err (fault no.LengthMismatch)) → RoomTold answer status before now → status ≢ done
+    → (total ≢ len) × (status ≡ status_of_fault (fault no.LengthMismatch))
+not_as_long answer given before now total len status long fits misfits told fails =
+    ⊎_elim
+    (λ (adds : (eqb total len ≡ true) × (total ≡ len)).
+    absurd (fails (done_if_long given before now status long (subst (λ m. RoomTold m status before now) (fits adds.1) told))))
+    (λ (differ : (eqb total len ≡ false) × (total ≢ len)).
+    let none : RoomTold (Err (fault no.LengthMismatch)) status before now = subst (λ m. RoomTold m status before now) (misfits differ.1) told in
+    (differ.1, none.0))
+    (eqb_tells total len)
+
 -- places that are not given are those of parts that are not as long together
 misfit : (lengths : List ℕ) (len : ℕ) (status : CvlStatus) (before places : List ℕ) → length before ≡ length lengths + 1
     → RoomTold (exact_places_of lengths len) status before places → status ≢ done → (sum lengths ≢ len) × (status ≡ status_of_fault (fault no.LengthMismatch))
 misfit lengths len status before places long told fails =
-    ⊎_elim
-    (λ (adds : (eqb (sum lengths) len ≡ true) × (sum lengths ≡ len)).
-    absurd (fails (done_if_long (places_of lengths) before places status (omega (arith, length-places_of lengths, long))
-    (subst (λ m. RoomTold m status before places) (exact-fits lengths len adds.1) told))))
-    (λ (differ : (eqb (sum lengths) len ≡ false) × (sum lengths ≢ len)).
-    let none : RoomTold (Err (fault no.LengthMismatch)) status before places = subst (λ m. RoomTold m status before places) (exact-misfits lengths len differ.1) told in
-    (differ.1, none.0))
-    (eqb_tells (sum lengths) len)
+    not_as_long (exact_places_of lengths len) (places_of lengths) before places (sum lengths) len status (omega (arith, length-places_of lengths, long))
+    (exact-fits lengths len) (exact-misfits lengths len) told fails
 
 -- places of parts with these lengths cut a vector of as many elements
 pub cut-by : {X : Type 0} (lengths places : List ℕ) (xs : List X) → sum lengths ≡ length xs → places ≡ places_of lengths → IsCutBy places lengths xs
@@ -120,12 +128,7 @@ module _ {P X : Type 0} (one other : P → ℕ) (parts : List P) where
       → (sum (map (λ p. one p + other p) parts) ≢ length xs) × (status ≡ status_of_fault (fault no.LengthMismatch))
   other-both xs status before places few long told fails =
       let sums = map (λ p. one p + other p) parts in
-      ⊎_elim
-      (λ (adds : (eqb (sum sums) (length xs) ≡ true) × (sum sums ≡ length xs)).
-      absurd (fails (done_if_long (places_of sums) before places status (omega (arith, length-places_of sums, length-map parts (λ p. one p + other p), long))
-      (subst (λ m. RoomTold m status before places) (both-fits one other parts (length xs) (omega (arith, few)) adds.1) told))))
-      (λ (differ : (eqb (sum sums) (length xs) ≡ false) × (sum sums ≢ length xs)).
-      let none : RoomTold (Err (fault no.LengthMismatch)) status before places =
-      subst (λ m. RoomTold m status before places) (both-misfits one other parts (length xs) (omega (arith, few)) differ.1) told in
-      (differ.1, none.0))
-      (eqb_tells (sum sums) (length xs))
+      let small : length xs < 2 ^ 64 = omega (arith, few) in
+      not_as_long (added_places_of (places_of (map one parts)) (places_of (map other parts)) (length xs)) (places_of sums) before places (sum sums) (length xs) status
+      (omega (arith, length-places_of sums, length-map parts (λ p. one p + other p), long))
+      (both-fits one other parts (length xs) small) (both-misfits one other parts (length xs) small) told fails
