@@ -34,7 +34,7 @@ pub use Rattle.scan_walks.proofs.Valued.{scans_valued, segment_total, sums_value
 pub use Rattle.scan_walks.proofs.WholeSums.{all_whole, whole_laws}
 pub use Rattle.scan_walks.specs.Fronts.{fitting_front}
 pub use Rattle.scan_walks.specs.Ranges.{continued, range_between, range_scan_of}
-pub use Rattle.tile_plan.specs.Ranges.{range_of, tile_count}
+pub use Rattle.tile_plan.specs.Ranges.{range_of, tile_count, Tiling}
 pub use Rattle.tile_scans.proofs.Flagged.{cut_range, flat_range, tiled, total_agrees}
 pub use Rattle.tile_scans.proofs.RangeScans.{continued_range_scan, continued_slice, range_scan-drop, range_scan-take}
 pub use Rattle.tile_scans.proofs.SumsOfTiles.{befores_are, front_is_item, front_passes, IsTiled, length-sums_of, sum_at, sums_pass, tile_passes, tiles_more}

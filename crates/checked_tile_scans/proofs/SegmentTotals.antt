@@ -3,7 +3,7 @@
 use Rattle.checked_tile_scans.proofs.Cited.{◌≡◌, ◌∙◌, ◌+◌, ◌-◌, ◌<◌, ◌≤◌, ◌+ℤ◌, ◌++◌, sym, ap, subst, ℕ, Bool, true, false, ℤ, pos, w64, FitsSigned, to_z, of_z, List, length, take, drop, get_or}
 use Rattle.checked_tile_scans.proofs.Cited.{slice_range, arith, Option, Some, None, AllPass, length-drop, length-map, length-take, get_or-map-range_with_len, length-map-range_with_len, total_of}
 use Rattle.checked_tile_scans.proofs.Cited.{InWords, word-in, is_number, most_elements, continued_summed, all_whole, whole_laws, range_of, tile_count, flagged, take-add, drop-drop, All-drop}
-use Rattle.checked_tile_scans.proofs.Cited.{All-take, sum_by_more, total-is_word, continued, segment_total, continued_slice}
+use Rattle.checked_tile_scans.proofs.Cited.{All-take, sum_by_more, total-is_word, continued, segment_total, continued_slice, Tiling}
 use Rattle.operators.proofs.FoldLaws.{fold_of-append}
 use Rattle.segdes.specs.Starts.{start_of}
 use Rattle.scan_walks.proofs.Segmented.{length-reduces_of}
@@ -14,8 +14,8 @@ use Rattle.checked_tile_scans.proofs.WideSums.{wide_fits, wide_sum}
 pub length-segment_totals : (lengths : List ℕ) (xs : List ℤ) → length (segment_totals lengths xs) ≡ length lengths
 length-segment_totals lengths xs = length-reduces_of ◌+ℤ◌ (pos 0) xs lengths
 
-pub length-totals_before : (plan : ℕ × ℕ) (ws : List (Bool × ℤ)) → length (totals_before plan ws) ≡ tile_count plan.0 plan.1
-length-totals_before plan ws = length-map-range_with_len (λ t. (total_since (take (range_of plan.0 plan.1 t).0 ws)).1) 0 (tile_count plan.0 plan.1)
+pub length-totals_before : (plan : Tiling) (ws : List (Bool × ℤ)) → length (totals_before plan ws) ≡ tile_count plan.len plan.tile
+length-totals_before plan ws = length-map-range_with_len (λ t. (total_since (take (range_of plan.len plan.tile t).0 ws)).1) 0 (tile_count plan.len plan.tile)
 
 -- the sum of a segment, as its elements' range
 pub segment_ranged : (lengths : List ℕ) (xs : List ℤ) (s : ℕ) → s < length lengths → (start end : ℕ) → start ≡ start_of lengths s → end ≡ start + get_or lengths s 0
@@ -32,11 +32,11 @@ range_in_words xs from to few numbers =
     word-in (total_of piece) (total-is_word piece short (All-take (λ y. is_number y ≡ true) (to - from) (drop from xs) (All-drop (λ y. is_number y ≡ true) from xs numbers)))
 
 -- what is known to stand before a tile
-pub before_there : (plan : ℕ × ℕ) (ws : List (Bool × ℤ)) (known : List ℤ) (t : ℕ) → known ≡ totals_before plan ws → t < tile_count plan.0 plan.1
-    → get_or known t (pos 0) ≡ (total_since (take (range_of plan.0 plan.1 t).0 ws)).1
+pub before_there : (plan : Tiling) (ws : List (Bool × ℤ)) (known : List ℤ) (t : ℕ) → known ≡ totals_before plan ws → t < tile_count plan.len plan.tile
+    → get_or known t (pos 0) ≡ (total_since (take (range_of plan.len plan.tile t).0 ws)).1
 before_there plan ws known t is below =
     ap (λ ks. get_or ks t (pos 0)) is
-    ∙ get_or-map-range_with_len (λ k. (total_since (take (range_of plan.0 plan.1 k).0 ws)).1) 0 (tile_count plan.0 plan.1) t t (pos 0) below (omega arith)
+    ∙ get_or-map-range_with_len (λ k. (total_since (take (range_of plan.len plan.tile k).0 ws)).1) 0 (tile_count plan.len plan.tile) t t (pos 0) below (omega arith)
 
 -- a range in two parts
 slice_parted : (xs : List ℤ) (from middle to : ℕ) → from ≤ middle → middle ≤ to → slice_range xs from to ≡ slice_range xs from middle ++ slice_range xs middle to
@@ -49,8 +49,8 @@ slice_parted xs from middle to begun ends =
 
 -- the sum of a range from what is known to stand before the tile that holds its last element, and its own elements in the tile, as a
 -- program adds them in 64 bits
-pub parts_summed : (plan : ℕ × ℕ) (ws : List (Bool × ℤ)) (xs known : List ℤ) (t start from end : ℕ) (own : ℤ) → length xs ≤ most_elements → AllPass is_number xs
-    → known ≡ totals_before plan ws → t < tile_count plan.0 plan.1 → from ≡ (range_of plan.0 plan.1 t).0 → start < from → from ≤ end
+pub parts_summed : (plan : Tiling) (ws : List (Bool × ℤ)) (xs known : List ℤ) (t start from end : ℕ) (own : ℤ) → length xs ≤ most_elements → AllPass is_number xs
+    → known ≡ totals_before plan ws → t < tile_count plan.len plan.tile → from ≡ (range_of plan.len plan.tile t).0 → start < from → from ≤ end
     → ((place : ℕ) → start < place → place ≤ end → (total_since (take place ws)).1 ≡ total_of (slice_range xs start place)) → own ≡ total_of (slice_range xs from end)
     → FitsSigned w64 (to_z w64 (of_z w64 (get_or known t (pos 0))) +ℤ to_z w64 (of_z w64 own))
     × (to_z w64 (of_z w64 (to_z w64 (of_z w64 (get_or known t (pos 0))) +ℤ to_z w64 (of_z w64 own))) ≡ total_of (slice_range xs start end))

@@ -3,14 +3,14 @@
 use Rattle.checked_tile_scans.proofs.Cited.{◌≡◌, ◌∙◌, ◌+◌, ◌≤◌, ◌+ℤ◌, ◌∷◌, ◌++◌, refl, sym, ap, ℕ, Bool, true, false, ℤ, pos, w32, List, [], length, map, take, get_or, arith, AllPass}
 use Rattle.checked_tile_scans.proofs.Cited.{range_with_len, ints, length-append, length-take, exact_sum_of, total_of, exact_laws, number_words, sum_of, wrap, is_number, is_word, range_scan_of}
 use Rattle.checked_tile_scans.proofs.Cited.{zero_wrapped, range_of, tile_count, sums_of, befores_of, IsTiled, int_wrap-add_left, All-append, All-cons, All-head, All-nil, All-tail, fold-append}
-use Rattle.checked_tile_scans.proofs.Cited.{exact_fold_on, sum_laws, fold_of, befores_are, front_passes}
+use Rattle.checked_tile_scans.proofs.Cited.{exact_fold_on, sum_laws, fold_of, befores_are, front_passes, Tiling}
 use Rattle.std.proofs.lemmas.Simd.{map-map}
 use Rattle.cvl_base.specs.Booleans.{either}
 use Rattle.cvl_base.specs.SegmentMonoid.{is_seg_item, seg_join, seg_unit}
 use Rattle.checked_tile_scans.specs.Checked.{total_since, totals_before}
 
 -- numbers are words
-pub worded : {plan : ℕ × ℕ} {ws : List (Bool × ℤ)} → IsTiled is_number plan ws → IsTiled is_word plan ws
+pub worded : {plan : Tiling} {ws : List (Bool × ℤ)} → IsTiled is_number plan ws → IsTiled is_word plan ws
 worded {ws = ws} is = record { some = is.some; few = is.few; whole = is.whole; items = λ i d lt. number_words.fits (get_or ws i d).1 (is.items i d lt) }
 
 one_number : (x : ℤ) → is_number x ≡ true → AllPass is_number (x ∷ [])
@@ -61,23 +61,23 @@ wrapped_since f z ((false, x) ∷ ws) numbers =
 
 -- ---- what stands before each tile
 
-module _ {plan : ℕ × ℕ} {ws : List (Bool × ℤ)} (is : IsTiled is_number plan ws) where
+module _ {plan : Tiling} {ws : List (Bool × ℤ)} (is : IsTiled is_number plan ws) where
   pub front_total : (k : ℕ) → fold_of (seg_join exact_sum_of) (seg_unit (pos 0)) (take k ws) ≡ total_since (take k ws)
   front_total k = exact_total (take k ws) (omega (arith, length-take k ws, is.whole, is.few)) (front_passes is k)
 
   -- of the exact sums of tiles
-  pub exact_befores : (known : List ℤ) → known ≡ befores_of exact_sum_of (pos 0) (sums_of exact_sum_of (pos 0) plan.0 plan.1 ws) → known ≡ totals_before plan ws
+  pub exact_befores : (known : List ℤ) → known ≡ befores_of exact_sum_of (pos 0) (sums_of exact_sum_of (pos 0) plan.len plan.tile ws) → known ≡ totals_before plan ws
   exact_befores known known_is =
       known_is
       ∙ befores_are exact_laws (worded is)
-      ∙ (λ i. map (λ t. (front_total (range_of plan.0 plan.1 t).0 i).1) (range_with_len 0 (tile_count plan.0 plan.1)))
+      ∙ (λ i. map (λ t. (front_total (range_of plan.len plan.tile t).0 i).1) (range_with_len 0 (tile_count plan.len plan.tile)))
 
   -- and of the wrapped ones
-  pub wrapped_befores : (known : List ℤ) → known ≡ map wrap (totals_before plan ws) → known ≡ befores_of sum_of (pos 0) (sums_of sum_of (pos 0) plan.0 plan.1 ws)
+  pub wrapped_befores : (known : List ℤ) → known ≡ map wrap (totals_before plan ws) → known ≡ befores_of sum_of (pos 0) (sums_of sum_of (pos 0) plan.len plan.tile ws)
   wrapped_befores known known_is =
       let before : (t : ℕ) → (fold_of (seg_join sum_of) (seg_unit (pos 0)) (take t ws)).1 ≡ wrap (total_since (take t ws)).1 =
       λ t. ap (λ z. (fold_of (seg_join sum_of) (false, z) (take t ws)).1) (sym zero_wrapped) ∙ (wrapped_since false (pos 0) (take t ws) (front_passes is t)).0 in
       known_is
-      ∙ map-map wrap (λ t. (total_since (take (range_of plan.0 plan.1 t).0 ws)).1) (range_with_len 0 (tile_count plan.0 plan.1))
-      ∙ (λ i. map (λ t. sym (before (range_of plan.0 plan.1 t).0) i) (range_with_len 0 (tile_count plan.0 plan.1)))
+      ∙ map-map wrap (λ t. (total_since (take (range_of plan.len plan.tile t).0 ws)).1) (range_with_len 0 (tile_count plan.len plan.tile))
+      ∙ (λ i. map (λ t. sym (before (range_of plan.len plan.tile t).0) i) (range_with_len 0 (tile_count plan.len plan.tile)))
       ∙ sym (befores_are sum_laws is)

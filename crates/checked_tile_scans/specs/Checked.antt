@@ -5,7 +5,7 @@ use Rattle.std.specs.Prelude.{ℕ, ◌+◌, Bool, ℤ, pos, ◌+ℤ◌, List, le
 use Rattle.std.specs.List.{range_with_len}
 use Rattle.cvl_base.specs.Folds.{fold_of}
 use Rattle.cvl_base.specs.SegmentMonoid.{seg_join, seg_unit}
-use Rattle.tile_plan.specs.Ranges.{tile_count, range_of}
+use Rattle.tile_plan.specs.Ranges.{Tiling, tile_count, range_of}
 use Rattle.scan_walks.specs.Fronts.{fitting_front}
 use Rattle.scan_walks.specs.Ranges.{reduces_of, range_scan_of}
 use Rattle.tile_scans.specs.TiledSums.{tile_of}
@@ -15,8 +15,9 @@ abbrev pub total_since : List (Bool × ℤ) → Bool × ℤ
 total_since ws = fold_of (seg_join ◌+ℤ◌) (seg_unit (pos 0)) ws
 
 -- what stands before each tile
-abbrev pub totals_before : ℕ × ℕ → List (Bool × ℤ) → List ℤ
-totals_before plan ws = map (λ t. (total_since (take (range_of plan.0 plan.1 t).0 ws)).1) (range_with_len 0 (tile_count plan.0 plan.1))
+abbrev pub totals_before : Tiling → List (Bool × ℤ) → List ℤ
+totals_before plan ws =
+    map (λ t. (total_since (take (range_of plan.len plan.tile t).0 ws)).1) (range_with_len 0 (tile_count plan.len plan.tile))
 
 -- the results of the scan, whether they fit or not
 abbrev pub total_scan : List (Bool × ℤ) → List ℤ
@@ -31,13 +32,13 @@ abbrev pub first_outside : List ℤ → Option ℕ
 first_outside zs = if has_outside zs then Some (fitting_front zs) else None
 
 -- of a list that is cut into tiles, the place of the first number of tile t that doesn't fit
-abbrev pub tile_outside : ℕ × ℕ → List ℤ → ℕ → Option ℕ
-tile_outside plan zs t = option_map (λ k. (range_of plan.0 plan.1 t).0 + k) (first_outside (tile_of plan.0 plan.1 zs t))
+abbrev pub tile_outside : Tiling → List ℤ → ℕ → Option ℕ
+tile_outside plan zs t = option_map (λ k. (range_of plan.len plan.tile t).0 + k) (first_outside (tile_of plan.len plan.tile zs t))
 
 -- the slots of tiles: one slot for all tiles with a result that doesn't fit, and none for the others
-abbrev pub slots_of_tiles : ℕ × ℕ → List (Bool × ℤ) → List (Option ℕ)
+abbrev pub slots_of_tiles : Tiling → List (Bool × ℤ) → List (Option ℕ)
 slots_of_tiles plan ws =
-    map (λ t. option_map (λ _. 0) (tile_outside plan (total_scan ws) t)) (range_with_len 0 (tile_count plan.0 plan.1))
+    map (λ t. option_map (λ _. 0) (tile_outside plan (total_scan ws) t)) (range_with_len 0 (tile_count plan.len plan.tile))
 
 -- the sum of each segment, whether it fits or not
 abbrev pub segment_totals : List ℕ → List ℤ → List ℤ

@@ -30,7 +30,7 @@ impl<'a, A: Allocator> Outside<'a, A> {
 
     /// The place of the first result of tile `t` that does not fit 32 bits, if the tile has one.
     fn place_in(&self, t: u32) -> Option<u32>
-        requires { t < tile_count self.now.vector.now.plan.0 self.now.vector.now.plan.1 }
+        requires { t < tile_count self.now.vector.now.plan.len self.now.vector.now.plan.tile }
         ensures { result ≡ tile_outside self.now.vector.now.plan
             (total_scan (flagged (option_copied self.now.vector.now.segments) self.now.vector.now.elements.now)) t }
     {

@@ -30,7 +30,7 @@ fn is_cut_evenly<A: Allocator>(d: &SegDes<A>, parts: usize) -> bool
 /// has half a part more than an equal one.
 pub(crate) fn summed_tile<A: Allocator>(pace: Pace, d: &SegDes<A>) -> u32
     ensures some { 1 ≤ result }
-    ensures short { pace.0 < long_tile → result ≡ pace.0 }
+    ensures short { pace.tile < long_tile → result ≡ pace.tile }
 {
     if pace.tile() < LONG_TILE || !is_cut_evenly(d, pace.workers().get()) {
         return pace.tile();

@@ -29,9 +29,9 @@ pub(crate) struct Totals<'a, A: Allocator> {
     pub(crate) plan: Plan,
     ghost numbers: { list_all is_number elements.now ≡ true },
     ghost agrees: { elements_of (option_copied segments) (length elements.now) ≡ length elements.now },
-    ghost whole: { plan.0 ≡ length elements.now },
-    ghost few: { plan.0 ≤ most_elements },
-    ghost some: { 1 ≤ plan.1 },
+    ghost whole: { plan.len ≡ length elements.now },
+    ghost few: { plan.len ≤ most_elements },
+    ghost some: { 1 ≤ plan.tile },
 }
 
 impl<'a, A: Allocator> Totals<'a, A> {
@@ -54,7 +54,7 @@ impl<'a, A: Allocator> Totals<'a, A> {
         requires some { 1 ≤ tile }
         ensures elements { result.elements.now ≡ elements.now }
         ensures segments { option_copied result.segments ≡ option_copied segments.entry }
-        ensures plan { result.plan ≡ (length elements.now, tile) }
+        ensures plan { result.plan ≡ record { len = length elements.now; tile = tile } }
     {
         know_numbers(elements);
         Totals {
@@ -66,8 +66,8 @@ impl<'a, A: Allocator> Totals<'a, A> {
 
     /// Whether a segment starts in tile `t`, and what its elements add up to since the last start.
     fn total(&self, t: u32) -> (bool, i64)
-        requires { t < tile_count self.now.plan.0 self.now.plan.1 }
-        ensures { result ≡ total_since (tile_of self.now.plan.0 self.now.plan.1
+        requires { t < tile_count self.now.plan.len self.now.plan.tile }
+        ensures { result ≡ total_since (tile_of self.now.plan.len self.now.plan.tile
             (flagged (option_copied self.now.segments) self.now.elements.now) t) }
     {
         let (from, to) = self.plan.range(t);
@@ -80,8 +80,8 @@ impl<'a, A: Allocator> Totals<'a, A> {
 
     /// How many results of the scan of tile `t` fit 32 bits, from the first one on, if `before` stands before the tile.
     pub(crate) fn fitting(&self, t: u32, before: i64) -> usize
-        requires { t < tile_count self.now.plan.0 self.now.plan.1 }
-        ensures { result ≡ fitting_front (range_scan_of ◌+ℤ◌ (pos 0) before (tile_of self.now.plan.0 self.now.plan.1
+        requires { t < tile_count self.now.plan.len self.now.plan.tile }
+        ensures { result ≡ fitting_front (range_scan_of ◌+ℤ◌ (pos 0) before (tile_of self.now.plan.len self.now.plan.tile
             (flagged (option_copied self.now.segments) self.now.elements.now) t)) }
     {
         let (from, to) = self.plan.range(t);
@@ -127,7 +127,7 @@ impl<'a, A: Allocator> Tiles for Totals<'a, A> {
 
     type M = Exact;
 
-    ghost sums = { λ v. sums_of exact_sum_of (pos 0) v.plan.0 v.plan.1 (flagged (option_copied v.segments) v.elements.now) };
+    ghost sums = { λ v. sums_of exact_sum_of (pos 0) v.plan.len v.plan.tile (flagged (option_copied v.segments) v.elements.now) };
 
     fn count(&self) -> u32 {
         self.plan.count()

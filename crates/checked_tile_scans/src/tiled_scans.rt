@@ -37,7 +37,7 @@ pub(crate) fn scan_or_overflow<R: Threads + Sync, A: Memory, G: Gate>(
     vector: &Totals<A>,
     gate: &G,
 ) -> Result<Vec<i32, A>, Refused>
-    requires { vector.now.plan.1 ≡ pace.0 }
+    requires { vector.now.plan.tile ≡ pace.tile }
     ensures values { Gives (λ sums. sums.items) result (values_from no.Overflow 0 (map fitting
         (total_scan (flagged (option_copied vector.now.segments) vector.now.elements.now)))) }
     ensures as_long { IfOk result (λ sums. vec_len sums ≡ length vector.now.elements.now) }

@@ -22,8 +22,8 @@ fn number(matches: &ArgMatches<'_>, name: &str) -> u32
 pub(crate) fn config(matches: &ArgMatches<'_>) -> Config
     requires tile { HasNumber matches.now (codes "tile") longest_tile }
     requires workers { HasNumber matches.now (codes "workers") most_workers }
-    ensures tile { number_in (codes "tile") (rows_of (found_of matches.now)) ≡ Some result.0 }
-    ensures workers { number_in (codes "workers") (rows_of (found_of matches.now)) ≡ Some result.1 }
+    ensures tile { number_in (codes "tile") (rows_of (found_of matches.now)) ≡ Some result.tile }
+    ensures workers { number_in (codes "workers") (rows_of (found_of matches.now)) ≡ Some result.workers }
 {
     let tile = number(matches, "tile");
     let workers = number(matches, "workers");

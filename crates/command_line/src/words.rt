@@ -55,9 +55,9 @@ fn is_set(matches: &ArgMatches<'_>, name: &str) -> bool
 fn words_of<'a>(alloc: Global, matches: &ArgMatches<'a>) -> Result<Words<'a>, AllocError>
     requires { HoldsAllArguments matches.now }
     ensures tile { IfOk result (λ w.
-        number_in (codes "tile") (rows_of (found_of matches.now)) ≡ Some w.config.0) }
+        number_in (codes "tile") (rows_of (found_of matches.now)) ≡ Some w.config.tile) }
     ensures workers { IfOk result (λ w.
-        number_in (codes "workers") (rows_of (found_of matches.now)) ≡ Some w.config.1) }
+        number_in (codes "workers") (rows_of (found_of matches.now)) ≡ Some w.config.workers) }
     ensures explain { IfOk result (λ w.
         w.explain ≡ is_set_in (codes "explain") (rows_of (found_of matches.now))) }
     ensures script { IfOk result (λ w.
@@ -82,15 +82,15 @@ fn words_of<'a>(alloc: Global, matches: &ArgMatches<'a>) -> Result<Words<'a>, Al
 /// `WordsFault::Refused`; otherwise they are read, or memory ran out.
 pub fn read_words<'a>(alloc: Global, words: &'a [&'a str]) -> Result<Words<'a>, WordsFault>
     ensures tile { IfOk result (λ w.
-        number_given (codes "tile") (texts words.entry.now) ≡ Some w.config.0) }
+        number_given (codes "tile") (texts words.entry.now) ≡ Some w.config.tile) }
     ensures workers { IfOk result (λ w.
-        number_given (codes "workers") (texts words.entry.now) ≡ Some w.config.1) }
-    ensures tile_range { IfOk result (λ w. (1 ≤ w.config.0) × (w.config.0 ≤ longest_tile)) }
-    ensures workers_range { IfOk result (λ w. (1 ≤ w.config.1) × (w.config.1 ≤ most_workers)) }
+        number_given (codes "workers") (texts words.entry.now) ≡ Some w.config.workers) }
+    ensures tile_range { IfOk result (λ w. (1 ≤ w.config.tile) × (w.config.tile ≤ longest_tile)) }
+    ensures workers_range { IfOk result (λ w. (1 ≤ w.config.workers) × (w.config.workers ≤ most_workers)) }
     ensures tile_default { IfOk result (λ w.
-        is_left_out (codes "tile") (texts words.entry.now) ≡ true → w.config.0 ≡ 4096) }
+        is_left_out (codes "tile") (texts words.entry.now) ≡ true → w.config.tile ≡ 4096) }
     ensures workers_default { IfOk result (λ w.
-        is_left_out (codes "workers") (texts words.entry.now) ≡ true → w.config.1 ≡ 4) }
+        is_left_out (codes "workers") (texts words.entry.now) ≡ true → w.config.workers ≡ 4) }
     ensures explain { IfOk result (λ w. w.explain ≡ explain_given (texts words.entry.now)) }
     ensures explain_default { IfOk result (λ w.
         is_left_out (codes "explain") (texts words.entry.now) ≡ true → w.explain ≡ false) }

@@ -1,6 +1,6 @@
 //! How a call is cut into tiles and spread over workers. No result depends on it.
 
-ghost use Rattle.std.specs.Prelude.{◌≡◌, ℕ, ◌≤◌};
+ghost use Rattle.std.specs.Prelude.{◌≡◌, ◌≤◌};
 
 use crate::limits::{LONGEST_TILE, MOST_WORKERS};
 use std::marker::Model;
@@ -14,16 +14,17 @@ pub struct Config {
 }
 
 impl Model for Config {
-    ghost use Rattle.std.specs.Prelude.{ℕ, ◌≤◌};
+    ghost use Rattle.std.specs.Prelude.{◌≤◌};
+    ghost use Rattle.cvl_base.specs.Configs.{TilesAndWorkers};
     ghost use Rattle.cvl_base.specs.Limits.{longest_tile, most_workers};
 
-    ghost Value = { ℕ × ℕ };
+    ghost Value = { TilesAndWorkers };
 
-    ghost view = { λ c. (c.tile, c.workers) };
+    ghost view = { λ c. record { tile = c.tile; workers = c.workers } };
 
     ghost invariant = { λ c. (1 ≤ c.tile) × (c.tile ≤ longest_tile) × (1 ≤ c.workers) × (c.workers ≤ most_workers) };
 
-    ghost inverse = { λ v. record { tile = v.0; workers = v.1 } };
+    ghost inverse = { λ v. record { tile = v.tile; workers = v.workers } };
 }
 
 /// Why there is no such configuration.
@@ -57,7 +58,7 @@ impl Config {
 
     /// The length of tiles, in elements.
     pub fn tile(self) -> u32
-        ensures value { result ≡ self.0 }
+        ensures value { result ≡ self.tile }
         ensures least { 1 ≤ result }
         ensures greatest { result ≤ longest_tile }
     {
@@ -66,7 +67,7 @@ impl Config {
 
     /// The number of workers.
     pub fn workers(self) -> u32
-        ensures value { result ≡ self.1 }
+        ensures value { result ≡ self.workers }
         ensures least { 1 ≤ result }
         ensures greatest { result ≤ most_workers }
     {

@@ -59,8 +59,8 @@ struct Shared<'a, 'b, A: Allocator> {
     plan: Plan,
     ghost targets: { board.now.targets ≡ map (λ x. Some (slot_of x)) numbers.now },
     ghost slots: { board.now.slots ≡ 3 },
-    ghost tiles: { board.now.tiles ≡ tile_count plan.0 plan.1 },
-    ghost places: { plan.0 ≡ length numbers.now },
+    ghost tiles: { board.now.tiles ≡ tile_count plan.len plan.tile },
+    ghost places: { plan.len ≡ length numbers.now },
 }
 
 impl<'a, 'b, A: Memory> Shared<'a, 'b, A> {

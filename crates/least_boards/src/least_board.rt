@@ -63,11 +63,11 @@ impl<T: Targets, A: Memory> LeastBoard<T, A> {
         plan: Plan,
         workers: u32,
     ) -> Result<(LeastBoard<T, A>, Vec<LeastSeat, A>), NoResources>
-        requires plan { plan.0 ≡ length (T.targets targets) }
+        requires plan { plan.len ≡ length (T.targets targets) }
         requires some { 1 ≤ workers }
         requires few { workers ≤ most_workers }
         ensures { IfOk result (λ b. IsNewLeast (T.targets targets) (T.slot_count targets)
-            (tile_count plan.0 plan.1) workers b.0 b.1.items) }
+            (tile_count plan.len plan.tile) workers b.0 b.1.items) }
     {
         // its contract bounds the number of places
         let _places = targets.places();

@@ -4,6 +4,7 @@ use Rattle.std.proofs.Common.{◌≡◌, refl, sym, ap, ◌∙◌, ℕ, ◌+◌,
 use Rattle.std.proofs.lemmas.Bool.{cond_both}
 use Rattle.std.proofs.lemmas.List.{length-append}
 use Rattle.std.proofs.lemmas.List.Elements.{All-append, All-cons, All-nil, All-weaker}
+use Rattle.tile_plan.specs.Ranges.{Tiling}
 use Rattle.least_boards.specs.Seats.{Seated, with_pass}
 use Rattle.least_boards.specs.Claims.{after_answer}
 use Rattle.least_boards.specs.LeastBoards.{LeastView}
@@ -15,7 +16,7 @@ use Rattle.least_boards.specs.declared.least_pass.Low.{Low}
 use Rattle.least_races.specs.Facts.{HasAnswered, HasLowered}
 
 -- what was answered stays so where no less is lowered and seen
-pub still_answered : (board : LeastView) (plan : ℕ × ℕ) (old new : Seated LeastPass) (t : ℕ)
+pub still_answered : (board : LeastView) (plan : Tiling) (old new : Seated LeastPass) (t : ℕ)
     → ((slot : ℕ) → lowered_in slot new.pass ≤ lowered_in slot old.pass) → ((slot : ℕ) → seen_in slot new.pass ≤ seen_in slot old.pass)
     → HasAnswered board plan old t → HasAnswered board plan new t
 still_answered board plan old new t lowered seen had place slot begun not_past within is =
@@ -30,7 +31,7 @@ claim_adds_none : (old : Seated LeastPass) (answer : Claim)
 claim_adds_none old (Tile t) = (refl, refl)
 claim_adds_none old Done = cond_both old.is_done old _ (λ (s : Seated LeastPass). (s.pass.lowered ≡ old.pass.lowered) × (s.pass.seen ≡ old.pass.seen)) (λ _. (refl, refl)) (λ _. (refl, refl))
 
-pub claim_keeps : (board : LeastView) (plan : ℕ × ℕ) (old new : Seated LeastPass) (answer : Claim) (t : ℕ)
+pub claim_keeps : (board : LeastView) (plan : Tiling) (old new : Seated LeastPass) (answer : Claim) (t : ℕ)
     → new ≡ after_answer on_least_hand old answer → HasAnswered board plan old t → HasAnswered board plan new t
 claim_keeps board plan old new answer t is had =
     let none = claim_adds_none old answer in

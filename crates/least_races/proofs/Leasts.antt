@@ -20,7 +20,7 @@ use Rattle.least_boards.proofs.LeastEnding.{target_within}
 use Rattle.least_boards.specs.declared.least_pass.LeastPass.{LeastPass}
 use Rattle.crew.specs.Facts.{HasFacts}
 use Rattle.cvl_base.specs.Limits.{most_elements}
-use Rattle.tile_plan.specs.Ranges.{range_of, tile_count}
+use Rattle.tile_plan.specs.Ranges.{Tiling, range_of, tile_count}
 use Rattle.least_races.specs.Facts.{HasAnswered, IsCutInto, IsOver}
 
 -- a place of the slot that is at most each place of the slot, or none where the slot has no place, is the slot's least place
@@ -63,9 +63,9 @@ module _ (slot : ℕ) where
 tile_at : (len tile place : ℕ) → 1 ≤ tile → place < len → (t : ℕ) × (t < tile_count len tile) × ((range_of len tile t).0 ≤ place) × (place < (range_of len tile t).1)
 tile_at len tile place some within = (place / tile, grind (arith, common_steps), grind (arith, common_steps), grind (arith, common_steps))
 
-module _ (board : LeastView) (plan : ℕ × ℕ) where
+module _ (board : LeastView) (plan : Tiling) where
   -- one of the workers was given the tile, and answered the place
-  reached : (place slot t word : ℕ) → (range_of plan.0 plan.1 t).0 ≤ place → place < (range_of plan.0 plan.1 t).1
+  reached : (place slot t word : ℕ) → (range_of plan.len plan.tile t).0 ≤ place → place < (range_of plan.len plan.tile t).1
       → slot < board.slots → get_or board.targets place None ≡ Some slot → (seats : List (Seated LeastPass))
       → All (HasFacts (HasAnswered board plan) (λ seat. seat.pass.hand.given)) seats → 1 ≤ sum_by (λ seat. times t seat.pass.hand.given) seats
       → word ≤ lowest_of (λ seat. lowered_in slot seat.pass) seats → word ≤ lowest_of (λ seat. seen_in slot seat.pass) seats → word ≤ place
@@ -89,7 +89,7 @@ module _ (board : LeastView) (plan : ℕ × ℕ) where
 
   -- so the board tells the least places of all targets
   pub leasts_are : (targets : List (Option ℕ)) (slots : ℕ) (seats : List (Seated LeastPass)) (leasts : List (Option ℕ))
-      → IsOver board targets slots → IsCutInto board plan → 1 ≤ plan.1 → length targets ≤ most_elements
+      → IsOver board targets slots → IsCutInto board plan → 1 ≤ plan.tile → length targets ≤ most_elements
       → 1 ≤ length seats → All (λ seat. IsTrue seat.is_done) seats → All (HasFacts (HasAnswered board plan) (λ seat. seat.pass.hand.given)) seats
       → IsLeastEnd board seats leasts → leasts ≡ leasts_of targets slots
   leasts_are targets slots seats leasts over cut tile few some done facts end =
@@ -102,7 +102,7 @@ module _ (board : LeastView) (plan : ℕ × ℕ) where
       least_is slot 0 board.targets (get_or leasts slot None) has_few
       (λ p is. let zero_off : p - 0 ≡ p = omega arith in (omega arith, ap (λ n. get_or board.targets n None) zero_off ∙ end.of_slot slot p below is))
       (λ place is.
-      let found = tile_at plan.0 plan.1 place tile (omega (arith, target_within board.targets place slot is, cut.whole)) in
+      let found = tile_at plan.len plan.tile place tile (omega (arith, target_within board.targets place slot is, cut.whole)) in
       let once = given found.0 (omega (arith, found.1, cut.cut)) in
       let word = end.least slot below in
       omega (arith, reached place slot found.0 _ found.2 found.3 below is seats facts (omega (arith, once)) (omega (arith, word)) (end.seen slot below))) in

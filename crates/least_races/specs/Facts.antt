@@ -2,7 +2,7 @@
 -- Source: the priority write of a parallel machine with concurrent writes; that a later place of a slot may be skipped is this library's.
 use Rattle.std.specs.Prelude.{◌≡◌, ℕ, ◌+◌, ◌<◌, ◌≤◌, ◌⊎◌, List, ◌++◌, slice_index_or, length, Option, Some, None}
 use Rattle.std.specs.List.{All}
-use Rattle.tile_plan.specs.Ranges.{range_of, tile_count}
+use Rattle.tile_plan.specs.Ranges.{Tiling, range_of, tile_count}
 use Rattle.least_boards.specs.declared.least_pass.LeastPass.{LeastPass}
 use Rattle.least_boards.specs.declared.least_pass.Low.{Low}
 use Rattle.least_boards.specs.Seats.{Seated}
@@ -10,9 +10,9 @@ use Rattle.least_boards.specs.LeastBoards.{LeastView}
 use Rattle.least_boards.specs.LeastPasses.{lowered_in, seen_in}
 
 -- the board's places are cut into tiles by this plan
-pub record IsCutInto (board : LeastView) (plan : ℕ × ℕ) : Type 0 where
-  pub whole : plan.0 ≡ length board.targets
-  pub cut : board.tiles ≡ tile_count plan.0 plan.1
+pub record IsCutInto (board : LeastView) (plan : Tiling) : Type 0 where
+  pub whole : plan.len ≡ length board.targets
+  pub cut : board.tiles ≡ tile_count plan.len plan.tile
 
 -- the board is one over these targets
 pub record IsOver (board : LeastView) (targets : List (Option ℕ)) (slots : ℕ) : Type 0 where
@@ -24,8 +24,8 @@ abbrev pub IsAnswered : LeastPass → ℕ → ℕ → Type 0
 IsAnswered pass slot place = (lowered_in slot pass ≤ place) ⊎ (seen_in slot pass < place)
 
 -- the fact of a tile: it did so for each place of the tile that has a slot
-abbrev pub HasAnswered : LeastView → ℕ × ℕ → Seated LeastPass → ℕ → Type 0
-HasAnswered board plan seat t = (place slot : ℕ) → (range_of plan.0 plan.1 t).0 ≤ place → place < (range_of plan.0 plan.1 t).1 →
+abbrev pub HasAnswered : LeastView → Tiling → Seated LeastPass → ℕ → Type 0
+HasAnswered board plan seat t = (place slot : ℕ) → (range_of plan.len plan.tile t).0 ≤ place → place < (range_of plan.len plan.tile t).1 →
     slot < board.slots → slice_index_or board.targets place None ≡ Some slot → IsAnswered seat.pass slot place
 
 -- from one time to a later one a worker claimed nothing, and did and saw no less

@@ -77,10 +77,10 @@ impl<'a, T: Targets, A: Allocator> LeastWork<'a, T, A> {
         requires seat { IsLeastSeatOf self.now.board seat.old }
         requires over { IsOver self.now.board (T.targets self.now.targets.now) (T.slot_count self.now.targets.now) }
         requires cut { IsCutInto self.now.board self.now.plan }
-        requires tile { t < tile_count self.now.plan.0 self.now.plan.1 }
+        requires tile { t < tile_count self.now.plan.len self.now.plan.tile }
         ensures fact { HasAnswered self.now.board self.now.plan seat.new t }
-        ensures own { HasLowered (range_of self.now.plan.0 self.now.plan.1 t).0 (range_of self.now.plan.0 self.now.plan.1 t).1
-            seat.old.pass seat.new.pass }
+        ensures own { HasLowered (range_of self.now.plan.len self.now.plan.tile t).0
+            (range_of self.now.plan.len self.now.plan.tile t).1 seat.old.pass seat.new.pass }
         ensures gone_on { HasGoneOn seat.old seat.new }
         ensures same { IsLeastSeatOf self.now.board seat.new }
     {
@@ -149,7 +149,7 @@ impl<'a, T: Targets + Sync, A: Memory> Work for LeastWork<'a, T, A> {
 
     type Item = ();
 
-    ghost count = { λ work. tile_count work.plan.0 work.plan.1 };
+    ghost count = { λ work. tile_count work.plan.len work.plan.tile };
 
     ghost items = { λ work t. [] };
 

@@ -14,7 +14,7 @@ pub fn least_pace(config: Config, elements: usize) -> Option<Pace>
     ensures exact { result ≡ search_race config elements }
     ensures some { IfSome result (λ _. 1 ≤ elements) }
     ensures few { IfSome result (λ _. elements ≤ most_elements) }
-    ensures workers { IfSome result (λ pace. pace.1 ≤ config.1) }
+    ensures workers { IfSome result (λ pace. pace.workers ≤ config.workers) }
 {
     race_shape(elements >= LEAST_SEARCHED, config, elements)
 }

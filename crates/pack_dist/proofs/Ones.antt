@@ -54,5 +54,5 @@ stand_before flags place few =
 pub tiles_counted : MonoidLaws is_number (pos 0) sum_of → (flags : List Bool) (tile : ℕ) → 1 ≤ tile → length flags ≤ most_elements
     → befores_of sum_of (pos 0) (sums_of sum_of (pos 0) (length flags) tile (ones flags)) ≡ counts_before flags tile
 tiles_counted laws flags tile some few =
-    befores_are laws (tiled_read integer_of None flags refl is_number (length flags, tile) (ones_are_numbers flags) refl few some)
+    befores_are laws (tiled_read integer_of None flags refl is_number (record { len = length flags; tile = tile }) (ones_are_numbers flags) refl few some)
     ∙ λ i. map (λ t. stand_before flags (t * tile) few i) (range_with_len 0 (tile_count (length flags) tile))

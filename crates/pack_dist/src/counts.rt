@@ -50,7 +50,7 @@ pub(crate) fn counts_before<R: Threads + Sync, A: Memory, G: Gate>(
     gate: &G,
 ) -> Result<Vec<i32, A>, NoResources>
     requires in_limit { length flags.now ≤ most_elements }
-    ensures { IfOk result (λ before. before.items ≡ counts_before flags.now pace.0) }
+    ensures { IfOk result (λ before. before.items ≡ counts_before flags.now pace.tile) }
 {
     know_laws::<Add>();
     befores_of_readings::<R, A, Add, bool, Ones, G>(rt, alloc, pace, flags, gate)

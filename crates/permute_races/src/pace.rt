@@ -15,7 +15,7 @@ pub fn permute_pace(config: Config, indices: usize, places: usize) -> Option<Pac
     ensures exact { result ≡ permute_race config indices places }
     ensures few { IfSome result (λ _. indices ≤ most_elements) }
     ensures few_places { IfSome result (λ _. places ≤ most_elements) }
-    ensures workers { IfSome result (λ pace. pace.1 ≤ config.1) }
+    ensures workers { IfSome result (λ pace. pace.workers ≤ config.workers) }
 {
     if places > MOST_ELEMENTS || config.tile() >= LONG_TILE {
         return None;

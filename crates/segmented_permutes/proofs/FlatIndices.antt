@@ -7,6 +7,7 @@ use Rattle.std.proofs.lemmas.Bool.Decides.{leb_tells}
 use Rattle.std.proofs.lemmas.List.{length-map, length-take-le, map-append}
 use Rattle.std.proofs.lemmas.Simd.{map-map}
 use Rattle.cvl_base.specs.declared.fault.FaultNo.TheVariants.{IndexOutOfRange}
+use Rattle.cvl_base.specs.Configs.{TilesAndWorkers}
 use Rattle.cvl_base.specs.Gives.{unless}
 use Rattle.cvl_base.specs.Limits.{most_elements}
 use Rattle.cvl_base.specs.Packs.{count_of}
@@ -127,5 +128,5 @@ raced_flat segments whole ts wide are =
 
 -- ---- a race for the senders
 
-pub raced_within : (places : ℕ) (way : Way) → RacesWithin places way → {pace : Option (ℕ × ℕ)} {race : ℕ × ℕ} → pace ≡ pace_of way → pace ≡ Some race → places ≤ most_elements
+pub raced_within : (places : ℕ) (way : Way) → RacesWithin places way → {pace : Option TilesAndWorkers} {race : TilesAndWorkers} → pace ≡ pace_of way → pace ≡ Some race → places ≤ most_elements
 raced_within places way few made is = subst (λ o. IfSome o (λ _. places ≤ most_elements)) (sym made ∙ is) few

@@ -20,23 +20,24 @@ pub struct Pace {
 }
 
 impl Model for Pace {
-    ghost use Rattle.std.specs.Prelude.{ℕ, ◌≤◌};
+    ghost use Rattle.std.specs.Prelude.{◌≤◌};
+    ghost use Rattle.cvl_base.specs.Configs.{TilesAndWorkers};
     ghost use Rattle.cvl_base.specs.Limits.{longest_tile, most_workers};
 
-    ghost Value = { ℕ × ℕ };
+    ghost Value = { TilesAndWorkers };
 
-    ghost view = { λ pace. (pace.tile, pace.workers) };
+    ghost view = { λ pace. record { tile = pace.tile; workers = pace.workers } };
 
     ghost invariant = { λ pace. (1 ≤ pace.tile) × (pace.tile ≤ longest_tile) × (1 ≤ pace.workers)
         × (pace.workers ≤ most_workers) };
 
-    ghost inverse = { λ v. record { tile = v.0; workers = v.1 } };
+    ghost inverse = { λ v. record { tile = v.tile; workers = v.workers } };
 }
 
 impl Pace {
     /// The length of tiles, in elements.
     pub fn tile(self) -> u32
-        ensures value { result ≡ self.0 }
+        ensures value { result ≡ self.tile }
         ensures least { 1 ≤ result }
         ensures greatest { result ≤ longest_tile }
     {
@@ -45,14 +46,14 @@ impl Pace {
 
     /// The workers, each a thread.
     pub fn workers(self) -> ThreadCount
-        ensures { result ≡ self.1 }
+        ensures { result ≡ self.workers }
     {
         ThreadCount::new(self.workers)
     }
 
     /// The same workers for tiles of one place each.
     pub fn place_by_place(self) -> Pace
-        ensures { result ≡ (1, self.1) }
+        ensures { result ≡ record { tile = 1; workers = self.workers } }
     {
         Pace {
             tile: 1,
@@ -62,9 +63,9 @@ impl Pace {
 
     /// How many of the workers share the writing of this many elements after the race: one if a second doesn't pay.
     pub fn threads_writing(self, elements: usize) -> ThreadCount
-        ensures exact { result ≡ writing_threads self.1 elements }
+        ensures exact { result ≡ writing_threads self.workers elements }
         ensures least { 1 ≤ result }
-        ensures greatest { result ≤ self.1 }
+        ensures greatest { result ≤ self.workers }
     {
         ThreadCount::new(threads_among(self.workers, elements))
     }
@@ -78,7 +79,7 @@ pub fn race_shape(pays: bool, config: Config, elements: usize) -> Option<Pace>
     ensures exact { result ≡ race_of pays config elements }
     ensures some { IfSome result (λ _. 1 ≤ elements) }
     ensures few { IfSome result (λ _. elements ≤ most_elements) }
-    ensures workers { IfSome result (λ pace. pace.1 ≤ config.1) }
+    ensures workers { IfSome result (λ pace. pace.workers ≤ config.workers) }
 {
     if elements == 0 || elements > MOST_ELEMENTS {
         return None;

@@ -31,16 +31,16 @@ fn share_of(most: u32, items: usize, least: usize, each: usize) -> u32
 /// The same for the configuration's workers.
 fn threads_sharing(config: Config, items: usize, least: usize, each: usize) -> ThreadCount
     requires { 1 ≤ each }
-    ensures exact { result ≡ share_among config.1 items least each }
+    ensures exact { result ≡ share_among config.workers items least each }
     ensures least { 1 ≤ result }
-    ensures greatest { result ≤ config.1 }
+    ensures greatest { result ≤ config.workers }
 {
     ThreadCount::new(share_of(config.workers(), items, least, each))
 }
 
 /// As many threads as the configuration has workers, whatever they share: use it if you need them all.
 pub fn all_workers(config: Config) -> ThreadCount
-    ensures { result ≡ config.1 }
+    ensures { result ≡ config.workers }
 {
     ThreadCount::new(config.workers())
 }
@@ -48,9 +48,9 @@ pub fn all_workers(config: Config) -> ThreadCount
 /// How many threads share the writing of this many elements: at most as many as the configuration has workers, and one if a
 /// second doesn't pay.
 pub fn threads_writing(config: Config, elements: usize) -> ThreadCount
-    ensures exact { result ≡ writing_threads config.1 elements }
+    ensures exact { result ≡ writing_threads config.workers elements }
     ensures least { 1 ≤ result }
-    ensures greatest { result ≤ config.1 }
+    ensures greatest { result ≤ config.workers }
 {
     threads_sharing(config, elements, LEAST_SHARED, LEAST_EACH)
 }
@@ -69,9 +69,9 @@ pub fn threads_among(most: u32, elements: usize) -> u32
 /// How many threads share the reading of an input of this many bytes: at most as many as the configuration has workers, and one
 /// if a second doesn't pay.
 pub fn threads_reading(config: Config, bytes: usize) -> ThreadCount
-    ensures exact { result ≡ reading_threads config.1 bytes }
+    ensures exact { result ≡ reading_threads config.workers bytes }
     ensures least { 1 ≤ result }
-    ensures greatest { result ≤ config.1 }
+    ensures greatest { result ≤ config.workers }
 {
     threads_sharing(config, bytes, LEAST_READ, LEAST_READ_EACH)
 }
@@ -79,9 +79,9 @@ pub fn threads_reading(config: Config, bytes: usize) -> ThreadCount
 /// How many threads share the clearing of fresh memory for a file of this many bytes: at most as many as the configuration has
 /// workers, and one if a second doesn't pay.
 pub fn threads_clearing(config: Config, bytes: usize) -> ThreadCount
-    ensures exact { result ≡ clearing_threads config.1 bytes }
+    ensures exact { result ≡ clearing_threads config.workers bytes }
     ensures least { 1 ≤ result }
-    ensures greatest { result ≤ config.1 }
+    ensures greatest { result ≤ config.workers }
 {
     threads_sharing(config, bytes, LEAST_CLEARED, LEAST_CLEARED_EACH)
 }
@@ -89,9 +89,9 @@ pub fn threads_clearing(config: Config, bytes: usize) -> ThreadCount
 /// How many threads share the writing of this many elements' texts: at most as many as the configuration has workers, and one if
 /// a second doesn't pay, or if there are more than 4,194,304.
 pub fn threads_writing_text(config: Config, elements: usize) -> ThreadCount
-    ensures exact { result ≡ text_threads config.1 elements }
+    ensures exact { result ≡ text_threads config.workers elements }
     ensures least { 1 ≤ result }
-    ensures greatest { result ≤ config.1 }
+    ensures greatest { result ≤ config.workers }
     ensures few { 1 < result → elements ≤ most_elements }
 {
     if elements > MOST_ELEMENTS {

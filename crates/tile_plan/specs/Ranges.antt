@@ -4,6 +4,11 @@ use Rattle.std.specs.Prelude.{◌≡◌, ℕ, ◌+◌, ◌-◌, ◌*◌, ◌<◌
 use Rattle.std.specs.Int.{div_ceil}
 use Rattle.cvl_base.specs.Lists.{joined}
 
+-- how many elements a list has, and the length of the tiles that it is cut into
+pub record Tiling : Type 0 where
+  pub len : ℕ
+  pub tile : ℕ
+
 -- how many tiles there are: len / tile, rounded up
 abbrev pub tile_count : ℕ → ℕ → ℕ
 tile_count len tile = div_ceil len tile

@@ -20,4 +20,4 @@ pub use Rattle.scan_walks.proofs.LastStart.{continued_summed, length-with_starts
 pub use Rattle.scan_walks.proofs.Scanned.{part_read}
 pub use Rattle.scan_walks.proofs.Segmented.{length-reduces_of, seg_reduce-fits, seg_scan-fits}
 pub use Rattle.scan_walks.specs.Ranges.{continued, IsOpenAt, range_between, range_scan_of, reduces_of, started, with_starts}
-pub use Rattle.tile_plan.specs.Ranges.{range_of, tile_count}
+pub use Rattle.tile_plan.specs.Ranges.{range_of, tile_count, Tiling}

@@ -1,6 +1,6 @@
 -- The elements of a vector, each with whether a segment starts at it, flat or segmented: as many, items, and a range of them.
 use Rattle.tile_scans.proofs.Cited.{◌≡◌, ℕ, ◌≤◌, Bool, false, true, List, length, map, sym, ap, ◌∙◌, arith, Option, Some, None, slice_range, sum, AllPass, list_all, length-map}
-use Rattle.tile_scans.proofs.Cited.{AllPass-from_list_all, most_elements, is_seg_item, continued, range_between, range_scan_of, length-with_starts}
+use Rattle.tile_scans.proofs.Cited.{AllPass-from_list_all, most_elements, is_seg_item, continued, range_between, range_scan_of, length-with_starts, Tiling}
 use Rattle.std.proofs.lemmas.List.Folds.{list_all-map}
 use Rattle.scan_walks.proofs.RangeParts.{length-range_scan_of}
 use Rattle.tile_scans.specs.TiledSums.{elements_of, flagged}
@@ -20,8 +20,8 @@ module _ {Item : Type 0} where
   length-flagged None xs agrees = length-map xs (λ x. (false, x))
   length-flagged (Some lengths) xs agrees = length-with_starts lengths xs (omega (arith, agrees))
 
-  pub tiled : (is_item : Item → Bool) (segments : Option (List ℕ)) (xs : List Item) (plan : ℕ × ℕ) → list_all is_item xs ≡ true → elements_of segments (length xs) ≡ length xs
-      → plan.0 ≡ length xs → plan.0 ≤ most_elements → 1 ≤ plan.1 → IsTiled is_item plan (flagged segments xs)
+  pub tiled : (is_item : Item → Bool) (segments : Option (List ℕ)) (xs : List Item) (plan : Tiling) → list_all is_item xs ≡ true → elements_of segments (length xs) ≡ length xs
+      → plan.len ≡ length xs → plan.len ≤ most_elements → 1 ≤ plan.tile → IsTiled is_item plan (flagged segments xs)
   tiled is_item segments xs plan items agrees whole few some = record {
     some = some;
     few = few;
@@ -47,7 +47,7 @@ module _ {X Item : Type 0} (item : X → Item) (segments : Option (List ℕ)) (x
   pub length-scanned : (join : Item → Item → Item) (unit : Item) → length (range_scan_of join unit unit (flagged segments (map item xs))) ≡ length xs
   length-scanned join unit = length-range_scan_of join unit unit (flagged segments (map item xs)) ∙ length-flagged segments (map item xs) agrees_read ∙ length-map xs item
 
-  pub tiled_read : (is_item : Item → Bool) (plan : ℕ × ℕ) → list_all (λ x. is_item (item x)) xs ≡ true → plan.0 ≡ length xs → plan.0 ≤ most_elements → 1 ≤ plan.1
+  pub tiled_read : (is_item : Item → Bool) (plan : Tiling) → list_all (λ x. is_item (item x)) xs ≡ true → plan.len ≡ length xs → plan.len ≤ most_elements → 1 ≤ plan.tile
       → IsTiled is_item plan (flagged segments (map item xs))
   tiled_read is_item plan items whole few some =
       tiled is_item segments (map item xs) plan (list_all-map is_item item xs ∙ items) agrees_read (whole ∙ sym (length-map xs item)) few some

@@ -34,7 +34,7 @@ where
         pace: Pace,
         before: &'b [M::Item],
     ) -> Result<Vec<M::Item, A>, NoResources>
-        requires known { before.now ≡ befores_of M.join M.unit (sums_of M.join M.unit self.now.plan.0 self.now.plan.1
+        requires known { before.now ≡ befores_of M.join M.unit (sums_of M.join M.unit self.now.plan.len self.now.plan.tile
             (flagged (option_copied self.now.segments) (map E.item self.now.elements.now))) }
         ensures values { IfOk result (λ sums. sums.items ≡ range_scan_of M.join M.unit M.unit
             (flagged (option_copied self.now.segments) (map E.item self.now.elements.now))) }
@@ -61,8 +61,8 @@ where
         before: &'b [M::Item],
     ) -> Result<Vec<M::Item, A>, NoResources>
         requires cut { option_copied self.now.segments ≡ Some segments.now }
-        requires filled { 1 ≤ self.now.plan.0 }
-        requires known { before.now ≡ befores_of M.join M.unit (sums_of M.join M.unit self.now.plan.0 self.now.plan.1
+        requires filled { 1 ≤ self.now.plan.len }
+        requires known { before.now ≡ befores_of M.join M.unit (sums_of M.join M.unit self.now.plan.len self.now.plan.tile
             (flagged (option_copied self.now.segments) (map E.item self.now.elements.now))) }
         ensures values { IfOk result (λ sums. sums.items
             ≡ reduces_of M.join M.unit segments.now (map E.item self.now.elements.now)) }

@@ -16,7 +16,7 @@ use std::alloc::Allocator;
 pub(crate) struct KnownBefores<'a, M: Packed, X: Copy, E: Reading<X, M::Item>, A: Allocator> {
     pub(crate) vector: &'a Tiled<'a, M, X, E, A>,
     pub(crate) before: &'a [M::Item],
-    ghost known: { before.now ≡ befores_of M.join M.unit (sums_of M.join M.unit vector.now.plan.0 vector.now.plan.1
+    ghost known: { before.now ≡ befores_of M.join M.unit (sums_of M.join M.unit vector.now.plan.len vector.now.plan.tile
         (flagged (option_copied vector.now.segments) (map E.item vector.now.elements.now))) },
 }
 
@@ -29,8 +29,8 @@ impl<'a, M: Packed, X: Copy, E: Reading<X, M::Item>, A: Allocator> KnownBefores<
     /// What stands before a place of tile `t`, or before its end, since the last start of a segment. Reads only elements of the
     /// tile.
     pub(crate) fn before_place(&self, t: u32, place: usize) -> M::Item
-        requires tile { t < tile_count self.now.vector.now.plan.0 self.now.vector.now.plan.1 }
-        requires begun { (range_of self.now.vector.now.plan.0 self.now.vector.now.plan.1 t).0 ≤ place }
+        requires tile { t < tile_count self.now.vector.now.plan.len self.now.vector.now.plan.tile }
+        requires begun { (range_of self.now.vector.now.plan.len self.now.vector.now.plan.tile t).0 ≤ place }
         requires within { place ≤ length self.now.vector.now.elements.now }
         ensures value { result ≡ (fold_of (seg_join M.join) (seg_unit M.unit) (take place
             (flagged (option_copied self.now.vector.now.segments) (map E.item self.now.vector.now.elements.now)))).1 }

@@ -14,7 +14,7 @@ pub fn scan_pace(config: Config, elements: usize) -> Option<Pace>
     ensures exact { result ≡ scan_race config elements }
     ensures some { IfSome result (λ _. 1 ≤ elements) }
     ensures few { IfSome result (λ _. elements ≤ most_elements) }
-    ensures workers { IfSome result (λ pace. pace.1 ≤ config.1) }
+    ensures workers { IfSome result (λ pace. pace.workers ≤ config.workers) }
 {
     race_shape(elements >= LEAST_SCANNED, config, elements)
 }
@@ -25,7 +25,7 @@ pub fn reduce_pace(config: Config, elements: usize, bytes: usize) -> Option<Pace
     ensures exact { result ≡ reduce_race config elements bytes }
     ensures some { IfSome result (λ _. 1 ≤ elements) }
     ensures few { IfSome result (λ _. elements ≤ most_elements) }
-    ensures workers { IfSome result (λ pace. pace.1 ≤ config.1) }
+    ensures workers { IfSome result (λ pace. pace.workers ≤ config.workers) }
 {
     race_shape(bytes >= LEAST_REDUCED, config, elements)
 }

@@ -38,7 +38,7 @@ where
     requires items { AllPass (λ x. M.is_item (E.item x)) a.now }
     requires in_limit { length a.now ≤ most_elements }
     ensures { IfOk result (λ before. before.items ≡ befores_of M.join M.unit
-        (sums_of M.join M.unit (length a.now) pace.0 (flagged None (map E.item a.now)))) }
+        (sums_of M.join M.unit (length a.now) pace.tile (flagged None (map E.item a.now)))) }
 {
     let vector = Tiled::<M, X, E, A>::new(a, None, pace.tile());
     race_for_befores(rt, alloc, pace, &vector, gate)

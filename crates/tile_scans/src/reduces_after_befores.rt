@@ -18,7 +18,7 @@ pub(crate) struct KnownReduces<'a, M: Packed, X: Copy, E: Reading<X, M::Item>, A
     pub(crate) known: &'a KnownBefores<'a, M, X, E, A>,
     pub(crate) segments: &'a SegDes<A>,
     ghost cut: { option_copied known.now.vector.now.segments ≡ Some segments.now },
-    ghost filled: { 1 ≤ known.now.vector.now.plan.0 },
+    ghost filled: { 1 ≤ known.now.vector.now.plan.len },
 }
 
 impl<'a, M: Packed, X: Copy, E: Reading<X, M::Item>, A: Allocator> Steps<M::Item>

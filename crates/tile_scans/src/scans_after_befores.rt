@@ -39,7 +39,7 @@ where
     requires agrees { elements_of (option_copied segments) (length a.now) ≡ length a.now }
     requires in_limit { length a.now ≤ most_elements }
     requires before { before.now ≡ befores_of M.join M.unit
-        (sums_of M.join M.unit (length a.now) pace.0 (flagged (option_copied segments) a.now)) }
+        (sums_of M.join M.unit (length a.now) pace.tile (flagged (option_copied segments) a.now)) }
     ensures values { IfOk result (λ sums. sums.items
         ≡ range_scan_of M.join M.unit M.unit (flagged (option_copied segments.entry) a.now)) }
     ensures as_long { IfOk result (λ sums. vec_len sums ≡ length a.now) }

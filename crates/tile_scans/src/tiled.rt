@@ -26,9 +26,9 @@ pub(crate) struct Tiled<'a, M: Packed, X: Copy, E: Reading<X, M::Item>, A: Alloc
     reading: PhantomData<E>,
     ghost items: { list_all (λ x. M.is_item (E.item x)) elements.now ≡ true },
     ghost agrees: { elements_of (option_copied segments) (length elements.now) ≡ length elements.now },
-    ghost whole: { plan.0 ≡ length elements.now },
-    ghost few: { plan.0 ≤ most_elements },
-    ghost some: { 1 ≤ plan.1 },
+    ghost whole: { plan.len ≡ length elements.now },
+    ghost few: { plan.len ≤ most_elements },
+    ghost some: { 1 ≤ plan.tile },
 }
 
 impl<'a, M: Packed, X: Copy, E: Reading<X, M::Item>, A: Allocator> Tiled<'a, M, X, E, A> {
@@ -51,7 +51,7 @@ impl<'a, M: Packed, X: Copy, E: Reading<X, M::Item>, A: Allocator> Tiled<'a, M, 
         requires some { 1 ≤ tile }
         ensures elements { result.elements.now ≡ elements.now }
         ensures segments { option_copied result.segments ≡ option_copied segments.entry }
-        ensures plan { result.plan ≡ (length elements.now, tile) }
+        ensures plan { result.plan ≡ record { len = length elements.now; tile = tile } }
     {
         Tiled {
             elements,
@@ -106,7 +106,7 @@ impl<'a, M: Packed, X: Copy, E: Reading<X, M::Item>, A: Allocator> Tiles for Til
 
     type M = M;
 
-    ghost sums = { λ v. sums_of M.join M.unit v.plan.0 v.plan.1
+    ghost sums = { λ v. sums_of M.join M.unit v.plan.len v.plan.tile
         (flagged (option_copied v.segments) (map E.item v.elements.now)) };
 
     fn count(&self) -> u32 {

@@ -74,7 +74,7 @@ impl<A: Allocator> Piece<A> {
 /// How many threads share the text of so many elements, one of which puts what the others have written: as many as the
 /// configuration has workers, but no more than 16, nor than the elements fill pieces.
 pub fn threads_writing_pieces(config: Config, elements: usize) -> ThreadCount
-    ensures { result ≡ max (min config.1 (min (elements / 65536) 16)) 1 }
+    ensures { result ≡ max (min config.workers (min (elements / 65536) 16)) 1 }
 {
     all_workers(config).at_most((elements / PIECE_ELEMENTS).min(MOST_THREADS))
 }

@@ -1,7 +1,12 @@
--- How many threads share a call, by the number of workers, and what each thread has in the end.
+-- How many threads share a call, by the number of workers, and what each thread has in the end; the tiles and workers of a race.
 -- Source: this library's profile.
 use Rattle.std.specs.Prelude.{ℕ, suc, ◌-◌, List, [], ◌∷◌, ◌++◌, map}
+use Rattle.cvl_base.specs.Configs.{TilesAndWorkers}
 use Rattle.sharing.specs.Shares.{first_of_two, share_of_first}
+
+-- tiles of so many elements, and so many workers
+abbrev pub tiles_and_workers : ℕ → ℕ → TilesAndWorkers
+tiles_and_workers tile workers = record { tile = tile; workers = workers }
 
 -- for 1, 3, 4 and 64 workers
 abbrev pub by_workers : (ℕ → ℕ → ℕ) → ℕ → List ℕ

@@ -2,7 +2,8 @@ use Rattle.command_line.proofs.Cited.{◌≡◌, ◌≤◌, ◌∙◌, ℕ, Ok, 
 use Rattle.cvl_base.specs.Configs.{config_of}
 use Rattle.command_line.proofs.numbers.config.Goals as goal
 
-config_is : (tile workers : ℕ) → 1 ≤ tile → tile ≤ longest_tile → 1 ≤ workers → workers ≤ most_workers → config_of tile workers ≡ Ok (tile, workers)
+config_is : (tile workers : ℕ) → 1 ≤ tile → tile ≤ longest_tile → 1 ≤ workers → workers ≤ most_workers
+    → config_of tile workers ≡ Ok (record { tile = tile; workers = workers })
 config_is tile workers a b c d = grind arith
 
 pub unwrap-requires : goal.unwrap-requires

@@ -1,5 +1,6 @@
 use Rattle.std.proofs.Common.{◌≡◌, ◌≤◌, sym, ap, ◌∙◌, length, arith}
 use Rattle.std.proofs.lemmas.List.{length-replicate}
+use Rattle.tile_plan.specs.Ranges.{Tiling}
 use Rattle.least_boards.specs.LeastBoards.{new_least_seat}
 use Rattle.least_races.proofs.Leasts.{leasts_are}
 use Rattle.least_races.proofs.race.race_for_leasts.Goals as goal
@@ -15,7 +16,7 @@ returns g c =
     let plan = c.new-plan.result in
     let some : 1 ≤ length seats.items =
     omega (arith, seats.ok, crew.as_many, c.in_ok-board.seats.ok, ap length new.seats_new, length-replicate c.get.result (new_least_seat board), c.get.ensures.least) in
-    let whole : plan.0 ≡ length board.targets = ap (λ (p : _ × _). p.0) c.new-plan.ensures ∙ c.places.ensures.count ∙ sym (ap length new.of_targets) in
+    let whole : plan.len ≡ length board.targets = ap (λ (p : Tiling). p.len) c.new-plan.ensures ∙ c.places.ensures.count ∙ sym (ap length new.of_targets) in
     leasts_are board plan targets slots seats.items c.close.result
     (record { of_targets = new.of_targets; of_slots = new.of_slots })
     (record { whole = whole; cut = new.of_tiles })

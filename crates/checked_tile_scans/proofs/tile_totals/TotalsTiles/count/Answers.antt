@@ -7,7 +7,7 @@ returns g c =
     let v = c.args.self.now in
     let ws = flagged (option_copied v.segments) v.elements.now in
     let is = tiled is_number (option_copied v.segments) v.elements.now v.plan v.numbers v.agrees v.whole v.few v.some in
-    let long = length-sums_of exact_sum_of (pos 0) v.plan.0 v.plan.1 ws in
+    let long = length-sums_of exact_sum_of (pos 0) v.plan.len v.plan.tile ws in
     record {
       count = c.count.ensures.value ∙ sym long;
       few = omega (arith, c.count.ensures.value, c.count.ensures.at_most, v.few, long);

@@ -6,7 +6,7 @@ use Rattle.checked_tile_scans.proofs.tile_totals.TotalsTiles.sum.Goals as goal
 pub total-requires : goal.total-requires
 total-requires g c =
     let v = c.args.self.now in
-    omega (arith, c.requires, length-sums_of exact_sum_of (pos 0) v.plan.0 v.plan.1 (flagged (option_copied v.segments) v.elements.now))
+    omega (arith, c.requires, length-sums_of exact_sum_of (pos 0) v.plan.len v.plan.tile (flagged (option_copied v.segments) v.elements.now))
 
 pub returns : goal.returns
 returns g c =
@@ -14,9 +14,9 @@ returns g c =
     let ws = flagged (option_copied v.segments) v.elements.now in
     let is = tiled is_number (option_copied v.segments) v.elements.now v.plan v.numbers v.agrees v.whole v.few v.some in
     let t = c.args.t in
-    let below : t < tile_count v.plan.0 v.plan.1 = omega (arith, c.requires, length-sums_of exact_sum_of (pos 0) v.plan.0 v.plan.1 ws) in
-    let from = (range_of v.plan.0 v.plan.1 t).0 in
-    let few : length (tile_of v.plan.0 v.plan.1 ws t) ≤ 4194304 = omega (arith, length-take ((range_of v.plan.0 v.plan.1 t).1 - from) (drop from ws), length-drop from ws, is.whole, v.few) in
+    let below : t < tile_count v.plan.len v.plan.tile = omega (arith, c.requires, length-sums_of exact_sum_of (pos 0) v.plan.len v.plan.tile ws) in
+    let from = (range_of v.plan.len v.plan.tile t).0 in
+    let few : length (tile_of v.plan.len v.plan.tile ws t) ≤ 4194304 = omega (arith, length-take ((range_of v.plan.len v.plan.tile t).1 - from) (drop from ws), length-drop from ws, is.whole, v.few) in
     c.total.ensures
-    ∙ sym (exact_total (tile_of v.plan.0 v.plan.1 ws t) few (tile_passes is t))
-    ∙ sym (sum_at exact_sum_of (pos 0) v.plan.0 v.plan.1 ws t below)
+    ∙ sym (exact_total (tile_of v.plan.len v.plan.tile ws t) few (tile_passes is t))
+    ∙ sym (sum_at exact_sum_of (pos 0) v.plan.len v.plan.tile ws t below)

@@ -22,7 +22,7 @@ sum_between-sum-requires-clause-before g c =
     let known = c.args.self.now in let v = known.vector.now in
     let is = tiled_read g.E.Reading.item (option_copied v.segments) v.elements.now v.agrees g.M.Monoid.is_item v.plan v.items v.whole v.few v.some in
     subst (λ x. IsTrue (g.M.Monoid.is_item x)) (sym (known_at c.know_laws.ensures is known.before.now known.known c.args.t c.index-self-t.result c.requires.tile))
-    (front_is_item c.know_laws.ensures is (range_of v.plan.0 v.plan.1 c.args.t).0)
+    (front_is_item c.know_laws.ensures is (range_of v.plan.len v.plan.tile c.args.t).0)
 
 pub returns : goal.returns
 returns g c =

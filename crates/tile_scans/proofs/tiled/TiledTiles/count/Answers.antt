@@ -8,7 +8,7 @@ pub returns : goal.returns
 returns g c =
     let m = g.M.Monoid in
     let v = c.args.self.now in
-    let long = length-sums_of m.join m.unit v.plan.0 v.plan.1 (flagged (option_copied v.segments) (map g.E.Reading.item v.elements.now)) in
+    let long = length-sums_of m.join m.unit v.plan.len v.plan.tile (flagged (option_copied v.segments) (map g.E.Reading.item v.elements.now)) in
     record {
       count = c.count.ensures.value ∙ sym long;
       few = omega (arith, long, c.count.ensures.value, c.count.ensures.at_most, v.few);
