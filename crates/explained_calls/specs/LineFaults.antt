@@ -166,10 +166,14 @@ op_or_write word = unwrap_or (op_of word) Write
 abbrev pub is_bad_number : List ℕ → Bool
 is_bad_number token = not (is_some (arg_of token))
 
+-- the words for a token that is no number
+abbrev pub no_number_words : List ℕ → List ℕ
+no_number_words token = shortened token ++ codes " is no integer from -2147483648 to 2147483647"
+
 -- a line of the explanation for a token that is no number
 abbrev pub number_line : Option Placed → List ℕ
 number_line None = []
-number_line (Some token) = indented (shortened token.bytes ++ codes " is no integer from -2147483648 to 2147483647")
+number_line (Some token) = indented (no_number_words token.bytes)
 
 -- ---- all of them
 

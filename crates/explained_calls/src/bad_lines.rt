@@ -1,21 +1,18 @@
 //! A line that has none of the forms of a line, in words.
 
 ghost use Rattle.std.specs.Prelude.{◌≡◌, ◌++◌, option_map, Some, OnOk};
-ghost use Rattle.line_reader.specs.Lines.{line_class};
 ghost use Rattle.explained_calls.specs.LineFaults.{alone_words, bad_line_words, end_words, hint_line, name_pair, pair_words};
 ghost use Rattle.explained_calls.specs.LineFaults.{reason_length, reason_text, shows_words, wanted_words};
 ghost use Rattle.explained_calls.specs.Misplaced.{hint_of};
-ghost use Rattle.explained_calls.specs.PlacedTokens.{placed_by};
 ghost use Rattle.explained_calls.specs.Sentences.{indented};
 
 use crate::misplaced::hint_of;
 use crate::pieces::put_pieces;
-use crate::placed_tokens::next_token;
+use crate::placed_tokens::Token;
 use crate::wanted::{Hint, Reason, Wanted};
 use cvl_base::name::is_name_text;
 use cvl_base::{Memory, NoResources, op_of};
 use itoa::Buffer;
-use line_reader::line_tokens::LineClasses;
 
 /// The words for what is wanted.
 fn wanted_words(wanted: Wanted) -> &'static [u8]
@@ -76,18 +73,18 @@ fn put_hint<A: Memory>(hint: Hint, text: &mut Vec<u8, A>) -> Result<(), NoResour
 }
 
 /// The two names that a line has, if it has nothing else.
-fn name_pair(line: &[u8]) -> Option<(&[u8], &[u8])>
-    ensures { option_map (λ pair. (pair.0.now, pair.1.now)) result ≡ name_pair (placed_by line_class 0 line.now) }
+fn name_pair<'l>(tokens: &[Token<'l>]) -> Option<(&'l [u8], &'l [u8])>
+    ensures { option_map (λ pair. (pair.0.now, pair.1.now)) result ≡ name_pair tokens.now }
 {
-    let (first, behind) = next_token::<LineClasses>(line, 0)?;
-    let (second, end) = next_token::<LineClasses>(line, behind)?;
-    if next_token::<LineClasses>(line, end).is_some() {
-        return None;
-    }
-    if is_name_text(first.bytes) && is_name_text(second.bytes) {
-        Some((first.bytes, second.bytes))
-    } else {
-        None
+    match tokens {
+        [first, second] => {
+            if is_name_text(first.bytes()) && is_name_text(second.bytes()) {
+                Some((first.bytes(), second.bytes()))
+            } else {
+                None
+            }
+        }
+        _ => None,
     }
 }
 
@@ -127,13 +124,15 @@ fn put_pair<A: Memory>(
 }
 
 /// Appends what is wrong with a line that has none of the forms of a line.
-pub(crate) fn put_bad_line<A: Memory>(line: &[u8], text: &mut Vec<u8, A>) -> Result<(), NoResources>
-    ensures { OnOk result (text.new.items ≡ text.old.items
-        ++ bad_line_words (name_pair (placed_by line_class 0 line.now)) (hint_of (placed_by line_class 0 line.now))) }
+pub(crate) fn put_bad_line<A: Memory>(
+    tokens: &[Token<'_>],
+    text: &mut Vec<u8, A>,
+) -> Result<(), NoResources>
+    ensures { OnOk result (text.new.items ≡ text.old.items ++ bad_line_words (name_pair tokens.now) (hint_of tokens.now)) }
 {
-    match name_pair(line) {
+    match name_pair(tokens) {
         Some((first, second)) => put_pair(first, second, text),
-        None => match hint_of(line) {
+        None => match hint_of(tokens) {
             Some(hint) => put_hint(hint, text),
             None => Ok(()),
         },

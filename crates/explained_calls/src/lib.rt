@@ -22,5 +22,5 @@ pub use call_words::{kind_words, put_call_words, put_spelling};
 pub use known_words::{near, nearest};
 pub use line_faults::put_line_fault;
 pub use pieces::{ending, put_pieces};
-pub use placed_tokens::{Token, next_token};
-pub use shown::{bytes_behind, first_bytes, put_front, put_shortened, put_shown};
+pub use placed_tokens::{Token, token_at};
+pub use shown::{first_bytes, put_front, put_shortened, put_shown};

@@ -6,7 +6,8 @@ ghost use Rattle.explained_calls.specs.LineFaults.{line_fault_words};
 use crate::argument_counts::put_count_lines;
 use crate::bad_lines::put_bad_line;
 use crate::bad_numbers::put_bad_number;
-use crate::line_parts::{count_tokens, parts_of};
+use crate::line_parts::parts_of;
+use crate::placed_tokens::line_tokens;
 use crate::unknown_calls::put_unknown_call;
 use cvl_base::{FaultNo, Memory, NoResources, Op, op_of};
 use line_reader::line_tokens::before_comment;
@@ -26,22 +27,20 @@ pub fn put_line_fault<A: Memory>(
 ) -> Result<(), NoResources>
     ensures { OnOk result (text.new.items ≡ text.old.items ++ line_fault_words line.now number) }
 {
-    let line = before_comment(line);
+    let tokens = line_tokens(alloc, before_comment(line))?;
+    let tokens = tokens.as_slice();
     if number == FaultNo::BadLine {
-        return put_bad_line(line, text);
+        return put_bad_line(tokens, text);
     }
-    let parts = parts_of(line);
+    let parts = parts_of(tokens);
+    let arguments = parts.arguments.len();
     match number {
-        FaultNo::UnknownCall => {
-            let arguments = count_tokens(line, parts.behind);
-            put_unknown_call(alloc, parts.call, arguments, text)
-        }
+        FaultNo::UnknownCall => put_unknown_call(alloc, parts.call, arguments, text),
         FaultNo::WrongArgumentCount => {
             let op = op_of(parts.call).unwrap_or(Op::Write);
-            let arguments = count_tokens(line, parts.behind);
             put_count_lines(op, parts.names, arguments, text)
         }
-        FaultNo::BadNumber => put_bad_number(line, parts.behind, text),
+        FaultNo::BadNumber => put_bad_number(parts.arguments, text),
         _ => Ok(()),
     }
 }

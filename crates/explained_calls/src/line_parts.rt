@@ -1,91 +1,73 @@
 //! The parts of a line: the names before `=`, the call, and its arguments.
 
-ghost use Rattle.std.specs.Prelude.{◌≡◌, ◌≤◌, drop, length};
-ghost use Rattle.std.specs.List.{after_first, position_or_len};
-ghost use Rattle.line_reader.specs.Lines.{line_class};
-ghost use Rattle.explained_calls.specs.LineFaults.{parts_of};
-ghost use Rattle.explained_calls.specs.Misplaced.{is_equals};
-ghost use Rattle.explained_calls.specs.PlacedTokens.{placed_by};
+ghost use Rattle.std.specs.Prelude.{◌≡◌};
+ghost use Rattle.explained_calls.specs.LineFaults.{binding_parts, call_parts, parts_of};
 
 use crate::misplaced::{is_equals, is_write_line};
-use crate::placed_tokens::next_token;
-use line_reader::line_tokens::LineClasses;
+use crate::placed_tokens::Token;
+use std::marker::Model;
 
 /// The parts of a line that has the form of a line.
-#[derive(Clone, Copy)]
-pub(crate) struct Parts<'l> {
+#[derive(Drop)]
+pub(crate) struct LineParts<'t, 'l> {
     /// How many names stand before `=`.
     pub(crate) names: usize,
     /// The name of the call, or `write`.
     pub(crate) call: &'l [u8],
-    /// The place after it, where the arguments begin.
-    pub(crate) behind: usize,
+    /// Its arguments.
+    pub(crate) arguments: &'t [Token<'l>],
 }
 
-/// How many tokens stand before the first `=`, and the place after it.
-fn names_before(line: &[u8]) -> (usize, usize)
-    ensures count { result.0 ≡ position_or_len (λ token. is_equals token.bytes) (placed_by line_class 0 line.now) }
-    ensures others { placed_by line_class result.1 (drop result.1 line.now)
-        ≡ after_first (λ token. is_equals token.bytes) (placed_by line_class 0 line.now) }
-    ensures within { result.1 ≤ length line.now }
-{
-    let mut count = 0;
-    let mut place = 0;
-    while let Some((token, behind)) = next_token::<LineClasses>(line, place) {
-        if is_equals(token.bytes) {
-            return (count, behind);
-        }
-        place = behind;
-        count += 1;
-    }
-    (count, place)
+impl<'t, 'l> Model for LineParts<'t, 'l> {
+    ghost use Rattle.explained_calls.specs.LineFaults.{Parts};
+
+    ghost Value = { Parts };
+
+    ghost view = { λ p. record { names = p.names; call = p.call.now; arguments = p.arguments.now } };
 }
 
-/// The parts of a line without its comment.
-pub(crate) fn parts_of(line: &[u8]) -> Parts<'_>
-    ensures parts { parts_of (placed_by line_class 0 line.now) ≡ record {
-      names = result.names;
-      call = result.call.now;
-      arguments = placed_by line_class result.behind (drop result.behind line.now);
-    } }
-    ensures within { result.behind ≤ length line.now }
+/// The parts of a line whose call and arguments are these tokens, behind so many names.
+fn call_parts<'t, 'l>(names: usize, tokens: &'t [Token<'l>]) -> LineParts<'t, 'l>
+    ensures { result ≡ call_parts names tokens.now }
 {
-    let nothing = Parts {
-        names: 0,
-        call: b"",
-        behind: line.len(),
-    };
-    let Some((first, behind)) = next_token::<LineClasses>(line, 0) else {
-        return nothing;
-    };
-    if is_write_line(line, first.bytes, behind) {
-        return Parts {
-            names: 0,
-            call: first.bytes,
-            behind,
-        };
-    }
-    let (names, from) = names_before(line);
-    match next_token::<LineClasses>(line, from) {
-        Some((call, behind)) => Parts {
+    match tokens.split_first() {
+        None => LineParts {
             names,
-            call: call.bytes,
-            behind,
+            call: b"",
+            arguments: tokens,
         },
-        None => Parts { names, ..nothing },
+        Some((call, arguments)) => LineParts {
+            names,
+            call: call.bytes(),
+            arguments,
+        },
     }
 }
 
-/// How many tokens the line has from this place on.
-pub(crate) fn count_tokens(line: &[u8], from: usize) -> usize
-    requires { from ≤ length line.now }
-    ensures { result ≡ length (placed_by line_class from (drop from line.now)) }
+/// The parts of a line that binds names.
+fn binding_parts<'t, 'l>(tokens: &'t [Token<'l>]) -> LineParts<'t, 'l>
+    ensures { result ≡ binding_parts tokens.now }
 {
-    let mut count = 0;
-    let mut place = from;
-    while let Some((_, behind)) = next_token::<LineClasses>(line, place) {
-        place = behind;
-        count += 1;
+    for (names, token) in tokens.iter().enumerate() {
+        if is_equals(token.bytes()) {
+            return call_parts(names, &tokens[names + 1..]);
+        }
     }
-    count
+    call_parts(tokens.len(), &tokens[tokens.len()..])
+}
+
+/// The parts of a line.
+pub(crate) fn parts_of<'t, 'l>(tokens: &'t [Token<'l>]) -> LineParts<'t, 'l>
+    ensures { result ≡ parts_of tokens.now }
+{
+    match tokens.split_first() {
+        None => call_parts(0, tokens),
+        Some((first, others)) => {
+            if is_write_line(first.bytes(), others) {
+                call_parts(0, tokens)
+            } else {
+                binding_parts(tokens)
+            }
+        }
+    }
 }

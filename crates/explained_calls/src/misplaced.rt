@@ -1,17 +1,16 @@
 //! Where a line breaks the form of a line.
 
-ghost use Rattle.std.specs.Prelude.{◌≡◌, ◌≤◌, drop, ◌+◌, length, List, Option, Some, IfOk, MatchResult};
-ghost use Rattle.line_reader.specs.Lines.{line_class};
+ghost use Rattle.std.specs.Prelude.{◌≡◌, List, Option, Some, MatchResult};
 ghost use Rattle.explained_calls.specs.declared.wanted.Hint.{Hint};
 ghost use Rattle.explained_calls.specs.Misplaced.{begins_with_equals, hint_after_equals, hint_after_first, hint_after_names};
 ghost use Rattle.explained_calls.specs.Misplaced.{hint_at, hint_of, is_equals, is_wanted, is_write_line, wanting, wanting_each};
-ghost use Rattle.explained_calls.specs.PlacedTokens.{Placed, placed, placed_by};
+ghost use Rattle.explained_calls.specs.PlacedTokens.{Placed};
 
-use crate::placed_tokens::{Token, next_token};
+use crate::placed_tokens::Token;
 use crate::reasons::reason_of;
 use crate::wanted::{Hint, Reason, Wanted};
 use cvl_base::name::{is_name_text, is_word_text};
-use line_reader::line_tokens::{LineClasses, is_argument};
+use line_reader::line_tokens::is_argument;
 
 /// Whether the token is `=`.
 pub(crate) fn is_equals(token: &[u8]) -> bool
@@ -34,36 +33,37 @@ fn is_wanted(wanted: Wanted, token: &[u8]) -> bool
 }
 
 /// The token is not what is wanted at its place.
-fn hint_at(token: Token<'_>, wanted: Wanted) -> Hint
-    ensures { result ≡ hint_at (placed token.entry.start token.entry.bytes.now) wanted }
+fn hint_at(token: &Token<'_>, wanted: Wanted) -> Hint
+    ensures { result ≡ hint_at token.now wanted }
 {
     Hint {
-        place: token.start,
+        place: token.start(),
         ends: false,
         wanted,
         reason: reason_of(wanted, token),
     }
 }
 
-/// The next token, if it is what is wanted, and the place after it.
-fn wanting(line: &[u8], from: usize, wanted: Wanted) -> Result<(Token<'_>, usize), Hint>
-    requires { from ≤ length line.now }
-    ensures within { IfOk result (λ t. (t.1 ≡ t.0.start + length t.0.bytes.now) × (t.1 ≤ length line.now)) }
-    ensures hint { (rest : Placed → List Placed → Option Hint) → MatchResult result
-        (λ t. wanting wanted from (placed_by line_class from (drop from line.now)) rest
-        ≡ rest (placed t.0.start t.0.bytes.now) (placed_by line_class t.1 (drop t.1 line.now)))
-        (λ hint. wanting wanted from (placed_by line_class from (drop from line.now)) rest ≡ Some hint) }
+/// The first token, if it is what is wanted, and those behind it. They begin after this place.
+fn wanting<'t, 'l>(
+    wanted: Wanted,
+    place: usize,
+    tokens: &'t [Token<'l>],
+) -> Result<(&'t Token<'l>, &'t [Token<'l>]), Hint>
+    ensures { (rest : Placed → List Placed → Option Hint) → MatchResult result
+        (λ t. wanting wanted place tokens.now rest ≡ rest t.0.now t.1.now)
+        (λ hint. wanting wanted place tokens.now rest ≡ Some hint) }
 {
-    match next_token::<LineClasses>(line, from) {
+    match tokens.split_first() {
         None => Err(Hint {
-            place: from,
+            place,
             ends: true,
             wanted,
             reason: Reason::Other,
         }),
-        Some((token, behind)) => {
-            if is_wanted(wanted, token.bytes) {
-                Ok((token, behind))
+        Some((token, others)) => {
+            if is_wanted(wanted, token.bytes()) {
+                Ok((token, others))
             } else {
                 Err(hint_at(token, wanted))
             }
@@ -72,44 +72,39 @@ fn wanting(line: &[u8], from: usize, wanted: Wanted) -> Result<(Token<'_>, usize
 }
 
 /// The first token that is not what is wanted of all of them.
-fn wanting_each(line: &[u8], from: usize, wanted: Wanted) -> Option<Hint>
-    requires { from ≤ length line.now }
-    ensures { result ≡ wanting_each wanted (placed_by line_class from (drop from line.now)) }
+fn wanting_each(wanted: Wanted, tokens: &[Token<'_>]) -> Option<Hint>
+    ensures { result ≡ wanting_each wanted tokens.now }
 {
-    let mut place = from;
-    while let Some((token, behind)) = next_token::<LineClasses>(line, place) {
-        if !is_wanted(wanted, token.bytes) {
+    for token in tokens {
+        if !is_wanted(wanted, token.bytes()) {
             return Some(hint_at(token, wanted));
         }
-        place = behind;
     }
     None
 }
 
 /// What is wrong after `=`.
-fn hint_after_equals(line: &[u8], from: usize) -> Option<Hint>
-    requires { from ≤ length line.now }
-    ensures { result ≡ hint_after_equals from (placed_by line_class from (drop from line.now)) }
+fn hint_after_equals(place: usize, tokens: &[Token<'_>]) -> Option<Hint>
+    ensures { result ≡ hint_after_equals place tokens.now }
 {
-    match wanting(line, from, Wanted::Call) {
-        Ok((_, behind)) => wanting_each(line, behind, Wanted::Argument),
+    match wanting(Wanted::Call, place, tokens) {
+        Ok((_call, arguments)) => wanting_each(Wanted::Argument, arguments),
         Err(hint) => Some(hint),
     }
 }
 
 /// What is wrong after a first name.
-fn hint_after_first(line: &[u8], first: &[u8], from: usize) -> Option<Hint>
-    requires { from ≤ length line.now }
-    ensures { result ≡ hint_after_first first.now from (placed_by line_class from (drop from line.now)) }
+fn hint_after_first(first: &[u8], place: usize, tokens: &[Token<'_>]) -> Option<Hint>
+    ensures { result ≡ hint_after_first first.now place tokens.now }
 {
-    match wanting(line, from, Wanted::EqualsOrName) {
-        Ok((second, behind)) => {
-            if is_equals(second.bytes) {
-                hint_after_equals(line, behind)
-            } else if first == second.bytes {
+    match wanting(Wanted::EqualsOrName, place, tokens) {
+        Ok((second, others)) => {
+            if is_equals(second.bytes()) {
+                hint_after_equals(second.behind(), others)
+            } else if first == second.bytes() {
                 Some(hint_at(second, Wanted::OtherName))
             } else {
-                hint_after_names(line, behind)
+                hint_after_names(second.behind(), others)
             }
         }
         Err(hint) => Some(hint),
@@ -117,45 +112,42 @@ fn hint_after_first(line: &[u8], first: &[u8], from: usize) -> Option<Hint>
 }
 
 /// What is wrong after two names.
-fn hint_after_names(line: &[u8], from: usize) -> Option<Hint>
-    requires { from ≤ length line.now }
-    ensures { result ≡ hint_after_names from (placed_by line_class from (drop from line.now)) }
+fn hint_after_names(place: usize, tokens: &[Token<'_>]) -> Option<Hint>
+    ensures { result ≡ hint_after_names place tokens.now }
 {
-    match wanting(line, from, Wanted::Equals) {
-        Ok((_, behind)) => hint_after_equals(line, behind),
+    match wanting(Wanted::Equals, place, tokens) {
+        Ok((equals, others)) => hint_after_equals(equals.behind(), others),
         Err(hint) => Some(hint),
     }
 }
 
-/// Whether the next token is `=`.
-fn begins_with_equals(line: &[u8], from: usize) -> bool
-    requires { from ≤ length line.now }
-    ensures { result ≡ begins_with_equals (placed_by line_class from (drop from line.now)) }
+/// Whether the first token is `=`.
+fn begins_with_equals(tokens: &[Token<'_>]) -> bool
+    ensures { result ≡ begins_with_equals tokens.now }
 {
-    match next_token::<LineClasses>(line, from) {
-        Some((token, _)) => is_equals(token.bytes),
+    match tokens.first() {
+        Some(token) => is_equals(token.bytes()),
         None => false,
     }
 }
 
 /// Whether a line with this first token begins as `write NAME ..` does.
-pub(crate) fn is_write_line(line: &[u8], first: &[u8], from: usize) -> bool
-    requires { from ≤ length line.now }
-    ensures { result ≡ is_write_line first.now (placed_by line_class from (drop from line.now)) }
+pub(crate) fn is_write_line(first: &[u8], others: &[Token<'_>]) -> bool
+    ensures { result ≡ is_write_line first.now others.now }
 {
-    first == b"write".as_slice() && !begins_with_equals(line, from)
+    first == b"write".as_slice() && !begins_with_equals(others)
 }
 
-/// Where a line without a comment breaks the form of a line, if it does.
-pub(crate) fn hint_of(line: &[u8]) -> Option<Hint>
-    ensures { result ≡ hint_of (placed_by line_class 0 line.now) }
+/// Where a line breaks the form of a line, if it does.
+pub(crate) fn hint_of(tokens: &[Token<'_>]) -> Option<Hint>
+    ensures { result ≡ hint_of tokens.now }
 {
-    let (first, behind) = next_token::<LineClasses>(line, 0)?;
-    if is_write_line(line, first.bytes, behind) {
-        return wanting_each(line, behind, Wanted::Name);
+    let (first, others) = tokens.split_first()?;
+    if is_write_line(first.bytes(), others) {
+        wanting_each(Wanted::Name, others)
+    } else if is_name_text(first.bytes()) {
+        hint_after_first(first.bytes(), first.behind(), others)
+    } else {
+        Some(hint_at(first, Wanted::Name))
     }
-    if !is_name_text(first.bytes) {
-        return Some(hint_at(first, Wanted::Name));
-    }
-    hint_after_first(line, first.bytes, behind)
 }

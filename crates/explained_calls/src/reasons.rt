@@ -3,7 +3,6 @@
 ghost use Rattle.std.specs.Prelude.{◌≡◌, take};
 ghost use Rattle.std.specs.List.{list_all, list_any};
 ghost use Rattle.cvl_base.specs.Words.{is_word_byte};
-ghost use Rattle.explained_calls.specs.PlacedTokens.{placed};
 ghost use Rattle.explained_calls.specs.Reasons.{call_reason, is_marked, is_punctuation, is_reserved};
 ghost use Rattle.explained_calls.specs.Reasons.{is_spelled_as_name, name_reason, reason_of, word_reason};
 ghost use Rattle.explained_calls.specs.declared.wanted.Reason.{Reason};
@@ -50,10 +49,10 @@ fn is_punctuated(token: &[u8]) -> bool
 }
 
 /// Whether a token begins the line, and with a byte order mark.
-fn is_marked(token: Token<'_>) -> bool
-    ensures { result ≡ is_marked (placed token.entry.start token.entry.bytes.now) }
+fn is_marked(token: &Token<'_>) -> bool
+    ensures { result ≡ is_marked token.now }
 {
-    token.start == 0 && first_bytes(token.bytes, 3) == b"\xef\xbb\xbf".as_slice()
+    token.start() == 0 && first_bytes(token.bytes(), 3) == b"\xef\xbb\xbf".as_slice()
 }
 
 /// Why a token is no call and no argument.
@@ -81,12 +80,12 @@ fn word_reason(otherwise: Reason, token: &[u8]) -> Reason
 }
 
 /// Why a token that is no word is no name.
-fn name_reason(token: Token<'_>) -> Reason
-    ensures { result ≡ name_reason (placed token.entry.start token.entry.bytes.now) }
+fn name_reason(token: &Token<'_>) -> Reason
+    ensures { result ≡ name_reason token.now }
 {
     if is_marked(token) {
         Reason::ByteOrderMark
-    } else if is_punctuated(token.bytes) {
+    } else if is_punctuated(token.bytes()) {
         Reason::Parenthesis
     } else {
         Reason::NoName
@@ -94,14 +93,14 @@ fn name_reason(token: Token<'_>) -> Reason
 }
 
 /// Why a token is not what is wanted.
-pub(crate) fn reason_of(wanted: Wanted, token: Token<'_>) -> Reason
-    ensures { result ≡ reason_of wanted (placed token.entry.start token.entry.bytes.now) }
+pub(crate) fn reason_of(wanted: Wanted, token: &Token<'_>) -> Reason
+    ensures { result ≡ reason_of wanted token.now }
 {
     match wanted {
-        Wanted::Name => word_reason(name_reason(token), token.bytes),
-        Wanted::EqualsOrName => word_reason(Reason::Other, token.bytes),
+        Wanted::Name => word_reason(name_reason(token), token.bytes()),
+        Wanted::EqualsOrName => word_reason(Reason::Other, token.bytes()),
         Wanted::OtherName | Wanted::Equals => Reason::Other,
-        Wanted::Call => call_reason(token.bytes),
-        Wanted::Argument => word_reason(call_reason(token.bytes), token.bytes),
+        Wanted::Call => call_reason(token.bytes()),
+        Wanted::Argument => word_reason(call_reason(token.bytes()), token.bytes()),
     }
 }

@@ -27,7 +27,7 @@ pub fn first_bytes(bytes: &[u8], count: usize) -> &[u8]
 }
 
 /// The bytes behind so many; none if there are no more.
-pub fn bytes_behind(bytes: &[u8], count: usize) -> &[u8]
+fn bytes_behind(bytes: &[u8], count: usize) -> &[u8]
     ensures { result.now ≡ drop count bytes.now }
 {
     if count < bytes.len() {

@@ -1,13 +1,14 @@
 -- What is wrong with an input, in words: where the bad token stands, and what was expected there.
 -- Source: this library's input formats.
-use Rattle.std.specs.Prelude.{ℕ, ◌-◌, ◌==◌, ◌++◌, Bool, true, false, List, [], ◌∷◌, codes, count_by, drop, length, slice_get, take}
+use Rattle.std.specs.Prelude.{ℕ, ◌-◌, ◌==◌, ◌++◌, Bool, true, false, List, [], ◌∷◌, codes, count_by, length, slice_get, take}
 use Rattle.std.specs.Prelude.{Option, Some, None, if◌then◌else◌}
 use Rattle.std.specs.Fmt.{decimal}
 use Rattle.call_reader.specs.Inputs.{input_class}
 use Rattle.call_reader.specs.NestedTexts.{nested_class}
+use Rattle.explained_calls.specs.PlacedTokens.{Placed, placed_by}
 use Rattle.explained_calls.specs.Sentences.{indented, shortened}
 use Rattle.explained_calls.specs.Shown.{shown}
-use Rattle.explained_inputs.specs.TokenPlaces.{column_at, first_of, line_at, token_starts}
+use Rattle.explained_inputs.specs.TokenPlaces.{column_at, line_at}
 
 -- `numbers:3:7: `, with the line and the column of a place
 abbrev pub position_words : List ℕ → List ℕ → ℕ → List ℕ
@@ -28,13 +29,13 @@ abbrev pub no_integer_words : List ℕ → List ℕ
 no_integer_words token = quoted token ++ codes " is no integer from -2147483648 to 2147483647" ++ nested_words token
 
 -- `numbers:3:7: "12x" is no integer from -2147483648 to 2147483647`
-abbrev pub flat_words : List ℕ → List ℕ → ℕ → List ℕ
-flat_words file bytes start = position_words file bytes start ++ no_integer_words (first_of input_class (drop start bytes))
+abbrev pub flat_words : List ℕ → List ℕ → Placed → List ℕ
+flat_words file bytes token = position_words file bytes token.start ++ no_integer_words token.bytes
 
--- the words for the token of a flat input that begins at this place, if it is known
-abbrev pub flat_words_at : List ℕ → List ℕ → Option ℕ → List ℕ
-flat_words_at file bytes None = []
-flat_words_at file bytes (Some start) = indented (flat_words file bytes start)
+-- the line about a token of a flat input, if it has it
+abbrev pub flat_words_of : List ℕ → List ℕ → Option Placed → List ℕ
+flat_words_of file bytes None = []
+flat_words_of file bytes (Some token) = indented (flat_words file bytes token)
 
 -- how many lists are open before a place: more `[` (91) than `]` (93) stand there
 abbrev pub open_lists : List ℕ → ℕ → ℕ
@@ -50,29 +51,29 @@ expected_at is_first lists =
 
 -- the words for what a nested input should have at a place, by the lists that are open there
 abbrev pub expected_words : List ℕ → ℕ → ℕ → List ℕ
-expected_words bytes token place = expected_at (token == 0) (open_lists bytes place)
+expected_words bytes number place = expected_at (number == 0) (open_lists bytes place)
 
 -- `lists:2:5: the text ends where "[" or "]" is expected`
 abbrev pub end_words : List ℕ → List ℕ → ℕ → List ℕ
-end_words file bytes token =
+end_words file bytes number =
     position_words file bytes (length bytes)
-    ++ codes "the text ends where " ++ expected_words bytes token (length bytes) ++ codes " is expected"
+    ++ codes "the text ends where " ++ expected_words bytes number (length bytes) ++ codes " is expected"
 
 -- `lists:2:5: "x" stands where "[" or "]" is expected`
-abbrev pub stray_words : List ℕ → List ℕ → ℕ → ℕ → List ℕ
-stray_words file bytes token start =
-    position_words file bytes start ++ quoted (first_of nested_class (drop start bytes)) ++ codes " stands where "
-    ++ expected_words bytes token start ++ codes " is expected"
+abbrev pub stray_words : List ℕ → List ℕ → ℕ → Placed → List ℕ
+stray_words file bytes number token =
+    position_words file bytes token.start ++ quoted token.bytes ++ codes " stands where "
+    ++ expected_words bytes number token.start ++ codes " is expected"
 
--- the words for the token of a nested input that is at fault, or for an input that ends too early
-abbrev pub nested_words_at : List ℕ → List ℕ → ℕ → Option ℕ → List ℕ
-nested_words_at file bytes token None = indented (end_words file bytes token)
-nested_words_at file bytes token (Some start) = indented (stray_words file bytes token start)
+-- the line about a token of a nested input, or about an input that ends too early
+abbrev pub nested_words_of : List ℕ → List ℕ → ℕ → Option Placed → List ℕ
+nested_words_of file bytes number None = indented (end_words file bytes number)
+nested_words_of file bytes number (Some token) = indented (stray_words file bytes number token)
 
--- the words about an input's token at a place, counted from 0, in a nested text or in an input of only numbers
+-- the line about the token with this number, counted from 0, of a nested text or of an input of only numbers
 abbrev pub bytes_words : Bool → List ℕ → List ℕ → ℕ → List ℕ
-bytes_words true file bytes token = nested_words_at file bytes token (slice_get (token_starts nested_class bytes) token)
-bytes_words false file bytes token = flat_words_at file bytes (slice_get (token_starts input_class bytes) token)
+bytes_words true file bytes number = nested_words_of file bytes number (slice_get (placed_by nested_class 0 bytes) number)
+bytes_words false file bytes number = flat_words_of file bytes (slice_get (placed_by input_class 0 bytes) number)
 
 -- what a nested text or an input of only numbers has too many of
 abbrev pub many_words : Bool → List ℕ

@@ -8,10 +8,10 @@ ghost use Rattle.explained_inputs.specs.InputFaults.{flat_words, input_fault_wor
 ghost use Rattle.explained_inputs.specs.InputFaults.{position_words};
 ghost use Rattle.explained_inputs.specs.InputFaults.{many_words, quoted, stray_words, too_long_words, vector_words};
 
-use crate::token_places::{column_at, count_of, first_of, line_at, token_start};
+use crate::token_places::{column_at, count_of, line_at};
 use call_reader::{InputBytes, NestedBytes};
 use cvl_base::{Memory, NoResources};
-use explained_calls::{bytes_behind, put_pieces, put_shortened, put_shown};
+use explained_calls::{Token, put_pieces, put_shortened, put_shown, token_at};
 use itoa::Buffer;
 
 /// Writes the file's name with the line and the column of a place: `numbers:3:7: `.
@@ -65,26 +65,26 @@ fn put_no_integer<B: Memory>(token: &[u8], text: &mut Vec<u8, B>) -> Result<(), 
     put_pieces(text, &[middle, nested_words(token)])
 }
 
-/// Writes the line about the token of an input of only numbers that begins at a place.
+/// Writes the line about a token of an input of only numbers.
 fn put_flat<B: Memory>(
     file: &[u8],
     bytes: &[u8],
-    start: usize,
+    token: &Token<'_>,
     text: &mut Vec<u8, B>,
 ) -> Result<(), NoResources>
-    ensures { OnOk result (text.new.items ≡ text.old.items ++ indented (flat_words file.now bytes.now start)) }
+    ensures { OnOk result (text.new.items ≡ text.old.items ++ indented (flat_words file.now bytes.now token.now)) }
 {
     put_pieces(text, &[b"  "])?;
-    put_position(file, bytes, start, text)?;
-    put_no_integer(first_of::<InputBytes>(bytes_behind(bytes, start)), text)?;
+    put_position(file, bytes, token.start(), text)?;
+    put_no_integer(token.bytes(), text)?;
     put_pieces(text, &[b"\n"])
 }
 
 /// What may stand at a place of a nested text after so many tokens.
-fn expected_words(bytes: &[u8], token: usize, place: usize) -> &'static [u8]
-    ensures { result.now ≡ expected_words bytes.now token place }
+fn expected_words(bytes: &[u8], number: usize, place: usize) -> &'static [u8]
+    ensures { result.now ≡ expected_words bytes.now number place }
 {
-    if token == 0 {
+    if number == 0 {
         return b"\"[\"";
     }
     let opened = count_of(b'[', bytes, place);
@@ -96,16 +96,16 @@ fn expected_words(bytes: &[u8], token: usize, place: usize) -> &'static [u8]
     }
 }
 
-/// Writes the line about a nested text that ends too early.
+/// Writes the line about a nested text that ends too early, after so many tokens.
 fn put_end<B: Memory>(
     file: &[u8],
     bytes: &[u8],
-    token: usize,
+    number: usize,
     text: &mut Vec<u8, B>,
 ) -> Result<(), NoResources>
-    ensures { OnOk result (text.new.items ≡ text.old.items ++ indented (end_words file.now bytes.now token)) }
+    ensures { OnOk result (text.new.items ≡ text.old.items ++ indented (end_words file.now bytes.now number)) }
 {
-    let expected = expected_words(bytes, token, bytes.len());
+    let expected = expected_words(bytes, number, bytes.len());
     put_pieces(text, &[b"  "])?;
     put_position(file, bytes, bytes.len(), text)?;
     put_pieces(
@@ -114,20 +114,20 @@ fn put_end<B: Memory>(
     )
 }
 
-/// Writes the line about the token of a nested text that begins at a place.
+/// Writes the line about a token of a nested text, after so many tokens.
 fn put_stray<B: Memory>(
     file: &[u8],
     bytes: &[u8],
-    token: usize,
-    start: usize,
+    number: usize,
+    token: &Token<'_>,
     text: &mut Vec<u8, B>,
 ) -> Result<(), NoResources>
-    ensures { OnOk result (text.new.items ≡ text.old.items ++ indented (stray_words file.now bytes.now token start)) }
+    ensures { OnOk result (text.new.items ≡ text.old.items ++ indented (stray_words file.now bytes.now number token.now)) }
 {
-    let expected = expected_words(bytes, token, start);
+    let expected = expected_words(bytes, number, token.start());
     put_pieces(text, &[b"  "])?;
-    put_position(file, bytes, start, text)?;
-    put_quoted(first_of::<NestedBytes>(bytes_behind(bytes, start)), text)?;
+    put_position(file, bytes, token.start(), text)?;
+    put_quoted(token.bytes(), text)?;
     put_pieces(text, &[b" stands where ", expected, b" is expected\n"])
 }
 
@@ -136,20 +136,20 @@ fn put_bytes_fault<B: Memory>(
     is_nested: bool,
     file: &[u8],
     bytes: &[u8],
-    token: usize,
+    number: usize,
     text: &mut Vec<u8, B>,
 ) -> Result<(), NoResources>
-    ensures { OnOk result (text.new.items ≡ text.old.items ++ bytes_words is_nested file.now bytes.now token) }
+    ensures { OnOk result (text.new.items ≡ text.old.items ++ bytes_words is_nested file.now bytes.now number) }
 {
     if is_nested {
-        match token_start::<NestedBytes>(bytes, token) {
-            None => put_end(file, bytes, token, text),
-            Some(start) => put_stray(file, bytes, token, start, text),
+        match token_at::<NestedBytes>(bytes, number) {
+            None => put_end(file, bytes, number, text),
+            Some(token) => put_stray(file, bytes, number, &token, text),
         }
     } else {
-        match token_start::<InputBytes>(bytes, token) {
+        match token_at::<InputBytes>(bytes, number) {
             None => Ok(()),
-            Some(start) => put_flat(file, bytes, start, text),
+            Some(token) => put_flat(file, bytes, &token, text),
         }
     }
 }

@@ -10,4 +10,4 @@ returns g c =
     let two = both old _ _ _ _ c.in_ok-put_pieces.ensures c.in_ok-put_position.ensures in
     let bytes = c.args.bytes.now in
     last_part c.put_pieces-2.result old _ _ _ _ _ two (rw c.expected_words-expected.ensures at c.put_pieces-2.ensures)
-    (end_joined (position_words c.args.file.now bytes (length bytes)) (expected_words bytes c.args.token (length bytes)))
+    (end_joined (position_words c.args.file.now bytes (length bytes)) (expected_words bytes c.args.number (length bytes)))
